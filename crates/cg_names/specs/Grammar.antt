@@ -3,7 +3,7 @@ use Rattle.std.specs.Prelude.{◌≡◌, ℕ, Bool, false, not, ◌||◌, ◌==�
 use Rattle.std.specs.List.{list_all}
 use Rattle.std.specs.Char.{is_ascii_alphabetic, is_ascii_digit}
 use Rattle.cg_names.specs.declared.fault.NameFault.{NameFault}
-use Rattle.cg_names.specs.declared.fault.NameFault.TheVariants.{Empty, TooLong, BadByte, Reserved}
+use Rattle.cg_names.specs.declared.fault.NameFault.TheVariants.{Memory, Empty, TooLong, BadByte, Reserved}
 
 -- an ASCII letter, a digit, '.', '_' or '-'
 abbrev pub is_name_byte : ℕ → Bool
@@ -26,3 +26,11 @@ fault_of max text =
 -- the text is a name of at most `max` bytes
 abbrev pub IsName : ℕ → List ℕ → Type 0
 IsName max text = fault_of max text ≡ None
+
+-- the fault that a refusal tells: want of memory is told where there is none
+abbrev pub told : NameFault → Option NameFault
+told Memory = None
+told Empty = Some Empty
+told TooLong = Some TooLong
+told BadByte = Some BadByte
+told Reserved = Some Reserved

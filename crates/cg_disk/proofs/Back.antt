@@ -1,0 +1,37 @@
+-- Calls that are undone, the last one first.
+use Rattle.std.proofs.Common.{◌≡◌, ℕ, Bool, true, false, ◌&&◌, List, [], ◌∷◌, ◌++◌, refl, sym, ◌∙◌, ap, append_assoc}
+use Rattle.std.specs.List.{list_all}
+use Rattle.std.proofs.lemmas.List.Folds.{list_all-append}
+use Rattle.cg_disk.specs.Record.{GoesBack, GoesBackToSync, before_call, is_unsynced, is_unsynced_call}
+use Rattle.cg_disk.specs.declared.record.Call.{Call}
+use Rattle.cg_disk.specs.declared.record.Call.TheVariants.{Sync}
+use Rattle.cg_disk.proofs.Recorded.{is_unsynced-append}
+
+-- one call further back
+pub GoesBack-further : (bytes b b' : List ℕ) (calls cs cs' : List Call) (call : Call) → GoesBack bytes calls b cs → cs ≡ cs' ++ call ∷ [] → is_unsynced_call call ≡ true → b' ≡ before_call call b → GoesBack bytes calls b' cs'
+GoesBack-further bytes b b' calls cs cs' call back last unsynced is = record {
+  undone_calls = call ∷ back.undone_calls;
+  split = back.split ∙ ap (λ (l : List Call). l ++ back.undone_calls) last ∙ append_assoc cs' (call ∷ []) back.undone_calls;
+  undoes = is ∙ ap (before_call call) back.undoes;
+  no_sync = rw unsynced back.no_sync;
+}
+
+-- back to a sync
+pub GoesBackToSync-sync : (bytes b : List ℕ) (calls cs cs' : List Call) → GoesBack bytes calls b cs → cs ≡ cs' ++ Sync ∷ [] → GoesBackToSync bytes calls b
+GoesBackToSync-sync bytes b calls cs cs' back last = record {
+  now_calls = cs;
+  back = back;
+  synced = λ s. ap (λ (l : List Call). is_unsynced l s false) last ∙ is_unsynced-append cs' (Sync ∷ []) s false;
+}
+
+-- what holds of all calls holds of the last and of those before it
+pub within-last : (p : Call → Bool) (cs cs' : List Call) (call : Call) → list_all p cs ≡ true → cs ≡ cs' ++ call ∷ [] → (list_all p cs' ≡ true) × (p call ≡ true)
+within-last p cs cs' call all last = both (list_all p cs') (p call) (rw (list_all-append p cs' (call ∷ []), and-true (p call)) at (ap (list_all p) (sym last) ∙ all))
+  where
+    both : (a b : Bool) → (a && b) ≡ true → (a ≡ true) × (b ≡ true)
+    both true b e = (refl, e)
+    both false b e = cc
+
+    and-true : (b : Bool) → (b && true) ≡ b
+    and-true true = refl
+    and-true false = refl

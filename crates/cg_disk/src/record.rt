@@ -1,0 +1,65 @@
+ghost use Rattle.std.specs.Prelude.{◌≡◌, ◌+◌, ◌*◌, ◌^◌, ◌<◌, ◌≤◌, [], ◌∷◌, ◌++◌, true, length, take, drop, OnOk, OnErr};
+ghost use Rattle.std.specs.List.{list_all};
+ghost use Rattle.cg_disk.specs.Record.{overwritten, is_within, GoesBackToSync};
+
+use crate::SECTOR_BYTES;
+use std::alloc::{AllocError, Global};
+
+/// A call that a disk in memory answered, with what undoes it.
+#[derive(Drop)]
+pub(crate) enum Call {
+    Read,
+    /// A write of the sectors from `at` on, and the bytes that it replaced.
+    Write { at: u64, replaced: Vec<u8> },
+    Sync,
+}
+
+/// Writes whole sectors, and notes what they replaced. The bytes are copied once.
+pub(crate) fn replace(
+    alloc: Global,
+    disk: &mut Vec<u8>,
+    calls: &mut Vec<Call>,
+    at: u64,
+    bytes: &[u8],
+) -> Result<(), AllocError>
+    requires { 512 * at + length bytes.now ≤ length disk.old.items }
+    ensures length { length disk.new.items ≡ length disk.old.items }
+    ensures written { OnOk result (disk.new.items ≡ overwritten disk.old.items (512 * at) bytes.now) }
+    ensures noted { OnOk result ((replaced : _)
+        × (replaced.items ≡ take (length bytes.now) (drop (512 * at) disk.old.items))
+        × (calls.new.items ≡ calls.old.items ++ Call.Write at replaced ∷ [])) }
+    ensures same { OnErr result (disk.new.items ≡ disk.old.items) }
+    ensures same_calls { OnErr result (calls.new.items ≡ calls.old.items) }
+{
+    let start = at as usize * SECTOR_BYTES;
+    let end = start + bytes.len();
+    let replaced = disk[start..end].to_vec(alloc)?;
+    calls.push(Call::Write { at, replaced })?;
+    disk[start..end].copy_from_slice(bytes);
+    Ok(())
+}
+
+/// Puts bytes back where a write replaced them.
+pub(crate) fn restore(disk: &mut Vec<u8>, at: u64, replaced: &[u8])
+    requires { 512 * at + length replaced.now ≤ length disk.old.items }
+    ensures length { length disk.new.items ≡ length disk.old.items }
+    ensures restored { disk.new.items ≡ overwritten disk.old.items (512 * at) replaced.now }
+{
+    let start = at as usize * SECTOR_BYTES;
+    disk[start..start + replaced.len()].copy_from_slice(replaced);
+}
+
+/// Undoes the calls since the last sync, the last one first.
+pub(crate) fn undo_unsynced(disk: &mut Vec<u8>, calls: &mut Vec<Call>)
+    requires { list_all (is_within (length disk.old.items)) calls.old.items ≡ true }
+    ensures length { length disk.new.items ≡ length disk.old.items }
+    ensures back { GoesBackToSync disk.old.items calls.old.items disk.new.items }
+{
+    while let Some(call) = calls.pop() {
+        match call {
+            Call::Read => {}
+            Call::Write { at, replaced } => restore(disk, at, &replaced),
+            Call::Sync => break,
+        }
+    }
+}

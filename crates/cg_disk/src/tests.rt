@@ -1,0 +1,98 @@
+ghost use Rattle.std.specs.Prelude.{◌≡◌, ◌*◌, ◌^◌, ◌<◌, IfOk, OnOk, length};
+
+use crate::{Crash, DiskFault, FileDisk, FuseDisk, MemDisk, SECTOR_BYTES, SectorDisk};
+use std::alloc::{AllocError, Global};
+use std::fs;
+use std::process::Abort;
+use std::test::Fail;
+
+fn sectors(alloc: Global, byte: u8, count: u64) -> Result<Vec<u8>, AllocError>
+    requires { count < 2 ^ 32 }
+    ensures { IfOk result (λ bytes. length bytes.items ≡ 512 * count) }
+{
+    vec![in alloc; byte; count as usize * SECTOR_BYTES]
+}
+
+// The first byte of each sector of a disk of four.
+fn first_bytes<D: SectorDisk>(
+    rt: &impl Abort,
+    alloc: Global,
+    disk: &mut D,
+) -> Result<(u8, u8, u8, u8), Fail>
+    ensures { OnOk result (D.size disk.new ≡ 4) }
+{
+    assert_eq!(rt; disk.sectors(), 4);
+    let mut bytes = sectors(alloc, 9, 4)?;
+    disk.read(0, &mut bytes)?;
+    Ok((bytes[0], bytes[512], bytes[1024], bytes[1536]))
+}
+
+// Sector 1 written and synced, then sectors 1 and 2 written.
+fn written(rt: &impl Abort, alloc: Global) -> Result<MemDisk, Fail> {
+    let mut disk = MemDisk::new(alloc, 4)?;
+    assert_eq!(rt; first_bytes(rt, alloc, &mut disk)?, (0, 0, 0, 0));
+    let one = sectors(alloc, 5, 1)?;
+    let two = sectors(alloc, 7, 2)?;
+    disk.write(1, &one)?;
+    disk.sync()?;
+    disk.write(1, &two)?;
+    assert_eq!(rt; first_bytes(rt, alloc, &mut disk)?, (0, 7, 7, 0));
+    Ok(disk)
+}
+
+#[test]
+fn a_crash_keeps_or_loses_what_is_not_synced(rt: HostRuntime) -> Result<(), Fail> {
+    let alloc = rt.alloc();
+    for (kind, want) in [(Crash::Keep, (0, 7, 7, 0)), (Crash::Lose, (0, 5, 0, 0))] {
+        let mut disk = written(&rt, alloc)?.crash(kind);
+        assert_eq!(rt; first_bytes(&rt, alloc, &mut disk)?, want, "after {kind:?}");
+        let mut again = disk.crash(Crash::Lose);
+        assert_eq!(rt;
+            first_bytes(&rt, alloc, &mut again)?,
+            want,
+            "after {kind:?}, then Lose"
+        );
+    }
+    Ok(())
+}
+
+#[test]
+fn a_fuse_fails_each_call_once_it_is_burnt(rt: HostRuntime) -> Result<(), Fail> {
+    let alloc = rt.alloc();
+    let bytes = sectors(alloc, 8, 1)?;
+    let mut buffer = sectors(alloc, 1, 1)?;
+    let mut disk = FuseDisk::new(MemDisk::new(alloc, 4)?, 2);
+    disk.write(3, &bytes)?;
+    disk.sync()?;
+    assert_eq!(rt; disk.write(2, &bytes), Err(DiskFault::Device));
+    assert_eq!(rt; disk.sync(), Err(DiskFault::Device));
+    assert_eq!(rt; disk.read(3, &mut buffer), Err(DiskFault::Device));
+    disk.set(Some(1));
+    disk.sync()?;
+    assert_eq!(rt; disk.sync(), Err(DiskFault::Device));
+    disk.set(None);
+    assert_eq!(rt; first_bytes(&rt, alloc, &mut disk)?, (0, 0, 0, 8));
+    assert_eq!(rt;
+        first_bytes(&rt, alloc, &mut disk.into_inner())?,
+        (0, 0, 0, 8)
+    );
+    Ok(())
+}
+
+#[test]
+fn a_file_keeps_what_was_written(rt: HostRuntime) -> Result<(), Fail> {
+    let alloc = rt.alloc();
+    let path = "disk_of_four_sectors";
+    let bytes = sectors(alloc, 6, 2)?;
+    let mut made = FileDisk::open(&rt, path, Some(4))?;
+    assert_eq!(rt; first_bytes(&rt, alloc, &mut made)?, (0, 0, 0, 0));
+    made.write(2, &bytes)?;
+    made.sync()?;
+    let mut found = FileDisk::open(&rt, path, None)?;
+    assert_eq!(rt; first_bytes(&rt, alloc, &mut found)?, (0, 0, 6, 6));
+    fs::remove_file(&rt, path)?;
+    assert!(rt; FileDisk::open(&rt, path, None).is_err());
+    assert!(rt; FileDisk::open(&rt, path, Some(u64::MAX)).is_err());
+    assert!(rt; FileDisk::open(&rt, "no such folder/disk", Some(4)).is_err());
+    Ok(())
+}

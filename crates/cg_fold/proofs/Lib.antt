@@ -1,0 +1,4 @@
+pub mod Place
+pub mod KeyOrder
+pub mod Put
+pub mod Kept

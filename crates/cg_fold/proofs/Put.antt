@@ -1,0 +1,55 @@
+-- A put into entries in order is an insertion into the map that they are.
+use Rattle.std.proofs.Common.{◌≡◌, ℕ, ◌<◌, List, length, get_or, set, ap, sym, ◌∙◌, subst, refl, Bool, true, false}
+use Rattle.std.proofs.Math.Dec.{T}
+use Rattle.std.specs.declared.cmp.Ordering.{Ordering}
+use Rattle.std.specs.Prelude.{IsTrue}
+use Rattle.std.specs.Cmp.{IsTotalOrder}
+use Rattle.std.specs.declared.cmp.Ordering.TheVariants.{Equal}
+use Rattle.std.specs.List.{prefix_len, insert}
+use Rattle.cg_fold.specs.declared.key.OffsetKey.{OffsetKey}
+use Rattle.cg_fold.specs.declared.key.StoredOffset.{StoredOffset}
+use Rattle.cg_fold.specs.Key.{IsOther, IsOwn, KeptOffset, key_cmp, is_below}
+use Rattle.cg_fold.proofs.KeyOrder.{key_total}
+use Rattle.cg_fold.proofs.Place.{put-new, put-same}
+use Rattle.std.specs.FinMap as map
+use Rattle.std.specs.FinMap.{is_sorted, put}
+
+pub tested : {b : Bool} → IsTrue b → T b
+tested is = subst T (sym is) tt
+
+pub is_true : (b : Bool) → T b → IsTrue b
+is_true true h = refl
+is_true false h = absurd h
+
+module _ {K X : Type 0} {R : K → K → Ordering} (o : IsTotalOrder R) where
+  pub sorted-put : (key : K) (v : X) (es : List (K × X)) → T (is_sorted R es) → T (is_sorted R (put R key v es))
+  sorted-put key v es sorted =
+      let m = map.from_sorted {R = R} es in
+      subst (λ l. T (is_sorted R l)) (map.entries-insert o m key v ∙ ap (put R key v) (map.entries-from_sorted R es sorted)) (map.entries_sorted (map.insert m key v))
+
+  pub insert-from_sorted : (key : K) (v : X) (es : List (K × X)) → T (is_sorted R es) → map.insert (map.from_sorted {R = R} es) key v ≡ map.from_sorted (put R key v es)
+  insert-from_sorted key v es sorted =
+      map.same_entries_map _ _ (map.entries-insert o (map.from_sorted es) key v ∙ ap (put R key v) (map.entries-from_sorted R es sorted)
+      ∙ sym (map.entries-from_sorted R (put R key v es) (sorted-put key v es sorted)))
+
+-- a row that is written over, and one that is put between others, in the words of the calls
+pub put_over : (items deref deref' : List KeptOffset) (at : ℕ) (key : OffsetKey) (v : StoredOffset) (found : KeptOffset)
+    → deref ≡ items → deref' ≡ items → at ≡ prefix_len (is_below key) deref
+    → IsOwn deref' at key
+    → found ≡ get_or items at found → set items at (found.0, v) ≡ put key_cmp key v items
+put_over items deref deref' at key v found same same' place own is =
+    let inside : at < length items = subst (λ l. at < length l) same' own.0 in
+    let tie : key_cmp (get_or items at found).0 key ≡ Equal = subst (λ l. key_cmp (get_or l at found).0 key ≡ Equal) same' (own.1 found) in
+    let placed : at ≡ prefix_len (is_below key) items = place ∙ ap (prefix_len (is_below key)) same in
+    ap (λ (e : KeptOffset). set items at (e.0, v)) is ∙ sym (put-same key_total key v items at found placed inside tie)
+
+pub put_between : (items deref deref' : List KeptOffset) (at : ℕ) (key : OffsetKey) (v : StoredOffset)
+    → deref ≡ items → deref' ≡ items → at ≡ prefix_len (is_below key) deref
+    → IsOther deref' at key
+    → insert items at (key, v) ≡ put key_cmp key v items
+put_between items deref deref' at key v same same' place other =
+    let placed : at ≡ prefix_len (is_below key) items = place ∙ ap (prefix_len (is_below key)) same in
+    sym (put-new key_total key v items at placed (λ d inside tie. other d (subst (λ l. at < length l) (sym same') inside) (subst (λ l. key_cmp (get_or l at d).0 key ≡ Equal) (sym same') tie)))
+
+pub put_keeps_order : (key : OffsetKey) (v : StoredOffset) (items new : List KeptOffset) → new ≡ put key_cmp key v items → IsTrue (is_sorted key_cmp items) → IsTrue (is_sorted key_cmp new)
+put_keeps_order key v items new is sorted = subst (λ l. IsTrue (is_sorted key_cmp l)) (sym is) (is_true _ (sorted-put key_total key v items (tested sorted)))

@@ -1,0 +1,109 @@
+//! The offsets as rows in the order of their keys: a look-up is a binary search, which takes no memory.
+ghost use Rattle.std.specs.Prelude.{◌≡◌, ◌+◌, ◌<◌, ◌≤◌, IsTrue, length, vec_len, vec_capacity, IfOk, map};
+ghost use Rattle.std.specs.List.{fold, prefix_len};
+ghost use Rattle.std.specs.FinMap.{find, is_sorted, put};
+ghost use Rattle.std.specs.Bool.{OnTrue, OnFalse};
+ghost use Rattle.std.specs.Option.{option_copied};
+ghost use Rattle.std.specs.VecDeque.{deque_len};
+ghost use Rattle.cg_fold.specs.Key.{IsOther, IsOwn, kept_of, is_below, key_cmp, key_of, put_kept};
+
+use crate::key::{OffsetKey, StoredOffset};
+use cg_names::{GroupId, Topic};
+use cg_record::{Committed, Entry, Partition};
+use std::alloc::{AllocError, Global};
+use std::cmp::Ordering;
+use std::collections::VecDeque;
+
+/// One offset with its key.
+pub type Row = (OffsetKey, StoredOffset);
+
+/// How many rows stand before a key.
+pub fn place(rows: &[Row], group: &GroupId, topic: &Topic, partition: Partition) -> usize
+    requires { IsTrue (is_sorted key_cmp rows.now) }
+    ensures value { result ≡ prefix_len (is_below (key_of group.now topic.now partition)) rows.now }
+    ensures within { result ≤ length rows.now }
+{
+    rows.partition_point(|row| row.0.compare(group, topic, partition) == Ordering::Less)
+}
+
+// Whether the row at this place is the key's own.
+fn is_at(rows: &[Row], at: usize, group: &GroupId, topic: &Topic, partition: Partition) -> bool
+    ensures own { OnTrue result (IsOwn rows.now at (key_of group.now topic.now partition)) }
+    ensures other { OnFalse result (IsOther rows.now at (key_of group.now topic.now partition)) }
+{
+    at < rows.len() && rows[at].0.compare(group, topic, partition) == Ordering::Equal
+}
+
+/// Puts a row in its place: over the row of its key, or between two others. Takes no memory.
+pub fn put_row(rows: &mut Vec<Row>, row: Row)
+    requires sorted { IsTrue (is_sorted key_cmp rows.old.items) }
+    requires room { vec_len rows.old < vec_capacity rows.old }
+    ensures rows { rows.new.items ≡ put key_cmp row.0 row.1 rows.old.items }
+    ensures sorted { IsTrue (is_sorted key_cmp rows.new.items) }
+    ensures len { vec_len rows.new ≤ vec_len rows.old + 1 }
+    ensures capacity { vec_capacity rows.new ≡ vec_capacity rows.old }
+{
+    let (key, stored) = row;
+    let at = place(rows, &key.group, &key.topic, key.partition);
+    if is_at(rows, at, &key.group, &key.topic, key.partition) {
+        rows[at].1 = stored;
+    } else {
+        rows.insert(at, (key, stored)).unwrap();
+    }
+}
+
+/// Puts these rows, one after the other. Takes no memory.
+pub fn put_rows(rows: &mut Vec<Row>, mut waiting: VecDeque<Row>)
+    requires sorted { IsTrue (is_sorted key_cmp rows.old.items) }
+    requires room { vec_len rows.old + deque_len waiting ≤ vec_capacity rows.old }
+    ensures rows { rows.new.items ≡ fold put_kept rows.old.items waiting.items }
+    ensures sorted { IsTrue (is_sorted key_cmp rows.new.items) }
+{
+    while let Some(row) = waiting.pop_front() {
+        put_row(rows, row);
+    }
+}
+
+fn row_of(group: &GroupId, entry: &Entry) -> Result<Row, AllocError>
+    ensures { IfOk result (λ row. row ≡ kept_of group.now entry.now) }
+{
+    let key = OffsetKey {
+        group: group.clone()?,
+        topic: entry.topic.clone()?,
+        partition: entry.partition,
+    };
+    let stored = StoredOffset {
+        offset: entry.offset,
+        metadata: entry.metadata.clone()?,
+    };
+    Ok((key, stored))
+}
+
+/// The rows that a commit puts, copied from it.
+pub fn rows_of(alloc: Global, commit: &Committed) -> Result<VecDeque<Row>, AllocError>
+    ensures { IfOk result (λ rows. rows.items ≡ map (kept_of commit.now.group) commit.now.entries) }
+{
+    let mut rows = VecDeque::with_capacity(alloc, commit.entries.len())?;
+    for entry in commit.entries.as_slice() {
+        rows.push_back(row_of(&commit.group, entry)?)?;
+    }
+    Ok(rows)
+}
+
+/// What is kept at a key. Takes no memory.
+pub fn stored_at<'a>(
+    rows: &'a [Row],
+    group: &GroupId,
+    topic: &Topic,
+    partition: Partition,
+) -> Option<&'a StoredOffset>
+    requires { IsTrue (is_sorted key_cmp rows.now) }
+    ensures { option_copied result ≡ find key_cmp (key_of group.now topic.now partition) rows.now }
+{
+    let at = place(rows, group, topic, partition);
+    if is_at(rows, at, group, topic, partition) {
+        Some(&rows[at].1)
+    } else {
+        None
+    }
+}

@@ -1,0 +1,7 @@
+mod Gates
+mod Laid
+pub mod Loading
+mod Parts
+mod Read
+pub mod Standing
+mod Words

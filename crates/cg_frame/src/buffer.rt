@@ -1,0 +1,64 @@
+ghost use Rattle.std.specs.Prelude.{◌≡◌, ◌+◌, ◌*◌, ◌/◌, ◌^◌, ◌<◌, ◌≤◌, ◌++◌, IfOk, length, take, drop, slice_index};
+ghost use Rattle.cg_frame.specs.Frames.{word, body, body_sectors};
+
+use crate::segment::sectors_of;
+use cg_disk::SECTOR_BYTES;
+use std::alloc::{AllocError, Global};
+
+/// The first byte of an open gate.
+pub(crate) const OPEN: u8 = 1;
+
+/// The sector of an open gate: a 1 and zeros.
+pub(crate) fn open_gate() -> [u8; 512]
+    ensures length { length result ≡ 512 }
+    ensures open { slice_index result 0 ≡ 1 }
+{
+    let mut gate = [0; 512];
+    gate[0] = OPEN;
+    gate
+}
+
+/// The sector of a closed gate: zeros.
+pub(crate) fn closed_gate() -> [u8; 512]
+    ensures length { length result ≡ 512 }
+    ensures closed { slice_index result 0 ≡ 0 }
+{
+    [0; 512]
+}
+
+/// A number in 8 bytes.
+#[tactic(auto, unfolding(crate::specs::Frames::word))]
+fn bytes_of(number: u64) -> [u8; 8]
+    ensures { result ≡ word number }
+{
+    number.to_be_bytes()
+}
+
+/// The number in the 8 bytes from `at` on.
+pub(crate) fn number(bytes: &[u8], at: usize) -> u64
+    requires { at + 8 ≤ length bytes.now }
+    ensures { word result ≡ take 8 (drop at bytes.now) }
+{
+    let mut eight = [0; 8];
+    eight.copy_from_slice(&bytes[at..at + 8]);
+    u64::from_be_bytes(eight)
+}
+
+/// The sectors of a body and of the closed gate behind it. The payload is copied once.
+pub(crate) fn staged(alloc: Global, count: u64, payload: &[u8]) -> Result<Vec<u8>, AllocError>
+    requires { body_sectors (length payload.now) < 2 ^ 54 }
+    ensures length { IfOk result (λ sectors.
+        length sectors.items ≡ 512 * (body_sectors (length payload.now) + 1)) }
+    ensures body { IfOk result (λ sectors.
+        take (16 + length payload.now) sectors.items ≡ body count payload.now) }
+    ensures closed { IfOk result (λ sectors.
+        slice_index sectors.items (512 * body_sectors (length payload.now)) ≡ 0) }
+{
+    let size = (sectors_of(payload.len() as u64) as usize + 1) * SECTOR_BYTES;
+    let mut sectors = Vec::with_capacity(alloc, size)?;
+    sectors.extend_from_slice(&bytes_of(count))?;
+    sectors.extend_from_slice(&bytes_of(payload.len() as u64))?;
+    sectors.extend_from_slice(payload)?;
+    sectors.resize(size, 0)?;
+    Ok(sectors)
+}

@@ -1,0 +1,17 @@
+//! Frames in segments of sectors: a frame is a payload behind a gate, and it counts once its gate stands open.
+//! An append or a crash during it leaves the frames before it, with the new one or without.
+//! It stands on `cg_disk`.
+#![tactic(auto)]
+
+mod buffer;
+mod fault;
+mod reading;
+mod segment;
+#[cfg(test)]
+mod tests;
+mod writing;
+
+pub use fault::{FrameFault, ScanFault};
+pub use reading::scan;
+pub use segment::{Frame, LARGEST_PAYLOAD_BYTES, SEGMENT_SECTORS, Segment, fits};
+pub use writing::{append, close_gate};

@@ -1,0 +1,48 @@
+ghost use Rattle.std.specs.Prelude.{◌≡◌, ◌+◌, ◌/◌, ◌^◌, ◌<◌, ◌↔◌, IsTrue};
+ghost use Rattle.cg_frame.specs.Frames.{body_sectors, next_gate};
+
+use cg_disk::SECTOR_BYTES;
+
+/// Sectors of a whole segment.
+pub const SEGMENT_SECTORS: u64 = 2048;
+
+/// Bytes of the largest payload, whose frame fills a whole segment but for the last gate.
+pub const LARGEST_PAYLOAD_BYTES: u64 = 1_047_536;
+
+const SECTOR: u64 = SECTOR_BYTES as u64;
+
+/// Bytes of the count and the length before a payload.
+pub(crate) const HEAD_BYTES: u64 = 16;
+
+/// A run of sectors on a disk, which frames fill from the front. Positions count its sectors from 0.
+#[derive(Clone, Copy, Debug, PartialEq, Eq)]
+pub struct Segment {
+    /// Its first sector on the disk.
+    pub first: u64,
+    /// How many sectors it has.
+    pub sectors: u64,
+}
+
+/// A frame that was read.
+#[derive(Debug, Drop)]
+pub struct Frame {
+    /// How many commands the payload has, at least 1.
+    pub count: u64,
+    pub payload: Vec<u8>,
+    /// The position of the gate behind it.
+    pub next: u64,
+}
+
+/// How many sectors the body of a payload of that many bytes takes.
+pub(crate) fn sectors_of(payload_bytes: u64) -> u64
+    ensures { result ≡ body_sectors payload_bytes }
+{
+    payload_bytes / SECTOR + (payload_bytes % SECTOR + HEAD_BYTES + SECTOR - 1) / SECTOR
+}
+
+/// Whether a frame with its gate at `pos`, of a payload of that many bytes, and the gate behind it fit a segment.
+pub fn fits(segment: Segment, pos: u64, payload_bytes: u64) -> bool
+    ensures { IsTrue result ↔ (next_gate pos payload_bytes < segment.sectors) }
+{
+    pos < segment.sectors && sectors_of(payload_bytes) + 1 < segment.sectors - pos
+}

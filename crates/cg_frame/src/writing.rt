@@ -1,0 +1,137 @@
+ghost use Rattle.std.specs.Prelude.{◌≡◌, ◌↔◌, ℕ, ◌+◌, ◌^◌, ◌<◌, ◌≤◌, [], ◌∷◌, ◌++◌, true, length, OnOk, IfOk, IsErrOf, is_err, List};
+ghost use Rattle.cg_disk.specs.Disk.{Image, present, sector_count, IsWhole, Holds, IsImage, IsSynced, AllBut, Changes, LeavesOnly, Counts};
+ghost use Rattle.cg_frame.specs.Frames.{IsClosed, body_sectors, next_gate};
+ghost use Rattle.cg_frame.specs.Outcomes.{IsLaid, Lays, StandsLast, Appended, KeepsFramesTo, IsBeforeOrAfter, is_device_failure};
+
+use crate::buffer::{closed_gate, open_gate, staged};
+use crate::segment::sectors_of;
+use crate::{FrameFault, Segment, fits};
+use cg_disk::{DiskFault, SectorDisk};
+use std::alloc::Global;
+
+/// Writes sectors and syncs them.
+fn put_down<D: SectorDisk>(disk: &mut D, at: u64, bytes: &[u8]) -> Result<(), DiskFault>
+    requires whole { IsWhole bytes.now }
+    requires in_range { at + sector_count bytes.now ≤ D.size disk.old }
+
+    ensures same_size { D.size disk.new ≡ D.size disk.old }
+    ensures same_honesty { D.is_honest disk.new ≡ D.is_honest disk.old }
+    ensures bytes { D.is_honest disk.old ≡ true → OnOk result
+        (Holds (present (D.history disk.new)).content at (sector_count bytes.now) bytes.now) }
+    ensures durable { D.is_honest disk.old ≡ true → OnOk result (IsSynced (present (D.history disk.new))) }
+    ensures time { D.is_honest disk.old ≡ true →
+        Changes at (sector_count bytes.now) (D.history disk.old) (D.history disk.new) }
+    ensures cause { Counts (D.failures disk.old) (D.failures disk.new) (is_err result) }
+{
+    disk.write(at, bytes)?;
+    disk.sync()?;
+    Ok(())
+}
+
+/// Writes a closed gate at `pos` and syncs it.
+pub fn close_gate<D: SectorDisk>(disk: &mut D, segment: Segment, pos: u64) -> Result<(), DiskFault>
+    requires in_segment { pos < segment.sectors }
+    requires on_disk { segment.first + segment.sectors ≤ D.size disk.old }
+    requires small { segment.first + segment.sectors < 2 ^ 54 }
+
+    ensures same_size { D.size disk.new ≡ D.size disk.old }
+    ensures same_honesty { D.is_honest disk.new ≡ D.is_honest disk.old }
+
+    // It changes that sector alone.
+    ensures time { D.is_honest disk.old ≡ true →
+        Changes (segment.first + pos) 1 (D.history disk.old) (D.history disk.new) }
+    ensures any_moment { D.is_honest disk.old ≡ true →
+        LeavesOnly (D.history disk.old) (D.history disk.new)
+        (AllBut (segment.first + pos) 1 (present (D.history disk.old))) }
+    ensures closed { D.is_honest disk.old ≡ true → OnOk result
+        ((image : Image) → IsImage (present (D.history disk.new)) image → IsClosed image (segment.first + pos)) }
+    ensures durable { D.is_honest disk.old ≡ true → OnOk result (IsSynced (present (D.history disk.new))) }
+    ensures cause { Counts (D.failures disk.old) (D.failures disk.new) (is_err result) }
+{
+    put_down(disk, segment.first + pos, &closed_gate())?;
+    Ok(())
+}
+
+/// Lays sectors behind a closed gate and opens it, in four calls of the device.
+fn lay<D: SectorDisk>(disk: &mut D, gate: u64, sectors: &[u8]) -> Result<(), DiskFault>
+    requires whole { IsWhole sectors.now }
+    requires in_range { gate + 1 + sector_count sectors.now ≤ D.size disk.old }
+    requires small { gate + 1 + sector_count sectors.now < 2 ^ 54 }
+    requires closed { D.is_honest disk.old ≡ true →
+        (image : Image) → IsImage (present (D.history disk.old)) image → IsClosed image gate }
+
+    ensures same_size { D.size disk.new ≡ D.size disk.old }
+    ensures same_honesty { D.is_honest disk.new ≡ D.is_honest disk.old }
+    ensures time { D.is_honest disk.old ≡ true →
+        Changes gate (sector_count sectors.now + 1) (D.history disk.old) (D.history disk.new) }
+    ensures any_moment { D.is_honest disk.old ≡ true →
+        LeavesOnly (D.history disk.old) (D.history disk.new)
+        (Lays (present (D.history disk.old)) gate (sector_count sectors.now) sectors.now) }
+    ensures laid { D.is_honest disk.old ≡ true → OnOk result
+        ((image : Image) → IsImage (present (D.history disk.new)) image →
+        IsLaid image gate (sector_count sectors.now) sectors.now) }
+    ensures durable { D.is_honest disk.old ≡ true → OnOk result (IsSynced (present (D.history disk.new))) }
+    ensures cause { Counts (D.failures disk.old) (D.failures disk.new) (is_err result) }
+{
+    put_down(disk, gate + 1, sectors)?;
+    put_down(disk, gate, &open_gate())?;
+    Ok(())
+}
+
+/// Appends a frame: its body and the closed gate behind it in one write, then its gate, each synced, in four calls of
+/// the device. It answers the position of the gate behind it. The payload is copied once.
+pub fn append<D: SectorDisk>(
+    alloc: Global,
+    disk: &mut D,
+    segment: Segment,
+    pos: u64,
+    count: u64,
+    payload: &[u8],
+) -> Result<u64, FrameFault>
+    requires counted { 1 ≤ count }
+    requires on_disk { segment.first + segment.sectors ≤ D.size disk.old }
+    requires small { segment.first + segment.sectors < 2 ^ 54 }
+    requires closed { D.is_honest disk.old ≡ true →
+        (image : Image) → IsImage (present (D.history disk.old)) image → IsClosed image (segment.first + pos) }
+
+    ensures next { IfOk result (λ next. next ≡ next_gate pos (length payload.now)) }
+
+    // It tells want of room first and want of memory then, and leaves the disk alone.
+    ensures no_room { IsErrOf result FrameFault.NoRoom
+        ↔ (segment.sectors ≤ next_gate pos (length payload.now)) }
+    ensures no_room_leaves { IsErrOf result FrameFault.NoRoom → disk.new ≡ disk.old }
+    ensures memory_leaves { IsErrOf result FrameFault.Memory → disk.new ≡ disk.old }
+    ensures device { Counts (D.failures disk.old) (D.failures disk.new) (is_device_failure result) }
+    ensures same_size { D.size disk.new ≡ D.size disk.old }
+    ensures same_honesty { D.is_honest disk.new ≡ D.is_honest disk.old }
+
+    // A crash at any moment leaves the gate closed or the frame, and the other sectors as they were.
+    ensures time { D.is_honest disk.old ≡ true →
+        Changes (segment.first + pos) (body_sectors (length payload.now) + 2)
+        (D.history disk.old) (D.history disk.new) }
+    ensures any_moment { D.is_honest disk.old ≡ true →
+        LeavesOnly (D.history disk.old) (D.history disk.new)
+        (Appended (present (D.history disk.old)) segment pos count payload.now) }
+    ensures frames { D.is_honest disk.old ≡ true → (frames : List (ℕ × List ℕ)) →
+        KeepsFramesTo (present (D.history disk.old)) segment frames pos →
+        LeavesOnly (D.history disk.old) (D.history disk.new)
+        (IsBeforeOrAfter segment frames count payload.now) }
+
+    // At Ok each crash leaves the frame.
+    ensures stands { D.is_honest disk.old ≡ true → OnOk result
+        ((image : Image) → IsImage (present (D.history disk.new)) image →
+        StandsLast image segment pos count payload.now) }
+    ensures frames_after { D.is_honest disk.old ≡ true → OnOk result ((frames : List (ℕ × List ℕ)) →
+        KeepsFramesTo (present (D.history disk.old)) segment frames pos →
+        KeepsFramesTo (present (D.history disk.new)) segment
+        (frames ++ (count, payload.now) ∷ []) (next_gate pos (length payload.now))) }
+    ensures durable { D.is_honest disk.old ≡ true → OnOk result (IsSynced (present (D.history disk.new))) }
+{
+    let bytes = payload.len() as u64;
+    if !fits(segment, pos, bytes) {
+        return Err(FrameFault::NoRoom);
+    }
+    let sectors = staged(alloc, count, payload)?;
+    lay(disk, segment.first + pos, &sectors)?;
+    Ok(pos + sectors_of(bytes) + 1)
+}

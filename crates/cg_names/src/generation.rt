@@ -1,0 +1,64 @@
+ghost use Rattle.std.specs.Prelude.{◌≡◌, ℕ, ◌≤◌, SomeIff, IfSome};
+ghost use Rattle.cg_names.specs.Generations.{next_generation};
+
+use std::marker::Model;
+
+/// The greatest generation, as the protocol writes it in an `INT32`.
+pub const GENERATION_MAX: u32 = 2_147_483_647;
+
+/// The generation of a group: 0 while it is new, and a number from 1 to 2,147,483,647 once its first join phase is complete.
+/// Contracts see the number.
+#[derive(Clone, Copy, Debug, PartialEq, Eq, PartialOrd, Ord, Hash)]
+pub struct Generation {
+    number: u32,
+}
+
+impl Model for Generation {
+    ghost use Rattle.std.specs.Prelude.{ℕ, ◌≤◌};
+    ghost use Rattle.cg_names.specs.declared.generation.TheConstants.{GENERATION_MAX};
+
+    ghost Value = { ℕ };
+
+    ghost view = { λ g. g.number };
+
+    ghost invariant = { λ g. g.number ≤ GENERATION_MAX };
+
+    ghost inverse = { λ n. record { number = n } };
+}
+
+impl Generation {
+    /// The generation of a group that no join phase has completed.
+    pub const ZERO: Generation = Generation { number: 0 };
+
+    /// The generation with this number, where there is one.
+    pub fn new(number: u32) -> Option<Generation>
+        ensures { SomeIff result (number ≤ GENERATION_MAX) number }
+    {
+        if number <= GENERATION_MAX {
+            Some(Generation { number })
+        } else {
+            None
+        }
+    }
+
+    /// The generation that the next completed join phase makes; after the last it is 1.
+    pub fn next(self) -> Generation
+        ensures { result ≡ next_generation self }
+    {
+        if self.number < GENERATION_MAX {
+            Generation {
+                number: self.number + 1,
+            }
+        } else {
+            Generation { number: 1 }
+        }
+    }
+
+    /// The number of the generation.
+    pub fn get(self) -> u32
+        ensures value { result ≡ self }
+        ensures range { self ≤ GENERATION_MAX }
+    {
+        self.number
+    }
+}

@@ -1,0 +1,191 @@
+-- The laws of commands: what is read is spelled so, and what is spelled so is read.
+use Rattle.std.proofs.Common.{◌≡◌, ℕ, zero, suc, ◌+◌, ◌<◌, ◌≤◌, true, false, cond, eqb, List, [], ◌∷◌, ◌++◌, length, take, Result, Ok, Err, refl, sym, ap, subst, ◌∙◌, arith}
+use Rattle.std.specs.Prelude.{IfOk, MatchResult, sum_by}
+use Rattle.std.specs.List.{flat_map, AllByRecursion}
+use Rattle.std.proofs.lemmas.Bool.{eqb-true}
+use Rattle.std.proofs.lemmas.List.{length-append, nil_from_length, take_all}
+use Rattle.std.proofs.lemmas.List.Concat.{flat_map-cons, length-flat_map}
+use Rattle.cg_record.specs.declared.format.TheConstants.{VERSION_ONE, COMMITTED_KIND}
+use Rattle.cg_record.specs.declared.format.Version.{Version}
+use Rattle.cg_record.specs.declared.format.Version.TheVariants.{One}
+use Rattle.cg_record.specs.declared.fault.RecordFault.{RecordFault}
+use Rattle.cg_record.specs.declared.fault.RecordFault.TheVariants.{Memory, BadKind}
+use Rattle.cg_record.specs.declared.command.Command.{Command}
+use Rattle.cg_record.specs.declared.command.Command.TheVariants as kinds
+use Rattle.cg_record.specs.Lawful.{IsCommand, AreCommands}
+use Rattle.cg_record.specs.Spelling.{committed_text, command_text, spelling}
+use Rattle.cg_record.specs.Reading.{Read, Builds, Skips, ◌>>=◌, made, byte_at, committed_at, body_at, command_at, commands_to_end, version_of, commands_of, Tells}
+use Rattle.cg_record.proofs.Laws.{IsBytes, bind_ok, ok_is, Takes, ReadsRest, Reads, Anything, reads_then, reads_as, test_ok}
+use Rattle.cg_record.proofs.FieldLaws.{reads_byte}
+use Rattle.cg_record.proofs.CommitLaws.{reads_committed}
+
+-- ---- one command
+
+-- the kind byte of a command
+abbrev pub kind_of : Command → ℕ
+kind_of (kinds.Committed committed) = COMMITTED_KIND
+
+-- its fields
+abbrev pub body_text : Command → List ℕ
+body_text (kinds.Committed committed) = committed_text committed
+
+-- what a reader of one kind took, as the command of that kind
+kind_takes : {A : Type 0} {at : List ℕ → Read A} {text : A → List ℕ} {Is : A → Type 0} (make : A → Command) → Reads at text Is
+    → ((a : A) → body_text (make a) ≡ text a) → ((a : A) → Is a → IsCommand (make a))
+    → (bytes : List ℕ) (x : Command) (rest : List ℕ) → IsBytes bytes → made make (at bytes) ≡ Ok (x, rest) → Takes bytes (body_text x) rest × ((a : A) × (make a ≡ x)) × IsCommand x
+kind_takes {A} {at} {text} {Is} make reader same there bytes x rest fits e =
+    let b = bind_ok (at bytes) (λ y. Ok (make y.0, y.1)) (x, rest) e in
+    let t = reader.takes bytes b.0.0 b.0.1 fits b.1 in
+    let made_is : (make b.0.0, b.0.1) ≡ (x, rest) = ok_is (make b.0.0, b.0.1) (x, rest) b.2 in
+    let taken : Takes bytes (body_text (make b.0.0)) b.0.1 = subst (λ (l : List ℕ). Takes bytes l b.0.1) (sym (same b.0.0)) t.0 in
+    subst (λ (y : Command × List ℕ). Takes bytes (body_text y.0) y.1 × ((a : A) × (make a ≡ y.0)) × IsCommand y.0) made_is (taken, (b.0.0, refl), there b.0.0 t.2)
+
+-- what a chain of kinds answers comes from this kind, or from the others
+kind_cases : {A : Type 0} (kind this : ℕ) (x y : Read A) (z : A × List ℕ) (P : Type 0) → cond (eqb kind this) x y ≡ Ok z → (kind ≡ this → x ≡ Ok z → P) → (y ≡ Ok z → P) → P
+kind_cases {A} kind this x y z P e here there =
+    elim (eqb kind this) as (λ b. eqb kind this ≡ b → cond b x y ≡ Ok z → P) [
+      | true ↦ λ is got. here (eqb-true _ _ is) got
+      | false ↦ λ is got. there got
+    ] refl e
+
+body_takes : (version : Version) (kind : ℕ) (bytes : List ℕ) (x : Command) (rest : List ℕ) → IsBytes bytes → body_at version kind bytes ≡ Ok (x, rest) → Takes bytes (body_text x) rest × (kind_of x ≡ kind) × IsCommand x
+unfolding body_at
+body_takes version kind bytes x rest fits e =
+    kind_cases kind COMMITTED_KIND (made kinds.Committed (committed_at version bytes)) (Err BadKind) (x, rest) (Takes bytes (body_text x) rest × (kind_of x ≡ kind) × IsCommand x) e
+    (λ is got. let t = kind_takes kinds.Committed (reads_committed version) (λ a. refl) (λ a h. h) bytes x rest fits got in
+    (t.0, ap kind_of (sym t.1.1) ∙ sym is, t.2))
+    (λ got. absurd cc)
+
+body_again : (version : Version) (x : Command) (rest : List ℕ) → IsCommand x → body_at version (kind_of x) (body_text x ++ rest) ≡ Ok (x, rest)
+unfolding body_at
+body_again version (kinds.Committed c) rest is = rw ((reads_committed version).again c rest tt is) refl
+
+reads_body : (version : Version) (kind : ℕ) → ReadsRest (body_at version kind) (λ x. Anything x × (kind_of x ≡ kind)) body_text IsCommand
+reads_body version kind = record {
+  takes = λ bytes x rest fits e. let t = body_takes version kind bytes x rest fits e in (t.0, (tt, t.1), t.2);
+  again = λ x rest known is. ap (λ k. body_at version k (body_text x ++ rest)) (sym known.1) ∙ body_again version x rest is;
+}
+
+kind_small : (x : Command) → kind_of x < 256
+kind_small (kinds.Committed c) = omega arith
+
+text_is : (x : Command) → (kind_of x ∷ []) ++ body_text x ≡ command_text x
+unfolding command_text
+text_is (kinds.Committed c) = refl
+
+pub reads_command : (version : Version) → Reads (command_at version) command_text IsCommand
+unfolding command_at
+reads_command version =
+    reads_as
+    (reads_then kind_of reads_byte (λ kind is_kind. reads_body version kind))
+    text_is
+    (λ x known is. is.1)
+    (λ x known is. (kind_small x, is))
+
+-- a command has a byte
+pub text_not_empty : (x : Command) → 1 ≤ length (command_text x)
+unfolding command_text
+text_not_empty (kinds.Committed c) = omega arith
+
+-- ---- all commands
+
+to_end_take : (version : Version) (most : ℕ) (bytes : List ℕ) (commands : List Command) → IsBytes bytes → length bytes ≤ most → commands_to_end version most bytes ≡ Ok commands → AreCommands commands × (bytes ≡ flat_map command_text commands)
+unfolding commands_to_end
+to_end_take version zero bytes commands fits le e =
+    let nothing : bytes ≡ [] = nil_from_length bytes (omega arith) in
+    subst (λ (l : List Command). AreCommands l × (bytes ≡ flat_map command_text l)) (ok_is [] commands e) (tt, nothing)
+to_end_take version (suc most) [] commands fits le e =
+    subst (λ (l : List Command). AreCommands l × ([] ≡ flat_map command_text l)) (ok_is [] commands e) (tt, refl)
+to_end_take version (suc most) (b ∷ bytes) commands fits le e =
+    let p = bind_ok (command_at version (b ∷ bytes)) (λ first. commands_to_end version most first.1 >>= λ others. Ok (first.0 ∷ others)) commands e in
+    let q = bind_ok (commands_to_end version most p.0.1) (λ others. Ok (p.0.0 ∷ others)) commands p.2 in
+    let t = (reads_command version).takes (b ∷ bytes) p.0.0 p.0.1 fits p.1 in
+    let some = text_not_empty p.0.0 in
+    let shorter : length p.0.1 ≤ most = omega (arith, ap length t.0.parts, length-append (command_text p.0.0) p.0.1) in
+    let u = to_end_take version most p.0.1 q.0 t.0.rest_fits shorter q.1 in
+    let whole : b ∷ bytes ≡ flat_map command_text (p.0.0 ∷ q.0) = t.0.parts ∙ ap (λ (l : List ℕ). command_text p.0.0 ++ l) u.1 ∙ sym (flat_map-cons command_text p.0.0 q.0) in
+    subst (λ (l : List Command). AreCommands l × (b ∷ bytes ≡ flat_map command_text l)) (ok_is (p.0.0 ∷ q.0) commands q.2) ((t.2, u.0), whole)
+
+-- where bytes are left, the next command is read
+pub to_end_step : (version : Version) (most : ℕ) (bytes : List ℕ) → 1 ≤ length bytes → commands_to_end version (suc most) bytes ≡ (command_at version bytes >>= λ first. commands_to_end version most first.1 >>= λ others. Ok (first.0 ∷ others))
+unfolding commands_to_end
+to_end_step version most [] h = absurd (omega arith)
+to_end_step version most (b ∷ bytes) h = refl
+
+pub to_end_nil : (version : Version) (most : ℕ) → commands_to_end version most [] ≡ Ok []
+unfolding commands_to_end
+to_end_nil version zero = refl
+to_end_nil version (suc most) = refl
+
+to_end_again : (version : Version) (commands : List Command) (most : ℕ) → AreCommands commands → length (flat_map command_text commands) ≤ most → commands_to_end version most (flat_map command_text commands) ≡ Ok commands
+to_end_again version [] most are le = to_end_nil version most
+to_end_again version (x ∷ commands) zero are le =
+    absurd (omega (arith, text_not_empty x, length-append (command_text x) (flat_map command_text commands), ap length (flat_map-cons command_text x commands)))
+to_end_again version (x ∷ commands) (suc most) are le =
+    let rest = flat_map command_text commands in
+    let spelled : flat_map command_text (x ∷ commands) ≡ command_text x ++ rest = flat_map-cons command_text x commands in
+    let some : 1 ≤ length (command_text x ++ rest) = omega (arith, text_not_empty x, length-append (command_text x) rest) in
+    let shorter : length rest ≤ most = omega (arith, text_not_empty x, length-append (command_text x) rest, ap length spelled) in
+    ap (commands_to_end version (suc most)) spelled ∙ to_end_step version most (command_text x ++ rest) some
+    ∙ rw ((reads_command version).again x rest tt are.0, to_end_again version commands most are.1 shorter) refl
+
+-- what is read is spelled so
+pub commands_take : (bytes : List ℕ) (commands : List Command) → IsBytes bytes → commands_of bytes ≡ Ok commands → AreCommands commands × (bytes ≡ spelling commands)
+unfolding commands_of version_of spelling
+commands_take bytes commands fits e =
+    let a = bind_ok (byte_at bytes) (λ first. version_of first.0 >>= λ version. commands_to_end version (length first.1) first.1) commands e in
+    let b = bind_ok (version_of a.0.0) (λ version. commands_to_end version (length a.0.1) a.0.1) commands a.2 in
+    let g = test_ok (eqb a.0.0 VERSION_ONE) BadKind One b.0 b.1 in
+    let t = reads_byte.takes bytes a.0.0 a.0.1 fits a.1 in
+    let u = to_end_take b.0 (length a.0.1) a.0.1 commands t.0.rest_fits (omega arith) b.2 in
+    let first : a.0.0 ≡ VERSION_ONE = eqb-true _ _ g.0 in
+    (u.0, t.0.parts ∙ ap (λ (n : ℕ). n ∷ a.0.1) first ∙ ap (λ (l : List ℕ). VERSION_ONE ∷ l) u.1)
+
+-- what is spelled so is read
+pub commands_again : (commands : List Command) → AreCommands commands → commands_of (spelling commands) ≡ Ok commands
+unfolding commands_of version_of spelling byte_at
+commands_again commands are = to_end_again One commands (length (flat_map command_text commands)) are (omega arith)
+
+-- what is left behind a command is shorter
+pub command_shortens : {X : Type 0} (view : X → Command × List ℕ) (r : Result X RecordFault) (version : Version) (bytes : List ℕ) → IsBytes bytes → Builds view r (command_at version bytes) → IfOk r (λ x. length (view x).1 < length bytes)
+command_shortens view (Ok x) version bytes fits built =
+    let t = (reads_command version).takes bytes (view x).0 (view x).1 fits built in
+    omega (arith, text_not_empty (view x).0, ap length t.0.parts, length-append (command_text (view x).0) (view x).1)
+command_shortens view (Err fault) version bytes fits built = tt
+
+-- the same of one that is gone past
+pub skipped_shortens : {X : Type 0} (behind : X → List ℕ) (r : Result X RecordFault) (version : Version) (bytes : List ℕ) → IsBytes bytes → Skips behind r (command_at version bytes) → IfOk r (λ x. length (behind x) < length bytes)
+skipped_shortens behind (Ok x) version bytes fits skips =
+    let t = (reads_command version).takes bytes skips.0 (behind x) fits skips.1 in
+    omega (arith, text_not_empty skips.0, ap length t.0.parts, length-append (command_text skips.0) (behind x))
+skipped_shortens behind (Err fault) version bytes fits skips = tt
+
+-- ---- what a reader of all the bytes returned
+
+pub is_found : {X : Type 0} (items : X → List Command) (r : Result X RecordFault) (bytes : List ℕ) → IsBytes bytes
+    → MatchResult r (λ v. commands_of bytes ≡ Ok (items v)) (λ fault. Tells fault (commands_of bytes)) → IfOk r (λ v. AreCommands (items v) × (bytes ≡ spelling (items v)))
+is_found items (Ok v) bytes fits told = commands_take bytes (items v) fits told
+is_found items (Err fault) bytes fits told = tt
+
+-- of bytes that are read no fault is told but want of memory
+none_but_memory : {A : Type 0} (fault : RecordFault) (x : A) (read : Result A RecordFault) → read ≡ Ok x → Tells fault read → fault ≡ Memory
+none_but_memory Memory x read e told = refl
+none_but_memory fault x read e told = absurd cc
+
+pub is_only : {X : Type 0} (items : X → List Command) (r : Result X RecordFault) (bytes : List ℕ) (commands : List Command) → AreCommands commands → bytes ≡ spelling commands
+    → MatchResult r (λ v. commands_of bytes ≡ Ok (items v)) (λ fault. Tells fault (commands_of bytes)) → MatchResult r (λ v. items v ≡ commands) (λ fault. fault ≡ Memory)
+is_only items (Ok v) bytes commands are spelled told = ok_is (items v) commands (sym told ∙ ap commands_of spelled ∙ commands_again commands are)
+is_only items (Err fault) bytes commands are spelled told = none_but_memory fault commands (commands_of bytes) (ap commands_of spelled ∙ commands_again commands are) told
+
+-- ---- what a writer of all the commands wrote
+
+pub whole_spelled : (commands : List Command) (i : ℕ) (text : List ℕ) → length commands ≤ i → text ≡ VERSION_ONE ∷ flat_map command_text (take i commands) → text ≡ spelling commands
+unfolding spelling
+whole_spelled commands i text le e = e ∙ ap (λ (l : List Command). VERSION_ONE ∷ flat_map command_text l) (take_all i commands le)
+
+pub whole_lawful : (commands : List Command) (i : ℕ) → length commands ≤ i → AllByRecursion IsCommand (take i commands) → AreCommands commands
+whole_lawful commands i le each = subst AreCommands (take_all i commands le) each
+
+pub spelling_len : (commands : List Command) → length (spelling commands) ≡ 1 + sum_by (λ c. length (command_text c)) commands
+unfolding spelling
+spelling_len commands = omega (arith, length-flat_map command_text commands)

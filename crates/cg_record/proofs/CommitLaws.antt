@@ -1,0 +1,162 @@
+-- The law of a commit: its reader takes its text, and nothing else.
+use Rattle.std.proofs.Common.{◌≡◌, ℕ, zero, suc, ◌≤◌, false, List, [], ◌∷◌, ◌++◌, length, Ok, refl, sym, ap, subst, ◌∙◌, append_assoc, arith}
+use Rattle.std.specs.Prelude.{not}
+use Rattle.std.specs.List.{flat_map, list_any, AllByRecursion}
+use Rattle.std.proofs.lemmas.Bool.{leb-true, le-leb, not-true}
+use Rattle.std.proofs.lemmas.List.{append-nil}
+use Rattle.std.proofs.lemmas.List.Concat.{flat_map-cons}
+use Rattle.cg_names.specs.declared.name.TheConstants.{NAME_BYTES_MAX}
+use Rattle.cg_record.specs.declared.partition.TheConstants.{PARTITION_MAX}
+use Rattle.cg_record.specs.declared.offset.TheConstants.{OFFSET_MAX}
+use Rattle.cg_record.specs.declared.metadata.TheConstants.{METADATA_BYTES_MAX}
+use Rattle.cg_record.specs.declared.entries.TheConstants.{ENTRIES_MAX}
+use Rattle.cg_record.specs.declared.format.Version.{Version}
+use Rattle.cg_record.specs.declared.format.Version.TheVariants.{One}
+use Rattle.cg_record.specs.declared.fault.RecordFault.TheVariants.{BadLength, Repeated}
+use Rattle.cg_record.specs.declared.entry.Entry.{Entry}
+use Rattle.cg_record.specs.declared.committed.Committed.{Committed}
+use Rattle.cg_record.specs.Keys.{have_one_key, HasDistinctKeys}
+use Rattle.cg_record.specs.Lawful.{IsKey, IsKept, IsEntry, IsCommitted}
+use Rattle.cg_record.specs.Spelling.{four, eight, name_text, bytes_text, entry_text, committed_text}
+use Rattle.cg_record.specs.Reading.{at_most, is_from_to, is_new, key_at, kept_at, entry_at, entries_at, committed_at}
+use Rattle.cg_record.proofs.Keys.{IsDistinct-push, IsDistinct-middle, IsDistinct-nil}
+use Rattle.cg_record.proofs.Laws.{IsBytes, bind_ok, ok_is, Takes, Takes-one, Takes-then, Reads, reads_only, reads_then, reads_end, reads_as}
+use Rattle.cg_record.proofs.FieldLaws.{reads_byte, reads_four, reads_eight, reads_name, reads_text, from_to-true, is_from_to-true}
+
+-- ---- a partition of a topic, and what is kept for it
+
+abbrev pub key_text : List ℕ × ℕ → List ℕ
+key_text key = name_text key.0 ++ four key.1
+
+pub reads_key : Reads key_at key_text (λ k. IsKey k.0 k.1)
+unfolding key_at
+reads_key =
+    reads_as
+    (reads_then (λ (k : List ℕ × ℕ). k.0) (reads_name NAME_BYTES_MAX (omega arith)) (λ topic is_topic.
+    reads_then (λ (k : List ℕ × ℕ). k.1) (reads_only (at_most PARTITION_MAX) BadLength reads_four) (λ partition is_partition.
+    reads_end (topic, partition) ((tt, refl), refl) (λ k known. let same : (topic, partition) ≡ (k.0, k.1) = cc in same))))
+    (λ k. simp append-nil)
+    (λ k known is. record { topic = is.0; partition = leb-true _ _ is.1.0.1 })
+    (λ k known is. (is.topic, ((omega (arith, is.partition), le-leb _ _ is.partition), tt)))
+
+abbrev pub kept_text : ℕ × List ℕ → List ℕ
+kept_text kept = eight kept.0 ++ bytes_text kept.1
+
+pub reads_kept : (version : Version) → Reads (kept_at version) kept_text (λ k. IsKept k.0 k.1)
+unfolding kept_at
+reads_kept One =
+    reads_as
+    (reads_then (λ (k : ℕ × List ℕ). k.0) (reads_only (at_most OFFSET_MAX) BadLength reads_eight) (λ offset is_offset.
+    reads_then (λ (k : ℕ × List ℕ). k.1) (reads_text METADATA_BYTES_MAX (omega arith)) (λ metadata is_metadata.
+    reads_end (offset, metadata) ((tt, refl), refl) (λ k known. let same : (offset, metadata) ≡ (k.0, k.1) = cc in same))))
+    (λ k. simp append-nil)
+    (λ k known is. record { offset = leb-true _ _ is.0.1; metadata = is.1.0 })
+    (λ k known is. ((omega (arith, is.offset), le-leb _ _ is.offset), (is.metadata, tt)))
+
+-- ---- an entry
+
+-- an entry of a partition that none of the others has
+abbrev pub IsNext : List Entry → Entry → Type 0
+IsNext front e = IsEntry e × (list_any (λ other. have_one_key other e) front ≡ false)
+
+abbrev entry_of : List ℕ × ℕ → ℕ × List ℕ → Entry
+entry_of key kept = record { topic = key.0; partition = key.1; offset = kept.0; metadata = kept.1 }
+
+pub reads_entry : (version : Version) (front : List Entry) → Reads (entry_at version front) entry_text (IsNext front)
+unfolding entry_at entry_text
+reads_entry version front =
+    reads_as
+    (reads_then (λ (e : Entry). (e.topic, e.partition)) (reads_only (is_new front) Repeated reads_key) (λ key is_key.
+    reads_then (λ (e : Entry). (e.offset, e.metadata)) (reads_kept version) (λ kept is_kept.
+    reads_end (entry_of key kept) ((tt, refl), refl) (λ e known. sym (ap (λ (k : List ℕ × ℕ). entry_of k (e.offset, e.metadata)) known.0.1 ∙ ap (entry_of key) known.1)))))
+    (λ e. ap (λ (more : List ℕ). key_text (e.topic, e.partition) ++ more) (append-nil (kept_text (e.offset, e.metadata))) ∙ sym (append_assoc (key_text (e.topic, e.partition)) (eight e.offset) (bytes_text e.metadata)))
+    (λ e known is. (record { key = is.0.0; kept = is.1.0 }, not-true _ is.0.1))
+    (λ e known is. ((is.0.key, ap not is.1), (is.0.kept, tt)))
+
+-- ---- entries
+
+-- so many entries were read behind others
+pub record Took (n : ℕ) (front : List Entry) (bytes : List ℕ) (all : List Entry) (rest : List ℕ) (es : List Entry) : Type 0 where
+  pub all_is : all ≡ front ++ es
+  pub taken : Takes bytes (flat_map entry_text es) rest
+  pub count : length es ≡ n
+  pub each : AllByRecursion IsEntry es
+  pub distinct : HasDistinctKeys all
+
+regroup : (front : List Entry) (e : Entry) (es : List Entry) → (front ++ e ∷ []) ++ es ≡ front ++ e ∷ es
+regroup front e es = append_assoc front (e ∷ []) es
+
+pub entries_take : (version : Version) (n : ℕ) (front : List Entry) (bytes : List ℕ) (all : List Entry) (rest : List ℕ) → IsBytes bytes → HasDistinctKeys front → entries_at version n front bytes ≡ Ok (all, rest) → (es : List Entry) × Took n front bytes all rest es
+unfolding entries_at
+entries_take version zero front bytes all rest fits apart e =
+    let same = ok_is (front, bytes) (all, rest) e in
+    let all_is : all ≡ front = ap (λ (y : List Entry × List ℕ). y.0) (sym same) in
+    let rest_is : bytes ≡ rest = ap (λ (y : List Entry × List ℕ). y.1) same in
+    ([], record { all_is = all_is ∙ sym (append-nil front); taken = Takes-one bytes [] rest fits rest_is; count = refl; each = tt; distinct = subst HasDistinctKeys (sym all_is) apart })
+entries_take version (suc n) front bytes all rest fits apart e =
+    let b = bind_ok (entry_at version front bytes) (λ entry. entries_at version n (front ++ entry.0 ∷ []) entry.1) (all, rest) e in
+    let first = b.0.0 in
+    let t = (reads_entry version front).takes bytes first b.0.1 fits b.1 in
+    let u = entries_take version n (front ++ first ∷ []) b.0.1 all rest t.0.rest_fits (IsDistinct-push have_one_key front first apart t.2.1) b.2 in (
+      first ∷ u.0,
+      record {
+        all_is = u.1.all_is ∙ regroup front first u.0;
+        taken = rw flat_map-cons (Takes-then bytes (entry_text first) b.0.1 (flat_map entry_text u.0) rest t.0 u.1.taken);
+        count = ap suc u.1.count;
+        each = (t.2.0, u.1.each);
+        distinct = u.1.distinct;
+      },
+    )
+
+pub entries_again : (version : Version) (es front : List Entry) (rest : List ℕ) → AllByRecursion IsEntry es → HasDistinctKeys (front ++ es) → entries_at version (length es) front (flat_map entry_text es ++ rest) ≡ Ok (front ++ es, rest)
+unfolding entries_at
+entries_again version [] front rest each apart = ap (λ (all : List Entry). Ok (all, rest)) (sym (append-nil front))
+entries_again version (e ∷ es) front rest each apart =
+    let spelled : flat_map entry_text (e ∷ es) ++ rest ≡ entry_text e ++ (flat_map entry_text es ++ rest) = ap (λ (x : List ℕ). x ++ rest) (flat_map-cons entry_text e es) ∙ append_assoc (entry_text e) (flat_map entry_text es) rest in
+    let new = IsDistinct-middle have_one_key front e es apart in
+    let one = (reads_entry version front).again e (flat_map entry_text es ++ rest) tt (each.0, new) in
+    let others = entries_again version es (front ++ e ∷ []) rest each.1 (subst HasDistinctKeys (sym (regroup front e es)) apart) in
+    ap (entries_at version (suc (length es)) front) spelled ∙ rw one (others ∙ ap (λ (all : List Entry). Ok (all, rest)) (regroup front e es))
+
+pub record AreRead (n : ℕ) (es : List Entry) : Type 0 where
+  pub count : length es ≡ n
+  pub distinct : HasDistinctKeys es
+  pub each : AllByRecursion IsEntry es
+
+pub reads_entries : (version : Version) (n : ℕ) → Reads (entries_at version n []) (flat_map entry_text) (AreRead n)
+reads_entries version n = record {
+  takes = λ bytes all rest fits e.
+      let t = entries_take version n [] bytes all rest fits (IsDistinct-nil have_one_key) e in
+      let same : t.0 ≡ all = sym t.1.all_is in (
+        subst (λ (es : List Entry). Takes bytes (flat_map entry_text es) rest) same t.1.taken,
+        tt,
+        record { count = ap length (sym same) ∙ t.1.count; distinct = t.1.distinct; each = subst (AllByRecursion IsEntry) same t.1.each },
+      );
+  again = λ es rest known is.
+      ap (λ k. entries_at version k [] (flat_map entry_text es ++ rest)) (sym is.count) ∙ entries_again version es [] rest is.each is.distinct;
+}
+
+-- ---- a commit
+
+abbrev commit_of : List ℕ → List Entry → Committed
+commit_of group entries = record { group = group; entries = entries }
+
+pub reads_committed : (version : Version) → Reads (committed_at version) committed_text IsCommitted
+unfolding committed_at committed_text
+reads_committed version =
+    reads_as
+    (reads_then (λ (c : Committed). c.group) (reads_name NAME_BYTES_MAX (omega arith)) (λ group is_group.
+    reads_then (λ (c : Committed). length c.entries) (reads_only (is_from_to 1 ENTRIES_MAX) BadLength reads_byte) (λ count is_count.
+    reads_as {Other = λ c. HasDistinctKeys c.entries × AllByRecursion IsEntry c.entries}
+    (reads_then (λ (c : Committed). c.entries) (reads_entries version count) (λ entries are_entries.
+    reads_end (commit_of group entries) (((tt, refl), are_entries.count), refl) (λ c known. sym (ap (λ (g : List ℕ). commit_of g c.entries) known.0.0.1 ∙ ap (commit_of group) known.1))))
+    (λ c. append-nil (flat_map entry_text c.entries))
+    (λ c known is. (is.0.distinct, is.0.each))
+    (λ c known is. (record { count = known.1; distinct = is.0; each = is.1 }, tt)))))
+    (λ c. refl)
+    (λ c known is.
+    let range = from_to-true 1 ENTRIES_MAX (length c.entries) is.1.0.1 in
+    record { group = is.0; entries = record { some = range.0; few = range.1; distinct = is.1.1.0 }; each = is.1.1.1 })
+    (λ c known is.
+    let few : length c.entries ≤ ENTRIES_MAX = is.entries.few in
+    (is.group, ((omega arith, is_from_to-true 1 ENTRIES_MAX (length c.entries) is.entries.some few), (is.entries.distinct, is.each))))

@@ -1,0 +1,9 @@
+pub mod Keys
+pub mod Laws
+pub mod FieldLaws
+pub mod CommitLaws
+pub mod CommandLaws
+pub mod Steps
+pub mod Again
+pub mod Told
+pub mod TextLens

@@ -1,0 +1,147 @@
+-- Reading tells faults of the bytes alone, and never want of memory.
+use Rattle.std.proofs.Common.{◌≡◌, ℕ, zero, suc, Bool, true, false, cond, eqb, ltb, List, [], ◌∷◌, ◌++◌, length, take, drop, Result, Ok, Err, refl, subst}
+use Rattle.std.specs.Int.{Width, byte_len, from_be_bytes}
+use Rattle.cg_names.specs.declared.name.TheConstants.{NAME_BYTES_MAX}
+use Rattle.cg_record.specs.declared.partition.TheConstants.{PARTITION_MAX}
+use Rattle.cg_record.specs.declared.offset.TheConstants.{OFFSET_MAX}
+use Rattle.cg_record.specs.declared.metadata.TheConstants.{METADATA_BYTES_MAX}
+use Rattle.cg_record.specs.declared.entries.TheConstants.{ENTRIES_MAX}
+use Rattle.cg_record.specs.declared.format.TheConstants.{VERSION_ONE, COMMITTED_KIND}
+use Rattle.cg_record.specs.declared.format.Version.{Version}
+use Rattle.cg_record.specs.declared.format.Version.TheVariants.{One}
+use Rattle.cg_record.specs.declared.fault.RecordFault.{RecordFault}
+use Rattle.cg_record.specs.declared.fault.RecordFault.TheVariants.{Memory, Short, BadKind, BadName, BadLength, Repeated}
+use Rattle.cg_record.specs.declared.entry.Entry.{Entry}
+use Rattle.cg_record.specs.declared.command.Command.{Command}
+use Rattle.cg_record.specs.Reading.{Read, ◌>>=◌, only, at_most, is_from_to, is_name, byte_at, bytes_at, number_at, name_at, text_at, key_at, kept_at, is_new, entry_at, entries_at, committed_at, body_at, command_at, commands_to_end, version_of, commands_of, Fails, Tells}
+
+-- a fault of the bytes
+abbrev pub IsTold : RecordFault → Type 0
+IsTold Memory = ⊥
+IsTold fault = Unit {0}
+
+-- what is read, or a fault of the bytes
+abbrev pub Told : {A : Type 0} → Result A RecordFault → Type 0
+Told (Ok x) = Unit {0}
+Told (Err fault) = IsTold fault
+
+told_then : {A B : Type 0} (r : Result A RecordFault) (f : A → Result B RecordFault) → Told r → ((x : A) → Told (f x)) → Told (r >>= f)
+told_then (Ok x) f told next = next x
+told_then (Err fault) f told next = told
+
+told_test : {A : Type 0} (b : Bool) (x : A) (fault : RecordFault) → IsTold fault → Told (cond b (Ok x) (Err fault))
+told_test true x fault told = tt
+told_test false x fault told = told
+
+told_short : {A : Type 0} (b : Bool) (x : A) → Told (cond b (Err Short) (Ok x))
+told_short true x = tt
+told_short false x = tt
+
+told_only : {A : Type 0} (passes : A → Bool) (fault : RecordFault) (read : Read A) → IsTold fault → Told read → Told (only passes fault read)
+told_only passes fault read is told = told_then read (λ x. cond (passes x.0) (Ok x) (Err fault)) told (λ x. told_test (passes x.0) x fault is)
+
+-- ---- fields
+
+told_byte : (bytes : List ℕ) → Told (byte_at bytes)
+unfolding byte_at
+told_byte [] = tt
+told_byte (b ∷ bytes) = tt
+
+told_bytes : (n : ℕ) (bytes : List ℕ) → Told (bytes_at n bytes)
+unfolding bytes_at
+told_bytes n bytes = told_short (ltb (length bytes) n) (take n bytes, drop n bytes)
+
+told_number : (w : Width) (bytes : List ℕ) → Told (number_at w bytes)
+unfolding number_at
+told_number w bytes = told_short (ltb (length bytes) (byte_len w)) (from_be_bytes w (take (byte_len w) bytes), drop (byte_len w) bytes)
+
+told_name : (max : ℕ) (bytes : List ℕ) → Told (name_at max bytes)
+unfolding name_at
+told_name max bytes =
+    told_then (only (is_from_to 1 max) BadName (byte_at bytes)) (λ size. only (is_name max) BadName (bytes_at size.0 size.1))
+    (told_only (is_from_to 1 max) BadName (byte_at bytes) tt (told_byte bytes))
+    (λ size. told_only (is_name max) BadName (bytes_at size.0 size.1) tt (told_bytes size.0 size.1))
+
+told_text : (max : ℕ) (bytes : List ℕ) → Told (text_at max bytes)
+unfolding text_at
+told_text max bytes = told_then _ _ (told_only (at_most max) BadLength _ tt (told_number _ bytes)) (λ size. told_bytes size.0 size.1)
+
+-- ---- a commit
+
+told_key : (bytes : List ℕ) → Told (key_at bytes)
+unfolding key_at
+told_key bytes =
+    told_then _ _ (told_name NAME_BYTES_MAX bytes) (λ topic.
+    told_then _ _ (told_only (at_most PARTITION_MAX) BadLength _ tt (told_number _ topic.1)) (λ partition. tt))
+
+told_kept : (version : Version) (bytes : List ℕ) → Told (kept_at version bytes)
+unfolding kept_at
+told_kept One bytes =
+    told_then _ _ (told_only (at_most OFFSET_MAX) BadLength _ tt (told_number _ bytes)) (λ offset.
+    told_then _ _ (told_text METADATA_BYTES_MAX offset.1) (λ metadata. tt))
+
+told_entry : (version : Version) (front : List Entry) (bytes : List ℕ) → Told (entry_at version front bytes)
+unfolding entry_at
+told_entry version front bytes =
+    told_then _ _ (told_only (is_new front) Repeated _ tt (told_key bytes)) (λ key.
+    told_then _ _ (told_kept version key.1) (λ kept. tt))
+
+told_entries : (version : Version) (n : ℕ) (front : List Entry) (bytes : List ℕ) → Told (entries_at version n front bytes)
+unfolding entries_at
+told_entries version zero front bytes = tt
+told_entries version (suc n) front bytes =
+    told_then _ _ (told_entry version front bytes) (λ entry. told_entries version n (front ++ entry.0 ∷ []) entry.1)
+
+told_committed : (version : Version) (bytes : List ℕ) → Told (committed_at version bytes)
+unfolding committed_at
+told_committed version bytes =
+    told_then _ _ (told_name NAME_BYTES_MAX bytes) (λ group.
+    told_then _ _ (told_only (is_from_to 1 ENTRIES_MAX) BadLength _ tt (told_byte group.1)) (λ count.
+    told_then _ _ (told_entries version count.0 [] count.1) (λ entries. tt)))
+
+-- ---- commands
+
+told_kind : (b : Bool) (this others : Read Command) → Told this → Told others → Told (cond b this others)
+told_kind true this others t o = t
+told_kind false this others t o = o
+
+told_body : (version : Version) (kind : ℕ) (bytes : List ℕ) → Told (body_at version kind bytes)
+unfolding body_at
+told_body version kind bytes =
+    told_kind (eqb kind COMMITTED_KIND) _ _ (told_then _ _ (told_committed version bytes) (λ c. tt)) tt
+
+told_command : (version : Version) (bytes : List ℕ) → Told (command_at version bytes)
+unfolding command_at
+told_command version bytes = told_then _ _ (told_byte bytes) (λ kind. told_body version kind.0 kind.1)
+
+told_to_end : (version : Version) (most : ℕ) (bytes : List ℕ) → Told (commands_to_end version most bytes)
+unfolding commands_to_end
+told_to_end version zero bytes = tt
+told_to_end version (suc most) [] = tt
+told_to_end version (suc most) (b ∷ bytes) =
+    told_then _ _ (told_command version (b ∷ bytes)) (λ first.
+    told_then _ _ (told_to_end version most first.1) (λ others. tt))
+
+told_version : (b : ℕ) → Told (version_of b)
+unfolding version_of
+told_version b = told_test (eqb b VERSION_ONE) One BadKind tt
+
+pub told_commands : (bytes : List ℕ) → Told (commands_of bytes)
+unfolding commands_of
+told_commands bytes =
+    told_then _ _ (told_byte bytes) (λ first.
+    told_then _ _ (told_version first.0) (λ version. told_to_end version (length first.1) first.1))
+
+-- ---- what is told of a fault
+
+tells_from : {A : Type 0} (fault : RecordFault) (read : Result A RecordFault) → Told read → read ≡ Err fault → Tells fault read
+tells_from Memory read told e = absurd (subst Told e told)
+tells_from fault read told e = e
+
+-- a fault that reading gives is told as itself
+pub commands_tell : (fault : RecordFault) (bytes : List ℕ) → commands_of bytes ≡ Err fault → Tells fault (commands_of bytes)
+commands_tell fault bytes e = tells_from fault (commands_of bytes) (told_commands bytes) e
+
+pub fails_tells : {A : Type 0} (fault : RecordFault) (read : Result A RecordFault) → (fault ≡ Memory → ⊥) → Fails fault read → Tells fault read
+fails_tells Memory read other h = absurd (other refl)
+fails_tells fault read other h = h

@@ -1,0 +1,4 @@
+pub mod Keys
+pub mod Lawful
+pub mod Spelling
+pub mod Reading

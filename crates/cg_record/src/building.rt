@@ -1,0 +1,166 @@
+//! Commands of their own memory, made from bytes in one pass.
+
+ghost use Rattle.std.specs.Prelude.{◌≡◌, ◌<◌, [], length, IfOk};
+ghost use Rattle.cg_names.specs.Grammar.{IsName};
+ghost use Rattle.cg_record.specs.Keys.{AreEntries, HasDistinctKeys};
+ghost use Rattle.cg_record.specs.Lawful.{IsKey, IsKept};
+ghost use Rattle.cg_record.specs.Reading.{Builds, entry_at, entries_at, committed_at, body_at, command_at, commands_to_end, commands_of};
+
+use crate::command::Command;
+use crate::commit::{Kept, Key, count_at, is_taken, kept_at, key_at};
+use crate::committed::Committed;
+use crate::entries::Entries;
+use crate::entry::Entry;
+use crate::fault::RecordFault;
+use crate::fields::{byte_at, name_at};
+use crate::format::{COMMITTED_KIND, Version};
+use crate::metadata::Metadata;
+use crate::offset::Offset;
+use crate::partition::Partition;
+use cg_names::{NAME_BYTES_MAX, Name};
+use std::alloc::{AllocError, Global};
+
+// A copy of a name that was read.
+fn name_of<const MAX: usize, const SORT: u8>(
+    alloc: Global,
+    name: &[u8],
+) -> Result<Name<MAX, SORT>, AllocError>
+    requires { IsName MAX name.now }
+    ensures { IfOk result (λ copy. copy ≡ name.now) }
+{
+    Name::from_bytes(alloc, name).map_err(|_| AllocError)
+}
+
+// A copy of what was read of an entry.
+fn entry_of(alloc: Global, key: Key<'_>, kept: Kept<'_>) -> Result<Entry, AllocError>
+    requires key { IsKey key.topic.now key.partition }
+    requires kept { IsKept kept.offset kept.metadata.now }
+    ensures { IfOk result (λ e. e ≡ record { topic = key.entry.topic.now; partition = key.entry.partition; offset = kept.entry.offset; metadata = kept.entry.metadata.now }) }
+{
+    let partition = Partition::new(key.partition).unwrap();
+    let offset = Offset::new(kept.offset).unwrap();
+    let topic = name_of(alloc, key.topic)?;
+    let metadata = Metadata::from_bytes(alloc, kept.metadata)?;
+    Ok(Entry {
+        topic,
+        partition,
+        offset,
+        metadata,
+    })
+}
+
+// An entry behind others of its commit.
+#[tactic(auto, unfolding(crate::specs::Reading::entry_at))]
+fn entry_at<'a>(
+    alloc: Global,
+    version: Version,
+    front: &[Entry],
+    bytes: &'a [u8],
+) -> Result<(Entry, &'a [u8]), RecordFault>
+    ensures { Builds (λ x. (x.0, x.1.now)) result (entry_at version front.now bytes.now) }
+{
+    let (key, rest) = key_at(bytes)?;
+    if is_taken(front, key.topic, key.partition) {
+        return Err(RecordFault::Repeated);
+    }
+    let (kept, rest) = kept_at(version, rest)?;
+    let entry = entry_of(alloc, key, kept)?;
+    Ok((entry, rest))
+}
+
+// So many entries.
+#[tactic(auto, using(crate::proofs::Steps::entries_on, crate::proofs::Steps::entries_fail, crate::proofs::Steps::entries_end))]
+fn entries_at<'a>(
+    alloc: Global,
+    version: Version,
+    count: u8,
+    bytes: &'a [u8],
+) -> Result<(Vec<Entry>, &'a [u8]), RecordFault>
+    ensures builds { Builds (λ x. (x.0.items, x.1.now)) result (entries_at version count [] bytes.now) }
+    ensures len { IfOk result (λ x. length x.0.items ≡ count) }
+    ensures distinct { IfOk result (λ x. HasDistinctKeys x.0.items) }
+{
+    let mut entries = Vec::with_capacity(alloc, count as usize)?;
+    let mut rest = bytes;
+    for _ in 0..count {
+        let (entry, after) = entry_at(alloc, version, entries.as_slice(), rest)?;
+        entries.push(entry)?;
+        rest = after;
+    }
+    Ok((entries, rest))
+}
+
+#[tactic(auto, unfolding(crate::specs::Reading::committed_at))]
+fn committed_at(
+    alloc: Global,
+    version: Version,
+    bytes: &[u8],
+) -> Result<(Committed, &[u8]), RecordFault>
+    ensures { Builds (λ x. (x.0, x.1.now)) result (committed_at version bytes.now) }
+{
+    let (group, rest) = name_at::<NAME_BYTES_MAX>(bytes)?;
+    let (count, rest) = count_at(rest)?;
+    let group = name_of(alloc, group)?;
+    let (entries, rest) = entries_at(alloc, version, count, rest)?;
+    let entries = Entries::from_lawful(entries);
+    Ok((Committed { group, entries }, rest))
+}
+
+#[tactic(auto, unfolding(crate::specs::Reading::body_at))]
+fn body_at(
+    alloc: Global,
+    version: Version,
+    kind: u8,
+    bytes: &[u8],
+) -> Result<(Command, &[u8]), RecordFault>
+    ensures { Builds (λ x. (x.0, x.1.now)) result (body_at version kind bytes.now) }
+{
+    if kind == COMMITTED_KIND {
+        let (committed, rest) = committed_at(alloc, version, bytes)?;
+        Ok((Command::Committed(committed), rest))
+    } else {
+        Err(RecordFault::BadKind)
+    }
+}
+
+#[tactic(auto, unfolding(crate::specs::Reading::command_at))]
+fn command_at(
+    alloc: Global,
+    version: Version,
+    bytes: &[u8],
+) -> Result<(Command, &[u8]), RecordFault>
+    ensures builds { Builds (λ x. (x.0, x.1.now)) result (command_at version bytes.now) }
+    ensures shorter { IfOk result (λ x. length x.1.now < length bytes.now) }
+{
+    let (kind, rest) = byte_at(bytes)?;
+    body_at(alloc, version, kind, rest)
+}
+
+// Commands to the end of the bytes.
+#[tactic(auto, using(crate::proofs::Steps::commands_start, crate::proofs::Steps::commands_on, crate::proofs::Steps::commands_fail, crate::proofs::Steps::commands_end))]
+fn commands_to_end(
+    alloc: Global,
+    version: Version,
+    bytes: &[u8],
+) -> Result<Vec<Command>, RecordFault>
+    ensures { Builds (λ v. v.items) result (commands_to_end version (length bytes.now) bytes.now) }
+{
+    let mut commands = Vec::new(alloc);
+    let mut rest = bytes;
+    while !rest.is_empty() {
+        let (command, after) = command_at(alloc, version, rest)?;
+        commands.push(command)?;
+        rest = after;
+    }
+    Ok(commands)
+}
+
+/// The commands that the bytes spell, in one pass: where memory is refused, a later fault is not told.
+#[tactic(auto, unfolding(crate::specs::Reading::commands_of))]
+pub fn build(alloc: Global, bytes: &[u8]) -> Result<Vec<Command>, RecordFault>
+    ensures { Builds (λ v. v.items) result (commands_of bytes.now) }
+{
+    let (first, rest) = byte_at(bytes)?;
+    let version = Version::of(first)?;
+    commands_to_end(alloc, version, rest)
+}

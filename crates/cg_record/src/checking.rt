@@ -1,0 +1,133 @@
+//! The first fault of bytes, found without memory: what was read is read again where it is needed.
+
+ghost use Rattle.std.specs.Prelude.{◌≡◌, ◌<◌, ◌==◌, ◌&&◌, ℕ, List, [], Ok, length, IfOk, IsSomeAnd};
+ghost use Rattle.std.specs.List.{list_any};
+ghost use Rattle.std.specs.Str.{bytes_eq};
+ghost use Rattle.cg_record.specs.declared.entry.Entry.{Entry};
+ghost use Rattle.cg_record.specs.Keys.{is_of};
+ghost use Rattle.cg_record.specs.Reading.{Skips, Checks, entry_at, entries_at, committed_at, body_at, command_at, commands_to_end, commands_of};
+
+use crate::commit::{Key, count_at, kept_at, key_at};
+use crate::fault::RecordFault;
+use crate::fields::{byte_at, name_at};
+use crate::format::{COMMITTED_KIND, Version};
+use cg_names::NAME_BYTES_MAX;
+
+// The partition of an entry that was read before, and the bytes behind the entry.
+#[tactic(auto, unfolding(crate::specs::Reading::entry_at))]
+fn read_again(version: Version, bytes: &[u8]) -> Option<(Key<'_>, &[u8])>
+    ensures { (front : List Entry) (e : Entry) (after : List ℕ) → entry_at version front bytes.now ≡ Ok (e, after) →
+        IsSomeAnd result (λ x. (x.0.topic.now ≡ e.topic) × (x.0.partition ≡ e.partition) × (x.1.now ≡ after)) }
+{
+    let (key, rest) = key_at(bytes).ok()?;
+    let (_, rest) = kept_at(version, rest).ok()?;
+    Some((key, rest))
+}
+
+fn is_same(key: Key<'_>, topic: &[u8], partition: u32) -> bool
+    ensures { result ≡ (key.entry.partition == partition && bytes_eq key.entry.topic.now topic.now) }
+{
+    key.partition == partition && key.topic == topic
+}
+
+// Whether one of the entries that were read from the start is of this partition.
+fn is_repeated(version: Version, start: &[u8], count: u8, topic: &[u8], partition: u32) -> bool
+    ensures { (front : List Entry) (rest : List ℕ) → entries_at version count [] start.now ≡ Ok (front, rest) →
+        result ≡ list_any (is_of topic.now partition) front }
+{
+    let mut rest = start;
+    for _ in 0..count {
+        match read_again(version, rest) {
+            None => return false,
+            Some((key, after)) => {
+                if is_same(key, topic, partition) {
+                    return true;
+                }
+                rest = after;
+            }
+        }
+    }
+    false
+}
+
+// Goes past an entry behind others, which were read from the start.
+#[tactic(auto, unfolding(crate::specs::Reading::entry_at))]
+fn check_entry<'a>(
+    version: Version,
+    start: &[u8],
+    count: u8,
+    bytes: &'a [u8],
+) -> Result<&'a [u8], RecordFault>
+    ensures { (front : List Entry) → entries_at version count [] start.now ≡ Ok (front, bytes.now) →
+        Skips (λ rest. rest.now) result (entry_at version front bytes.now) }
+{
+    let (key, rest) = key_at(bytes)?;
+    if is_repeated(version, start, count, key.topic, key.partition) {
+        return Err(RecordFault::Repeated);
+    }
+    let (_, rest) = kept_at(version, rest)?;
+    Ok(rest)
+}
+
+// Goes past so many entries. Reads each again for each one behind it.
+#[tactic(auto, using(crate::proofs::Again::checked_start, crate::proofs::Again::checked_on, crate::proofs::Again::checked_fail, crate::proofs::Again::checked_end))]
+fn check_entries(version: Version, count: u8, bytes: &[u8]) -> Result<&[u8], RecordFault>
+    ensures { Skips (λ rest. rest.now) result (entries_at version count [] bytes.now) }
+{
+    let mut rest = bytes;
+    for i in 0..count {
+        rest = check_entry(version, bytes, i, rest)?;
+    }
+    Ok(rest)
+}
+
+#[tactic(auto, unfolding(crate::specs::Reading::committed_at))]
+fn check_committed(version: Version, bytes: &[u8]) -> Result<&[u8], RecordFault>
+    ensures { Skips (λ rest. rest.now) result (committed_at version bytes.now) }
+{
+    let (_, rest) = name_at::<NAME_BYTES_MAX>(bytes)?;
+    let (count, rest) = count_at(rest)?;
+    check_entries(version, count, rest)
+}
+
+#[tactic(auto, unfolding(crate::specs::Reading::body_at))]
+fn check_body(version: Version, kind: u8, bytes: &[u8]) -> Result<&[u8], RecordFault>
+    ensures { Skips (λ rest. rest.now) result (body_at version kind bytes.now) }
+{
+    if kind == COMMITTED_KIND {
+        check_committed(version, bytes)
+    } else {
+        Err(RecordFault::BadKind)
+    }
+}
+
+#[tactic(auto, unfolding(crate::specs::Reading::command_at))]
+fn check_command(version: Version, bytes: &[u8]) -> Result<&[u8], RecordFault>
+    ensures skips { Skips (λ rest. rest.now) result (command_at version bytes.now) }
+    ensures shorter { IfOk result (λ rest. length rest.now < length bytes.now) }
+{
+    let (kind, rest) = byte_at(bytes)?;
+    check_body(version, kind, rest)
+}
+
+// Goes past commands to the end of the bytes.
+#[tactic(auto, using(crate::proofs::Again::passed_start, crate::proofs::Again::passed_on, crate::proofs::Again::passed_fail, crate::proofs::Again::passed_end))]
+fn check_to_end(version: Version, bytes: &[u8]) -> Result<(), RecordFault>
+    ensures { Checks result (commands_to_end version (length bytes.now) bytes.now) }
+{
+    let mut rest = bytes;
+    while !rest.is_empty() {
+        rest = check_command(version, rest)?;
+    }
+    Ok(())
+}
+
+/// The first fault of the bytes, if they have one.
+#[tactic(auto, unfolding(crate::specs::Reading::commands_of))]
+pub fn check(bytes: &[u8]) -> Result<(), RecordFault>
+    ensures { Checks result (commands_of bytes.now) }
+{
+    let (first, rest) = byte_at(bytes)?;
+    let version = Version::of(first)?;
+    check_to_end(version, rest)
+}

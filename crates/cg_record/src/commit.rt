@@ -1,0 +1,88 @@
+//! The parts of a commit at the front of bytes, read without a copy.
+
+ghost use Rattle.std.specs.Prelude.{◌≡◌, ◌≤◌, IfOk};
+ghost use Rattle.std.specs.List.{list_any};
+ghost use Rattle.cg_record.specs.Keys.{is_of};
+ghost use Rattle.cg_record.specs.Lawful.{IsKey, IsKept};
+ghost use Rattle.cg_record.specs.Reading.{Gives, only, is_from_to, byte_at, key_at, kept_at};
+
+use crate::entries::ENTRIES_MAX;
+use crate::entry::Entry;
+use crate::fault::RecordFault;
+use crate::fault::RecordFault::BadLength;
+use crate::fields::{byte_at, eight_at, four_at, name_at, text_at};
+use crate::format::Version;
+use crate::metadata::METADATA_BYTES_MAX;
+use crate::offset::OFFSET_MAX;
+use crate::partition::PARTITION_MAX;
+use cg_names::NAME_BYTES_MAX;
+
+/// A partition of a topic, as it stands in bytes.
+#[derive(Clone, Copy)]
+pub struct Key<'a> {
+    pub topic: &'a [u8],
+    pub partition: u32,
+}
+
+/// An offset and the metadata beside it, as they stand in bytes.
+#[derive(Clone, Copy)]
+pub struct Kept<'a> {
+    pub offset: u64,
+    pub metadata: &'a [u8],
+}
+
+#[tactic(auto, unfolding(crate::specs::Reading::key_at))]
+pub fn key_at(bytes: &[u8]) -> Result<(Key<'_>, &[u8]), RecordFault>
+    ensures gives { Gives (λ x. ((x.0.topic.now, x.0.partition), x.1.now)) result (key_at bytes.now) }
+    ensures key { IfOk result (λ x. IsKey x.0.topic.now x.0.partition) }
+{
+    let (topic, rest) = name_at::<NAME_BYTES_MAX>(bytes)?;
+    let (partition, rest) = four_at(rest)?;
+    if partition > PARTITION_MAX {
+        return Err(BadLength);
+    }
+    Ok((Key { topic, partition }, rest))
+}
+
+#[tactic(auto, unfolding(crate::specs::Reading::kept_at))]
+fn kept_in_one(bytes: &[u8]) -> Result<(Kept<'_>, &[u8]), RecordFault>
+    ensures gives { Gives (λ x. ((x.0.offset, x.0.metadata.now), x.1.now)) result (kept_at Version.One bytes.now) }
+    ensures kept { IfOk result (λ x. IsKept x.0.offset x.0.metadata.now) }
+{
+    let (offset, rest) = eight_at(bytes)?;
+    if offset > OFFSET_MAX {
+        return Err(BadLength);
+    }
+    let (metadata, rest) = text_at(METADATA_BYTES_MAX, rest)?;
+    Ok((Kept { offset, metadata }, rest))
+}
+
+pub fn kept_at(version: Version, bytes: &[u8]) -> Result<(Kept<'_>, &[u8]), RecordFault>
+    ensures gives { Gives (λ x. ((x.0.offset, x.0.metadata.now), x.1.now)) result (kept_at version bytes.now) }
+    ensures kept { IfOk result (λ x. IsKept x.0.offset x.0.metadata.now) }
+{
+    match version {
+        Version::One => kept_in_one(bytes),
+    }
+}
+
+/// How many entries a commit has.
+pub fn count_at(bytes: &[u8]) -> Result<(u8, &[u8]), RecordFault>
+    ensures gives { Gives (λ x. (x.0, x.1.now)) result (only (is_from_to 1 ENTRIES_MAX) RecordFault.BadLength (byte_at bytes.now)) }
+    ensures low { IfOk result (λ x. 1 ≤ x.0) }
+    ensures high { IfOk result (λ x. x.0 ≤ ENTRIES_MAX) }
+{
+    let (count, rest) = byte_at(bytes)?;
+    if 1 <= count && count as usize <= ENTRIES_MAX {
+        Ok((count, rest))
+    } else {
+        Err(BadLength)
+    }
+}
+
+/// Whether one of the entries is of this partition. Goes through them.
+pub fn is_taken(front: &[Entry], topic: &[u8], partition: u32) -> bool
+    ensures { result ≡ list_any (is_of topic.now partition) front.now }
+{
+    front.iter().any(|e| e.partition.get() == partition && e.topic.as_bytes() == topic)
+}

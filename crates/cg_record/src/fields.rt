@@ -1,0 +1,88 @@
+//! Fields at the front of bytes, read without a copy.
+
+ghost use Rattle.std.specs.Prelude.{◌≡◌, ◌≤◌, length, IfOk};
+ghost use Rattle.cg_names.specs.Grammar.{IsName};
+ghost use Rattle.cg_record.specs.Reading.{Gives, byte_at, bytes_at, four_at, eight_at, name_at, text_at};
+
+use crate::fault::RecordFault;
+use crate::fault::RecordFault::{BadLength, BadName, Short};
+use cg_names::Name;
+
+#[tactic(auto, unfolding(crate::specs::Reading::byte_at))]
+pub fn byte_at(bytes: &[u8]) -> Result<(u8, &[u8]), RecordFault>
+    ensures { Gives (λ x. (x.0, x.1.now)) result (byte_at bytes.now) }
+{
+    match bytes {
+        [] => Err(Short),
+        [first, rest @ ..] => Ok((*first, rest)),
+    }
+}
+
+#[tactic(auto, unfolding(crate::specs::Reading::bytes_at))]
+pub fn bytes_at(n: usize, bytes: &[u8]) -> Result<(&[u8], &[u8]), RecordFault>
+    ensures gives { Gives (λ x. (x.0.now, x.1.now)) result (bytes_at n bytes.now) }
+    ensures len { IfOk result (λ x. length x.0.now ≡ n) }
+{
+    if bytes.len() < n {
+        return Err(Short);
+    }
+    Ok(bytes.split_at(n))
+}
+
+#[tactic(auto, unfolding(crate::specs::Reading::number_at))]
+pub fn four_at(bytes: &[u8]) -> Result<(u32, &[u8]), RecordFault>
+    ensures { Gives (λ x. (x.0, x.1.now)) result (four_at bytes.now) }
+{
+    if bytes.len() < 4 {
+        return Err(Short);
+    }
+    let (front, rest) = bytes.split_at(4);
+    let number = u32::from_be_bytes([front[0], front[1], front[2], front[3]]);
+    Ok((number, rest))
+}
+
+#[tactic(auto, unfolding(crate::specs::Reading::number_at))]
+pub fn eight_at(bytes: &[u8]) -> Result<(u64, &[u8]), RecordFault>
+    ensures { Gives (λ x. (x.0, x.1.now)) result (eight_at bytes.now) }
+{
+    if bytes.len() < 8 {
+        return Err(Short);
+    }
+    let (front, rest) = bytes.split_at(8);
+    let number = u64::from_be_bytes([
+        front[0], front[1], front[2], front[3], front[4], front[5], front[6], front[7],
+    ]);
+    Ok((number, rest))
+}
+
+/// The bytes of a name of at most `MAX` bytes.
+#[tactic(auto, unfolding(crate::specs::Reading::name_at))]
+pub fn name_at<const MAX: usize>(bytes: &[u8]) -> Result<(&[u8], &[u8]), RecordFault>
+    ensures gives { Gives (λ x. (x.0.now, x.1.now)) result (name_at MAX bytes.now) }
+    ensures name { IfOk result (λ x. IsName MAX x.0.now) }
+{
+    let (size, rest) = byte_at(bytes)?;
+    let size = size as usize;
+    if !(1 <= size && size <= MAX) {
+        return Err(BadName);
+    }
+    let (name, rest) = bytes_at(size, rest)?;
+    match Name::<MAX, 0>::fault(name) {
+        None => Ok((name, rest)),
+        Some(_) => Err(BadName),
+    }
+}
+
+/// At most `max` bytes of any kind.
+#[tactic(auto, unfolding(crate::specs::Reading::text_at))]
+pub fn text_at(max: usize, bytes: &[u8]) -> Result<(&[u8], &[u8]), RecordFault>
+    ensures gives { Gives (λ x. (x.0.now, x.1.now)) result (text_at max bytes.now) }
+    ensures fits { IfOk result (λ x. length x.0.now ≤ max) }
+{
+    let (size, rest) = four_at(bytes)?;
+    let size = size as usize;
+    if size > max {
+        return Err(BadLength);
+    }
+    bytes_at(size, rest)
+}

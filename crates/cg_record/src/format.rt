@@ -1,0 +1,29 @@
+ghost use Rattle.cg_record.specs.Reading.{version_of, Gives};
+
+use crate::fault::RecordFault;
+
+/// The first byte of bytes of the first version, the one that is written.
+pub const VERSION_ONE: u8 = 1;
+
+/// The kind byte of `Committed`.
+pub const COMMITTED_KIND: u8 = 4;
+
+/// How the fields of commands are laid out. Later versions are read beside the first.
+#[derive(Clone, Copy, Debug, PartialEq, Eq)]
+pub enum Version {
+    One,
+}
+
+impl Version {
+    /// The version that the first byte tells.
+    #[tactic(auto, unfolding(crate::specs::Reading::version_of))]
+    pub fn of(byte: u8) -> Result<Version, RecordFault>
+        ensures { Gives (λ v. v) result (version_of byte) }
+    {
+        if byte == VERSION_ONE {
+            Ok(Version::One)
+        } else {
+            Err(RecordFault::BadKind)
+        }
+    }
+}

@@ -1,0 +1,127 @@
+ghost use Rattle.std.specs.Prelude.{◌≡◌, ◌<◌, ◌≤◌, ◌+◌, ◌++◌, Ok, length, sum_by, IfOk, OnOk};
+ghost use Rattle.std.specs.List.{flat_map, AllByRecursion};
+ghost use Rattle.cg_names.specs.Grammar.{IsName};
+ghost use Rattle.cg_record.specs.Lawful.{IsEntry, IsCommitted, IsCommand, AreCommands};
+ghost use Rattle.cg_record.specs.Spelling.{four, eight, name_text, bytes_text, entry_text, committed_text, command_text, spelling};
+ghost use Rattle.cg_record.specs.Reading.{commands_of};
+
+use crate::command::Command;
+use crate::committed::Committed;
+use crate::entry::Entry;
+use crate::format::{COMMITTED_KIND, VERSION_ONE};
+use crate::metadata::{METADATA_BYTES_MAX, Metadata};
+use crate::sizes::size;
+use cg_names::Name;
+use std::alloc::{AllocError, Global};
+
+#[tactic(auto, unfolding(crate::specs::Spelling::number))]
+fn put_four(out: &mut Vec<u8>, n: u32) -> Result<(), AllocError>
+    ensures { OnOk result (out.new.items ≡ out.old.items ++ four n) }
+{
+    out.extend_from_slice(&n.to_be_bytes())
+}
+
+#[tactic(auto, unfolding(crate::specs::Spelling::number))]
+fn put_eight(out: &mut Vec<u8>, n: u64) -> Result<(), AllocError>
+    ensures { OnOk result (out.new.items ≡ out.old.items ++ eight n) }
+{
+    out.extend_from_slice(&n.to_be_bytes())
+}
+
+#[tactic(auto, using(cg_names::proofs::Names::length_from_name))]
+fn put_name<const MAX: usize, const SORT: u8>(
+    out: &mut Vec<u8>,
+    name: &Name<MAX, SORT>,
+) -> Result<(), AllocError>
+    requires { MAX < 256 }
+    ensures ok { OnOk result (out.new.items ≡ out.old.items ++ name_text name.now) }
+    ensures lawful { IsName MAX name.now }
+{
+    let bytes = name.as_bytes();
+    out.push(bytes.len() as u8)?;
+    out.extend_from_slice(bytes)?;
+    Ok(())
+}
+
+fn put_metadata(out: &mut Vec<u8>, metadata: &Metadata) -> Result<(), AllocError>
+    ensures ok { OnOk result (out.new.items ≡ out.old.items ++ bytes_text metadata.now) }
+    ensures lawful { length metadata.now ≤ METADATA_BYTES_MAX }
+{
+    let bytes = metadata.as_bytes();
+    put_four(out, bytes.len() as u32)?;
+    out.extend_from_slice(bytes)?;
+    Ok(())
+}
+
+#[tactic(auto, unfolding(crate::specs::Spelling::entry_text))]
+fn put_entry(out: &mut Vec<u8>, entry: &Entry) -> Result<(), AllocError>
+    ensures ok { OnOk result (out.new.items ≡ out.old.items ++ entry_text entry.now) }
+    ensures lawful { OnOk result (IsEntry entry.now) }
+{
+    let metadata = &entry.metadata;
+    put_name(out, &entry.topic)?;
+    put_four(out, entry.partition.get())?;
+    put_eight(out, entry.offset.get())?;
+    put_metadata(out, metadata)?;
+    Ok(())
+}
+
+fn put_entries(out: &mut Vec<u8>, entries: &[Entry]) -> Result<(), AllocError>
+    ensures ok { OnOk result (out.new.items ≡ out.old.items ++ flat_map entry_text entries.now) }
+    ensures lawful { OnOk result (AllByRecursion IsEntry entries.now) }
+{
+    for entry in entries {
+        put_entry(out, entry)?;
+    }
+    Ok(())
+}
+
+#[tactic(auto, unfolding(crate::specs::Spelling::committed_text))]
+fn put_committed(out: &mut Vec<u8>, committed: &Committed) -> Result<(), AllocError>
+    ensures ok { OnOk result (out.new.items ≡ out.old.items ++ committed_text committed.now) }
+    ensures lawful { OnOk result (IsCommitted committed.now) }
+{
+    put_name(out, &committed.group)?;
+    out.push(committed.entries.len() as u8)?;
+    put_entries(out, committed.entries.as_slice())?;
+    Ok(())
+}
+
+#[tactic(auto, unfolding(crate::specs::Spelling::command_text))]
+fn put_command(out: &mut Vec<u8>, command: &Command) -> Result<(), AllocError>
+    ensures ok { OnOk result (out.new.items ≡ out.old.items ++ command_text command.now) }
+    ensures lawful { OnOk result (IsCommand command.now) }
+{
+    match command {
+        Command::Committed(committed) => {
+            out.push(COMMITTED_KIND)?;
+            put_committed(out, committed)?;
+        }
+    }
+    Ok(())
+}
+
+// Room for the text of the commands: it saves growths, and nothing rests on it.
+fn text_size(commands: &[Command]) -> usize {
+    let mut total = 1u64;
+    for command in commands {
+        total = total.saturating_add(size(command));
+    }
+    total as usize
+}
+
+/// The text of the commands, in one allocation: the version byte, and `size` bytes for each.
+pub fn write(alloc: Global, commands: &[Command]) -> Result<Vec<u8>, AllocError>
+    ensures spelled { IfOk result (λ v. v.items ≡ spelling commands.now) }
+    ensures len { IfOk result (λ v. length v.items ≡ 1 + sum_by (λ c. length (command_text c)) commands.now) }
+    // The commands are in their ranges, and what is written reads back as they are.
+    ensures lawful { OnOk result (AreCommands commands.now) }
+    ensures reads_back { IfOk result (λ v. commands_of v.items ≡ Ok commands.now) }
+{
+    let mut out = Vec::with_capacity(alloc, text_size(commands))?;
+    out.push(VERSION_ONE)?;
+    for command in commands {
+        put_command(&mut out, command)?;
+    }
+    Ok(out)
+}
