@@ -1,0 +1,9 @@
+pub mod Cut
+pub mod Value
+pub mod Front
+pub mod Singles
+pub mod Leaving
+pub mod Kept
+pub mod Progress
+pub mod Settling
+pub mod Synced

@@ -1,0 +1,18 @@
+use Rattle.std.proofs.Common.{◌≡◌, ◌+◌, ◌-◌, ◌≤◌, ℕ, List, length, take, drop, Some, sym, ◌∙◌, ap, arith, zero-le}
+use Rattle.std.proofs.lemmas.List.{length-drop}
+use Rattle.std.proofs.Math.Seq.{take-length}
+use Rattle.std.proofs.Math.Numerals.{add-one}
+use Rattle.std.specs.Option.{option_map}
+use Rattle.cg_sim.proofs.Cut.{cut_of-none, cut_of-at}
+use Rattle.cg_sim.proofs.text.cut.Goals as goal
+
+pub returns-in_err-at : goal.returns-in_err-at
+returns-in_err-at c =
+    rw c.from_residual.ensures (sym (cut_of-none c.args.mark c.args.text.now (λ k below. c.in_err-at.ensures k zero-le below)))
+
+pub returns : goal.returns
+returns c =
+    let found = c.in_ok-at.ensures in
+    let rest = ap (λ n. take n (drop (c.in_ok-at.at + 1) c.args.text.now)) (sym (length-drop (c.in_ok-at.at + 1) c.args.text.now)) ∙ take-length (drop (c.in_ok-at.at + 1) c.args.text.now) in
+    let at = cut_of-at c.args.mark c.args.text.now c.in_ok-at.at found.0.high (λ i less. found.0.before i zero-le less) found.1 in
+    rw (rest, add-one) (sym at)

@@ -1,0 +1,72 @@
+-- Words, numbers and bytes on a line.
+use Rattle.std.specs.Prelude.{◌≡◌, ℕ, ◌+◌, ◌-◌, ◌*◌, ◌%◌, Bool, true, false, not, ◌&&◌, ◌||◌, ◌==◌, nat_le, List, [], ◌∷◌, length, take, drop, codes, Option, None, Some, if◌then◌else◌}
+use Rattle.std.specs.Option.{option_map}
+use Rattle.std.specs.List.{list_all, fold}
+use Rattle.std.specs.Str.{bytes_eq}
+use Rattle.cg_sim.specs.declared.text.TheConstants.{SESSION_DIGITS_MAX}
+
+-- each line of a `do` takes what the one above it gives, and nothing where that gives nothing
+infixl 10 ◌>>=◌
+abbrev pub ◌>>=◌ : {A B : Type 0} → Option A → (A → Option B) → Option B
+None >>= f = None
+(Some x) >>= f = f x
+
+-- the text before the first mark, and the text behind it
+unfoldable pub cut_of : ℕ → List ℕ → Option (List ℕ × List ℕ)
+cut_of mark [] = None
+cut_of mark (b ∷ bs) = if b == mark then Some ([], bs) else option_map (λ parts. (b ∷ parts.0, parts.1)) (cut_of mark bs)
+
+-- an ASCII digit
+abbrev pub is_digit : ℕ → Bool
+is_digit b = nat_le 48 b && nat_le b 57
+
+-- the number that digits spell in base ten, behind a number that stands in front
+abbrev pub value_from : ℕ → List ℕ → ℕ
+value_from n digits = fold (λ n d. 10 * n + (d - 48)) n digits
+
+-- the number that digits spell in base ten
+unfoldable pub value_of : List ℕ → ℕ
+value_of digits = value_from 0 digits
+
+-- the one spelling of a number: at least one digit, and no zero in front of others
+abbrev pub is_plain : List ℕ → Bool
+is_plain [] = false
+is_plain (d ∷ []) = is_digit d
+is_plain (d ∷ e ∷ ds) = not (d == 48) && list_all is_digit (d ∷ e ∷ ds)
+
+-- a number in decimal, without zeros in front, of at most this
+unfoldable pub number_of : ℕ → List ℕ → Option ℕ
+number_of most text = if is_plain text && nat_le (value_of text) most then Some (value_of text) else None
+
+-- the text behind this front, where the text begins with it
+unfoldable pub behind_of : List ℕ → List ℕ → Option (List ℕ)
+behind_of front text = if bytes_eq (take (length front) text) front then Some (drop (length front) text) else None
+
+-- one to six digits
+abbrev pub is_session : List ℕ → Bool
+is_session digits = not (length digits == 0) && nat_le (length digits) SESSION_DIGITS_MAX && list_all is_digit digits
+
+-- a blank line, or a comment
+abbrev pub is_skipped : List ℕ → Bool
+is_skipped [] = true
+is_skipped (b ∷ bs) = b == 35
+
+-- a session: 's' and one to six digits
+unfoldable pub session_of : List ℕ → Option ℕ
+session_of word = do
+  digits ← behind_of (codes "s") word
+  if is_session digits then Some (value_of digits) else None
+
+-- a hexadecimal digit as lines have it
+abbrev pub is_lower_hex_digit : ℕ → Bool
+is_lower_hex_digit b = is_digit b || (nat_le 97 b && nat_le b 102)
+
+-- hexadecimal digits, two for each byte
+abbrev pub are_pairs : List ℕ → Bool
+are_pairs digits = list_all is_lower_hex_digit digits && length digits % 2 == 0
+
+-- the digits of bytes on a line: 'x' and two digits for each byte
+unfoldable pub hex_digits_of : List ℕ → Option (List ℕ)
+hex_digits_of word = do
+  digits ← behind_of (codes "x") word
+  if are_pairs digits then Some digits else None

@@ -1,0 +1,27 @@
+//! Runs a script of requests and flushes against a log on a sector disk, and prints what it answers.
+#![tactic(auto)]
+
+mod desk;
+mod held;
+mod line;
+mod loading;
+mod log;
+mod program;
+mod reply;
+mod script;
+mod settle;
+mod text;
+mod trouble;
+mod word;
+
+pub use script::script;
+use std::io::{self, BufReader};
+use std::process::ExitCode;
+
+fn main(rt: HostRuntime) -> ExitCode {
+    let mut writer = io::writer(&rt);
+    match BufReader::new(rt.alloc(), rt.reader()) {
+        Ok(mut reader) => ExitCode::from(script::script(rt.alloc(), &mut reader, &mut writer)),
+        Err(_) => ExitCode::from(script::STATUS_MEMORY),
+    }
+}

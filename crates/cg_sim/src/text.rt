@@ -1,0 +1,139 @@
+//! Words, numbers and bytes on a line, read where they stand: nothing here takes memory.
+ghost use Rattle.std.specs.Prelude.{◌≡◌, ◌+◌, ◌-◌, ◌*◌, ◌^◌, ◌≤◌, ◌<◌, IsTrue, MatchOption, IfSome};
+ghost use Rattle.std.specs.Option.{option_map};
+ghost use Rattle.std.specs.List.{list_all};
+ghost use Rattle.cg_sim.specs.Text.{are_pairs, behind_of, cut_of, hex_digits_of, is_digit, is_lower_hex_digit, is_plain, is_session, number_of, session_of, value_of};
+
+use memchr::memchr;
+
+/// The greatest number of digits of a session.
+pub const SESSION_DIGITS_MAX: usize = 6;
+
+/// The text before the first `mark`, and the text behind it.
+pub fn cut(text: &[u8], mark: u8) -> Option<(&[u8], &[u8])>
+    ensures { option_map (λ parts. (parts.0.now, parts.1.now)) result ≡ cut_of mark text.now }
+{
+    let at = memchr(mark, text)?;
+    Some((&text[..at], &text[at + 1..]))
+}
+
+fn is_digit(byte: u8) -> bool
+    ensures { result ≡ is_digit byte }
+{
+    byte.is_ascii_digit()
+}
+
+// The number with one more digit behind it, where it fits.
+fn with_digit(value: u64, digit: u8) -> Option<u64>
+    requires { IsTrue (is_digit digit) }
+    ensures { MatchOption result (2 ^ 64 ≤ 10 * value + (digit - 48)) (λ v. v ≡ 10 * value + (digit - 48)) }
+{
+    value.checked_mul(10)?.checked_add(u64::from(digit - b'0'))
+}
+
+// The number that the digits spell, where it fits.
+fn value(digits: &[u8]) -> Option<u64>
+    requires { IsTrue (list_all is_digit digits.now) }
+    ensures { MatchOption result (2 ^ 64 ≤ value_of digits.now) (λ v. v ≡ value_of digits.now) }
+{
+    let mut value = 0;
+    for digit in digits {
+        value = with_digit(value, *digit)?;
+    }
+    Some(value)
+}
+
+fn are_digits(text: &[u8]) -> bool
+    ensures { result ≡ list_all is_digit text.now }
+{
+    text.iter().all(|b| is_digit(*b))
+}
+
+fn is_plain(text: &[u8]) -> bool
+    ensures { result ≡ is_plain text.now }
+{
+    match text {
+        [] => false,
+        [digit] => is_digit(*digit),
+        [first, ..] => *first != b'0' && are_digits(text),
+    }
+}
+
+#[tactic(auto, unfolding(crate::specs::Text::number_of))]
+/// A number in decimal, without zeros in front, of at most `most`.
+pub fn number(text: &[u8], most: u64) -> Option<u64>
+    ensures value { result ≡ number_of most text.now }
+    ensures within { IfSome result (λ n. n ≤ most) }
+{
+    if !is_plain(text) {
+        return None;
+    }
+    value(text).filter(|n| *n <= most)
+}
+
+/// The text behind `front`, where the text begins with it.
+pub fn behind<'a>(text: &'a [u8], front: &[u8]) -> Option<&'a [u8]>
+    ensures { option_map (λ rest. rest.now) result ≡ behind_of front.now text.now }
+{
+    text.strip_prefix(front)
+}
+
+/// A session: `s` and one to six digits, zeros in front allowed.
+#[tactic(auto, unfolding(crate::specs::Text::session_of))]
+pub fn session_number(word: &[u8]) -> Option<u64>
+    ensures { result ≡ session_of word.now }
+{
+    let digits = behind(word, b"s")?;
+    if is_session(digits) {
+        Some(session_value(digits))
+    } else {
+        None
+    }
+}
+
+fn session_value(digits: &[u8]) -> u64
+    requires { IsTrue (is_session digits.now) }
+    ensures { result ≡ value_of digits.now }
+{
+    match value(digits) {
+        Some(number) => number,
+        None => unreachable!(),
+    }
+}
+
+fn is_session(digits: &[u8]) -> bool
+    ensures { result ≡ is_session digits.now }
+{
+    !digits.is_empty() && digits.len() <= SESSION_DIGITS_MAX && are_digits(digits)
+}
+
+/// The digits of bytes on a line: `x` and lower-case hexadecimal digits, two for each byte.
+#[tactic(auto, unfolding(crate::specs::Text::hex_digits_of))]
+pub fn hex_digits(word: &[u8]) -> Option<&[u8]>
+    ensures { option_map (λ digits. digits.now) result ≡ hex_digits_of word.now }
+{
+    let digits = behind(word, b"x")?;
+    if are_pairs(digits) {
+        Some(digits)
+    } else {
+        None
+    }
+}
+
+fn are_pairs(digits: &[u8]) -> bool
+    ensures { result ≡ are_pairs digits.now }
+{
+    are_hex(digits) && digits.len() % 2 == 0
+}
+
+fn are_hex(text: &[u8]) -> bool
+    ensures { result ≡ list_all is_lower_hex_digit text.now }
+{
+    text.iter().all(|b| is_hex(*b))
+}
+
+fn is_hex(byte: u8) -> bool
+    ensures { result ≡ is_lower_hex_digit byte }
+{
+    is_digit(byte) || (b'a'..=b'f').contains(&byte)
+}
