@@ -7,3 +7,7 @@ pub mod Kept
 pub mod Progress
 pub mod Settling
 pub mod Synced
+pub mod Phases
+pub mod Flushing
+pub mod Lines
+pub mod Telling

@@ -2,7 +2,9 @@ pub mod Text
 pub mod Line
 pub mod Reply
 pub mod Program
+pub mod Phase
 pub mod Desk
 pub mod Log
 pub mod Meaning
 pub mod Running
+pub mod Telling

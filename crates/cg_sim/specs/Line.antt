@@ -6,10 +6,12 @@ use Rattle.cg_names.specs.declared.name.TheConstants.{NAME_BYTES_MAX}
 use Rattle.cg_record.specs.declared.partition.TheConstants.{PARTITION_MAX}
 use Rattle.cg_record.specs.declared.offset.TheConstants.{OFFSET_MAX}
 use Rattle.cg_sim.specs.declared.line.Line.{Line}
-use Rattle.cg_sim.specs.declared.line.Line.TheVariants.{Skipped, Flush, Reload, Ask}
+use Rattle.cg_sim.specs.declared.line.Line.TheVariants.{Skipped, Flush, Reload, Load, Fuse, Stop, Ask}
 use Rattle.cg_sim.specs.declared.line.Request.{Request}
 use Rattle.cg_sim.specs.declared.line.Request.TheVariants.{Commit, Fetch}
 use Rattle.cg_sim.specs.declared.line.Place.{Place}
+use Rattle.cg_disk.specs.declared.mem.Crash.TheVariants.{Keep, Lose}
+use Rattle.cg_sim.specs.declared.line.TheConstants.{FUSE_CALLS_MAX}
 use Rattle.cg_sim.specs.Text.{◌>>=◌, behind_of, cut_of, hex_digits_of, is_skipped, number_of, session_of}
 
 abbrev space : ℕ
@@ -63,9 +65,28 @@ session_line_of text = do
   request ← request_of word.1
   Some (Ask session request)
 
-unfoldable pub line_of : List ℕ → Option Line
-line_of text =
+-- fuse K
+unfoldable pub fuse_line_of : List ℕ → Option Line
+fuse_line_of text = do
+  digits ← behind_of (codes "fuse ") text
+  calls ← number_of FUSE_CALLS_MAX digits
+  Some (Fuse calls)
+
+-- a line of one word or two that never change
+unfoldable pub plain_line_of : List ℕ → Option Line
+plain_line_of text =
     if is_skipped text then Some Skipped
     else (if bytes_eq text (codes "flush") then Some Flush
     else (if bytes_eq text (codes "reload") then Some Reload
-    else session_line_of text))
+    else (if bytes_eq text (codes "load") then Some Load
+    else (if bytes_eq text (codes "stop keep") then Some (Stop Keep)
+    else (if bytes_eq text (codes "stop lose") then Some (Stop Lose)
+    else None)))))
+
+-- the first of two that is there
+abbrev pub first_of_two : Option Line → Option Line → Option Line
+first_of_two None second = second
+first_of_two (Some line) second = Some line
+
+unfoldable pub line_of : List ℕ → Option Line
+line_of text = first_of_two (plain_line_of text) (first_of_two (fuse_line_of text) (session_line_of text))

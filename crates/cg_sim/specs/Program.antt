@@ -1,4 +1,5 @@
--- What a script means. The definition is over lists: it knows no disk, no frames and no bytes of records but their number.
+-- What requests and flushes do while the coordinator serves. The definition is over lists: it knows no disk, no frames and no bytes of
+-- records but their number.
 use Rattle.std.specs.Prelude.{ℕ, ◌+◌, ◌/◌, Bool, true, false, List, [], ◌∷◌, ◌++◌, length, codes, nat_lt, nat_le, if◌then◌else◌}
 use Rattle.std.specs.List.{flat_map, fold, prefix_len}
 use Rattle.std.specs.Prelude.{take, drop}
@@ -6,7 +7,7 @@ use Rattle.std.specs.Fmt.{decimal}
 use Rattle.std.specs.Result.{result_unwrap_or}
 use Rattle.std.specs.FinMap as map
 use Rattle.hex.specs.Hex.{decode_of}
-use Rattle.cg_names.specs.declared.code.Code.TheVariants.{OffsetMetadataTooLarge, UnknownServerError}
+use Rattle.cg_names.specs.declared.code.Code.TheVariants.{CoordinatorNotAvailable, OffsetMetadataTooLarge}
 use Rattle.cg_record.specs.declared.metadata.TheConstants.{METADATA_BYTES_MAX}
 use Rattle.cg_record.specs.declared.command.Command.{Command}
 use Rattle.cg_record.specs.declared.command.Command.TheVariants.{Committed}
@@ -15,8 +16,6 @@ use Rattle.cg_frame.specs.Frames.{next_gate}
 use Rattle.cg_frame.specs.declared.segment.TheConstants.{SEGMENT_SECTORS}
 use Rattle.cg_fold.specs.Key.{key_of}
 use Rattle.cg_fold.specs.Durable.{counts_of, folded}
-use Rattle.cg_sim.specs.declared.line.Line.{Line}
-use Rattle.cg_sim.specs.declared.line.Line.TheVariants.{Skipped, Flush, Reload, Ask}
 use Rattle.cg_sim.specs.declared.line.Place.{Place}
 use Rattle.cg_sim.specs.declared.line.Request.{Request}
 use Rattle.cg_sim.specs.declared.line.Request.TheVariants.{Commit, Fetch}
@@ -29,16 +28,16 @@ pub record State : Type 0 where
   pub waiting : List Command
   pub held : List HeldReply
 
--- before any line
-abbrev pub fresh : State
-fresh = record { settled = []; waiting = []; held = [] }
+-- right after a loading
+abbrev pub fresh : List Command → State
+fresh settled = record { settled = settled; waiting = []; held = [] }
 
 abbrev pub commands_of : State → List Command
 commands_of state = state.settled ++ state.waiting
 
 -- a reply is held until all the commands so far are settled
-abbrev pub hold : List ℕ → State → State
-hold line state = record state { held = state.held ++ record { need = length (commands_of state); line = line } ∷ [] }
+abbrev pub hold : ℕ → List ℕ → State → State
+hold session line state = record state { held = state.held ++ record { session = session; need = length (commands_of state); line = line } ∷ [] }
 
 -- a command waits for a flush
 abbrev pub queue : Command → State → State
@@ -59,10 +58,10 @@ commit_of_one place offset metadata =
 -- what a request does: a commit waits, and a fetch is answered from all the commands so far
 unfoldable pub asked : ℕ → Request → State → State
 asked session (Commit place offset metadata) state =
-    if is_too_long metadata then hold (err_line session OffsetMetadataTooLarge) state
-    else hold (ok_line session) (queue (commit_of_one place offset (bytes_of metadata)) state)
+    if is_too_long metadata then hold session (err_line session OffsetMetadataTooLarge) state
+    else hold session (ok_line session) (queue (commit_of_one place offset (bytes_of metadata)) state)
 asked session (Fetch place) state =
-    hold (fetched_line session place.topic place.partition (map.get (folded (commands_of state)).offsets (key_of place.group place.topic place.partition))) state
+    hold session (fetched_line session place.topic place.partition (map.get (folded (commands_of state)).offsets (key_of place.group place.topic place.partition))) state
 
 -- how many of the held replies, from the front on, have all the commands that they need
 abbrev pub ready : ℕ → List HeldReply → ℕ
@@ -115,23 +114,12 @@ flushed state =
     let turn = released (record state { settled = moved.0; waiting = moved.1 }) in
     record turn { text = turn.text ++ (if is_empty moved.1 then [] else fault_line (codes "Full")) }
 
+-- each of these replies is refused
+unfoldable pub refusals : List HeldReply → List ℕ
+refusals replies = flat_map (λ reply. err_line reply.session CoordinatorNotAvailable) replies
+
 -- what was read back: how many commands, records and offsets
 abbrev pub loaded_line : List Command → List ℕ
 loaded_line commands =
     let counts = counts_of (folded commands) in
     codes "LOADED " ++ decimal (length commands) ++ codes " " ++ decimal counts.0 ++ codes " " ++ decimal counts.1 ++ codes "\n"
-
--- only the settled commands are left
-unfoldable pub reloaded : State → Turn
-reloaded state = record { text = loaded_line state.settled; state = record { settled = state.settled; waiting = []; held = [] } }
-
--- what a line prints, and the state after it
-unfoldable pub turn_of : Line → State → Turn
-turn_of Skipped state = released state
-turn_of Flush state = flushed state
-turn_of Reload state = reloaded state
-turn_of (Ask session request) state = released (asked session request state)
-
--- a request for which memory was wanting is refused at once, and changes nothing
-unfoldable pub refused : ℕ → State → Turn
-refused session state = let turn = released state in record turn { text = err_line session UnknownServerError ++ turn.text }

@@ -1,25 +1,29 @@
 -- How the program stands for its meaning, from line to line.
-use Rattle.std.specs.Prelude.{◌≡◌, ◌≢◌, ℕ, Bool, List, ◌++◌}
+use Rattle.std.specs.Prelude.{◌≡◌, ◌≢◌, ℕ, Bool, List, ◌++◌, Option, None, Some}
 use Rattle.cg_disk.specs.Disk.{History}
+use Rattle.cg_record.specs.declared.command.Command.{Command}
 use Rattle.cg_sim.specs.declared.desk.Desk.{Desk}
-use Rattle.cg_sim.specs.declared.line.Line.{Line}
-use Rattle.cg_sim.specs.Program.{State, Turn}
+use Rattle.cg_sim.specs.declared.program.Stage.{Stage}
+use Rattle.cg_sim.specs.declared.program.Stage.TheVariants.{Serving, Failed, Unloaded}
+use Rattle.cg_sim.specs.Program.{State}
+use Rattle.cg_sim.specs.Phase.{Chance, Phase, Step, failed, serving, short, unloaded}
 use Rattle.cg_sim.specs.Desk.{StandsFor}
-use Rattle.cg_sim.specs.Log.{Keeps}
-use Rattle.cg_sim.specs.Meaning.{Memory, short, turn_in}
+use Rattle.cg_sim.specs.Log.{Keeps, Rests, Wavers}
+use Rattle.cg_sim.specs.Meaning.{Output, meaning}
 
 -- the desk stands for the state, and the log has its settled commands
 pub record Runs (honest : Bool) (history : History) (end : ℕ) (desk : Desk) (state : State) : Type 0 where
   pub desk_is : StandsFor desk state
   pub log_is : Keeps honest history end state.settled
 
--- the program has come to the state of a turn, and its text was printed
-pub record Makes (turn : Turn) (honest : Bool) (history : History) (end : ℕ) (desk : Desk) (before after : List ℕ) : Type 0 where
-  pub runs : Runs honest history end desk turn.state
-  pub text : after ≡ before ++ turn.text
+-- the program stands as the phase says
+abbrev pub Stands : Stage → Bool → History → ℕ → Desk → Phase → Type 0
+Stands Serving honest history end desk (serving state) = Runs honest history end desk state
+Stands Failed honest history end desk (failed settled on_the_way) = Wavers honest history settled on_the_way
+Stands Unloaded honest history end desk (unloaded settled) = Rests honest history settled
+Stands stage honest history end desk phase = ⊥
 
--- a line was served, with enough memory for all but its request
-pub record Serves (line : Line) (state : State) (honest : Bool) (history : History) (end : ℕ) (desk : Desk) (before after : List ℕ) : Type 0 where
-  pub memory : Memory
-  pub not_short : memory ≢ short
-  pub makes : Makes (turn_in memory line state) honest history end desk before after
+-- the program has come to the phase of a step, and its text was printed
+pub record Makes (step : Step) (stage : Stage) (honest : Bool) (history : History) (end : ℕ) (desk : Desk) (before after : List ℕ) : Type 0 where
+  pub stands : Stands stage honest history end desk step.phase
+  pub text : after ≡ before ++ step.text

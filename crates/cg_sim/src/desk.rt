@@ -33,26 +33,21 @@ pub struct Desk {
 }
 
 impl Desk {
-    ghost use Rattle.cg_sim.specs.Program.{State, asked, fresh, hold, queue, released};
+    ghost use Rattle.cg_sim.specs.Program.{State, asked, fresh, hold, queue, refusals, released};
     ghost use Rattle.cg_sim.specs.Desk.{StandsFor};
 
+    /// A desk of nothing.
     pub fn new(alloc: Global) -> Self
-        ensures { StandsFor result fresh }
+        ensures { StandsFor result (fresh []) }
     {
-        Desk {
-            alloc,
-            durable: Durable::new(alloc),
-            settled: 0,
-            waiting: VecDeque::new(alloc),
-            held: VecDeque::new(alloc),
-        }
+        Desk::loaded(alloc, 0, Durable::new(alloc))
     }
 
     /// A desk that begins with the commands that are settled.
     pub fn loaded(alloc: Global, settled: u64, durable: Durable) -> Self
         requires { settled ≤ COMMAND_NUMBER_MAX }
         ensures { (cs : List Command) → settled ≡ length cs → durable ≡ folded cs
-            → StandsFor result (record { settled = cs; waiting = []; held = [] }) }
+            → StandsFor result (fresh cs) }
     {
         Desk {
             alloc,
@@ -84,24 +79,36 @@ impl Desk {
         Ok(())
     }
 
+    /// Refuses each held reply, since the disk failed.
+    pub fn refuse_held(&mut self, out: &mut Vec<u8>) -> Result<(), AllocError>
+        ensures { OnOk result (out.new.items ≡ out.old.items ++ refusals self.old.held.items) }
+    {
+        held::refuse(self.alloc, &mut self.held, out)?;
+        Ok(())
+    }
+
     fn numbered(&self) -> u64
         ensures { result ≡ self.now.settled + deque_len self.now.waiting }
     {
         self.settled + self.waiting.len() as u64
     }
 
-    fn hold(&mut self, line: ReplyLine) -> Result<(), AllocError>
-        ensures ok { OnOk result ((s : State) → StandsFor self.old s → StandsFor self.new (hold line s)) }
+    fn hold(&mut self, session: u64, line: ReplyLine) -> Result<(), AllocError>
+        ensures ok { OnOk result ((s : State) → StandsFor self.old s → StandsFor self.new (hold session line s)) }
         ensures err { OnErr result ((s : State) → StandsFor self.old s → StandsFor self.new s) }
     {
         let need = self.numbered();
-        self.held.push_back(HeldReply { need, line })?;
+        self.held.push_back(HeldReply {
+            session,
+            need,
+            line,
+        })?;
         Ok(())
     }
 
     // The command waits, and the reply waits for it.
-    fn queue(&mut self, command: Command, line: ReplyLine) -> Result<(), AllocError>
-        ensures ok { OnOk result ((s : State) → StandsFor self.old s → StandsFor self.new (hold line (queue command s))) }
+    fn queue(&mut self, session: u64, command: Command, line: ReplyLine) -> Result<(), AllocError>
+        ensures ok { OnOk result ((s : State) → StandsFor self.old s → StandsFor self.new (hold session line (queue command s))) }
         ensures err { OnErr result ((s : State) → StandsFor self.old s → StandsFor self.new s) }
     {
         self.waiting.reserve(1)?;
@@ -109,7 +116,11 @@ impl Desk {
         self.durable.apply(&command)?;
         self.waiting.push_back_reserved(command);
         let need = self.numbered();
-        self.held.push_back_reserved(HeldReply { need, line });
+        self.held.push_back_reserved(HeldReply {
+            session,
+            need,
+            line,
+        });
         Ok(())
     }
 
@@ -143,11 +154,11 @@ impl Desk {
         let digits = metadata.as_bytes();
         if digits.len() / 2 > METADATA_BYTES_MAX {
             let line = ReplyLine::err(self.alloc, session, Code::OffsetMetadataTooLarge)?;
-            return self.hold(line);
+            return self.hold(session, line);
         }
         let command = commit_of_one(self.alloc, place, offset, digits)?;
         let line = ReplyLine::ok(self.alloc, session)?;
-        self.queue(command, line)
+        self.queue(session, command, line)
     }
 
     #[tactic(auto, unfolding(crate::specs::Program::asked))]
@@ -160,7 +171,7 @@ impl Desk {
         let topic = name_of(self.alloc, &place.topic)?;
         let found = self.durable.offset(&group, &topic, place.partition);
         let line = ReplyLine::fetched(self.alloc, session, &topic, place.partition, found)?;
-        self.hold(line)
+        self.hold(session, line)
     }
 }
 

@@ -4,8 +4,12 @@ ghost use Rattle.cg_sim.specs.Text.{is_skipped, number_of};
 
 use crate::text;
 use crate::word::Word;
+use cg_disk::Crash;
 use cg_names::{GroupId, Topic};
 use cg_record::{OFFSET_MAX, Offset, PARTITION_MAX, Partition};
+
+/// The greatest number of calls of a fuse.
+pub const FUSE_CALLS_MAX: u64 = u64::MAX;
 
 /// A partition of a topic, as one group reads it.
 #[derive(Drop)]
@@ -29,19 +33,40 @@ pub enum Request<'a> {
 pub enum Line<'a> {
     /// A blank line, or a comment.
     Skipped,
+    /// `flush`: the commands that wait are settled.
     Flush,
+    /// `reload`: as `stop keep` and `load`.
     Reload,
+    /// `load`: serves what is on the disk.
+    Load,
+    /// `fuse K`: the disk passes K more calls, and then fails each.
+    Fuse(u64),
+    /// `stop keep`, `stop lose`: power loss, which leaves what was not synced or loses it.
+    Stop(Crash),
     /// A session's number, and its request.
     Ask(u64, Request<'a>),
 }
 
 impl<'a> Line<'a> {
-    ghost use Rattle.cg_sim.specs.Line.{line_of, session_line_of};
+    ghost use Rattle.cg_sim.specs.Line.{line_of, plain_line_of, fuse_line_of, session_line_of};
 
     /// The line that the text spells, or None where it spells none.
     #[tactic(auto, unfolding(crate::specs::Line::line_of))]
     pub fn read(text: &'a [u8]) -> Option<Self>
         ensures { result ≡ line_of text.now }
+    {
+        if let Some(line) = Line::plain_line(text) {
+            return Some(line);
+        }
+        if let Some(line) = Line::fuse_line(text) {
+            return Some(line);
+        }
+        Line::session_line(text)
+    }
+
+    #[tactic(auto, unfolding(crate::specs::Line::plain_line_of))]
+    fn plain_line(text: &[u8]) -> Option<Self>
+        ensures { result ≡ plain_line_of text.now }
     {
         if is_skipped(text) {
             return Some(Line::Skipped);
@@ -52,7 +77,25 @@ impl<'a> Line<'a> {
         if text == b"reload".as_slice() {
             return Some(Line::Reload);
         }
-        Line::session_line(text)
+        if text == b"load".as_slice() {
+            return Some(Line::Load);
+        }
+        if text == b"stop keep".as_slice() {
+            return Some(Line::Stop(Crash::Keep));
+        }
+        if text == b"stop lose".as_slice() {
+            return Some(Line::Stop(Crash::Lose));
+        }
+        None
+    }
+
+    #[tactic(auto, unfolding(crate::specs::Line::fuse_line_of))]
+    fn fuse_line(text: &[u8]) -> Option<Self>
+        ensures { result ≡ fuse_line_of text.now }
+    {
+        let digits = text::behind(text, b"fuse ")?;
+        let calls = text::number(digits, FUSE_CALLS_MAX)?;
+        Some(Line::Fuse(calls))
     }
 
     #[tactic(auto, unfolding(crate::specs::Line::session_line_of))]

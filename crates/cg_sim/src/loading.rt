@@ -162,6 +162,7 @@ pub fn read_synced<D: SectorDisk>(alloc: Global, disk: &mut D) -> Result<Loaded,
     ensures gate { D.is_honest disk.old ≡ true → IfOk result (λ loaded. IsFree (D.history disk.new) loaded.end) }
     ensures inside { IfOk result (λ loaded. loaded.end < SEGMENT_SECTORS) }
     ensures in_range { IfOk result (λ loaded. loaded.count ≤ COMMAND_NUMBER_MAX) }
+    ensures time { D.is_honest disk.old ≡ true → Stays (D.history disk.old) (D.history disk.new) }
     ensures same_size { D.size disk.new ≡ D.size disk.old }
     ensures same_honesty { D.is_honest disk.new ≡ D.is_honest disk.old }
 {

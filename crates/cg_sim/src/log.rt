@@ -2,17 +2,18 @@
 ghost use Rattle.std.specs.Prelude.{◌≡◌, ◌+◌, ◌<◌, ◌≤◌, ℕ, length, map, [], ◌∷◌, ◌++◌, true, false, List, OnOk, IfOk, MatchResult, IsErrOf, ◌⊎◌};
 ghost use Rattle.cg_record.specs.declared.command.Command.{Command};
 ghost use Rattle.cg_sim.specs.Program.{fits};
-ghost use Rattle.cg_disk.specs.Disk.{present};
+ghost use Rattle.cg_disk.specs.Disk.{Stays, IsImage, IsSynced, present};
 ghost use Rattle.cg_frame.specs.Frames.{HasFramesTo};
 ghost use Rattle.cg_record.specs.Lawful.{AreCommands};
 ghost use Rattle.cg_fold.specs.Durable.{folded};
-ghost use Rattle.cg_sim.specs.Log.{IsFree, Keeps, frame_of, log_segment};
+ghost use Rattle.cg_sim.specs.Log.{IsFree, Keeps, Wavers, frame_of, log_segment};
 ghost use Rattle.cg_sim.specs.declared.desk.TheConstants.{COMMAND_NUMBER_MAX};
 ghost use Rattle.cg_frame.specs.declared.segment.TheConstants.{SEGMENT_SECTORS};
 ghost use Rattle.cg_sim.specs.declared.log.TheConstants.{LOG_FIRST_SECTOR};
 
+use crate::device::Breakable;
 use crate::loading::{self, LoadFault};
-use cg_disk::SectorDisk;
+use cg_disk::{Crash, SectorDisk};
 use cg_fold::Durable;
 use cg_frame::{FrameFault, SEGMENT_SECTORS, Segment};
 use cg_record::Command;
@@ -75,6 +76,8 @@ fn append_command<D: SectorDisk>(
         → IfOk result (λ next. Keeps (D.is_honest disk.new) (D.history disk.new) next (cs ++ command.now ∷ [])) }
     ensures fits { (cs : List Command) → Keeps (D.is_honest disk.old) (D.history disk.old) end cs
         → MatchResult result (λ _. fits cs command.now ≡ true) (λ fault. fault ≡ FrameFault.NoRoom → fits cs command.now ≡ false) }
+    ensures device { (cs : List Command) → Keeps (D.is_honest disk.old) (D.history disk.old) end cs
+        → IsErrOf result FrameFault.Device → Wavers (D.is_honest disk.new) (D.history disk.new) cs (command.now ∷ []) }
     ensures gate { D.is_honest disk.old ≡ true → IfOk result (λ next. IsFree (D.history disk.new) next) }
     ensures inside { IfOk result (λ next. next < SEGMENT_SECTORS) }
     ensures same { IsErrOf result FrameFault.NoRoom → disk.new ≡ disk.old }
@@ -109,6 +112,8 @@ impl<D: SectorDisk> Log<D> {
         ensures full { (cs : List Command) → Keeps (D.is_honest self.old.disk) (D.history self.old.disk) self.old.end cs
             → IsErrOf result AppendFault.Full → (fits cs command.now ≡ false)
             × Keeps (D.is_honest self.new.disk) (D.history self.new.disk) self.new.end cs }
+        ensures device { (cs : List Command) → Keeps (D.is_honest self.old.disk) (D.history self.old.disk) self.old.end cs
+            → IsErrOf result AppendFault.Device → Wavers (D.is_honest self.new.disk) (D.history self.new.disk) cs (command.now ∷ []) }
         ensures up { IsErrOf result AppendFault.Device ⊎ (self.new.is_up ≡ true) }
     {
         match append_command(alloc, &mut self.disk, self.end, command) {
@@ -132,6 +137,7 @@ impl<D: SectorDisk> Log<D> {
             → MatchResult result
             (λ loaded. (loaded.0 ≡ length cs) × (loaded.1 ≡ folded cs) × Keeps (D.is_honest self.new.disk) (D.history self.new.disk) self.new.end cs)
             (λ fault. (fault ≡ LoadFault.Memory) ⊎ (fault ≡ LoadFault.Device)) }
+        ensures time { D.is_honest self.old.disk ≡ true → Stays (D.history self.old.disk) (D.history self.new.disk) }
         ensures up { OnOk result (self.new.is_up ≡ true) }
         ensures in_range { IfOk result (λ loaded. loaded.0 ≤ COMMAND_NUMBER_MAX) }
         ensures same_honesty { D.is_honest self.new.disk ≡ D.is_honest self.old.disk }
@@ -141,5 +147,27 @@ impl<D: SectorDisk> Log<D> {
         self.end = loaded.end;
         self.is_up = true;
         Ok((loaded.count, loaded.durable))
+    }
+}
+
+impl<D: Breakable> Log<D> {
+    /// From now on the disk passes that many calls, and then fails each; `None`: it passes every call.
+    pub fn set_fuse(&mut self, calls: Option<u64>)
+        ensures same_honesty { D.is_honest self.new.disk ≡ D.is_honest self.old.disk }
+        ensures same_history { D.history self.new.disk ≡ D.history self.old.disk }
+        ensures same_end { self.new.end ≡ self.old.end }
+        ensures same_up { self.new.is_up ≡ self.old.is_up }
+    {
+        self.disk.set_fuse(calls);
+    }
+
+    /// The log after a power loss, not loaded yet.
+    pub fn lose_power(self, crash: Crash) -> Self
+        ensures same_honesty { D.is_honest result.disk ≡ D.is_honest self.disk }
+        ensures image { D.is_honest self.disk ≡ true → IsImage (present (D.history self.disk)) (present (D.history result.disk)).content }
+        ensures synced { D.is_honest self.disk ≡ true → IsSynced (present (D.history result.disk)) }
+    {
+        let Log { disk, .. } = self;
+        Log::new(disk.lose_power(crash))
     }
 }

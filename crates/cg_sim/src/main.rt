@@ -2,6 +2,7 @@
 #![tactic(auto)]
 
 mod desk;
+mod device;
 mod held;
 mod line;
 mod loading;
@@ -9,9 +10,9 @@ mod log;
 mod program;
 mod reply;
 mod script;
+mod serving;
 mod settle;
 mod text;
-mod trouble;
 mod word;
 
 pub use script::script;

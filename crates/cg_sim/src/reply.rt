@@ -1,8 +1,10 @@
 //! The lines that answer requests.
-ghost use Rattle.std.specs.Prelude.{◌≡◌, IfOk};
+ghost use Rattle.std.specs.Prelude.{◌≡◌, ◌⊎◌, IfOk, codes};
+ghost use Rattle.cg_sim.specs.Program.{fault_line};
 ghost use Rattle.std.specs.Option.{option_copied};
 ghost use Rattle.cg_sim.specs.Reply.{err_line, fetched_line, ok_line};
 
+use crate::loading::LoadFault;
 use cg_fold::StoredOffset;
 use cg_names::{Code, Topic};
 use cg_record::Partition;
@@ -11,6 +13,24 @@ use std::marker::Model;
 
 /// The line that tells that a frame does not fit.
 pub const FAULT_FULL: &[u8] = b"FAULT Full\n";
+
+/// The line that tells that the disk failed.
+pub const FAULT_DEVICE: &[u8] = b"FAULT Device\n";
+
+/// The line that tells that memory is wanting for something else than a request.
+pub const FAULT_MEMORY: &[u8] = b"FAULT Memory\n";
+
+/// The line that names why a log was not loaded; want of memory ends the script and has none.
+pub fn load_fault(fault: LoadFault) -> Result<&'static [u8], AllocError>
+    ensures { IfOk result (λ line. (fault ≡ LoadFault.Memory) ⊎ (fault ≡ LoadFault.Device) → line.now ≡ fault_line (codes "Device")) }
+{
+    match fault {
+        LoadFault::Memory => Err(AllocError),
+        LoadFault::Device => Ok(FAULT_DEVICE),
+        LoadFault::BadFrame => Ok(b"FAULT BadFrame\n"),
+        LoadFault::BadRecord => Ok(b"FAULT BadRecord\n"),
+    }
+}
 
 /// A line to print, with its line feed. Contracts see it as its bytes.
 #[derive(Drop)]
