@@ -1,7 +1,6 @@
 -- What a search for a byte says of the parts before and behind it.
-use Rattle.std.proofs.Common.{◌≡◌, ◌≢◌, ℕ, zero, suc, ◌+◌, ◌<◌, ◌≤◌, List, [], ◌∷◌, length, get_or, take, drop, Some, None, true, false, cond, refl, ap, sym, ◌∙◌, arith, eqb, Option}
-use Rattle.std.proofs.lemmas.Grind.{common_steps}
-use Rattle.memchr.specs.Find.{Nowhere, Passes, is_byte, IsFirstByte, NoneBefore}
+use Rattle.std.proofs.Common.{◌≡◌, ℕ, zero, suc, ◌<◌, List, [], ◌∷◌, length, take, drop, Some, None, true, false, cond, refl, ap, arith, eqb, Option}
+use Rattle.memchr.specs.Find.{Passes, is_byte}
 use Rattle.std.specs.Option.{option_map}
 use Rattle.cg_sim.specs.Text.{cut_of}
 

@@ -1,5 +1,5 @@
 -- What requests and flushes make of a program that serves.
-use Rattle.std.proofs.Common.{◌≡◌, ℕ, zero, suc, ◌+◌, Bool, true, false, cond, List, [], ◌∷◌, ◌++◌, length, codes, take, drop, Option, None, Some, sym, ap, ◌∙◌, subst, refl, append_assoc, append-nil}
+use Rattle.std.proofs.Common.{◌≡◌, ℕ, zero, suc, Bool, true, false, cond, List, [], ◌∷◌, ◌++◌, length, codes, take, drop, None, Some, sym, ap, ◌∙◌, subst, refl, append_assoc, append-nil}
 use Rattle.cg_disk.specs.Disk.{History}
 use Rattle.cg_names.specs.declared.code.Code.{Code}
 use Rattle.cg_record.specs.declared.command.Command.{Command}
@@ -12,12 +12,11 @@ use Rattle.cg_sim.specs.declared.program.Stage.TheVariants.{Serving, Failed}
 use Rattle.cg_sim.specs.declared.settle.Settled.{Settled}
 use Rattle.cg_sim.specs.declared.settle.Settled.TheVariants as variants
 use Rattle.cg_sim.specs.Reply.{err_line}
-use Rattle.cg_sim.specs.Program.{State, asked, commands_of, fault_line, fits, flushed, is_empty, is_too_long, refusals, released, settling}
-use Rattle.cg_sim.specs.Phase.{Step, broken, failed, serve, serving, serving_flush, told}
+use Rattle.cg_sim.specs.Program.{State, asked, fault_line, fits, flushed, is_empty, is_too_long, refusals, released, settling}
+use Rattle.cg_sim.specs.Phase.{Step, broken, failed, serving, serving_flush, told}
 use Rattle.cg_sim.specs.Desk.{StandsFor}
-use Rattle.cg_sim.specs.Log.{Keeps, Moves, Settles, Wavers}
+use Rattle.cg_sim.specs.Log.{Keeps, Moves, Settles}
 use Rattle.cg_sim.specs.Running.{Makes, Runs, Stands}
-use Rattle.cg_sim.proofs.Settling.{settling-nil}
 
 pub told-makes : (session : ℕ) (code : Code) (line : List ℕ) (step : Step) (stage : Stage) (honest : Bool) (history : History) (end : ℕ) (desk : Desk) (before mid after : List ℕ)
     → line ≡ err_line session code → mid ≡ before ++ line → Makes step stage honest history end desk mid after → Makes (told session code step) stage honest history end desk before after

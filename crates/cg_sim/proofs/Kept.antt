@@ -1,13 +1,12 @@
 -- One more command in the log.
-use Rattle.std.proofs.Common.{◌≡◌, ℕ, ◌+◌, Bool, true, List, [], ◌∷◌, ◌++◌, length, map, sym, ap, ◌∙◌, subst, refl, arith, inl, inr}
-use Rattle.std.specs.List.{AllByRecursion, fold}
+use Rattle.std.proofs.Common.{◌≡◌, ℕ, Bool, List, [], ◌∷◌, ◌++◌, length, map, sym, ap, ◌∙◌, subst, arith, inl, inr}
 use Rattle.std.proofs.lemmas.List.{map-append}
 use Rattle.std.proofs.lemmas.List.Sums.{fold_push}
 use Rattle.cg_disk.specs.Disk.{History, LeavesOnly, present}
 use Rattle.cg_frame.specs.Frames.{HasFrames, next_gate}
 use Rattle.cg_frame.specs.Outcomes.{IsBeforeOrAfter, KeepsFramesTo}
 use Rattle.cg_record.specs.declared.command.Command.{Command}
-use Rattle.cg_record.specs.Lawful.{AreCommands, IsCommand}
+use Rattle.cg_record.specs.Lawful.{AreCommands}
 use Rattle.cg_record.specs.Spelling.{spelling}
 use Rattle.cg_sim.specs.Program.{end_of, payload_bytes}
 use Rattle.cg_sim.specs.Log.{Keeps, Wavers, frame_of, log_segment}

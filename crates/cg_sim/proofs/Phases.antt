@@ -1,7 +1,7 @@
 -- How the program comes from phase to phase.
-use Rattle.std.proofs.Common.{◌≡◌, ◌≢◌, ◌⊎◌, ℕ, ◌+◌, Bool, true, false, List, [], ◌∷◌, ◌++◌, map, length, codes, take, drop, Option, None, Some, sym, ap, ◌∙◌, subst, refl, inl, inr, append_assoc, append-nil}
+use Rattle.std.proofs.Common.{◌≡◌, ℕ, Bool, true, false, List, [], ◌∷◌, ◌++◌, map, length, codes, Option, None, Some, sym, ap, ◌∙◌, subst, refl, inl, inr, append-nil}
 use Rattle.std.specs.Fmt.{decimal}
-use Rattle.cg_disk.specs.Disk.{History, Image, IsImage, IsSynced, Stays, present}
+use Rattle.cg_disk.specs.Disk.{History, IsImage, IsSynced, Stays, present}
 use Rattle.cg_disk.proofs.Moments.{Stays-content, Stays-synced}
 use Rattle.cg_record.specs.declared.command.Command.{Command}
 use Rattle.cg_record.specs.Lawful.{AreCommands}
@@ -14,10 +14,10 @@ use Rattle.cg_sim.specs.declared.line.Line.TheVariants.{Skipped, Flush, Reload, 
 use Rattle.cg_sim.specs.declared.line.Request.{Request}
 use Rattle.cg_sim.specs.declared.program.Stage.{Stage}
 use Rattle.cg_sim.specs.declared.program.Stage.TheVariants.{Serving, Failed, Unloaded}
-use Rattle.cg_sim.specs.Program.{State, Turn, fault_line, fresh, loaded_line, released}
-use Rattle.cg_sim.specs.Phase.{Chance, Memory, Phase, Step, code_in, failed, first_load, flush_step, idle_step, line_step, load_step, on_disk, quiet, request_step, serve, serving, serving_flush, serving_step, told, unloaded}
+use Rattle.cg_sim.specs.Program.{State, Turn, fault_line, fresh, released}
+use Rattle.cg_sim.specs.Phase.{Chance, Memory, Phase, code_in, failed, first_load, flush_step, idle_step, line_step, load_step, on_disk, quiet, request_step, serve, serving, serving_flush, serving_step, told, unloaded}
 use Rattle.cg_sim.specs.Desk.{StandsFor}
-use Rattle.cg_sim.specs.Log.{HasLog, Keeps, Rests, Wavers, frame_of, log_segment}
+use Rattle.cg_sim.specs.Log.{HasLog, Keeps, Rests, frame_of}
 use Rattle.cg_sim.specs.Running.{Makes, Runs, Stands}
 use Rattle.cg_sim.proofs.Synced.{has_same}
 

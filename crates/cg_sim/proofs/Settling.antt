@@ -1,6 +1,6 @@
 -- How far the settling of waiting commands has come.
 use Rattle.cg_sim.specs.declared.settle.Settled.TheVariants as variants
-use Rattle.std.proofs.Common.{zero, suc, take, drop, append-nil, ◌≡◌, ℕ, ◌+◌, ◌<◌, ◌≤◌, Bool, true, false, List, [], ◌∷◌, ◌++◌, length, cond, sym, ap, ◌∙◌, subst, refl, arith, append_assoc}
+use Rattle.std.proofs.Common.{zero, suc, take, drop, append-nil, ◌≡◌, ℕ, ◌+◌, ◌≤◌, Bool, true, false, List, [], ◌∷◌, ◌++◌, length, cond, sym, ap, ◌∙◌, subst, refl, arith, append_assoc}
 use Rattle.std.specs.List.{fold}
 use Rattle.cg_disk.specs.Disk.{History}
 use Rattle.cg_frame.specs.Frames.{next_gate}

@@ -1,7 +1,7 @@
 -- What a sync makes of a log that is read.
-use Rattle.std.proofs.Common.{◌≡◌, ℕ, ◌+◌, Bool, true, List, [], ◌∷◌, map, length, get_or, sym, ap, ◌∙◌, subst, refl}
+use Rattle.std.proofs.Common.{◌≡◌, ℕ, ◌+◌, Bool, true, List, [], ◌∷◌, map, get_or, sym, ap, ◌∙◌, subst}
 use Rattle.std.specs.List.{fold}
-use Rattle.cg_disk.specs.Disk.{History, Image, IsImage, IsSynced, Stays, present}
+use Rattle.cg_disk.specs.Disk.{History, Image, IsSynced, Stays, present}
 use Rattle.cg_disk.proofs.Moments.{IsSynced-image, Stays-content, Stays-synced}
 use Rattle.cg_frame.specs.Frames.{Chain, HasFramesTo, next_gate}
 use Rattle.cg_frame.proofs.Standing.{Chain-same}

@@ -1,5 +1,5 @@
 -- What a line of a script says, or None where it is a bad one.
-use Rattle.std.specs.Prelude.{◌≡◌, ℕ, List, Bool, ◌||◌, Option, None, Some, if◌then◌else◌, codes, is_some}
+use Rattle.std.specs.Prelude.{ℕ, List, Bool, ◌||◌, Option, None, Some, if◌then◌else◌, codes, is_some}
 use Rattle.std.specs.Str.{bytes_eq}
 use Rattle.cg_names.specs.Grammar.{fault_of}
 use Rattle.cg_names.specs.declared.name.TheConstants.{NAME_BYTES_MAX}

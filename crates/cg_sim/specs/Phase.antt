@@ -1,5 +1,5 @@
 -- What each line of a script does, whether the coordinator serves or not, and what no script decides: memory, and failures of the disk.
-use Rattle.std.specs.Prelude.{ℕ, Bool, true, false, List, [], ◌++◌, codes, take, drop, Option, None, Some, if◌then◌else◌}
+use Rattle.std.specs.Prelude.{ℕ, Bool, false, List, [], ◌++◌, codes, take, drop, Option, None, Some, if◌then◌else◌}
 use Rattle.cg_names.specs.declared.code.Code.{Code}
 use Rattle.cg_names.specs.declared.code.Code.TheVariants.{CoordinatorLoadInProgress, CoordinatorNotAvailable, UnknownServerError}
 use Rattle.cg_record.specs.declared.command.Command.{Command}

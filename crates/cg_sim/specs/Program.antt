@@ -1,6 +1,6 @@
 -- What requests and flushes do while the coordinator serves. The definition is over lists: it knows no disk, no frames and no bytes of
 -- records but their number.
-use Rattle.std.specs.Prelude.{ℕ, ◌+◌, ◌/◌, Bool, true, false, List, [], ◌∷◌, ◌++◌, length, codes, nat_lt, nat_le, if◌then◌else◌}
+use Rattle.std.specs.Prelude.{ℕ, ◌/◌, Bool, true, false, List, [], ◌∷◌, ◌++◌, length, codes, nat_lt, nat_le, if◌then◌else◌}
 use Rattle.std.specs.List.{flat_map, fold, prefix_len}
 use Rattle.std.specs.Prelude.{take, drop}
 use Rattle.std.specs.Fmt.{decimal}

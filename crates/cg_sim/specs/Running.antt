@@ -1,15 +1,13 @@
 -- How the program stands for its meaning, from line to line.
-use Rattle.std.specs.Prelude.{◌≡◌, ◌≢◌, ℕ, Bool, List, ◌++◌, Option, None, Some}
+use Rattle.std.specs.Prelude.{◌≡◌, ℕ, Bool, List, ◌++◌}
 use Rattle.cg_disk.specs.Disk.{History}
-use Rattle.cg_record.specs.declared.command.Command.{Command}
 use Rattle.cg_sim.specs.declared.desk.Desk.{Desk}
 use Rattle.cg_sim.specs.declared.program.Stage.{Stage}
 use Rattle.cg_sim.specs.declared.program.Stage.TheVariants.{Serving, Failed, Unloaded}
 use Rattle.cg_sim.specs.Program.{State}
-use Rattle.cg_sim.specs.Phase.{Chance, Phase, Step, failed, serving, short, unloaded}
+use Rattle.cg_sim.specs.Phase.{Phase, Step, failed, serving, unloaded}
 use Rattle.cg_sim.specs.Desk.{StandsFor}
 use Rattle.cg_sim.specs.Log.{Keeps, Rests, Wavers}
-use Rattle.cg_sim.specs.Meaning.{Output, meaning}
 
 -- the desk stands for the state, and the log has its settled commands
 pub record Runs (honest : Bool) (history : History) (end : ℕ) (desk : Desk) (state : State) : Type 0 where

@@ -12,6 +12,8 @@ mod reply;
 mod script;
 mod serving;
 mod settle;
+#[cfg(test)]
+mod tests;
 mod text;
 mod word;
 

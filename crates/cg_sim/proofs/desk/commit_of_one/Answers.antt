@@ -1,4 +1,3 @@
-use Rattle.std.proofs.Common.{rules}
 use Rattle.cg_sim.proofs.Singles.{one_is_entries}
 use Rattle.cg_sim.proofs.desk.commit_of_one.Goals as goal
 

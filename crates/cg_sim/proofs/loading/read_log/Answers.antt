@@ -1,11 +1,11 @@
-use Rattle.std.proofs.Common.{◌≡◌, ℕ, ◌+◌, ◌<◌, ◌≤◌, [], ◌∷◌, ◌∙◌, sym, ap, subst, refl, inl, arith, true, length, Ok, Some, None}
+use Rattle.std.proofs.Common.{◌≡◌, ◌<◌, [], ◌∷◌, ◌∙◌, subst, inl, arith, length, Ok}
 use Rattle.std.specs.Prelude.{IfSome}
 use Rattle.std.proofs.lemmas.Result.{err_from_is_err_and}
 use Rattle.cg_disk.specs.Disk.{present}
 use Rattle.cg_disk.proofs.Moments.{Changes-then, Stays-content}
-use Rattle.cg_frame.specs.Frames.{FrameAt, next_gate}
+use Rattle.cg_frame.specs.Frames.{next_gate}
 use Rattle.cg_frame.specs.declared.segment.TheConstants.{SEGMENT_SECTORS}
-use Rattle.cg_sim.specs.Log.{Finds, log_segment}
+use Rattle.cg_sim.specs.Log.{Finds}
 use Rattle.cg_sim.proofs.Progress.{refusal, next_there, more, moved, ends_there}
 use Rattle.cg_sim.proofs.loading.read_log.Goals as goal
 

@@ -1,11 +1,10 @@
-use Rattle.std.proofs.Common.{◌≡◌, ℕ, ◌+◌, ◌-◌, ◌<◌, ◌≤◌, List, map, true}
+use Rattle.std.proofs.Common.{◌≡◌, ℕ, ◌-◌, ◌<◌, ◌≤◌, List, map, true}
 use Rattle.cg_disk.specs.Disk.{Stays, present}
 use Rattle.cg_frame.specs.Frames.{HasFramesTo}
 use Rattle.cg_frame.specs.declared.segment.TheConstants.{SEGMENT_SECTORS}
 use Rattle.cg_record.specs.declared.command.Command.{Command}
 use Rattle.cg_record.specs.Lawful.{AreCommands}
 use Rattle.cg_sim.specs.Log.{frame_of, log_segment}
-use Rattle.cg_sim.specs.declared.log.TheConstants.{LOG_FIRST_SECTOR}
 use Rattle.cg_sim.specs.declared.desk.TheConstants.{COMMAND_NUMBER_MAX}
 use Rattle.cg_sim.proofs.Progress.{Progress}
 use Rattle.cg_sim.proofs.loading.read_log.Given as goal

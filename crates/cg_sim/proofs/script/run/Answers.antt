@@ -1,4 +1,4 @@
-use Rattle.std.proofs.Common.{◌≡◌, ◌∙◌, ◌++◌, [], Ok, Err, ap}
+use Rattle.std.proofs.Common.{◌∙◌, ◌++◌, [], Ok, Err, ap}
 use Rattle.std.proofs.lemmas.Result.{err_from_is_err_and}
 use Rattle.cg_sim.specs.Phase.{load_step}
 use Rattle.cg_sim.specs.Meaning.{meaning}

@@ -1,4 +1,4 @@
-use Rattle.std.proofs.Common.{◌≡◌, inl, inr, refl}
+use Rattle.std.proofs.Common.{inr}
 use Rattle.cg_sim.specs.Meaning.{meaning}
 use Rattle.cg_sim.proofs.Telling.{ends-short}
 use Rattle.cg_sim.proofs.script.script.Goals as goal

@@ -1,4 +1,4 @@
-use Rattle.std.proofs.Common.{◌≡◌, ◌∙◌, ◌++◌, List, ap, refl}
+use Rattle.std.proofs.Common.{◌∙◌, ◌++◌, List, ap, refl}
 use Rattle.cg_sim.specs.Phase.{Chance}
 use Rattle.cg_sim.specs.Meaning.{Output, bad_line, lines_of, output_of, printed}
 use Rattle.cg_sim.proofs.Telling.{begins, emitted, ends, ends-badly, fails, goes, runs-out}

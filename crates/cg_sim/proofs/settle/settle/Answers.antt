@@ -1,5 +1,4 @@
-use Rattle.std.proofs.Common.{◌≡◌, ◌<◌, ◌≤◌, ◌+◌, ◌∙◌, ◌⊎◌, [], ◌∷◌, ◌++◌, List, take, drop, length, deque_len, get_or, refl, sym, ap, inl, inr, arith, rules, true, Ok, Err}
-use Rattle.cg_record.specs.declared.command.Command.{Command}
+use Rattle.std.proofs.Common.{◌≡◌, ◌<◌, [], ◌++◌, take, drop, length, deque_len, refl, inl, inr, arith, rules}
 use Rattle.cg_frame.specs.declared.segment.TheConstants.{SEGMENT_SECTORS}
 use Rattle.cg_sim.proofs.Leaving.{front_is, none_left}
 use Rattle.cg_sim.proofs.Settling.{length-le-end_of, none_yet, step, stops_broken, stops_full, stops_empty}

@@ -1,4 +1,3 @@
-use Rattle.std.proofs.Common.{◌≡◌, rules, Some, None, true, false, cond, sym, ap, refl}
 use Rattle.cg_sim.proofs.Front.{stripped}
 use Rattle.cg_sim.proofs.text.behind.Goals as goal
 

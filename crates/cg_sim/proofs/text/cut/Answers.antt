@@ -1,8 +1,7 @@
-use Rattle.std.proofs.Common.{◌≡◌, ◌+◌, ◌-◌, ◌≤◌, ℕ, List, length, take, drop, Some, sym, ◌∙◌, ap, arith, zero-le}
+use Rattle.std.proofs.Common.{◌+◌, take, drop, sym, ◌∙◌, ap, zero-le}
 use Rattle.std.proofs.lemmas.List.{length-drop}
 use Rattle.std.proofs.Math.Seq.{take-length}
 use Rattle.std.proofs.Math.Numerals.{add-one}
-use Rattle.std.specs.Option.{option_map}
 use Rattle.cg_sim.proofs.Cut.{cut_of-none, cut_of-at}
 use Rattle.cg_sim.proofs.text.cut.Goals as goal
 

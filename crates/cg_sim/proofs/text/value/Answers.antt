@@ -1,8 +1,5 @@
-use Rattle.std.proofs.Common.{◌≡◌, ◌+◌, ◌*◌, ◌-◌, ◌≤◌, ◌<◌, length, drop, get_or, subst, sym, ap, ◌∙◌, arith}
-use Rattle.std.proofs.Math.Seq.{drop-cons}
+use Rattle.std.proofs.Common.{◌+◌, ◌*◌, ◌-◌, ◌≤◌, ◌<◌, length, drop, get_or, sym, ap, ◌∙◌, arith}
 use Rattle.std.proofs.Math.ListN.{drop_of_length-le}
-use Rattle.std.proofs.Math.Numerals.{add-one}
-use Rattle.std.specs.Option.{MatchOption}
 use Rattle.cg_sim.specs.Text.{value_of, value_from}
 use Rattle.cg_sim.proofs.Value.{value_from-le, value_from-drop}
 use Rattle.cg_sim.proofs.text.value.Goals as goal

@@ -1,5 +1,4 @@
 use Rattle.std.proofs.Common.{[], refl, rules}
-use Rattle.cg_fold.specs.Durable.{after, folded}
 use Rattle.cg_sim.proofs.desk.Desk.new.Goals as goal
 
 pub returns : goal.returns

@@ -1,4 +1,4 @@
-use Rattle.std.proofs.Common.{◌≡◌, ◌<◌, ◌≤◌, ◌++◌, ◌∙◌, get_or, length, arith, rules}
+use Rattle.std.proofs.Common.{◌≡◌, ◌<◌, ◌++◌, ◌∙◌, get_or, length, arith, rules}
 use Rattle.cg_sim.proofs.Leaving.{front_is, leaves}
 use Rattle.cg_sim.proofs.held.leaving.release.Goals as goal
 

@@ -1,6 +1,5 @@
-use Rattle.std.proofs.Common.{◌≡◌, ◌<◌, ◌++◌, ◌∙◌, [], length, deque_len, ap, rules, arith, append-nil, sym}
+use Rattle.std.proofs.Common.{◌≡◌, ◌<◌, ◌++◌, ◌∙◌, [], length, deque_len, rules}
 use Rattle.cg_names.specs.declared.code.Code.TheVariants.{CoordinatorNotAvailable}
-use Rattle.cg_sim.specs.Program.{refusals}
 use Rattle.cg_sim.specs.Reply.{err_line}
 use Rattle.cg_sim.proofs.Leaving.{front_is, none_left, refused_one, refused_none}
 use Rattle.cg_sim.proofs.held.refusing.refuse.Goals as goal

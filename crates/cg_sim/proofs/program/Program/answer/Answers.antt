@@ -1,4 +1,3 @@
-use Rattle.std.proofs.Common.{◌≡◌}
 use Rattle.cg_sim.specs.Program.{asked}
 use Rattle.cg_sim.specs.Phase.{enough, short_for_request}
 use Rattle.cg_sim.proofs.Flushing.{asked-runs}

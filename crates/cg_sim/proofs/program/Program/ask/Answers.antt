@@ -1,5 +1,3 @@
-use Rattle.std.proofs.Common.{◌≡◌}
-use Rattle.cg_sim.specs.Phase.{request_step}
 use Rattle.cg_sim.proofs.Phases.{failed-is, request-failed, request-serving, request-unloaded, serving-is, unloaded-is}
 use Rattle.cg_sim.proofs.program.Program.ask.Goals as goal
 

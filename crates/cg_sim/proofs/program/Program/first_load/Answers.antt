@@ -1,4 +1,4 @@
-use Rattle.std.proofs.Common.{◌≡◌, None, inl, inr, refl}
+use Rattle.std.proofs.Common.{None, inl, inr, refl}
 use Rattle.cg_sim.specs.Phase.{load_step}
 use Rattle.cg_sim.proofs.Phases.{first-load-other, first-load-unloaded, unloaded-is}
 use Rattle.cg_sim.proofs.program.Program.first_load.Goals as goal

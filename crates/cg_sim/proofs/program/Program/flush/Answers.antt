@@ -1,5 +1,5 @@
 use Rattle.std.proofs.Common.{◌≡◌, ◌++◌, codes, None, Some, ap, refl}
-use Rattle.cg_sim.specs.Program.{fault_line, refusals}
+use Rattle.cg_sim.specs.Program.{fault_line}
 use Rattle.cg_sim.proofs.Flushing.{flush-all, flush-broken, flush-full}
 use Rattle.cg_sim.proofs.program.Program.flush.Goals as goal
 

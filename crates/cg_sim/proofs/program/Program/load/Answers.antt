@@ -1,5 +1,4 @@
 use Rattle.std.proofs.Common.{◌≡◌, ◌∙◌, ◌++◌, codes, rules, None, Some, refl, sym, ap, subst}
-use Rattle.cg_disk.specs.Disk.{present}
 use Rattle.cg_sim.specs.Program.{fault_line}
 use Rattle.cg_sim.specs.Log.{Rests}
 use Rattle.cg_sim.proofs.Phases.{load-fails, load-makes, rests-content, rests-stay}

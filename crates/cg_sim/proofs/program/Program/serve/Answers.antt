@@ -1,4 +1,4 @@
-use Rattle.std.proofs.Common.{◌≡◌, None, false}
+use Rattle.std.proofs.Common.{None, false}
 use Rattle.cg_sim.specs.Phase.{Chance, enough, fair, flush_step, idle_step, load_step, on_disk, quiet, request_step, unloaded}
 use Rattle.cg_sim.proofs.Phases.{ask-line, flush-line, fuse-line, load-line, makes-unloaded, reload-line, skipped-line, stop-line}
 use Rattle.cg_sim.proofs.program.Program.serve.Goals as goal

@@ -1,5 +1,4 @@
-use Rattle.std.proofs.Common.{◌≡◌, None, inl, inr}
-use Rattle.cg_sim.specs.Phase.{flush_step}
+use Rattle.std.proofs.Common.{None, inl, inr}
 use Rattle.cg_sim.proofs.Phases.{flush-other, flush-serving, makes-quiet, serving-is}
 use Rattle.cg_sim.proofs.program.Program.settle.Goals as goal
 

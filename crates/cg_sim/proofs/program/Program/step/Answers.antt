@@ -1,4 +1,4 @@
-use Rattle.std.proofs.Common.{◌≡◌, ap, refl, sym}
+use Rattle.std.proofs.Common.{ap, refl, sym}
 use Rattle.std.specs.Option.{option_and_then}
 use Rattle.cg_sim.specs.Phase.{fair, line_step}
 use Rattle.cg_sim.proofs.program.Program.step.Goals as goal

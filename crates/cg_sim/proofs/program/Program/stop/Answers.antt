@@ -1,5 +1,3 @@
-use Rattle.std.proofs.Common.{◌≡◌, ◌∙◌, ap, subst, sym, true}
-use Rattle.cg_disk.specs.Disk.{IsImage, IsSynced, present}
 use Rattle.cg_sim.proofs.Phases.{stop-rests}
 use Rattle.cg_sim.proofs.program.Program.stop.Goals as goal
 

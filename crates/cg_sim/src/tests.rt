@@ -1,0 +1,113 @@
+use super::*;
+use std::alloc::{AllocError, Global};
+use std::io::{BufReader, ErrorKind, Read, Write};
+use std::test::*;
+
+// Gives its bytes, and then fails.
+#[derive(Drop)]
+struct BreaksOff {
+    bytes: &'static [u8],
+}
+
+impl Read for BreaksOff {
+    fn read(&mut self, buf: &mut [u8]) -> io::Result<usize> {
+        if self.bytes.is_empty() {
+            return Err(ErrorKind::Other.into());
+        }
+        self.bytes.read(buf)
+    }
+}
+
+// Takes nothing.
+#[derive(Drop)]
+struct TakesNothing;
+
+impl Write for TakesNothing {
+    fn write(&mut self, _: &[u8]) -> io::Result<usize> {
+        Err(ErrorKind::Other.into())
+    }
+
+    fn flush(&mut self) -> io::Result<()> {
+        Ok(())
+    }
+}
+
+#[test]
+fn a_read_that_fails_in_mid_line(rt: HostRuntime) -> Result<(), Fail> {
+    let bytes: &[u8] = b"s1 FETCH g t:0\ns1 FET";
+    let mut reader = BufReader::new(rt.alloc(), BreaksOff { bytes })?;
+    let mut written = Vec::new(rt.alloc());
+    assert_eq!(rt; script(rt.alloc(), &mut reader, &mut written), 3);
+    assert_eq!(rt;
+        written.as_slice(),
+        b"LOADED 0 0 0\ns1 FETCHED t:0:-1:x\n".as_slice()
+    );
+    Ok(())
+}
+
+#[test]
+fn a_write_that_fails(rt: HostRuntime) {
+    let mut reader: &[u8] = b"flush\n";
+    assert_eq!(rt; script(rt.alloc(), &mut reader, &mut TakesNothing), 3);
+}
+
+// What a script writes that ends with status 0; nothing for another status.
+fn output(alloc: Global, text: &str) -> Result<String, AllocError> {
+    let mut written = Vec::new(alloc);
+    let mut reader = text.as_bytes();
+    if script(alloc, &mut reader, &mut written) != 0 {
+        return Ok(String::new(alloc));
+    }
+    match String::from_utf8(written) {
+        Ok(text) => Ok(text),
+        Err(_) => Ok(String::new(alloc)),
+    }
+}
+
+// Whether the offset that was fetched last is at least the last that was acknowledged: the n-th `OK` is for offset 41 + n.
+fn has_all_acknowledged(alloc: Global, output: &str) -> Result<bool, AllocError> {
+    let acknowledged = output.matches(" OK\n").count();
+    for offset in acknowledged.saturating_add(41)..46 {
+        let fetched = format!(in alloc; "s1 FETCHED t:0:{offset}:x\n")?;
+        if output.ends_with(fetched.as_str()) {
+            return Ok(true);
+        }
+    }
+    Ok(acknowledged == 0 && output.ends_with("s1 FETCHED t:0:-1:x\n"))
+}
+
+// Runs commits of offset 42 and on around a fuse of k calls, a flush, a stop, a loading and a fetch, for each k until a
+// run meets no failure; whether that came, and no run misses an acknowledged offset.
+fn no_offset_is_missing(
+    alloc: Global,
+    before: &str,
+    behind: &str,
+    stop: &str,
+) -> Result<bool, AllocError> {
+    for calls in 0..64 {
+        let text = format!(in alloc;
+            "{before}fuse {calls}\n{behind}flush\nstop {stop}\nload\ns1 FETCH g t:0\n"
+        )?;
+        let output = output(alloc, text.as_str())?;
+        if !has_all_acknowledged(alloc, output.as_str())? {
+            return Ok(false);
+        }
+        if !output.contains("FAULT") {
+            return Ok(true);
+        }
+    }
+    Ok(false)
+}
+
+#[test]
+fn a_stop_after_each_call(rt: HostRuntime) -> Result<(), Fail> {
+    let commit = "s1 COMMIT g -1 - - t:0:42:x\n";
+    let three = "s1 COMMIT g -1 - - t:0:42:x\nflush\ns1 COMMIT g -1 - - t:0:43:x\n\
+                 s2 COMMIT g -1 - - t:0:44:x\ns3 COMMIT g -1 - - t:0:45:x\n";
+    for stop in ["keep", "lose"] {
+        assert!(rt; no_offset_is_missing(rt.alloc(), "", commit, stop)?);
+        assert!(rt; no_offset_is_missing(rt.alloc(), commit, "", stop)?);
+        assert!(rt; no_offset_is_missing(rt.alloc(), three, "", stop)?);
+    }
+    Ok(())
+}
