@@ -11,3 +11,4 @@ pub mod Steps
 pub mod Again
 pub mod Told
 pub mod TextLens
+pub mod Replacing

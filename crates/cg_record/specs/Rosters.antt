@@ -1,5 +1,5 @@
 -- What the members of a group are together: how many, that no id and no instance comes twice, and that one of them leads.
-use Rattle.std.specs.Prelude.{ℕ, ◌≤◌, Bool, false, ◌||◌, List, length, Option, Some, None, IsTrue}
+use Rattle.std.specs.Prelude.{◌≡◌, ℕ, ◌<◌, ◌≤◌, Bool, true, false, not, ◌||◌, ◌&&◌, List, length, map, slice_index_or, Option, Some, None, IsTrue, if◌then◌else◌}
 use Rattle.std.specs.List.{list_any, IsDistinct}
 use Rattle.std.specs.Str.{bytes_eq}
 use Rattle.cg_record.specs.declared.roster.TheConstants.{MEMBERS_MAX}
@@ -51,3 +51,41 @@ pub record AreMembers (members : List Member) : Type 0 where
 pub record IsRoster (roster : RosterParts) : Type 0 where
   pub members : AreMembers roster.members
   pub led : IsTrue (is_led_by roster.leader roster.members)
+
+-- ---- a member that takes another's place (KIP-345)
+
+-- the new member has the old one's instance
+abbrev pub takes_place_of : Member → Member → Bool
+takes_place_of new old = has_instance new.instance old
+
+-- the new member has the id of one whose place it does not take
+abbrev pub has_id_of_other : Member → Member → Bool
+has_id_of_other new other = has_id new.id other && not (takes_place_of new other)
+
+-- one of the members has the new one's instance, and no other has its id
+abbrev pub may_replace : Member → List Member → Bool
+may_replace new members = list_any (takes_place_of new) members && not (list_any (has_id_of_other new) members)
+
+-- the place of the one with its instance, which it may take
+pub record IsPlace (new : Member) (members : List Member) (at : ℕ) : Type 0 where
+  pub may : may_replace new members ≡ true
+  pub within : at < length members
+  pub taken : (d : Member) → takes_place_of new (slice_index_or members at d) ≡ true
+
+-- the new member in the place of the one with its instance
+abbrev pub seated : Member → Member → Member
+seated new old = if takes_place_of new old then new else old
+
+-- the leader is the one whose place is taken
+abbrev pub leads_and_goes : Member → List ℕ → Member → Bool
+leads_and_goes new leader old = takes_place_of new old && has_id leader old
+
+-- the new one's id, where it takes the leader's place
+abbrev pub leader_after : Member → RosterParts → List ℕ
+leader_after new roster = if list_any (leads_and_goes new roster.leader) roster.members then new.id else roster.leader
+
+-- the members with the new one in the place of the one with its instance, where it may take it
+unfoldable pub replaced_in : Member → RosterParts → RosterParts
+replaced_in new roster =
+    if may_replace new roster.members then roster_of roster.protocol (leader_after new roster) (map (seated new) roster.members)
+    else roster

@@ -1,5 +1,5 @@
 ghost use Rattle.std.specs.Prelude.{◌≡◌, IfOk};
-ghost use Rattle.cg_record.specs.Rosters.{have_one_name, is_one_instance};
+ghost use Rattle.cg_record.specs.Rosters.{have_one_name, has_id_of_other, is_one_instance, takes_place_of};
 
 use crate::millis::{RebalanceTimeout, SessionTimeout};
 use crate::opaque::{Assignment, Subscription};
@@ -43,6 +43,20 @@ fn copied_instance(instance: &Option<InstanceId>) -> Result<Option<InstanceId>, 
 }
 
 impl Member {
+    /// Whether this one takes the other's place: it has the other's instance (KIP-345).
+    pub fn takes_place_of(&self, other: &Member) -> bool
+        ensures { result ≡ takes_place_of self.now other.now }
+    {
+        is_one_instance(&other.instance, &self.instance)
+    }
+
+    /// Whether this one has the id of the other, whose place it does not take.
+    pub fn has_id_of_other(&self, other: &Member) -> bool
+        ensures { result ≡ has_id_of_other self.now other.now }
+    {
+        other.id.as_bytes() == self.id.as_bytes() && !self.takes_place_of(other)
+    }
+
     /// Whether both have one id, or one instance.
     pub fn has_name_of(&self, other: &Member) -> bool
         ensures { result ≡ have_one_name self.now other.now }

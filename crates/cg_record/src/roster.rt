@@ -1,6 +1,6 @@
-ghost use Rattle.std.specs.Prelude.{◌≡◌, ◌↔◌, IsTrue, IfOk, MatchResult};
+ghost use Rattle.std.specs.Prelude.{◌≡◌, ◌<◌, ◌↔◌, false, length, slice_set, position, if◌then◌else◌, IsTrue, IfOk, MatchOption, MatchResult};
 ghost use Rattle.std.specs.List.{list_any};
-ghost use Rattle.cg_record.specs.Rosters.{AreApart, AreMembers, IsRoster, roster_of, have_one_name, is_led_by};
+ghost use Rattle.cg_record.specs.Rosters.{AreApart, AreMembers, IsPlace, IsRoster, roster_of, has_id_of_other, have_one_name, is_led_by, may_replace, replaced_in, takes_place_of};
 
 use crate::member::Member;
 use cg_names::{MemberId, ProtocolName};
@@ -61,6 +61,50 @@ fn are_members(members: &[Member]) -> bool
     !members.is_empty() && members.len() <= MEMBERS_MAX && are_apart(members)
 }
 
+// Whether another of the members has the new one's id.
+fn is_id_taken(new: &Member, members: &[Member]) -> bool
+    ensures { result ≡ list_any (has_id_of_other new.now) members.now }
+{
+    members.iter().any(|other| new.has_id_of_other(other))
+}
+
+// Where the member with the new one's instance stands.
+fn seat_of(new: &Member, members: &[Member]) -> Option<usize>
+    ensures { result ≡ position (takes_place_of new.now) members.now }
+{
+    members.iter().position(|old| new.takes_place_of(old))
+}
+
+// The place that the new member may take: that of the one with its instance, where no other has its id.
+#[tactic(auto, using(crate::proofs::Replacing::place_found, crate::proofs::Replacing::place_missed, crate::proofs::Replacing::place_refused))]
+fn place_of(new: &Member, members: &[Member]) -> Option<usize>
+    ensures { MatchOption result
+        (may_replace new.now members.now ≡ false)
+        (λ at. IsPlace new.now members.now at) }
+{
+    let at = seat_of(new, members)?;
+    if is_id_taken(new, members) {
+        None
+    } else {
+        Some(at)
+    }
+}
+
+fn seat(members: &mut Vec<Member>, at: usize, new: Member)
+    requires { at < length members.old.items }
+    ensures { members.new.items ≡ slice_set members.old.items at new }
+{
+    members[at] = new;
+}
+
+fn lead(leader: &mut MemberId, leads: bool, id: MemberId)
+    ensures { leader.new ≡ (if leads then id else leader.old) }
+{
+    if leads {
+        *leader = id;
+    }
+}
+
 // Copies of the members, in their order.
 fn copied(alloc: Global, members: &[Member]) -> Result<Vec<Member>, AllocError>
     ensures { IfOk result (λ copies. copies.items ≡ members.now) }
@@ -103,6 +147,22 @@ impl Roster {
             protocol,
             leader,
             members,
+        }
+    }
+
+    /// Puts the new member, whose id this is, into the place of the one with its instance, and lets it lead where that one led
+    /// (KIP-345). Where none has its instance, or another its id, nothing changes. Takes no memory.
+    pub fn replace(&mut self, new: Member, id: MemberId)
+        requires { id ≡ new.id }
+        ensures { self.new ≡ replaced_in new self.old }
+    {
+        match place_of(&new, self.members.as_slice()) {
+            None => {}
+            Some(at) => {
+                let leads = self.members[at].id.as_bytes() == self.leader.as_bytes();
+                lead(&mut self.leader, leads, id);
+                seat(&mut self.members, at, new);
+            }
         }
     }
 
