@@ -11,3 +11,6 @@ mod rows;
 pub use durable::Durable;
 pub use key::{OffsetKey, StoredOffset};
 pub use record::GroupRecord;
+
+#[cfg(test)]
+mod tests;
