@@ -2,3 +2,4 @@ pub mod Place
 pub mod KeyOrder
 pub mod Put
 pub mod Kept
+pub mod Taken

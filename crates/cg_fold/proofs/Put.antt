@@ -6,10 +6,7 @@ use Rattle.std.specs.Prelude.{IsTrue}
 use Rattle.std.specs.Cmp.{IsTotalOrder}
 use Rattle.std.specs.declared.cmp.Ordering.TheVariants.{Equal}
 use Rattle.std.specs.List.{prefix_len, insert}
-use Rattle.cg_fold.specs.declared.key.OffsetKey.{OffsetKey}
-use Rattle.cg_fold.specs.declared.key.StoredOffset.{StoredOffset}
-use Rattle.cg_fold.specs.Key.{IsOther, IsOwn, KeptOffset, key_cmp, is_below}
-use Rattle.cg_fold.proofs.KeyOrder.{key_total}
+use Rattle.std.specs.Ordering.{is_lt}
 use Rattle.cg_fold.proofs.Place.{put-new, put-same}
 use Rattle.std.specs.FinMap as map
 use Rattle.std.specs.FinMap.{is_sorted, put}
@@ -32,24 +29,24 @@ module _ {K X : Type 0} {R : K → K → Ordering} (o : IsTotalOrder R) where
       map.same_entries_map _ _ (map.entries-insert o (map.from_sorted es) key v ∙ ap (put R key v) (map.entries-from_sorted R es sorted)
       ∙ sym (map.entries-from_sorted R (put R key v es) (sorted-put key v es sorted)))
 
--- a row that is written over, and one that is put between others, in the words of the calls
-pub put_over : (items deref deref' : List KeptOffset) (at : ℕ) (key : OffsetKey) (v : StoredOffset) (found : KeptOffset)
-    → deref ≡ items → deref' ≡ items → at ≡ prefix_len (is_below key) deref
-    → IsOwn deref' at key
-    → found ≡ get_or items at found → set items at (found.0, v) ≡ put key_cmp key v items
-put_over items deref deref' at key v found same same' place own is =
-    let inside : at < length items = subst (λ l. at < length l) same' own.0 in
-    let tie : key_cmp (get_or items at found).0 key ≡ Equal = subst (λ l. key_cmp (get_or l at found).0 key ≡ Equal) same' (own.1 found) in
-    let placed : at ≡ prefix_len (is_below key) items = place ∙ ap (prefix_len (is_below key)) same in
-    ap (λ (e : KeptOffset). set items at (e.0, v)) is ∙ sym (put-same key_total key v items at found placed inside tie)
+  -- a row that is written over, and one that is put between others, in the words of the calls
+  pub put_over : (items deref deref' : List (K × X)) (at : ℕ) (key : K) (v : X) (found : K × X)
+      → deref ≡ items → deref' ≡ items → at ≡ prefix_len (λ e. is_lt (R e.0 key)) deref
+      → (at < length deref') × ((d : K × X) → R (get_or deref' at d).0 key ≡ Equal)
+      → found ≡ get_or items at found → set items at (found.0, v) ≡ put R key v items
+  put_over items deref deref' at key v found same same' place own is =
+      let inside : at < length items = subst (λ l. at < length l) same' own.0 in
+      let tie : R (get_or items at found).0 key ≡ Equal = subst (λ l. R (get_or l at found).0 key ≡ Equal) same' (own.1 found) in
+      let placed : at ≡ prefix_len (λ e. is_lt (R e.0 key)) items = place ∙ ap (prefix_len (λ (e : K × X). is_lt (R e.0 key))) same in
+      ap (λ (e : K × X). set items at (e.0, v)) is ∙ sym (put-same o key v items at found placed inside tie)
 
-pub put_between : (items deref deref' : List KeptOffset) (at : ℕ) (key : OffsetKey) (v : StoredOffset)
-    → deref ≡ items → deref' ≡ items → at ≡ prefix_len (is_below key) deref
-    → IsOther deref' at key
-    → insert items at (key, v) ≡ put key_cmp key v items
-put_between items deref deref' at key v same same' place other =
-    let placed : at ≡ prefix_len (is_below key) items = place ∙ ap (prefix_len (is_below key)) same in
-    sym (put-new key_total key v items at placed (λ d inside tie. other d (subst (λ l. at < length l) (sym same') inside) (subst (λ l. key_cmp (get_or l at d).0 key ≡ Equal) (sym same') tie)))
+  pub put_between : (items deref deref' : List (K × X)) (at : ℕ) (key : K) (v : X)
+      → deref ≡ items → deref' ≡ items → at ≡ prefix_len (λ e. is_lt (R e.0 key)) deref
+      → ((d : K × X) → at < length deref' → R (get_or deref' at d).0 key ≡ Equal → ⊥)
+      → insert items at (key, v) ≡ put R key v items
+  put_between items deref deref' at key v same same' place other =
+      let placed : at ≡ prefix_len (λ e. is_lt (R e.0 key)) items = place ∙ ap (prefix_len (λ (e : K × X). is_lt (R e.0 key))) same in
+      sym (put-new o key v items at placed (λ d inside tie. other d (subst (λ l. at < length l) (sym same') inside) (subst (λ l. R (get_or l at d).0 key ≡ Equal) (sym same') tie)))
 
-pub put_keeps_order : (key : OffsetKey) (v : StoredOffset) (items new : List KeptOffset) → new ≡ put key_cmp key v items → IsTrue (is_sorted key_cmp items) → IsTrue (is_sorted key_cmp new)
-put_keeps_order key v items new is sorted = subst (λ l. IsTrue (is_sorted key_cmp l)) (sym is) (is_true _ (sorted-put key_total key v items (tested sorted)))
+  pub put_keeps_order : (key : K) (v : X) (items new : List (K × X)) → new ≡ put R key v items → IsTrue (is_sorted R items) → IsTrue (is_sorted R new)
+  put_keeps_order key v items new is sorted = subst (λ l. IsTrue (is_sorted R l)) (sym is) (is_true _ (sorted-put key v items (tested sorted)))

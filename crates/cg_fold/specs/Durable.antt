@@ -1,34 +1,65 @@
 -- The durable state, and what a command does to it.
-use Rattle.std.specs.Prelude.{ℕ, List, refl}
+use Rattle.std.specs.Prelude.{ℕ, Bool, not, List, Option, Some, None, IsTrue, bytes_eq, refl}
 use Rattle.std.specs.List.{fold}
 use Rattle.std.specs.FinMap as map
-use Rattle.std.specs.Coded.{Coded, code_by}
+use Rattle.std.specs.FinMap.{is_sorted}
+use Rattle.std.specs.Coded.{Coded, code_by, coded×, coded_list, coded_ℕ}
 use Rattle.cg_record.specs.declared.command.Command.{Command}
-use Rattle.cg_record.specs.declared.command.Command.TheVariants.{Committed}
+use Rattle.cg_record.specs.declared.command.Command.TheVariants.{Assigned, Emptied, Replaced, Committed, Deleted}
 use Rattle.cg_record.specs.declared.entry.Entry.{Entry}
+use Rattle.cg_record.specs.declared.member.Member.{Member}
 use Rattle.cg_fold.specs.declared.key.OffsetKey.{OffsetKey}
 use Rattle.cg_fold.specs.declared.key.StoredOffset.{StoredOffset}
-use Rattle.cg_fold.specs.Key.{key_cmp, kept_of, key_code, stored_code}
+use Rattle.cg_fold.specs.declared.record.GroupRecord.{GroupRecord}
+use Rattle.cg_fold.specs.Key.{KeptOffset, key_cmp, name_cmp, kept_of, key_code, stored_code}
+use Rattle.cg_fold.specs.Record.{KeptRecord, assigned_record, emptied_record, replaced_record, is_record_of_other, record_code}
 
--- what loading has to give back: for each partition of each topic, how far a group has read it
+-- what loading has to give back: the record of each group, and for each partition of each topic how far a group has read it
 pub record State : Type 0 where
+  pub records : map.FinMap name_cmp GroupRecord
   pub offsets : map.FinMap key_cmp StoredOffset
 
 -- a state is stored as its maps
 abbrev pub state_code : Coded State
-state_code = code_by (map.FinMap key_cmp StoredOffset) (map.code key_code stored_code) (λ s. s.offsets) (λ m. record { offsets = m }) (λ _. refl)
+state_code = code_by (map.FinMap name_cmp GroupRecord × map.FinMap key_cmp StoredOffset) (coded× (map.code (coded_list coded_ℕ) record_code) (map.code key_code stored_code)) (λ s. (s.records, s.offsets)) (λ m. record { records = m.0; offsets = m.1 }) (λ _. refl)
+
+-- records and offsets in the orders in which they are kept
+pub record AreInOrder (records : List KeptRecord) (rows : List KeptOffset) : Type 0 where
+  pub by_group : IsTrue (is_sorted name_cmp records)
+  pub by_key : IsTrue (is_sorted key_cmp rows)
 
 -- before any command
 abbrev pub empty : State
-empty = record { offsets = map.empty }
+empty = record { records = map.empty; offsets = map.empty }
+
+-- the record of a group set
+abbrev pub with_record : State → List ℕ → GroupRecord → State
+with_record state group new = record state { records = map.insert state.records group new }
+
+-- a new member in the record of a group, if it has one
+abbrev pub with_member : State → List ℕ → Member → Option GroupRecord → State
+with_member state group new None = state
+with_member state group new (Some held) = with_record state group (replaced_record new held)
 
 -- the offset and metadata of one entry, for the group that commits it
 abbrev pub with_entry : List ℕ → map.FinMap key_cmp StoredOffset → Entry → map.FinMap key_cmp StoredOffset
 with_entry group offsets entry = map.insert offsets (kept_of group entry).0 (kept_of group entry).1
 
+-- the offset is one of another group
+abbrev pub is_of_other : List ℕ → OffsetKey → Bool
+is_of_other group key = not (bytes_eq key.group group)
+
+-- the records and offsets of other groups
+abbrev pub without_group : State → List ℕ → State
+without_group state group = record { records = map.retain_keys state.records (is_record_of_other group); offsets = map.retain_keys state.offsets (is_of_other group) }
+
 -- what one command does
 unfoldable pub effect : State → Command → State
+effect state (Assigned assigned) = with_record state assigned.group (assigned_record assigned)
+effect state (Emptied emptied) = with_record state emptied.group (emptied_record emptied)
+effect state (Replaced replaced) = with_member state replaced.group replaced.member (map.get state.records replaced.group)
 effect state (Committed commit) = record state { offsets = fold (with_entry commit.group) state.offsets commit.entries }
+effect state (Deleted deleted) = without_group state deleted.group
 
 -- what commands do, one after the other
 abbrev pub after : State → List Command → State
@@ -40,4 +71,4 @@ folded commands = after empty commands
 
 -- how many group records and how many offsets there are
 abbrev pub counts_of : State → ℕ × ℕ
-counts_of state = (0, map.len state.offsets)
+counts_of state = (map.len state.records, map.len state.offsets)

@@ -4,7 +4,13 @@
 
 mod durable;
 mod key;
+mod record;
+mod records;
 mod rows;
 
 pub use durable::Durable;
 pub use key::{OffsetKey, StoredOffset};
+pub use record::GroupRecord;
+
+#[cfg(test)]
+mod tests;

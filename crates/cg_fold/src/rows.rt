@@ -1,10 +1,11 @@
 //! The offsets as rows in the order of their keys: a look-up is a binary search, which takes no memory.
-ghost use Rattle.std.specs.Prelude.{◌≡◌, ◌+◌, ◌<◌, ◌≤◌, IsTrue, length, vec_len, vec_capacity, IfOk, map};
+ghost use Rattle.std.specs.Prelude.{◌≡◌, ◌+◌, ◌<◌, ◌≤◌, IsTrue, length, vec_len, vec_capacity, filter, IfOk, map};
 ghost use Rattle.std.specs.List.{fold, prefix_len};
 ghost use Rattle.std.specs.FinMap.{find, is_sorted, put};
 ghost use Rattle.std.specs.Bool.{OnTrue, OnFalse};
 ghost use Rattle.std.specs.Option.{option_copied};
 ghost use Rattle.std.specs.VecDeque.{deque_len};
+ghost use Rattle.cg_fold.specs.Durable.{is_of_other};
 ghost use Rattle.cg_fold.specs.Key.{IsOther, IsOwn, kept_of, is_below, key_cmp, key_of, put_kept};
 
 use crate::key::{OffsetKey, StoredOffset};
@@ -88,6 +89,13 @@ pub fn rows_of(alloc: Global, commit: &Committed) -> Result<VecDeque<Row>, Alloc
         rows.push_back(row_of(&commit.group, entry)?)?;
     }
     Ok(rows)
+}
+
+/// Takes the rows of a group away. Takes no memory.
+pub fn take_away(rows: &mut Vec<Row>, group: &GroupId)
+    ensures { rows.new.items ≡ filter (λ row. is_of_other group.now row.0) rows.old.items }
+{
+    rows.retain(|row| row.0.group.as_bytes() != group.as_bytes());
 }
 
 /// What is kept at a key. Takes no memory.

@@ -1,5 +1,5 @@
 -- What was read once is read again in the same way.
-use Rattle.std.proofs.Common.{◌≡◌, ℕ, zero, suc, ◌+◌, ◌-◌, ◌<◌, ◌≤◌, Bool, true, false, List, [], ◌∷◌, ◌++◌, length, Ok, Err, refl, sym, ap, ◌∙◌, append_assoc, arith}
+use Rattle.std.proofs.Common.{◌≡◌, ℕ, zero, suc, ◌+◌, ◌-◌, ◌<◌, ◌≤◌, Bool, true, false, List, [], ◌∷◌, ◌++◌, length, Option, Ok, Err, refl, sym, ap, ◌∙◌, append_assoc, arith}
 use Rattle.std.specs.Prelude.{◌||◌, IsOk}
 use Rattle.std.specs.List.{list_any}
 use Rattle.std.proofs.lemmas.List.{append-nil}
@@ -8,77 +8,82 @@ use Rattle.cg_record.specs.declared.format.Version.{Version}
 use Rattle.cg_record.specs.declared.fault.RecordFault.{RecordFault}
 use Rattle.cg_record.specs.declared.command.Command.{Command}
 use Rattle.cg_record.specs.declared.entry.Entry.{Entry}
+use Rattle.cg_record.specs.declared.member.Member.{Member}
+use Rattle.cg_names.specs.declared.name.TheConstants.{NAME_BYTES_MAX, MEMBER_ID_BYTES_MAX}
 use Rattle.cg_record.specs.Keys.{is_of}
-use Rattle.cg_record.specs.Reading.{Skips, key_at, kept_at, entry_at, entries_at, command_at, commands_to_end}
+use Rattle.cg_record.specs.Rosters.{has_id, has_instance}
+use Rattle.cg_record.specs.Members.{Profile, member_of, profile_at, member_at}
+use Rattle.cg_record.specs.Fields.{Read, ◌>>=◌, name_at, optional_name_at, many_at}
+use Rattle.cg_record.specs.Reading.{Skips, key_at, kept_at, entry_at, command_at, commands_to_end}
 use Rattle.cg_record.proofs.Laws.{bind_ok, ok_is}
-use Rattle.cg_record.proofs.Steps.{entries_step, entries_on, entries_end, IsLeft, left_step, commands_start, commands_on, commands_end}
+use Rattle.cg_record.proofs.Steps.{many_step, many_on, many_end, IsLeft, left_step, commands_start, commands_on, commands_end}
 
--- the entries that are read behind others come after them
-entries_append : (version : Version) (n : ℕ) (front : List Entry) (bytes : List ℕ) (all : List Entry) (rest : List ℕ) → entries_at version n front bytes ≡ Ok (all, rest) → (more : List Entry) × (all ≡ front ++ more)
-unfolding entries_at
-entries_append version zero front bytes all rest e =
-    ([], ap (λ (y : List Entry × List ℕ). y.0) (sym (ok_is (front, bytes) (all, rest) e)) ∙ sym (append-nil front))
-entries_append version (suc n) front bytes all rest e =
-    let b = bind_ok (entry_at version front bytes) (λ entry. entries_at version n (front ++ entry.0 ∷ []) entry.1) (all, rest) e in
-    let m = entries_append version n (front ++ b.0.0 ∷ []) b.0.1 all rest b.2 in
+-- the values that are read behind others come after them
+many_append : {X : Type 0} (at : List X → List ℕ → Read X) (n : ℕ) (front : List X) (bytes : List ℕ) (all : List X) (rest : List ℕ) → many_at at n front bytes ≡ Ok (all, rest) → (more : List X) × (all ≡ front ++ more)
+unfolding many_at
+many_append {X} at zero front bytes all rest e =
+    ([], ap (λ (y : List X × List ℕ). y.0) (sym (ok_is (front, bytes) (all, rest) e)) ∙ sym (append-nil front))
+many_append {X} at (suc n) front bytes all rest e =
+    let b = bind_ok (at front bytes) (λ next. many_at at n (front ++ next.0 ∷ []) next.1) (all, rest) e in
+    let m = many_append at n (front ++ b.0.0 ∷ []) b.0.1 all rest b.2 in
     (b.0.0 ∷ m.0, m.1 ∙ append_assoc front (b.0.0 ∷ []) m.0)
 
 absorbed : (a b : Bool) → ((a || (true || false)) || b) ≡ true
 absorbed true b = refl
 absorbed false b = refl
 
--- of the entries that are to be read, none so far passes the test
-pub record IsUnmet (version : Version) (count i : ℕ) (passes : Entry → Bool) (whole : List Entry) (end : List ℕ) (rest : List ℕ) : Type 0 where
-  pub front : List Entry
-  pub reads : entries_at version (count - i) front rest ≡ Ok (whole, end)
+-- of the values that are to be read, none so far passes the test
+pub record IsUnmet {X : Type 0} (at : List X → List ℕ → Read X) (count i : ℕ) (passes : X → Bool) (whole : List X) (end : List ℕ) (rest : List ℕ) : Type 0 where
+  pub front : List X
+  pub reads : many_at at (count - i) front rest ≡ Ok (whole, end)
   pub none : list_any passes front ≡ false
 
-pub unmet_start : (version : Version) (count : ℕ) (passes : Entry → Bool) (whole : List Entry) (end bytes : List ℕ) → entries_at version count [] bytes ≡ Ok (whole, end) → IsUnmet version count 0 passes whole end bytes
-unmet_start version count passes whole end bytes e =
+pub unmet_start : {X : Type 0} (at : List X → List ℕ → Read X) (count : ℕ) (passes : X → Bool) (whole : List X) (end bytes : List ℕ) → many_at at count [] bytes ≡ Ok (whole, end) → IsUnmet at count 0 passes whole end bytes
+unmet_start at count passes whole end bytes e =
     let all : count - 0 ≡ count = omega arith in
-    record { front = []; reads = ap (λ (n : ℕ). entries_at version n [] bytes) all ∙ e; none = refl }
+    record { front = []; reads = ap (λ (n : ℕ). many_at at n [] bytes) all ∙ e; none = refl }
 
 -- the next of them
-pub unmet_next : (version : Version) (count i : ℕ) (passes : Entry → Bool) (whole : List Entry) (end rest : List ℕ) (unmet : IsUnmet version count i passes whole end rest) → i < count
-    → (x : Entry × List ℕ) × (entry_at version unmet.front rest ≡ Ok x) × (entries_at version (count - (i + 1)) (unmet.front ++ x.0 ∷ []) x.1 ≡ Ok (whole, end))
-unmet_next version count i passes whole end rest unmet lt =
-    bind_ok (entry_at version unmet.front rest) (λ entry. entries_at version (count - (i + 1)) (unmet.front ++ entry.0 ∷ []) entry.1) (whole, end) (sym (entries_step version count i unmet.front rest lt) ∙ unmet.reads)
+pub unmet_next : {X : Type 0} (at : List X → List ℕ → Read X) (count i : ℕ) (passes : X → Bool) (whole : List X) (end rest : List ℕ) (unmet : IsUnmet at count i passes whole end rest) → i < count
+    → (x : X × List ℕ) × (at unmet.front rest ≡ Ok x) × (many_at at (count - (i + 1)) (unmet.front ++ x.0 ∷ []) x.1 ≡ Ok (whole, end))
+unmet_next at count i passes whole end rest unmet lt =
+    bind_ok (at unmet.front rest) (λ next. many_at at (count - (i + 1)) (unmet.front ++ next.0 ∷ []) next.1) (whole, end) (sym (many_step at count i unmet.front rest lt) ∙ unmet.reads)
 
 -- it passes the test
-pub unmet_hit : (version : Version) (n : ℕ) (passes : Entry → Bool) (front : List Entry) (e : Entry) (whole : List Entry) (end after : List ℕ) → entries_at version n (front ++ e ∷ []) after ≡ Ok (whole, end) → passes e ≡ true → list_any passes whole ≡ true
-unmet_hit version n passes front e whole end after reads hit =
-    let m = entries_append version n (front ++ e ∷ []) after whole end reads in
-    rw (m.1, list_any-append passes (front ++ e ∷ []) m.0, list_any-append passes front (e ∷ []), hit) (absorbed (list_any passes front) (list_any passes m.0))
+pub unmet_hit : {X : Type 0} (at : List X → List ℕ → Read X) (n : ℕ) (passes : X → Bool) (front : List X) (x : X) (whole : List X) (end after : List ℕ) → many_at at n (front ++ x ∷ []) after ≡ Ok (whole, end) → passes x ≡ true → list_any passes whole ≡ true
+unmet_hit at n passes front x whole end after reads hit =
+    let m = many_append at n (front ++ x ∷ []) after whole end reads in
+    rw (m.1, list_any-append passes (front ++ x ∷ []) m.0, list_any-append passes front (x ∷ []), hit) (absorbed (list_any passes front) (list_any passes m.0))
 
 -- it fails the test
-pub unmet_on : (version : Version) (count i : ℕ) (passes : Entry → Bool) (whole : List Entry) (end rest : List ℕ) (unmet : IsUnmet version count i passes whole end rest) (e : Entry) (after : List ℕ)
-    → entries_at version (count - (i + 1)) (unmet.front ++ e ∷ []) after ≡ Ok (whole, end) → passes e ≡ false → IsUnmet version count (i + 1) passes whole end after
-unmet_on version count i passes whole end rest unmet e after reads miss =
-    record { front = unmet.front ++ e ∷ []; reads = reads; none = rw (list_any-append passes unmet.front (e ∷ []), unmet.none, miss) refl }
+pub unmet_on : {X : Type 0} (at : List X → List ℕ → Read X) (count i : ℕ) (passes : X → Bool) (whole : List X) (end rest : List ℕ) (unmet : IsUnmet at count i passes whole end rest) (x : X) (after : List ℕ)
+    → many_at at (count - (i + 1)) (unmet.front ++ x ∷ []) after ≡ Ok (whole, end) → passes x ≡ false → IsUnmet at count (i + 1) passes whole end after
+unmet_on at count i passes whole end rest unmet x after reads miss =
+    record { front = unmet.front ++ x ∷ []; reads = reads; none = rw (list_any-append passes unmet.front (x ∷ []), unmet.none, miss) refl }
 
 -- none is left
-pub unmet_end : (version : Version) (count i : ℕ) (passes : Entry → Bool) (whole : List Entry) (end rest : List ℕ) → IsUnmet version count i passes whole end rest → count ≤ i → list_any passes whole ≡ false
-unmet_end version count i passes whole end rest unmet le =
-    let done = entries_end version count i unmet.front rest (Ok (whole, end)) le unmet.reads in
-    let same : whole ≡ unmet.front = ap (λ (y : List Entry × List ℕ). y.0) (ok_is (whole, end) (unmet.front, rest) done) in
+pub unmet_end : {X : Type 0} (at : List X → List ℕ → Read X) (count i : ℕ) (passes : X → Bool) (whole : List X) (end rest : List ℕ) → IsUnmet at count i passes whole end rest → count ≤ i → list_any passes whole ≡ false
+unmet_end {X} at count i passes whole end rest unmet le =
+    let done = many_end at count i unmet.front rest (Ok (whole, end)) le unmet.reads in
+    let same : whole ≡ unmet.front = ap (λ (y : List X × List ℕ). y.0) (ok_is (whole, end) (unmet.front, rest) done) in
     rw same unmet.none
 
--- one more entry behind those that were read
-pub entries_snoc : (version : Version) (n : ℕ) (front : List Entry) (bytes : List ℕ) (all : List Entry) (rest : List ℕ) (e : Entry) (after : List ℕ) → entries_at version n front bytes ≡ Ok (all, rest) → entry_at version all rest ≡ Ok (e, after) → entries_at version (n + 1) front bytes ≡ Ok (all ++ e ∷ [], after)
-unfolding entries_at
-entries_snoc version zero front bytes all rest e after reads next =
+-- one more value behind those that were read
+pub many_snoc : {X : Type 0} (at : List X → List ℕ → Read X) (n : ℕ) (front : List X) (bytes : List ℕ) (all : List X) (rest : List ℕ) (x : X) (after : List ℕ) → many_at at n front bytes ≡ Ok (all, rest) → at all rest ≡ Ok (x, after) → many_at at (n + 1) front bytes ≡ Ok (all ++ x ∷ [], after)
+unfolding many_at
+many_snoc {X} at zero front bytes all rest x after reads next =
     let same = ok_is (front, bytes) (all, rest) reads in
-    let all_is : all ≡ front = ap (λ (y : List Entry × List ℕ). y.0) (sym same) in
-    let rest_is : rest ≡ bytes = ap (λ (y : List Entry × List ℕ). y.1) (sym same) in
-    let here : entry_at version front bytes ≡ Ok (e, after) = rw (← all_is, ← rest_is) next in
+    let all_is : all ≡ front = ap (λ (y : List X × List ℕ). y.0) (sym same) in
+    let rest_is : rest ≡ bytes = ap (λ (y : List X × List ℕ). y.1) (sym same) in
+    let here : at front bytes ≡ Ok (x, after) = rw (← all_is, ← rest_is) next in
     rw (here, ← all_is) refl
-entries_snoc version (suc n) front bytes all rest e after reads next =
-    let b = bind_ok (entry_at version front bytes) (λ entry. entries_at version n (front ++ entry.0 ∷ []) entry.1) (all, rest) reads in
-    let more = entries_snoc version n (front ++ b.0.0 ∷ []) b.0.1 all rest e after b.2 next in
+many_snoc {X} at (suc n) front bytes all rest x after reads next =
+    let b = bind_ok (at front bytes) (λ next. many_at at n (front ++ next.0 ∷ []) next.1) (all, rest) reads in
+    let more = many_snoc at n (front ++ b.0.0 ∷ []) b.0.1 all rest x after b.2 next in
     let k : suc n + 1 ≡ suc (n + 1) = omega arith in
-    ap (λ (m : ℕ). entries_at version m front bytes) k ∙ rw b.1 more
+    ap (λ (m : ℕ). many_at at m front bytes) k ∙ rw b.1 more
 
--- ---- going past entries
+-- ---- going past values
 
 -- an entry, from its parts
 pub entry_reads : (version : Version) (front : List Entry) (bytes topic : List ℕ) (partition : ℕ) (rest : List ℕ) (offset : ℕ) (metadata after : List ℕ) → key_at bytes ≡ Ok ((topic, partition), rest) → list_any (is_of topic partition) front ≡ false → kept_at version rest ≡ Ok ((offset, metadata), after)
@@ -86,34 +91,41 @@ pub entry_reads : (version : Version) (front : List Entry) (bytes topic : List �
 unfolding entry_at
 entry_reads version front bytes topic partition rest offset metadata after key new kept = rw (key, new, kept) refl
 
--- so many entries were read from the start, and the others behind them are all the others
-pub record IsChecked (version : Version) (count i : ℕ) (start rest : List ℕ) : Type 0 where
-  pub front : List Entry
-  pub reads : entries_at version i [] start ≡ Ok (front, rest)
-  pub more : entries_at version (count - i) front rest ≡ entries_at version count [] start
+-- a member, from its parts
+pub member_reads : (version : Version) (front : List Member) (bytes id rest : List ℕ) (instance : Option (List ℕ)) (more : List ℕ) (profile : Profile) (after : List ℕ)
+    → name_at MEMBER_ID_BYTES_MAX bytes ≡ Ok (id, rest) → list_any (has_id id) front ≡ false → optional_name_at NAME_BYTES_MAX rest ≡ Ok (instance, more) → list_any (has_instance instance) front ≡ false → profile_at version more ≡ Ok (profile, after)
+    → member_at version front bytes ≡ Ok (member_of id instance profile, after)
+unfolding member_at
+member_reads version front bytes id rest instance more profile after named new known other kept = rw (named, new, known, other, kept) refl
 
-pub checked_start : (version : Version) (count : ℕ) (start : List ℕ) → IsChecked version count 0 start start
-unfolding entries_at
-checked_start version count start =
+-- so many values were read from the start, and the others behind them are all the others
+pub record IsChecked {X : Type 0} (at : List X → List ℕ → Read X) (count i : ℕ) (start rest : List ℕ) : Type 0 where
+  pub front : List X
+  pub reads : many_at at i [] start ≡ Ok (front, rest)
+  pub more : many_at at (count - i) front rest ≡ many_at at count [] start
+
+pub checked_start : {X : Type 0} (at : List X → List ℕ → Read X) (count : ℕ) (start : List ℕ) → IsChecked at count 0 start start
+unfolding many_at
+checked_start at count start =
     let all : count - 0 ≡ count = omega arith in
-    record { front = []; reads = refl; more = ap (λ (n : ℕ). entries_at version n [] start) all }
+    record { front = []; reads = refl; more = ap (λ (n : ℕ). many_at at n [] start) all }
 
-pub checked_on : {X : Type 0} (behind : X → List ℕ) (version : Version) (count i : ℕ) (start rest : List ℕ) (x : X) (checked : IsChecked version count i start rest) → i < count
-    → Skips behind (Ok x) (entry_at version checked.front rest) → IsChecked version count (i + 1) start (behind x)
-checked_on behind version count i start rest x checked lt skips = record {
+pub checked_on : {X Y : Type 0} (behind : Y → List ℕ) (at : List X → List ℕ → Read X) (count i : ℕ) (start rest : List ℕ) (y : Y) (checked : IsChecked at count i start rest) → i < count
+    → Skips behind (Ok y) (at checked.front rest) → IsChecked at count (i + 1) start (behind y)
+checked_on behind at count i start rest y checked lt skips = record {
   front = checked.front ++ skips.0 ∷ [];
-  reads = entries_snoc version i [] start checked.front rest skips.0 (behind x) checked.reads skips.1;
-  more = entries_on version count i checked.front rest skips.0 (behind x) (entries_at version count [] start) lt skips.1 checked.more;
+  reads = many_snoc at i [] start checked.front rest skips.0 (behind y) checked.reads skips.1;
+  more = many_on at count i checked.front rest skips.0 (behind y) (many_at at count [] start) lt skips.1 checked.more;
 }
 
-pub checked_fail : (fault : RecordFault) (version : Version) (count i : ℕ) (start rest : List ℕ) (checked : IsChecked version count i start rest) → i < count
-    → entry_at version checked.front rest ≡ Err fault → entries_at version count [] start ≡ Err fault
-checked_fail fault version count i start rest checked lt fails =
-    sym checked.more ∙ entries_step version count i checked.front rest lt ∙ rw fails refl
+pub checked_fail : {X : Type 0} (fault : RecordFault) (at : List X → List ℕ → Read X) (count i : ℕ) (start rest : List ℕ) (checked : IsChecked at count i start rest) → i < count
+    → at checked.front rest ≡ Err fault → many_at at count [] start ≡ Err fault
+checked_fail fault at count i start rest checked lt fails =
+    sym checked.more ∙ many_step at count i checked.front rest lt ∙ rw fails refl
 
-pub checked_end : (version : Version) (count i : ℕ) (start rest : List ℕ) → IsChecked version count i start rest → count ≤ i → (front : List Entry) × (entries_at version count [] start ≡ Ok (front, rest))
-checked_end version count i start rest checked le =
-    (checked.front, entries_end version count i checked.front rest (entries_at version count [] start) le checked.more)
+pub checked_end : {X : Type 0} (at : List X → List ℕ → Read X) (count i : ℕ) (start rest : List ℕ) → IsChecked at count i start rest → count ≤ i → (front : List X) × (many_at at count [] start ≡ Ok (front, rest))
+checked_end at count i start rest checked le =
+    (checked.front, many_end at count i checked.front rest (many_at at count [] start) le checked.more)
 
 -- ---- going past commands
 

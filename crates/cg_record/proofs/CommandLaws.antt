@@ -5,7 +5,7 @@ use Rattle.std.specs.List.{flat_map, AllByRecursion}
 use Rattle.std.proofs.lemmas.Bool.{eqb-true}
 use Rattle.std.proofs.lemmas.List.{length-append, nil_from_length, take_all}
 use Rattle.std.proofs.lemmas.List.Concat.{flat_map-cons, length-flat_map}
-use Rattle.cg_record.specs.declared.format.TheConstants.{VERSION_ONE, COMMITTED_KIND}
+use Rattle.cg_record.specs.declared.format.TheConstants.{VERSION_ONE, ASSIGNED_KIND, EMPTIED_KIND, REPLACED_KIND, COMMITTED_KIND, DELETED_KIND}
 use Rattle.cg_record.specs.declared.format.Version.{Version}
 use Rattle.cg_record.specs.declared.format.Version.TheVariants.{One}
 use Rattle.cg_record.specs.declared.fault.RecordFault.{RecordFault}
@@ -13,21 +13,33 @@ use Rattle.cg_record.specs.declared.fault.RecordFault.TheVariants.{Memory, BadKi
 use Rattle.cg_record.specs.declared.command.Command.{Command}
 use Rattle.cg_record.specs.declared.command.Command.TheVariants as kinds
 use Rattle.cg_record.specs.Lawful.{IsCommand, AreCommands}
-use Rattle.cg_record.specs.Spelling.{committed_text, command_text, spelling}
-use Rattle.cg_record.specs.Reading.{Read, Builds, Skips, ◌>>=◌, made, byte_at, committed_at, body_at, command_at, commands_to_end, version_of, commands_of, Tells}
+use Rattle.cg_record.specs.Spelling.{assigned_text, emptied_text, replaced_text, deleted_text, committed_text, command_text, spelling}
+use Rattle.cg_record.specs.Fields.{Read, ◌>>=◌, made, byte_at}
+use Rattle.cg_record.specs.Reading.{Builds, Skips, body_at, command_at, commands_to_end, version_of, commands_of, Tells}
 use Rattle.cg_record.proofs.Laws.{IsBytes, bind_ok, ok_is, Takes, ReadsRest, Reads, Anything, reads_then, reads_as, test_ok}
 use Rattle.cg_record.proofs.FieldLaws.{reads_byte}
 use Rattle.cg_record.proofs.CommitLaws.{reads_committed}
+use Rattle.cg_record.proofs.GroupLaws.{reads_emptied, reads_deleted}
+use Rattle.cg_record.proofs.MemberLaws.{reads_replaced}
+use Rattle.cg_record.proofs.RosterLaws.{reads_assigned}
 
 -- ---- one command
 
 -- the kind byte of a command
 abbrev pub kind_of : Command → ℕ
+kind_of (kinds.Assigned assigned) = ASSIGNED_KIND
+kind_of (kinds.Emptied emptied) = EMPTIED_KIND
+kind_of (kinds.Replaced replaced) = REPLACED_KIND
 kind_of (kinds.Committed committed) = COMMITTED_KIND
+kind_of (kinds.Deleted deleted) = DELETED_KIND
 
 -- its fields
 abbrev pub body_text : Command → List ℕ
+body_text (kinds.Assigned assigned) = assigned_text assigned
+body_text (kinds.Emptied emptied) = emptied_text emptied
+body_text (kinds.Replaced replaced) = replaced_text replaced
 body_text (kinds.Committed committed) = committed_text committed
+body_text (kinds.Deleted deleted) = deleted_text deleted
 
 -- what a reader of one kind took, as the command of that kind
 kind_takes : {A : Type 0} {at : List ℕ → Read A} {text : A → List ℕ} {Is : A → Type 0} (make : A → Command) → Reads at text Is
@@ -48,17 +60,32 @@ kind_cases {A} kind this x y z P e here there =
       | false ↦ λ is got. there got
     ] refl e
 
-body_takes : (version : Version) (kind : ℕ) (bytes : List ℕ) (x : Command) (rest : List ℕ) → IsBytes bytes → body_at version kind bytes ≡ Ok (x, rest) → Takes bytes (body_text x) rest × (kind_of x ≡ kind) × IsCommand x
+-- a command of a kind that was read, with its kind byte
+abbrev IsRead : List ℕ → ℕ → Command → List ℕ → Type 0
+IsRead bytes kind x rest = Takes bytes (body_text x) rest × (kind_of x ≡ kind) × IsCommand x
+
+body_takes : (version : Version) (kind : ℕ) (bytes : List ℕ) (x : Command) (rest : List ℕ) → IsBytes bytes → body_at version kind bytes ≡ Ok (x, rest) → IsRead bytes kind x rest
 unfolding body_at
 body_takes version kind bytes x rest fits e =
-    kind_cases kind COMMITTED_KIND (made kinds.Committed (committed_at version bytes)) (Err BadKind) (x, rest) (Takes bytes (body_text x) rest × (kind_of x ≡ kind) × IsCommand x) e
-    (λ is got. let t = kind_takes kinds.Committed (reads_committed version) (λ a. refl) (λ a h. h) bytes x rest fits got in
-    (t.0, ap kind_of (sym t.1.1) ∙ sym is, t.2))
-    (λ got. absurd cc)
+    kind_cases kind ASSIGNED_KIND _ _ (x, rest) (IsRead bytes kind x rest) e
+    (λ is got. let t = kind_takes kinds.Assigned (reads_assigned version) (λ a. refl) (λ a h. h) bytes x rest fits got in (t.0, ap kind_of (sym t.1.1) ∙ sym is, t.2))
+    (λ second. kind_cases kind EMPTIED_KIND _ _ (x, rest) (IsRead bytes kind x rest) second
+    (λ is got. let t = kind_takes kinds.Emptied (reads_emptied version) (λ a. refl) (λ a h. h) bytes x rest fits got in (t.0, ap kind_of (sym t.1.1) ∙ sym is, t.2))
+    (λ third. kind_cases kind REPLACED_KIND _ _ (x, rest) (IsRead bytes kind x rest) third
+    (λ is got. let t = kind_takes kinds.Replaced (reads_replaced version) (λ a. refl) (λ a h. h) bytes x rest fits got in (t.0, ap kind_of (sym t.1.1) ∙ sym is, t.2))
+    (λ fourth. kind_cases kind COMMITTED_KIND _ _ (x, rest) (IsRead bytes kind x rest) fourth
+    (λ is got. let t = kind_takes kinds.Committed (reads_committed version) (λ a. refl) (λ a h. h) bytes x rest fits got in (t.0, ap kind_of (sym t.1.1) ∙ sym is, t.2))
+    (λ fifth. kind_cases kind DELETED_KIND _ _ (x, rest) (IsRead bytes kind x rest) fifth
+    (λ is got. let t = kind_takes kinds.Deleted (reads_deleted version) (λ a. refl) (λ a h. h) bytes x rest fits got in (t.0, ap kind_of (sym t.1.1) ∙ sym is, t.2))
+    (λ none. absurd cc)))))
 
 body_again : (version : Version) (x : Command) (rest : List ℕ) → IsCommand x → body_at version (kind_of x) (body_text x ++ rest) ≡ Ok (x, rest)
 unfolding body_at
+body_again version (kinds.Assigned a) rest is = rw ((reads_assigned version).again a rest tt is) refl
+body_again version (kinds.Emptied e) rest is = rw ((reads_emptied version).again e rest tt is) refl
+body_again version (kinds.Replaced r) rest is = rw ((reads_replaced version).again r rest tt is) refl
 body_again version (kinds.Committed c) rest is = rw ((reads_committed version).again c rest tt is) refl
+body_again version (kinds.Deleted d) rest is = rw ((reads_deleted version).again d rest tt is) refl
 
 reads_body : (version : Version) (kind : ℕ) → ReadsRest (body_at version kind) (λ x. Anything x × (kind_of x ≡ kind)) body_text IsCommand
 reads_body version kind = record {
@@ -67,11 +94,19 @@ reads_body version kind = record {
 }
 
 kind_small : (x : Command) → kind_of x < 256
+kind_small (kinds.Assigned a) = omega arith
+kind_small (kinds.Emptied e) = omega arith
+kind_small (kinds.Replaced r) = omega arith
 kind_small (kinds.Committed c) = omega arith
+kind_small (kinds.Deleted d) = omega arith
 
 text_is : (x : Command) → (kind_of x ∷ []) ++ body_text x ≡ command_text x
 unfolding command_text
+text_is (kinds.Assigned a) = refl
+text_is (kinds.Emptied e) = refl
+text_is (kinds.Replaced r) = refl
 text_is (kinds.Committed c) = refl
+text_is (kinds.Deleted d) = refl
 
 pub reads_command : (version : Version) → Reads (command_at version) command_text IsCommand
 unfolding command_at
@@ -85,7 +120,11 @@ reads_command version =
 -- a command has a byte
 pub text_not_empty : (x : Command) → 1 ≤ length (command_text x)
 unfolding command_text
+text_not_empty (kinds.Assigned a) = omega arith
+text_not_empty (kinds.Emptied e) = omega arith
+text_not_empty (kinds.Replaced r) = omega arith
 text_not_empty (kinds.Committed c) = omega arith
+text_not_empty (kinds.Deleted d) = omega arith
 
 -- ---- all commands
 

@@ -1,10 +1,9 @@
 -- The law of a commit: its reader takes its text, and nothing else.
-use Rattle.std.proofs.Common.{◌≡◌, ℕ, zero, suc, ◌≤◌, false, List, [], ◌∷◌, ◌++◌, length, Ok, refl, sym, ap, subst, ◌∙◌, append_assoc, arith}
+use Rattle.std.proofs.Common.{◌≡◌, ℕ, ◌≤◌, false, List, [], ◌++◌, length, refl, sym, ap, ◌∙◌, append_assoc, arith}
 use Rattle.std.specs.Prelude.{not}
 use Rattle.std.specs.List.{flat_map, list_any, AllByRecursion}
 use Rattle.std.proofs.lemmas.Bool.{leb-true, le-leb, not-true}
 use Rattle.std.proofs.lemmas.List.{append-nil}
-use Rattle.std.proofs.lemmas.List.Concat.{flat_map-cons}
 use Rattle.cg_names.specs.declared.name.TheConstants.{NAME_BYTES_MAX}
 use Rattle.cg_record.specs.declared.partition.TheConstants.{PARTITION_MAX}
 use Rattle.cg_record.specs.declared.offset.TheConstants.{OFFSET_MAX}
@@ -17,10 +16,13 @@ use Rattle.cg_record.specs.declared.entry.Entry.{Entry}
 use Rattle.cg_record.specs.declared.committed.Committed.{Committed}
 use Rattle.cg_record.specs.Keys.{have_one_key, HasDistinctKeys}
 use Rattle.cg_record.specs.Lawful.{IsKey, IsKept, IsEntry, IsCommitted}
-use Rattle.cg_record.specs.Spelling.{four, eight, name_text, bytes_text, entry_text, committed_text}
-use Rattle.cg_record.specs.Reading.{at_most, is_from_to, is_new, key_at, kept_at, entry_at, entries_at, committed_at}
+use Rattle.cg_record.specs.Texts.{four, eight, name_text, bytes_text}
+use Rattle.cg_record.specs.Spelling.{entry_text, committed_text}
+use Rattle.cg_record.specs.Fields.{at_most, is_from_to, many_at}
+use Rattle.cg_record.specs.Reading.{is_new, key_at, kept_at, entry_at, committed_at}
 use Rattle.cg_record.proofs.Keys.{IsDistinct-push, IsDistinct-middle, IsDistinct-nil}
-use Rattle.cg_record.proofs.Laws.{IsBytes, bind_ok, ok_is, Takes, Takes-one, Takes-then, Reads, reads_only, reads_then, reads_end, reads_as}
+use Rattle.cg_record.proofs.Laws.{Reads, reads_only, reads_then, reads_end, reads_as}
+use Rattle.cg_record.proofs.ManyLaws.{Grows, AreRead, reads_many}
 use Rattle.cg_record.proofs.FieldLaws.{reads_byte, reads_four, reads_eight, reads_name, reads_text, from_to-true, is_from_to-true}
 
 -- ---- a partition of a topic, and what is kept for it
@@ -75,66 +77,15 @@ reads_entry version front =
 
 -- ---- entries
 
--- so many entries were read behind others
-pub record Took (n : ℕ) (front : List Entry) (bytes : List ℕ) (all : List Entry) (rest : List ℕ) (es : List Entry) : Type 0 where
-  pub all_is : all ≡ front ++ es
-  pub taken : Takes bytes (flat_map entry_text es) rest
-  pub count : length es ≡ n
-  pub each : AllByRecursion IsEntry es
-  pub distinct : HasDistinctKeys all
-
-regroup : (front : List Entry) (e : Entry) (es : List Entry) → (front ++ e ∷ []) ++ es ≡ front ++ e ∷ es
-regroup front e es = append_assoc front (e ∷ []) es
-
-pub entries_take : (version : Version) (n : ℕ) (front : List Entry) (bytes : List ℕ) (all : List Entry) (rest : List ℕ) → IsBytes bytes → HasDistinctKeys front → entries_at version n front bytes ≡ Ok (all, rest) → (es : List Entry) × Took n front bytes all rest es
-unfolding entries_at
-entries_take version zero front bytes all rest fits apart e =
-    let same = ok_is (front, bytes) (all, rest) e in
-    let all_is : all ≡ front = ap (λ (y : List Entry × List ℕ). y.0) (sym same) in
-    let rest_is : bytes ≡ rest = ap (λ (y : List Entry × List ℕ). y.1) same in
-    ([], record { all_is = all_is ∙ sym (append-nil front); taken = Takes-one bytes [] rest fits rest_is; count = refl; each = tt; distinct = subst HasDistinctKeys (sym all_is) apart })
-entries_take version (suc n) front bytes all rest fits apart e =
-    let b = bind_ok (entry_at version front bytes) (λ entry. entries_at version n (front ++ entry.0 ∷ []) entry.1) (all, rest) e in
-    let first = b.0.0 in
-    let t = (reads_entry version front).takes bytes first b.0.1 fits b.1 in
-    let u = entries_take version n (front ++ first ∷ []) b.0.1 all rest t.0.rest_fits (IsDistinct-push have_one_key front first apart t.2.1) b.2 in (
-      first ∷ u.0,
-      record {
-        all_is = u.1.all_is ∙ regroup front first u.0;
-        taken = rw flat_map-cons (Takes-then bytes (entry_text first) b.0.1 (flat_map entry_text u.0) rest t.0 u.1.taken);
-        count = ap suc u.1.count;
-        each = (t.2.0, u.1.each);
-        distinct = u.1.distinct;
-      },
-    )
-
-pub entries_again : (version : Version) (es front : List Entry) (rest : List ℕ) → AllByRecursion IsEntry es → HasDistinctKeys (front ++ es) → entries_at version (length es) front (flat_map entry_text es ++ rest) ≡ Ok (front ++ es, rest)
-unfolding entries_at
-entries_again version [] front rest each apart = ap (λ (all : List Entry). Ok (all, rest)) (sym (append-nil front))
-entries_again version (e ∷ es) front rest each apart =
-    let spelled : flat_map entry_text (e ∷ es) ++ rest ≡ entry_text e ++ (flat_map entry_text es ++ rest) = ap (λ (x : List ℕ). x ++ rest) (flat_map-cons entry_text e es) ∙ append_assoc (entry_text e) (flat_map entry_text es) rest in
-    let new = IsDistinct-middle have_one_key front e es apart in
-    let one = (reads_entry version front).again e (flat_map entry_text es ++ rest) tt (each.0, new) in
-    let others = entries_again version es (front ++ e ∷ []) rest each.1 (subst HasDistinctKeys (sym (regroup front e es)) apart) in
-    ap (entries_at version (suc (length es)) front) spelled ∙ rw one (others ∙ ap (λ (all : List Entry). Ok (all, rest)) (regroup front e es))
-
-pub record AreRead (n : ℕ) (es : List Entry) : Type 0 where
-  pub count : length es ≡ n
-  pub distinct : HasDistinctKeys es
-  pub each : AllByRecursion IsEntry es
-
-pub reads_entries : (version : Version) (n : ℕ) → Reads (entries_at version n []) (flat_map entry_text) (AreRead n)
-reads_entries version n = record {
-  takes = λ bytes all rest fits e.
-      let t = entries_take version n [] bytes all rest fits (IsDistinct-nil have_one_key) e in
-      let same : t.0 ≡ all = sym t.1.all_is in (
-        subst (λ (es : List Entry). Takes bytes (flat_map entry_text es) rest) same t.1.taken,
-        tt,
-        record { count = ap length (sym same) ∙ t.1.count; distinct = t.1.distinct; each = subst (AllByRecursion IsEntry) same t.1.each },
-      );
-  again = λ es rest known is.
-      ap (λ k. entries_at version k [] (flat_map entry_text es ++ rest)) (sym is.count) ∙ entries_again version es [] rest is.each is.distinct;
+entries_grow : Grows HasDistinctKeys (λ front e. list_any (λ other. have_one_key other e) front ≡ false)
+entries_grow = record {
+  nil = IsDistinct-nil have_one_key;
+  push = λ front e apart new. IsDistinct-push have_one_key front e apart new;
+  middle = λ front e more apart. IsDistinct-middle have_one_key front e more apart;
 }
+
+pub reads_entries : (version : Version) (n : ℕ) → Reads (many_at (entry_at version) n []) (flat_map entry_text) (AreRead IsEntry HasDistinctKeys n)
+reads_entries version n = reads_many (entry_at version) entry_text IsEntry HasDistinctKeys (λ front e. list_any (λ other. have_one_key other e) front ≡ false) entries_grow (reads_entry version) n
 
 -- ---- a commit
 

@@ -11,8 +11,8 @@ use Rattle.cg_names.specs.Grammar.{IsName, fault_of}
 use Rattle.cg_names.proofs.Names.{length_from_name}
 use Rattle.cg_record.specs.declared.fault.RecordFault.{RecordFault}
 use Rattle.cg_record.specs.declared.fault.RecordFault.TheVariants.{Short, BadName, BadLength}
-use Rattle.cg_record.specs.Spelling.{number, four, eight, name_text, bytes_text}
-use Rattle.cg_record.specs.Reading.{at_most, is_from_to, is_name, byte_at, bytes_at, number_at, four_at, eight_at, name_at, text_at}
+use Rattle.cg_record.specs.Texts.{number, four, eight, name_text, bytes_text}
+use Rattle.cg_record.specs.Fields.{at_most, is_from_to, is_name, byte_at, bytes_at, number_at, four_at, eight_at, name_at, text_at}
 use Rattle.cg_record.proofs.Laws.{IsBytes, ok_is, Takes, Takes-one, Reads, Anything, reads_only, reads_then, reads_as, reads_known}
 
 -- a test that let the end of the bytes pass
@@ -119,7 +119,7 @@ reads_eight = record { takes = number_takes w64 (2 ^ 64) wide_eight; again = λ 
 
 -- ---- texts behind their length
 
-none_is : {X : Type 0} (o : Option X) → is_none o ≡ true → o ≡ None
+pub none_is : {X : Type 0} (o : Option X) → is_none o ≡ true → o ≡ None
 none_is None e = refl
 none_is (Some x) e = absurd cc
 

@@ -5,12 +5,12 @@ use Rattle.std.proofs.lemmas.List.{take_all}
 use Rattle.std.specs.List.{list_any, AllByRecursion, IsDistinct}
 
 -- an `or` that is false has false sides
-both_false : (a b : Bool) → (a || b) ≡ false → (a ≡ false) × (b ≡ false)
+pub both_false : (a b : Bool) → (a || b) ≡ false → (a ≡ false) × (b ≡ false)
 both_false true b e = absurd cc
 both_false false b e = (refl, e)
 
 -- where no element passes the test, each fails it
-all_fail : {X : Type 0} (p : X → Bool) (xs : List X) → list_any p xs ≡ false → AllByRecursion (λ x. p x ≡ false) xs
+pub all_fail : {X : Type 0} (p : X → Bool) (xs : List X) → list_any p xs ≡ false → AllByRecursion (λ x. p x ≡ false) xs
 all_fail p [] e = tt
 all_fail p (x ∷ xs) e = let h = both_false (p x) (list_any p xs) e in (h.0, all_fail p xs h.1)
 
@@ -22,6 +22,22 @@ none_passes p (x ∷ xs) h = rw (h.0, none_passes p xs h.1) refl
 pub AllByRecursion-push : {X : Type 0} (P : X → Type 0) (xs : List X) (y : X) → AllByRecursion P xs → P y → AllByRecursion P (xs ++ y ∷ [])
 AllByRecursion-push P [] y h p = (p, tt)
 AllByRecursion-push P (x ∷ xs) y h p = (h.0, AllByRecursion-push P xs y h.1 p)
+
+-- where no element passes either of two tests, none passes both of them joined by `or`
+pub neither : {X : Type 0} (p q : X → Bool) (xs : List X) → list_any p xs ≡ false → list_any q xs ≡ false → list_any (λ x. p x || q x) xs ≡ false
+neither p q [] none other = refl
+neither p q (x ∷ xs) none other =
+    let n = both_false (p x) (list_any p xs) none in
+    let o = both_false (q x) (list_any q xs) other in
+    rw (n.0, o.0, neither p q xs n.1 o.1) refl
+
+pub neither_parts : {X : Type 0} (p q : X → Bool) (xs : List X) → list_any (λ x. p x || q x) xs ≡ false → (list_any p xs ≡ false) × (list_any q xs ≡ false)
+neither_parts p q [] none = (refl, refl)
+neither_parts p q (x ∷ xs) none =
+    let n = both_false (p x || q x) (list_any (λ y. p y || q y) xs) none in
+    let here = both_false (p x) (q x) n.0 in
+    let there = neither_parts p q xs n.1 in
+    (rw (here.0, there.0) refl, rw (here.1, there.1) refl)
 
 -- distinct keys, and one more that none of them is
 pub IsDistinct-push : {X : Type 0} (e : X → X → Bool) (xs : List X) (y : X) → IsDistinct e xs → list_any (λ x. e x y) xs ≡ false → IsDistinct e (xs ++ y ∷ [])

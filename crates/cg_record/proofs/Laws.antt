@@ -2,7 +2,7 @@
 use Rattle.std.proofs.Common.{◌≡◌, ℕ, ◌+◌, ◌<◌, Bool, true, false, cond, List, [], ◌++◌, length, get_or, drop, Result, Ok, Err, refl, sym, ap, subst, ◌∙◌, append_assoc}
 use Rattle.std.proofs.lemmas.List.{get_or-drop, drop_at}
 use Rattle.cg_record.specs.declared.fault.RecordFault.{RecordFault}
-use Rattle.cg_record.specs.Reading.{Read, ◌>>=◌, only, made}
+use Rattle.cg_record.specs.Fields.{Read, ◌>>=◌, only, made}
 
 -- each is a byte
 abbrev pub IsBytes : List ℕ → Type 0

@@ -1,9 +1,14 @@
 pub mod Keys
 pub mod Laws
 pub mod FieldLaws
+pub mod ManyLaws
 pub mod CommitLaws
+pub mod MemberLaws
+pub mod RosterLaws
+pub mod GroupLaws
 pub mod CommandLaws
 pub mod Steps
 pub mod Again
 pub mod Told
 pub mod TextLens
+pub mod Replacing

@@ -4,9 +4,9 @@ use Rattle.std.proofs.lemmas.List.{append-nil, nil_from_length, length-append}
 use Rattle.cg_record.specs.declared.format.Version.{Version}
 use Rattle.cg_record.specs.declared.fault.RecordFault.{RecordFault}
 use Rattle.cg_record.specs.declared.fault.RecordFault.TheVariants.{Memory}
-use Rattle.cg_record.specs.declared.entry.Entry.{Entry}
 use Rattle.cg_record.specs.declared.command.Command.{Command}
-use Rattle.cg_record.specs.Reading.{Read, ◌>>=◌, Fails, entry_at, entries_at, command_at, commands_to_end}
+use Rattle.cg_record.specs.Fields.{Read, ◌>>=◌, many_at}
+use Rattle.cg_record.specs.Reading.{Fails, command_at, commands_to_end}
 use Rattle.cg_record.proofs.CommandLaws.{to_end_step, to_end_nil}
 
 -- a step that fails is the failure of what comes of it
@@ -14,26 +14,26 @@ pub fails_then : {A B : Type 0} (fault : RecordFault) (r : Result A RecordFault)
 fails_then Memory r f total h e = tt
 fails_then fault r f total h e = sym e ∙ rw h refl
 
--- ---- entries
+-- ---- many, one after the other
 
-pub entries_step : (version : Version) (count i : ℕ) (front : List Entry) (bytes : List ℕ) → i < count → entries_at version (count - i) front bytes ≡ (entry_at version front bytes >>= λ entry. entries_at version (count - (i + 1)) (front ++ entry.0 ∷ []) entry.1)
-unfolding entries_at
-entries_step version count i front bytes lt =
+pub many_step : {X : Type 0} (at : List X → List ℕ → Read X) (count i : ℕ) (front : List X) (bytes : List ℕ) → i < count → many_at at (count - i) front bytes ≡ (at front bytes >>= λ next. many_at at (count - (i + 1)) (front ++ next.0 ∷ []) next.1)
+unfolding many_at
+many_step at count i front bytes lt =
     let k : count - i ≡ suc (count - (i + 1)) = omega arith in
-    ap (λ (n : ℕ). entries_at version n front bytes) k
+    ap (λ (n : ℕ). many_at at n front bytes) k
 
-pub entries_on : (version : Version) (count i : ℕ) (front : List Entry) (bytes : List ℕ) (e : Entry) (after : List ℕ) (total : Read (List Entry)) → i < count → entry_at version front bytes ≡ Ok (e, after) → entries_at version (count - i) front bytes ≡ total → entries_at version (count - (i + 1)) (front ++ e ∷ []) after ≡ total
-entries_on version count i front bytes e after total lt h so_far = sym (entries_step version count i front bytes lt ∙ rw h refl) ∙ so_far
+pub many_on : {X : Type 0} (at : List X → List ℕ → Read X) (count i : ℕ) (front : List X) (bytes : List ℕ) (x : X) (after : List ℕ) (total : Read (List X)) → i < count → at front bytes ≡ Ok (x, after) → many_at at (count - i) front bytes ≡ total → many_at at (count - (i + 1)) (front ++ x ∷ []) after ≡ total
+many_on at count i front bytes x after total lt h so_far = sym (many_step at count i front bytes lt ∙ rw h refl) ∙ so_far
 
-pub entries_fail : (fault : RecordFault) (version : Version) (count i : ℕ) (front : List Entry) (bytes : List ℕ) (total : Read (List Entry)) → i < count → Fails fault (entry_at version front bytes) → entries_at version (count - i) front bytes ≡ total → Fails fault total
-entries_fail fault version count i front bytes total lt h so_far =
-    fails_then fault (entry_at version front bytes) (λ entry. entries_at version (count - (i + 1)) (front ++ entry.0 ∷ []) entry.1) total h (sym (entries_step version count i front bytes lt) ∙ so_far)
+pub many_fail : {X : Type 0} (fault : RecordFault) (at : List X → List ℕ → Read X) (count i : ℕ) (front : List X) (bytes : List ℕ) (total : Read (List X)) → i < count → Fails fault (at front bytes) → many_at at (count - i) front bytes ≡ total → Fails fault total
+many_fail fault at count i front bytes total lt h so_far =
+    fails_then fault (at front bytes) (λ next. many_at at (count - (i + 1)) (front ++ next.0 ∷ []) next.1) total h (sym (many_step at count i front bytes lt) ∙ so_far)
 
-pub entries_end : (version : Version) (count i : ℕ) (front : List Entry) (bytes : List ℕ) (total : Read (List Entry)) → count ≤ i → entries_at version (count - i) front bytes ≡ total → total ≡ Ok (front, bytes)
-unfolding entries_at
-entries_end version count i front bytes total le so_far =
+pub many_end : {X : Type 0} (at : List X → List ℕ → Read X) (count i : ℕ) (front : List X) (bytes : List ℕ) (total : Read (List X)) → count ≤ i → many_at at (count - i) front bytes ≡ total → total ≡ Ok (front, bytes)
+unfolding many_at
+many_end at count i front bytes total le so_far =
     let k : count - i ≡ 0 = omega arith in
-    sym so_far ∙ ap (λ (n : ℕ). entries_at version n front bytes) k
+    sym so_far ∙ ap (λ (n : ℕ). many_at at n front bytes) k
 
 -- ---- commands
 

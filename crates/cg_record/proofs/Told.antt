@@ -1,19 +1,27 @@
 -- Reading tells faults of the bytes alone, and never want of memory.
-use Rattle.std.proofs.Common.{◌≡◌, ℕ, zero, suc, Bool, true, false, cond, eqb, ltb, List, [], ◌∷◌, ◌++◌, length, take, drop, Result, Ok, Err, refl, subst}
-use Rattle.std.specs.Int.{Width, byte_len, from_be_bytes}
-use Rattle.cg_names.specs.declared.name.TheConstants.{NAME_BYTES_MAX}
+use Rattle.std.proofs.Common.{◌≡◌, ℕ, zero, suc, Bool, true, false, cond, eqb, ltb, List, [], ◌∷◌, ◌++◌, length, take, drop, Some, None, Result, Ok, Err, refl, subst}
+use Rattle.std.specs.Int.{Width, w32, byte_len, from_be_bytes}
+use Rattle.cg_names.specs.declared.name.TheConstants.{NAME_BYTES_MAX, MEMBER_ID_BYTES_MAX}
+use Rattle.cg_names.specs.declared.generation.TheConstants.{GENERATION_MAX}
 use Rattle.cg_record.specs.declared.partition.TheConstants.{PARTITION_MAX}
 use Rattle.cg_record.specs.declared.offset.TheConstants.{OFFSET_MAX}
 use Rattle.cg_record.specs.declared.metadata.TheConstants.{METADATA_BYTES_MAX}
 use Rattle.cg_record.specs.declared.entries.TheConstants.{ENTRIES_MAX}
-use Rattle.cg_record.specs.declared.format.TheConstants.{VERSION_ONE, COMMITTED_KIND}
+use Rattle.cg_record.specs.declared.format.TheConstants.{VERSION_ONE, ASSIGNED_KIND, EMPTIED_KIND, REPLACED_KIND, COMMITTED_KIND, DELETED_KIND}
 use Rattle.cg_record.specs.declared.format.Version.{Version}
 use Rattle.cg_record.specs.declared.format.Version.TheVariants.{One}
 use Rattle.cg_record.specs.declared.fault.RecordFault.{RecordFault}
 use Rattle.cg_record.specs.declared.fault.RecordFault.TheVariants.{Memory, Short, BadKind, BadName, BadLength, Repeated}
 use Rattle.cg_record.specs.declared.entry.Entry.{Entry}
 use Rattle.cg_record.specs.declared.command.Command.{Command}
-use Rattle.cg_record.specs.Reading.{Read, ◌>>=◌, only, at_most, is_from_to, is_name, byte_at, bytes_at, number_at, name_at, text_at, key_at, kept_at, is_new, entry_at, entries_at, committed_at, body_at, command_at, commands_to_end, version_of, commands_of, Fails, Tells}
+use Rattle.cg_record.specs.declared.member.Member.{Member}
+use Rattle.cg_record.specs.declared.roster.TheConstants.{MEMBERS_MAX}
+use Rattle.cg_record.specs.declared.millis.TheConstants.{SESSION_MS_MIN, SESSION_MS_MAX, REBALANCE_MS_MAX}
+use Rattle.cg_record.specs.declared.opaque.TheConstants.{SUBSCRIPTION_BYTES_MAX, ASSIGNMENT_BYTES_MAX}
+use Rattle.cg_record.specs.Rosters.{is_led_by}
+use Rattle.cg_record.specs.Members.{profile_at, is_new_id, is_new_instance, member_at}
+use Rattle.cg_record.specs.Fields.{Read, ◌>>=◌, only, at_most, is_from_to, is_name, byte_at, bytes_at, number_at, name_at, named_at, optional_name_at, text_at, many_at}
+use Rattle.cg_record.specs.Reading.{key_at, kept_at, is_new, entry_at, committed_at, listed_at, roster_at, assigned_at, emptied_at, replaced_at, deleted_at, body_at, command_at, commands_to_end, version_of, commands_of, Fails, Tells}
 
 -- a fault of the bytes
 abbrev pub IsTold : RecordFault → Type 0
@@ -66,6 +74,18 @@ told_text : (max : ℕ) (bytes : List ℕ) → Told (text_at max bytes)
 unfolding text_at
 told_text max bytes = told_then _ _ (told_only (at_most max) BadLength _ tt (told_number _ bytes)) (λ size. told_bytes size.0 size.1)
 
+told_if : {A : Type 0} (b : Bool) (this others : Result A RecordFault) → Told this → Told others → Told (cond b this others)
+told_if true this others t o = t
+told_if false this others t o = o
+
+told_named : (max size : ℕ) (bytes : List ℕ) → Told (named_at max size bytes)
+told_named max size bytes =
+    told_if (eqb size 0) (Ok (None, bytes)) _ tt (told_then _ _ (told_only (is_name max) BadName _ tt (told_bytes size bytes)) (λ name. tt))
+
+told_optional : (max : ℕ) (bytes : List ℕ) → Told (optional_name_at max bytes)
+unfolding optional_name_at
+told_optional max bytes = told_then _ _ (told_only (at_most max) BadName _ tt (told_byte bytes)) (λ size. told_named max size.0 size.1)
+
 -- ---- a commit
 
 told_key : (bytes : List ℕ) → Told (key_at bytes)
@@ -86,29 +106,92 @@ told_entry version front bytes =
     told_then _ _ (told_only (is_new front) Repeated _ tt (told_key bytes)) (λ key.
     told_then _ _ (told_kept version key.1) (λ kept. tt))
 
-told_entries : (version : Version) (n : ℕ) (front : List Entry) (bytes : List ℕ) → Told (entries_at version n front bytes)
-unfolding entries_at
-told_entries version zero front bytes = tt
-told_entries version (suc n) front bytes =
-    told_then _ _ (told_entry version front bytes) (λ entry. told_entries version n (front ++ entry.0 ∷ []) entry.1)
+told_many : {X : Type 0} (at : List X → List ℕ → Read X) → ((front : List X) (bytes : List ℕ) → Told (at front bytes)) → (n : ℕ) (front : List X) (bytes : List ℕ) → Told (many_at at n front bytes)
+unfolding many_at
+told_many at told zero front bytes = tt
+told_many at told (suc n) front bytes =
+    told_then _ _ (told front bytes) (λ next. told_many at told n (front ++ next.0 ∷ []) next.1)
 
 told_committed : (version : Version) (bytes : List ℕ) → Told (committed_at version bytes)
 unfolding committed_at
 told_committed version bytes =
     told_then _ _ (told_name NAME_BYTES_MAX bytes) (λ group.
     told_then _ _ (told_only (is_from_to 1 ENTRIES_MAX) BadLength _ tt (told_byte group.1)) (λ count.
-    told_then _ _ (told_entries version count.0 [] count.1) (λ entries. tt)))
+    told_then _ _ (told_many (entry_at version) (told_entry version) count.0 [] count.1) (λ entries. tt)))
+
+-- ---- members
+
+told_profile : (version : Version) (bytes : List ℕ) → Told (profile_at version bytes)
+unfolding profile_at
+told_profile One bytes =
+    told_then _ _ (told_name NAME_BYTES_MAX bytes) (λ client.
+    told_then _ _ (told_only (is_from_to SESSION_MS_MIN SESSION_MS_MAX) BadLength _ tt (told_number _ client.1)) (λ session.
+    told_then _ _ (told_only (at_most REBALANCE_MS_MAX) BadLength _ tt (told_number _ session.1)) (λ rebalance.
+    told_then _ _ (told_text SUBSCRIPTION_BYTES_MAX rebalance.1) (λ subscription.
+    told_then _ _ (told_text ASSIGNMENT_BYTES_MAX subscription.1) (λ assignment. tt)))))
+
+told_member : (version : Version) (front : List Member) (bytes : List ℕ) → Told (member_at version front bytes)
+unfolding member_at
+told_member version front bytes =
+    told_then _ _ (told_only (is_new_id front) Repeated _ tt (told_name MEMBER_ID_BYTES_MAX bytes)) (λ id.
+    told_then _ _ (told_only (is_new_instance front) Repeated _ tt (told_optional NAME_BYTES_MAX id.1)) (λ instance.
+    told_then _ _ (told_profile version instance.1) (λ profile. tt)))
+
+told_listed : (version : Version) (bytes : List ℕ) → Told (listed_at version bytes)
+unfolding listed_at
+told_listed version bytes =
+    told_then _ _ (told_only (is_from_to 1 MEMBERS_MAX) BadLength _ tt (told_byte bytes)) (λ count. told_many (member_at version) (told_member version) count.0 [] count.1)
+
+-- ---- groups
+
+told_roster : (version : Version) (bytes : List ℕ) → Told (roster_at version bytes)
+unfolding roster_at
+told_roster version bytes =
+    told_then _ _ (told_name NAME_BYTES_MAX bytes) (λ protocol.
+    told_then _ _ (told_name MEMBER_ID_BYTES_MAX protocol.1) (λ leader.
+    told_then _ _ (told_only (is_led_by leader.0) BadName _ tt (told_listed version leader.1)) (λ members. tt)))
+
+told_generation : (bytes : List ℕ) → Told (only (is_from_to 1 GENERATION_MAX) BadLength (number_at w32 bytes))
+told_generation bytes = told_only (is_from_to 1 GENERATION_MAX) BadLength _ tt (told_number w32 bytes)
+
+told_assigned : (version : Version) (bytes : List ℕ) → Told (assigned_at version bytes)
+unfolding assigned_at
+told_assigned version bytes =
+    told_then _ _ (told_name NAME_BYTES_MAX bytes) (λ group.
+    told_then _ _ (told_generation group.1) (λ generation.
+    told_then _ _ (told_name NAME_BYTES_MAX generation.1) (λ kind.
+    told_then _ _ (told_roster version kind.1) (λ roster. tt))))
+
+told_emptied : (version : Version) (bytes : List ℕ) → Told (emptied_at version bytes)
+unfolding emptied_at
+told_emptied version bytes =
+    told_then _ _ (told_name NAME_BYTES_MAX bytes) (λ group.
+    told_then _ _ (told_generation group.1) (λ generation.
+    told_then _ _ (told_name NAME_BYTES_MAX generation.1) (λ kind. tt)))
+
+told_replaced : (version : Version) (bytes : List ℕ) → Told (replaced_at version bytes)
+unfolding replaced_at
+told_replaced version bytes =
+    told_then _ _ (told_name NAME_BYTES_MAX bytes) (λ group.
+    told_then _ _ (told_name MEMBER_ID_BYTES_MAX group.1) (λ id.
+    told_then _ _ (told_then _ _ (told_name NAME_BYTES_MAX id.1) (λ name. tt)) (λ instance.
+    told_then _ _ (told_profile version instance.1) (λ profile. tt))))
+
+told_deleted : (version : Version) (bytes : List ℕ) → Told (deleted_at version bytes)
+unfolding deleted_at
+told_deleted version bytes = told_then _ _ (told_name NAME_BYTES_MAX bytes) (λ group. tt)
 
 -- ---- commands
-
-told_kind : (b : Bool) (this others : Read Command) → Told this → Told others → Told (cond b this others)
-told_kind true this others t o = t
-told_kind false this others t o = o
 
 told_body : (version : Version) (kind : ℕ) (bytes : List ℕ) → Told (body_at version kind bytes)
 unfolding body_at
 told_body version kind bytes =
-    told_kind (eqb kind COMMITTED_KIND) _ _ (told_then _ _ (told_committed version bytes) (λ c. tt)) tt
+    told_if (eqb kind ASSIGNED_KIND) _ _ (told_then _ _ (told_assigned version bytes) (λ a. tt))
+    (told_if (eqb kind EMPTIED_KIND) _ _ (told_then _ _ (told_emptied version bytes) (λ e. tt))
+    (told_if (eqb kind REPLACED_KIND) _ _ (told_then _ _ (told_replaced version bytes) (λ r. tt))
+    (told_if (eqb kind COMMITTED_KIND) _ _ (told_then _ _ (told_committed version bytes) (λ c. tt))
+    (told_if (eqb kind DELETED_KIND) _ _ (told_then _ _ (told_deleted version bytes) (λ d. tt))
+    tt))))
 
 told_command : (version : Version) (bytes : List ℕ) → Told (command_at version bytes)
 unfolding command_at

@@ -1,16 +1,23 @@
 -- What a command is: each field in its range. The types keep this of every value.
-use Rattle.std.specs.Prelude.{ℕ, ◌≤◌, List, length}
+use Rattle.std.specs.Prelude.{ℕ, ◌≤◌, List, length, IsSome}
 use Rattle.std.specs.List.{AllByRecursion}
 use Rattle.cg_names.specs.Grammar.{IsName}
-use Rattle.cg_names.specs.declared.name.TheConstants.{NAME_BYTES_MAX}
+use Rattle.cg_names.specs.declared.name.TheConstants.{NAME_BYTES_MAX, MEMBER_ID_BYTES_MAX}
 use Rattle.cg_record.specs.declared.partition.TheConstants.{PARTITION_MAX}
 use Rattle.cg_record.specs.declared.offset.TheConstants.{OFFSET_MAX}
 use Rattle.cg_record.specs.declared.metadata.TheConstants.{METADATA_BYTES_MAX}
 use Rattle.cg_record.specs.declared.entry.Entry.{Entry}
 use Rattle.cg_record.specs.declared.committed.Committed.{Committed}
+use Rattle.cg_names.specs.declared.generation.TheConstants.{GENERATION_MAX}
+use Rattle.cg_record.specs.declared.assigned.Assigned.{Assigned}
+use Rattle.cg_record.specs.declared.emptied.Emptied.{Emptied}
+use Rattle.cg_record.specs.declared.replaced.Replaced.{Replaced}
+use Rattle.cg_record.specs.declared.deleted.Deleted.{Deleted}
 use Rattle.cg_record.specs.declared.command.Command.{Command}
 use Rattle.cg_record.specs.declared.command.Command.TheVariants as kinds
 use Rattle.cg_record.specs.Keys.{AreEntries}
+use Rattle.cg_record.specs.Rosters.{RosterParts, IsRoster}
+use Rattle.cg_record.specs.Members.{IsMember}
 
 -- a partition of a topic
 pub record IsKey (name : List ℕ) (number : ℕ) : Type 0 where
@@ -33,9 +40,45 @@ pub record IsCommitted (committed : Committed) : Type 0 where
   pub entries : AreEntries committed.entries
   pub each : AllByRecursion IsEntry committed.entries
 
+-- what the members of a group joined in
+pub record IsJoined (roster : RosterParts) : Type 0 where
+  pub protocol : IsName NAME_BYTES_MAX roster.protocol
+  pub leader : IsName MEMBER_ID_BYTES_MAX roster.leader
+  pub together : IsRoster roster
+  pub each : AllByRecursion IsMember roster.members
+
+-- a group whose members have their assignments
+pub record IsAssigned (assigned : Assigned) : Type 0 where
+  pub group : IsName NAME_BYTES_MAX assigned.group
+  pub started : 1 ≤ assigned.generation
+  pub generation : assigned.generation ≤ GENERATION_MAX
+  pub kind : IsName NAME_BYTES_MAX assigned.kind
+  pub roster : IsJoined assigned.roster
+
+-- the end of a group's members
+pub record IsEmptied (emptied : Emptied) : Type 0 where
+  pub group : IsName NAME_BYTES_MAX emptied.group
+  pub started : 1 ≤ emptied.generation
+  pub generation : emptied.generation ≤ GENERATION_MAX
+  pub kind : IsName NAME_BYTES_MAX emptied.kind
+
+-- a member with an instance, which takes another's place
+pub record IsReplaced (replaced : Replaced) : Type 0 where
+  pub group : IsName NAME_BYTES_MAX replaced.group
+  pub member : IsMember replaced.member
+  pub instance : IsSome replaced.member.instance
+
+-- the end of a group
+pub record IsDeleted (deleted : Deleted) : Type 0 where
+  pub group : IsName NAME_BYTES_MAX deleted.group
+
 -- one change of the durable state
 abbrev pub IsCommand : Command → Type 0
+IsCommand (kinds.Assigned assigned) = IsAssigned assigned
+IsCommand (kinds.Emptied emptied) = IsEmptied emptied
+IsCommand (kinds.Replaced replaced) = IsReplaced replaced
 IsCommand (kinds.Committed committed) = IsCommitted committed
+IsCommand (kinds.Deleted deleted) = IsDeleted deleted
 
 -- changes of the durable state, in their order
 abbrev pub AreCommands : List Command → Type 0

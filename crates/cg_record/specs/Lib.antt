@@ -1,4 +1,8 @@
+pub mod Texts
+pub mod Fields
 pub mod Keys
+pub mod Rosters
+pub mod Members
 pub mod Lawful
 pub mod Spelling
 pub mod Reading

@@ -1,80 +1,31 @@
--- Reading from left to right, with the first fault that is met.
-use Rattle.std.specs.Prelude.{◌≡◌, ℕ, zero, suc, Bool, not, ◌&&◌, ◌==◌, nat_lt, nat_le, List, [], ◌∷◌, ◌++◌, length, take, drop, Result, Ok, Err, IsOk, is_none, if◌then◌else◌}
-use Rattle.std.specs.Int.{Width, w32, w64, byte_len, from_be_bytes}
+-- Reading commands from left to right, with the first fault that is met.
+use Rattle.std.specs.Prelude.{◌≡◌, ℕ, zero, suc, Bool, not, ◌==◌, List, [], ◌∷◌, length, Some, Result, Ok, Err, IsOk, if◌then◌else◌}
 use Rattle.std.specs.List.{list_any}
-use Rattle.cg_names.specs.Grammar.{fault_of}
-use Rattle.cg_names.specs.declared.name.TheConstants.{NAME_BYTES_MAX}
+use Rattle.cg_names.specs.declared.name.TheConstants.{NAME_BYTES_MAX, MEMBER_ID_BYTES_MAX}
+use Rattle.cg_names.specs.declared.generation.TheConstants.{GENERATION_MAX}
 use Rattle.cg_record.specs.declared.partition.TheConstants.{PARTITION_MAX}
 use Rattle.cg_record.specs.declared.offset.TheConstants.{OFFSET_MAX}
 use Rattle.cg_record.specs.declared.metadata.TheConstants.{METADATA_BYTES_MAX}
 use Rattle.cg_record.specs.declared.entries.TheConstants.{ENTRIES_MAX}
-use Rattle.cg_record.specs.declared.format.TheConstants.{VERSION_ONE, COMMITTED_KIND}
+use Rattle.cg_record.specs.declared.roster.TheConstants.{MEMBERS_MAX}
+use Rattle.cg_record.specs.declared.format.TheConstants.{VERSION_ONE, ASSIGNED_KIND, EMPTIED_KIND, REPLACED_KIND, COMMITTED_KIND, DELETED_KIND}
 use Rattle.cg_record.specs.declared.format.Version.{Version}
 use Rattle.cg_record.specs.declared.format.Version.TheVariants.{One}
 use Rattle.cg_record.specs.declared.fault.RecordFault.{RecordFault}
-use Rattle.cg_record.specs.declared.fault.RecordFault.TheVariants.{Memory, Short, BadKind, BadName, BadLength, Repeated}
+use Rattle.cg_record.specs.declared.fault.RecordFault.TheVariants.{Memory, BadKind, BadName, BadLength, Repeated}
 use Rattle.cg_record.specs.declared.entry.Entry.{Entry}
+use Rattle.cg_record.specs.declared.member.Member.{Member}
 use Rattle.cg_record.specs.declared.committed.Committed.{Committed}
+use Rattle.cg_record.specs.declared.assigned.Assigned.{Assigned}
+use Rattle.cg_record.specs.declared.emptied.Emptied.{Emptied}
+use Rattle.cg_record.specs.declared.replaced.Replaced.{Replaced}
+use Rattle.cg_record.specs.declared.deleted.Deleted.{Deleted}
 use Rattle.cg_record.specs.declared.command.Command.{Command}
 use Rattle.cg_record.specs.declared.command.Command.TheVariants as kinds
 use Rattle.cg_record.specs.Keys.{is_of}
-
--- a value and the bytes after it, or the first fault
-abbrev pub Read : Type 0 → Type 0
-Read A = Result (A × List ℕ) RecordFault
-
-infixl 10 ◌>>=◌
-abbrev pub ◌>>=◌ : {A B : Type 0} → Result A RecordFault → (A → Result B RecordFault) → Result B RecordFault
-(Ok x) >>= f = f x
-(Err fault) >>= f = Err fault
-
--- what was read, where it passes the test, else this fault
-abbrev pub only : {A : Type 0} → (A → Bool) → RecordFault → Read A → Read A
-only passes fault read = read >>= λ x. if passes x.0 then Ok x else Err fault
-
--- what was read, as something else
-abbrev pub made : {A B : Type 0} → (A → B) → Read A → Read B
-made make read = read >>= λ x. Ok (make x.0, x.1)
-
-abbrev pub at_most : ℕ → ℕ → Bool
-at_most max n = nat_le n max
-
-abbrev pub is_from_to : ℕ → ℕ → ℕ → Bool
-is_from_to min max n = nat_le min n && nat_le n max
-
--- ---- fields
-
-unfoldable pub byte_at : List ℕ → Read ℕ
-byte_at [] = Err Short
-byte_at (b ∷ rest) = Ok (b, rest)
-
-unfoldable pub bytes_at : ℕ → List ℕ → Read (List ℕ)
-bytes_at n bytes = if nat_lt (length bytes) n then Err Short else Ok (take n bytes, drop n bytes)
-
--- a number as wide as this
-unfoldable pub number_at : Width → List ℕ → Read ℕ
-number_at w bytes = if nat_lt (length bytes) (byte_len w) then Err Short else Ok (from_be_bytes w (take (byte_len w) bytes), drop (byte_len w) bytes)
-
-abbrev pub four_at : List ℕ → Read ℕ
-four_at bytes = number_at w32 bytes
-
-abbrev pub eight_at : List ℕ → Read ℕ
-eight_at bytes = number_at w64 bytes
-
-abbrev pub is_name : ℕ → List ℕ → Bool
-is_name max text = is_none (fault_of max text)
-
--- a name of at most `max` bytes
-unfoldable pub name_at : ℕ → List ℕ → Read (List ℕ)
-name_at max bytes = do
-  size ← only (is_from_to 1 max) BadName (byte_at bytes)
-  only (is_name max) BadName (bytes_at size.0 size.1)
-
--- at most `max` bytes of any kind
-unfoldable pub text_at : ℕ → List ℕ → Read (List ℕ)
-text_at max bytes = do
-  size ← only (at_most max) BadLength (four_at bytes)
-  bytes_at size.0 size.1
+use Rattle.cg_record.specs.Rosters.{RosterParts, roster_of, is_led_by}
+use Rattle.cg_record.specs.Members.{member_of, profile_at, member_at}
+pub use Rattle.cg_record.specs.Fields.{Read, ◌>>=◌, only, made, at_most, is_from_to, byte_at, bytes_at, number_at, four_at, eight_at, is_name, name_at, optional_name_at, text_at, many_at}
 
 -- ---- a commit
 
@@ -104,11 +55,8 @@ entry_at version front bytes = do
   Ok (record { topic = key.0.0; partition = key.0.1; offset = kept.0.0; metadata = kept.0.1 }, kept.1)
 
 -- so many entries, behind others of their commit
-unfoldable pub entries_at : Version → ℕ → List Entry → List ℕ → Read (List Entry)
-entries_at version zero front bytes = Ok (front, bytes)
-entries_at version (suc n) front bytes = do
-  entry ← entry_at version front bytes
-  entries_at version n (front ++ entry.0 ∷ []) entry.1
+abbrev pub entries_at : Version → ℕ → List Entry → List ℕ → Read (List Entry)
+entries_at version n front bytes = many_at (entry_at version) n front bytes
 
 unfoldable pub committed_at : Version → List ℕ → Read Committed
 committed_at version bytes = do
@@ -117,13 +65,66 @@ committed_at version bytes = do
   entries ← entries_at version count.0 [] count.1
   Ok (record { group = group.0; entries = entries.0 }, entries.1)
 
+-- ---- groups
+
+-- so many members, behind others of their group
+abbrev pub members_at : Version → ℕ → List Member → List ℕ → Read (List Member)
+members_at version n front bytes = many_at (member_at version) n front bytes
+
+-- the members of a group, with their number before them
+unfoldable pub listed_at : Version → List ℕ → Read (List Member)
+listed_at version bytes = do
+  count ← only (is_from_to 1 MEMBERS_MAX) BadLength (byte_at bytes)
+  members_at version count.0 [] count.1
+
+-- the leader is known to be a member only at the end
+unfoldable pub roster_at : Version → List ℕ → Read RosterParts
+roster_at version bytes = do
+  protocol ← name_at NAME_BYTES_MAX bytes
+  leader ← name_at MEMBER_ID_BYTES_MAX protocol.1
+  members ← only (is_led_by leader.0) BadName (listed_at version leader.1)
+  Ok (roster_of protocol.0 leader.0 members.0, members.1)
+
+unfoldable pub assigned_at : Version → List ℕ → Read Assigned
+assigned_at version bytes = do
+  group ← name_at NAME_BYTES_MAX bytes
+  generation ← only (is_from_to 1 GENERATION_MAX) BadLength (four_at group.1)
+  kind ← name_at NAME_BYTES_MAX generation.1
+  roster ← roster_at version kind.1
+  Ok (record { group = group.0; generation = generation.0; kind = kind.0; roster = roster.0 }, roster.1)
+
+unfoldable pub emptied_at : Version → List ℕ → Read Emptied
+emptied_at version bytes = do
+  group ← name_at NAME_BYTES_MAX bytes
+  generation ← only (is_from_to 1 GENERATION_MAX) BadLength (four_at group.1)
+  kind ← name_at NAME_BYTES_MAX generation.1
+  Ok (record { group = group.0; generation = generation.0; kind = kind.0 }, kind.1)
+
+-- a member that takes another's place has an instance
+unfoldable pub replaced_at : Version → List ℕ → Read Replaced
+replaced_at version bytes = do
+  group ← name_at NAME_BYTES_MAX bytes
+  id ← name_at MEMBER_ID_BYTES_MAX group.1
+  instance ← made Some (name_at NAME_BYTES_MAX id.1)
+  profile ← profile_at version instance.1
+  Ok (record { group = group.0; member = member_of id.0 instance.0 profile.0 }, profile.1)
+
+unfoldable pub deleted_at : Version → List ℕ → Read Deleted
+deleted_at version bytes = do
+  group ← name_at NAME_BYTES_MAX bytes
+  Ok (record { group = group.0 }, group.1)
+
 -- ---- commands
 
 -- the fields of a command of this kind
 unfoldable pub body_at : Version → ℕ → List ℕ → Read Command
 body_at version kind bytes =
-    if kind == COMMITTED_KIND then made kinds.Committed (committed_at version bytes)
-    else Err BadKind
+    if kind == ASSIGNED_KIND then made kinds.Assigned (assigned_at version bytes)
+    else (if kind == EMPTIED_KIND then made kinds.Emptied (emptied_at version bytes)
+    else (if kind == REPLACED_KIND then made kinds.Replaced (replaced_at version bytes)
+    else (if kind == COMMITTED_KIND then made kinds.Committed (committed_at version bytes)
+    else (if kind == DELETED_KIND then made kinds.Deleted (deleted_at version bytes)
+    else Err BadKind))))
 
 unfoldable pub command_at : Version → List ℕ → Read Command
 command_at version bytes = do

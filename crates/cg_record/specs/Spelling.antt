@@ -1,32 +1,34 @@
--- The one text of each list of commands. All numbers are big-endian.
+-- The one text of each list of commands.
 use Rattle.std.specs.Prelude.{ℕ, List, ◌∷◌, ◌++◌, length}
 use Rattle.std.specs.List.{flat_map}
-use Rattle.std.specs.Int.{Width, w32, w64, to_be_bytes}
 use Rattle.cg_record.specs.declared.entry.Entry.{Entry}
 use Rattle.cg_record.specs.declared.committed.Committed.{Committed}
+use Rattle.cg_record.specs.declared.assigned.Assigned.{Assigned}
+use Rattle.cg_record.specs.declared.emptied.Emptied.{Emptied}
+use Rattle.cg_record.specs.declared.replaced.Replaced.{Replaced}
+use Rattle.cg_record.specs.declared.deleted.Deleted.{Deleted}
 use Rattle.cg_record.specs.declared.command.Command.{Command}
 use Rattle.cg_record.specs.declared.command.Command.TheVariants as kinds
-use Rattle.cg_record.specs.declared.format.TheConstants.{VERSION_ONE, COMMITTED_KIND}
+use Rattle.cg_record.specs.declared.format.TheConstants.{VERSION_ONE, ASSIGNED_KIND, EMPTIED_KIND, REPLACED_KIND, COMMITTED_KIND, DELETED_KIND}
+use Rattle.cg_record.specs.Rosters.{RosterParts}
+use Rattle.cg_record.specs.Members.{member_text}
+pub use Rattle.cg_record.specs.Texts.{number, four, eight, name_text, optional_text, bytes_text}
 
--- a number as wide as this
-unfoldable pub number : Width → ℕ → List ℕ
-number w n = to_be_bytes w n
+-- what the members of a group joined in: protocol, leader, one byte of count, members
+unfoldable pub roster_text : RosterParts → List ℕ
+roster_text r = name_text r.protocol ++ name_text r.leader ++ (length r.members ∷ flat_map member_text r.members)
 
--- a number in four bytes
-abbrev pub four : ℕ → List ℕ
-four n = number w32 n
+-- an assigned group: group, generation, type, and what its members joined in
+unfoldable pub assigned_text : Assigned → List ℕ
+assigned_text a = name_text a.group ++ four a.generation ++ name_text a.kind ++ roster_text a.roster
 
--- a number in eight bytes
-abbrev pub eight : ℕ → List ℕ
-eight n = number w64 n
+-- an emptied group: group, generation, type
+unfoldable pub emptied_text : Emptied → List ℕ
+emptied_text e = name_text e.group ++ four e.generation ++ name_text e.kind
 
--- a name: one byte of length, and the name
-abbrev pub name_text : List ℕ → List ℕ
-name_text name = length name ∷ name
-
--- any bytes: four bytes of length, and the bytes
-abbrev pub bytes_text : List ℕ → List ℕ
-bytes_text bytes = four (length bytes) ++ bytes
+-- a replaced member: group, member
+unfoldable pub replaced_text : Replaced → List ℕ
+replaced_text r = name_text r.group ++ member_text r.member
 
 -- a committed offset: topic, partition, offset, metadata
 unfoldable pub entry_text : Entry → List ℕ
@@ -36,9 +38,17 @@ entry_text e = name_text e.topic ++ four e.partition ++ eight e.offset ++ bytes_
 unfoldable pub committed_text : Committed → List ℕ
 committed_text c = name_text c.group ++ (length c.entries ∷ flat_map entry_text c.entries)
 
+-- a deleted group: group
+unfoldable pub deleted_text : Deleted → List ℕ
+deleted_text d = name_text d.group
+
 -- a command: one byte of kind, and its fields
 unfoldable pub command_text : Command → List ℕ
+command_text (kinds.Assigned assigned) = ASSIGNED_KIND ∷ assigned_text assigned
+command_text (kinds.Emptied emptied) = EMPTIED_KIND ∷ emptied_text emptied
+command_text (kinds.Replaced replaced) = REPLACED_KIND ∷ replaced_text replaced
 command_text (kinds.Committed committed) = COMMITTED_KIND ∷ committed_text committed
+command_text (kinds.Deleted deleted) = DELETED_KIND ∷ deleted_text deleted
 
 -- commands: one byte of version, and one command after the other
 unfoldable pub spelling : List Command → List ℕ

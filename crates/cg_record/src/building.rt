@@ -1,7 +1,6 @@
 //! Commands of their own memory, made from bytes in one pass.
 
 ghost use Rattle.std.specs.Prelude.{◌≡◌, ◌<◌, [], length, IfOk};
-ghost use Rattle.cg_names.specs.Grammar.{IsName};
 ghost use Rattle.cg_record.specs.Keys.{AreEntries, HasDistinctKeys};
 ghost use Rattle.cg_record.specs.Lawful.{IsKey, IsKept};
 ghost use Rattle.cg_record.specs.Reading.{Builds, entry_at, entries_at, committed_at, body_at, command_at, commands_to_end, commands_of};
@@ -9,27 +8,20 @@ ghost use Rattle.cg_record.specs.Reading.{Builds, entry_at, entries_at, committe
 use crate::command::Command;
 use crate::commit::{Kept, Key, count_at, is_taken, kept_at, key_at};
 use crate::committed::Committed;
+use crate::copies::name_of;
 use crate::entries::Entries;
 use crate::entry::Entry;
 use crate::fault::RecordFault;
 use crate::fields::{byte_at, name_at};
-use crate::format::{COMMITTED_KIND, Version};
+use crate::format::{
+    ASSIGNED_KIND, COMMITTED_KIND, DELETED_KIND, EMPTIED_KIND, REPLACED_KIND, Version,
+};
+use crate::grouping::{assigned_at, deleted_at, emptied_at, replaced_at};
 use crate::metadata::Metadata;
 use crate::offset::Offset;
 use crate::partition::Partition;
-use cg_names::{NAME_BYTES_MAX, Name};
+use cg_names::NAME_BYTES_MAX;
 use std::alloc::{AllocError, Global};
-
-// A copy of a name that was read.
-fn name_of<const MAX: usize, const SORT: u8>(
-    alloc: Global,
-    name: &[u8],
-) -> Result<Name<MAX, SORT>, AllocError>
-    requires { IsName MAX name.now }
-    ensures { IfOk result (λ copy. copy ≡ name.now) }
-{
-    Name::from_bytes(alloc, name).map_err(|_| AllocError)
-}
 
 // A copy of what was read of an entry.
 fn entry_of(alloc: Global, key: Key<'_>, kept: Kept<'_>) -> Result<Entry, AllocError>
@@ -69,7 +61,7 @@ fn entry_at<'a>(
 }
 
 // So many entries.
-#[tactic(auto, using(crate::proofs::Steps::entries_on, crate::proofs::Steps::entries_fail, crate::proofs::Steps::entries_end))]
+#[tactic(auto, using(crate::proofs::Steps::many_on, crate::proofs::Steps::many_fail, crate::proofs::Steps::many_end))]
 fn entries_at<'a>(
     alloc: Global,
     version: Version,
@@ -115,9 +107,21 @@ fn body_at(
 ) -> Result<(Command, &[u8]), RecordFault>
     ensures { Builds (λ x. (x.0, x.1.now)) result (body_at version kind bytes.now) }
 {
-    if kind == COMMITTED_KIND {
+    if kind == ASSIGNED_KIND {
+        let (assigned, rest) = assigned_at(alloc, version, bytes)?;
+        Ok((Command::Assigned(assigned), rest))
+    } else if kind == EMPTIED_KIND {
+        let (emptied, rest) = emptied_at(alloc, version, bytes)?;
+        Ok((Command::Emptied(emptied), rest))
+    } else if kind == REPLACED_KIND {
+        let (replaced, rest) = replaced_at(alloc, version, bytes)?;
+        Ok((Command::Replaced(replaced), rest))
+    } else if kind == COMMITTED_KIND {
         let (committed, rest) = committed_at(alloc, version, bytes)?;
         Ok((Command::Committed(committed), rest))
+    } else if kind == DELETED_KIND {
+        let (deleted, rest) = deleted_at(alloc, version, bytes)?;
+        Ok((Command::Deleted(deleted), rest))
     } else {
         Err(RecordFault::BadKind)
     }

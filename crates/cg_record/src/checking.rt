@@ -10,7 +10,10 @@ ghost use Rattle.cg_record.specs.Reading.{Skips, Checks, entry_at, entries_at, c
 use crate::commit::{Key, count_at, kept_at, key_at};
 use crate::fault::RecordFault;
 use crate::fields::{byte_at, name_at};
-use crate::format::{COMMITTED_KIND, Version};
+use crate::format::{
+    ASSIGNED_KIND, COMMITTED_KIND, DELETED_KIND, EMPTIED_KIND, REPLACED_KIND, Version,
+};
+use crate::passing::{check_assigned, check_deleted, check_emptied, check_replaced};
 use cg_names::NAME_BYTES_MAX;
 
 // The partition of an entry that was read before, and the bytes behind the entry.
@@ -94,8 +97,16 @@ fn check_committed(version: Version, bytes: &[u8]) -> Result<&[u8], RecordFault>
 fn check_body(version: Version, kind: u8, bytes: &[u8]) -> Result<&[u8], RecordFault>
     ensures { Skips (λ rest. rest.now) result (body_at version kind bytes.now) }
 {
-    if kind == COMMITTED_KIND {
+    if kind == ASSIGNED_KIND {
+        check_assigned(version, bytes)
+    } else if kind == EMPTIED_KIND {
+        check_emptied(version, bytes)
+    } else if kind == REPLACED_KIND {
+        check_replaced(version, bytes)
+    } else if kind == COMMITTED_KIND {
         check_committed(version, bytes)
+    } else if kind == DELETED_KIND {
+        check_deleted(version, bytes)
     } else {
         Err(RecordFault::BadKind)
     }

@@ -1,7 +1,15 @@
+use crate::assigned::Assigned;
 use crate::committed::Committed;
+use crate::deleted::Deleted;
+use crate::emptied::Emptied;
+use crate::replaced::Replaced;
 
 /// One change of the durable state.
 #[derive(Debug, Drop)]
 pub enum Command {
+    Assigned(Assigned),
+    Emptied(Emptied),
+    Replaced(Replaced),
     Committed(Committed),
+    Deleted(Deleted),
 }

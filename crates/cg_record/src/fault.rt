@@ -16,14 +16,15 @@ pub enum RecordFault {
     /// The first byte is no version, or the first of a command no kind.
     #[error("a version or a kind is none that is known")]
     BadKind,
-    /// A name has no byte, or more than names of its sort may have (told before `Short`), or is outside the grammar of names.
+    /// A name has no byte, or more than names of its sort may have (told before `Short`), or is outside the grammar of names;
+    /// a member that takes another's place has no instance; or, told at the command's end, a leader is no member.
     #[error("a name is none")]
     BadName,
     /// A number, a count or a length of bytes is outside its range; of a length this is told before `Short`.
     #[error("a number or a length is out of its range")]
     BadLength,
-    /// A partition comes for the second time in one commit; told before its offset is looked at.
-    #[error("a partition comes twice in one commit")]
+    /// A partition, a member id or an instance comes for the second time in one command; told before what stands behind it.
+    #[error("a partition, a member or an instance comes twice in one command")]
     Repeated,
 }
 

@@ -1,14 +1,16 @@
 //! Fields at the front of bytes, read without a copy.
 
-ghost use Rattle.std.specs.Prelude.{◌≡◌, ◌≤◌, length, IfOk};
+ghost use Rattle.std.specs.Prelude.{◌≡◌, ◌≤◌, length, IfOk, IfSome};
 ghost use Rattle.cg_names.specs.Grammar.{IsName};
-ghost use Rattle.cg_record.specs.Reading.{Gives, byte_at, bytes_at, four_at, eight_at, name_at, text_at};
+ghost use Rattle.cg_record.specs.Fields.{only, is_name, byte_at, bytes_at, four_at, eight_at, name_at, named_at, optional_name_at, text_at};
+ghost use Rattle.cg_record.specs.Reading.{Gives};
+ghost use Rattle.std.specs.Option.{option_copied};
 
 use crate::fault::RecordFault;
 use crate::fault::RecordFault::{BadLength, BadName, Short};
 use cg_names::Name;
 
-#[tactic(auto, unfolding(crate::specs::Reading::byte_at))]
+#[tactic(auto, unfolding(crate::specs::Fields::byte_at))]
 pub fn byte_at(bytes: &[u8]) -> Result<(u8, &[u8]), RecordFault>
     ensures { Gives (λ x. (x.0, x.1.now)) result (byte_at bytes.now) }
 {
@@ -18,7 +20,7 @@ pub fn byte_at(bytes: &[u8]) -> Result<(u8, &[u8]), RecordFault>
     }
 }
 
-#[tactic(auto, unfolding(crate::specs::Reading::bytes_at))]
+#[tactic(auto, unfolding(crate::specs::Fields::bytes_at))]
 pub fn bytes_at(n: usize, bytes: &[u8]) -> Result<(&[u8], &[u8]), RecordFault>
     ensures gives { Gives (λ x. (x.0.now, x.1.now)) result (bytes_at n bytes.now) }
     ensures len { IfOk result (λ x. length x.0.now ≡ n) }
@@ -29,7 +31,7 @@ pub fn bytes_at(n: usize, bytes: &[u8]) -> Result<(&[u8], &[u8]), RecordFault>
     Ok(bytes.split_at(n))
 }
 
-#[tactic(auto, unfolding(crate::specs::Reading::number_at))]
+#[tactic(auto, unfolding(crate::specs::Fields::number_at))]
 pub fn four_at(bytes: &[u8]) -> Result<(u32, &[u8]), RecordFault>
     ensures { Gives (λ x. (x.0, x.1.now)) result (four_at bytes.now) }
 {
@@ -41,7 +43,7 @@ pub fn four_at(bytes: &[u8]) -> Result<(u32, &[u8]), RecordFault>
     Ok((number, rest))
 }
 
-#[tactic(auto, unfolding(crate::specs::Reading::number_at))]
+#[tactic(auto, unfolding(crate::specs::Fields::number_at))]
 pub fn eight_at(bytes: &[u8]) -> Result<(u64, &[u8]), RecordFault>
     ensures { Gives (λ x. (x.0, x.1.now)) result (eight_at bytes.now) }
 {
@@ -55,8 +57,20 @@ pub fn eight_at(bytes: &[u8]) -> Result<(u64, &[u8]), RecordFault>
     Ok((number, rest))
 }
 
+// A name of this many bytes.
+fn sized_at<const MAX: usize>(size: usize, bytes: &[u8]) -> Result<(&[u8], &[u8]), RecordFault>
+    ensures gives { Gives (λ x. (x.0.now, x.1.now)) result (only (is_name MAX) RecordFault.BadName (bytes_at size bytes.now)) }
+    ensures name { IfOk result (λ x. IsName MAX x.0.now) }
+{
+    let (name, rest) = bytes_at(size, bytes)?;
+    match Name::<MAX, 0>::fault(name) {
+        None => Ok((name, rest)),
+        Some(_) => Err(BadName),
+    }
+}
+
 /// The bytes of a name of at most `MAX` bytes.
-#[tactic(auto, unfolding(crate::specs::Reading::name_at))]
+#[tactic(auto, unfolding(crate::specs::Fields::name_at))]
 pub fn name_at<const MAX: usize>(bytes: &[u8]) -> Result<(&[u8], &[u8]), RecordFault>
     ensures gives { Gives (λ x. (x.0.now, x.1.now)) result (name_at MAX bytes.now) }
     ensures name { IfOk result (λ x. IsName MAX x.0.now) }
@@ -66,15 +80,42 @@ pub fn name_at<const MAX: usize>(bytes: &[u8]) -> Result<(&[u8], &[u8]), RecordF
     if !(1 <= size && size <= MAX) {
         return Err(BadName);
     }
-    let (name, rest) = bytes_at(size, rest)?;
-    match Name::<MAX, 0>::fault(name) {
-        None => Ok((name, rest)),
-        Some(_) => Err(BadName),
+    sized_at::<MAX>(size, rest)
+}
+
+// A name of this many bytes; of none, none.
+fn named_at<const MAX: usize>(
+    size: usize,
+    bytes: &[u8],
+) -> Result<(Option<&[u8]>, &[u8]), RecordFault>
+    ensures gives { Gives (λ x. (option_copied x.0, x.1.now)) result (named_at MAX size bytes.now) }
+    ensures name { IfOk result (λ x. IfSome (option_copied x.0) (IsName MAX)) }
+{
+    if size == 0 {
+        return Ok((None, bytes));
     }
+    let (name, rest) = sized_at::<MAX>(size, bytes)?;
+    Ok((Some(name), rest))
+}
+
+/// The bytes of a name of at most `MAX` bytes, or none.
+#[tactic(auto, unfolding(crate::specs::Fields::optional_name_at))]
+pub fn optional_name_at<const MAX: usize>(
+    bytes: &[u8],
+) -> Result<(Option<&[u8]>, &[u8]), RecordFault>
+    ensures gives { Gives (λ x. (option_copied x.0, x.1.now)) result (optional_name_at MAX bytes.now) }
+    ensures name { IfOk result (λ x. IfSome (option_copied x.0) (IsName MAX)) }
+{
+    let (size, rest) = byte_at(bytes)?;
+    let size = size as usize;
+    if size > MAX {
+        return Err(BadName);
+    }
+    named_at::<MAX>(size, rest)
 }
 
 /// At most `max` bytes of any kind.
-#[tactic(auto, unfolding(crate::specs::Reading::text_at))]
+#[tactic(auto, unfolding(crate::specs::Fields::text_at))]
 pub fn text_at(max: usize, bytes: &[u8]) -> Result<(&[u8], &[u8]), RecordFault>
     ensures gives { Gives (λ x. (x.0.now, x.1.now)) result (text_at max bytes.now) }
     ensures fits { IfOk result (λ x. length x.0.now ≤ max) }

@@ -5,8 +5,20 @@ use crate::fault::RecordFault;
 /// The first byte of bytes of the first version, the one that is written.
 pub const VERSION_ONE: u8 = 1;
 
+/// The kind byte of `Assigned`.
+pub const ASSIGNED_KIND: u8 = 1;
+
+/// The kind byte of `Emptied`.
+pub const EMPTIED_KIND: u8 = 2;
+
+/// The kind byte of `Replaced`.
+pub const REPLACED_KIND: u8 = 3;
+
 /// The kind byte of `Committed`.
 pub const COMMITTED_KIND: u8 = 4;
+
+/// The kind byte of `Deleted`.
+pub const DELETED_KIND: u8 = 5;
 
 /// How the fields of commands are laid out. Later versions are read beside the first.
 #[derive(Clone, Copy, Debug, PartialEq, Eq)]

@@ -3,32 +3,58 @@
 //! It stands on the names of `cg_names` alone.
 #![tactic(auto)]
 
+mod assigned;
 mod building;
 mod checking;
 mod command;
 mod commit;
 mod committed;
+mod copies;
+mod deleted;
+mod emptied;
 mod entries;
 mod entry;
 mod fault;
 mod fields;
 mod format;
+mod generation;
+mod group;
+mod grouping;
+mod member;
 mod metadata;
+mod millis;
 mod offset;
+mod opaque;
 mod partition;
+mod passing;
+mod profile;
+mod put_member;
 mod reading;
+mod replaced;
+mod roster;
 mod sizes;
 mod writing;
 
+pub use assigned::Assigned;
 pub use command::Command;
 pub use committed::Committed;
+pub use deleted::Deleted;
+pub use emptied::Emptied;
 pub use entries::{ENTRIES_MAX, Entries};
 pub use entry::Entry;
 pub use fault::RecordFault;
+pub use generation::CompletedGeneration;
+pub use member::Member;
 pub use metadata::{METADATA_BYTES_MAX, Metadata};
+pub use millis::{
+    Millis, REBALANCE_MS_MAX, RebalanceTimeout, SESSION_MS_MAX, SESSION_MS_MIN, SessionTimeout,
+};
 pub use offset::{OFFSET_MAX, Offset};
+pub use opaque::{ASSIGNMENT_BYTES_MAX, Assignment, Opaque, SUBSCRIPTION_BYTES_MAX, Subscription};
 pub use partition::{PARTITION_MAX, Partition};
 pub use reading::read;
+pub use replaced::{Replaced, StaticMember};
+pub use roster::{MEMBERS_MAX, Roster};
 pub use sizes::size;
 pub use writing::write;
 

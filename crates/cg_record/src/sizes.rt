@@ -1,17 +1,37 @@
 ghost use Rattle.std.specs.Prelude.{◌≡◌, ◌≤◌, ◌*◌, length};
 ghost use Rattle.std.specs.List.{flat_map};
-ghost use Rattle.cg_record.specs.Spelling.{entry_text, committed_text, command_text};
+ghost use Rattle.cg_record.specs.Spelling.{entry_text, optional_text, roster_text, assigned_text, emptied_text, replaced_text, deleted_text, committed_text, command_text};
+ghost use Rattle.cg_record.specs.Members.{member_text};
 
+use crate::assigned::Assigned;
 use crate::command::Command;
 use crate::committed::Committed;
+use crate::deleted::Deleted;
+use crate::emptied::Emptied;
 use crate::entries::ENTRIES_MAX;
 use crate::entry::Entry;
+use crate::member::Member;
+use crate::replaced::Replaced;
+use crate::roster::{MEMBERS_MAX, Roster};
+use cg_names::InstanceId;
 
 // The bytes of an entry but for its topic and its metadata: a length of 1, a number of 4, one of 8, a length of 4.
 const ENTRY_FIXED_BYTES: u64 = 17;
 
 // The bytes of an entry at most.
 const ENTRY_BYTES_MAX: u64 = 4_213;
+
+// The bytes of a member but for its names and what only clients read: two lengths of 1, two numbers of 4, two lengths of 4.
+const MEMBER_FIXED_BYTES: u64 = 18;
+
+// The bytes of a member at most.
+const MEMBER_BYTES_MAX: u64 = 5_476;
+
+// The bytes of what members joined in but for the names and the members: two lengths of 1, a count of 1.
+const ROSTER_FIXED_BYTES: u64 = 3;
+
+// The bytes of an assigned or emptied group but for its names and its members: a length of 1, a number of 4, a length of 1.
+const GROUP_FIXED_BYTES: u64 = 6;
 
 // The bytes of a commit but for its group and its entries: a length of 1, a count of 1.
 const COMMITTED_FIXED_BYTES: u64 = 2;
@@ -48,12 +68,110 @@ fn committed_size(committed: &Committed) -> u64
     COMMITTED_FIXED_BYTES + group.len() as u64 + entries_size(entries)
 }
 
-/// The number of bytes that `write` spends on the command. Goes through its entries, and takes no memory.
+#[tactic(auto, using(crate::proofs::TextLens::emptied_len, cg_names::proofs::Names::length_from_name))]
+fn emptied_size(emptied: &Emptied) -> u64
+    ensures size { result ≡ length (emptied_text emptied.now) }
+    ensures bound { result ≤ 300 }
+{
+    let group = emptied.group.as_bytes();
+    let kind = emptied.kind.as_bytes();
+    GROUP_FIXED_BYTES + group.len() as u64 + kind.len() as u64
+}
+
+fn instance_size(instance: &Option<InstanceId>) -> u64
+    ensures size { result ≡ length (optional_text instance.now) }
+    ensures bound { result ≤ 101 }
+{
+    match instance {
+        None => 1,
+        Some(name) => 1 + name_size(name),
+    }
+}
+
+#[tactic(auto, using(cg_names::proofs::Names::length_from_name))]
+fn name_size(name: &InstanceId) -> u64
+    ensures size { result ≡ length name.now }
+    ensures bound { result ≤ 100 }
+{
+    let bytes = name.as_bytes();
+    bytes.len() as u64
+}
+
+#[tactic(auto, using(crate::proofs::TextLens::member_len, cg_names::proofs::Names::length_from_name))]
+fn member_size(member: &Member) -> u64
+    ensures size { result ≡ length (member_text member.now) }
+    ensures bound { result ≤ MEMBER_BYTES_MAX }
+{
+    let id = member.id.as_bytes();
+    let client = member.client.as_bytes();
+    let subscription = member.subscription.as_bytes();
+    let assignment = member.assignment.as_bytes();
+    let names = id.len() as u64 + instance_size(&member.instance) + client.len() as u64;
+    let texts = subscription.len() as u64 + assignment.len() as u64;
+    MEMBER_FIXED_BYTES + names + texts
+}
+
+fn members_size(members: &[Member]) -> u64
+    requires { length members.now ≤ MEMBERS_MAX }
+    ensures size { result ≡ length (flat_map member_text members.now) }
+    ensures bound { result ≤ MEMBERS_MAX * MEMBER_BYTES_MAX }
+{
+    let mut total = 0u64;
+    for member in members {
+        total += member_size(member);
+    }
+    total
+}
+
+#[tactic(auto, using(crate::proofs::TextLens::roster_len, cg_names::proofs::Names::length_from_name))]
+fn roster_size(roster: &Roster) -> u64
+    ensures size { result ≡ length (roster_text roster.now) }
+    ensures bound { result ≤ 351_000 }
+{
+    let protocol = roster.protocol().as_bytes();
+    let leader = roster.leader().as_bytes();
+    let members = roster.members();
+    ROSTER_FIXED_BYTES + protocol.len() as u64 + leader.len() as u64 + members_size(members)
+}
+
+#[tactic(auto, using(crate::proofs::TextLens::assigned_len, cg_names::proofs::Names::length_from_name))]
+fn assigned_size(assigned: &Assigned) -> u64
+    ensures size { result ≡ length (assigned_text assigned.now) }
+    ensures bound { result ≤ 352_000 }
+{
+    let group = assigned.group.as_bytes();
+    let kind = assigned.kind.as_bytes();
+    GROUP_FIXED_BYTES + group.len() as u64 + kind.len() as u64 + roster_size(&assigned.roster)
+}
+
+#[tactic(auto, using(crate::proofs::TextLens::replaced_len, cg_names::proofs::Names::length_from_name))]
+fn replaced_size(replaced: &Replaced) -> u64
+    ensures size { result ≡ length (replaced_text replaced.now) }
+    ensures bound { result ≤ 6_000 }
+{
+    let group = replaced.group.as_bytes();
+    1 + group.len() as u64 + member_size(replaced.member.member())
+}
+
+#[tactic(auto, unfolding(crate::specs::Spelling::deleted_text), using(cg_names::proofs::Names::length_from_name))]
+fn deleted_size(deleted: &Deleted) -> u64
+    ensures size { result ≡ length (deleted_text deleted.now) }
+    ensures bound { result ≤ 300 }
+{
+    let group = deleted.group.as_bytes();
+    1 + group.len() as u64
+}
+
+/// The number of bytes that `write` spends on the command. Goes through its members or entries, and takes no memory.
 #[tactic(auto, unfolding(crate::specs::Spelling::command_text))]
 pub fn size(command: &Command) -> u64
     ensures { result ≡ length (command_text command.now) }
 {
     match command {
+        Command::Assigned(assigned) => 1 + assigned_size(assigned),
+        Command::Emptied(emptied) => 1 + emptied_size(emptied),
+        Command::Replaced(replaced) => 1 + replaced_size(replaced),
         Command::Committed(committed) => 1 + committed_size(committed),
+        Command::Deleted(deleted) => 1 + deleted_size(deleted),
     }
 }

@@ -1,27 +1,34 @@
 ghost use Rattle.std.specs.Prelude.{◌≡◌, ◌<◌, ◌≤◌, ◌+◌, ◌++◌, Ok, length, sum_by, IfOk, OnOk};
 ghost use Rattle.std.specs.List.{flat_map, AllByRecursion};
 ghost use Rattle.cg_names.specs.Grammar.{IsName};
-ghost use Rattle.cg_record.specs.Lawful.{IsEntry, IsCommitted, IsCommand, AreCommands};
-ghost use Rattle.cg_record.specs.Spelling.{four, eight, name_text, bytes_text, entry_text, committed_text, command_text, spelling};
+ghost use Rattle.cg_record.specs.Lawful.{IsEntry, IsAssigned, IsEmptied, IsReplaced, IsDeleted, IsCommitted, IsCommand, AreCommands};
+ghost use Rattle.cg_record.specs.Spelling.{four, eight, name_text, bytes_text, entry_text, assigned_text, emptied_text, replaced_text, deleted_text, committed_text, command_text, spelling};
 ghost use Rattle.cg_record.specs.Reading.{commands_of};
 
+use crate::assigned::Assigned;
 use crate::command::Command;
 use crate::committed::Committed;
+use crate::deleted::Deleted;
+use crate::emptied::Emptied;
 use crate::entry::Entry;
-use crate::format::{COMMITTED_KIND, VERSION_ONE};
+use crate::format::{
+    ASSIGNED_KIND, COMMITTED_KIND, DELETED_KIND, EMPTIED_KIND, REPLACED_KIND, VERSION_ONE,
+};
 use crate::metadata::{METADATA_BYTES_MAX, Metadata};
+use crate::put_member::{put_member, put_roster};
+use crate::replaced::Replaced;
 use crate::sizes::size;
 use cg_names::Name;
 use std::alloc::{AllocError, Global};
 
-#[tactic(auto, unfolding(crate::specs::Spelling::number))]
-fn put_four(out: &mut Vec<u8>, n: u32) -> Result<(), AllocError>
+#[tactic(auto, unfolding(crate::specs::Texts::number))]
+pub fn put_four(out: &mut Vec<u8>, n: u32) -> Result<(), AllocError>
     ensures { OnOk result (out.new.items ≡ out.old.items ++ four n) }
 {
     out.extend_from_slice(&n.to_be_bytes())
 }
 
-#[tactic(auto, unfolding(crate::specs::Spelling::number))]
+#[tactic(auto, unfolding(crate::specs::Texts::number))]
 fn put_eight(out: &mut Vec<u8>, n: u64) -> Result<(), AllocError>
     ensures { OnOk result (out.new.items ≡ out.old.items ++ eight n) }
 {
@@ -29,7 +36,7 @@ fn put_eight(out: &mut Vec<u8>, n: u64) -> Result<(), AllocError>
 }
 
 #[tactic(auto, using(cg_names::proofs::Names::length_from_name))]
-fn put_name<const MAX: usize, const SORT: u8>(
+pub fn put_name<const MAX: usize, const SORT: u8>(
     out: &mut Vec<u8>,
     name: &Name<MAX, SORT>,
 ) -> Result<(), AllocError>
@@ -87,15 +94,74 @@ fn put_committed(out: &mut Vec<u8>, committed: &Committed) -> Result<(), AllocEr
     Ok(())
 }
 
+#[tactic(auto, unfolding(crate::specs::Spelling::assigned_text))]
+fn put_assigned(out: &mut Vec<u8>, assigned: &Assigned) -> Result<(), AllocError>
+    ensures ok { OnOk result (out.new.items ≡ out.old.items ++ assigned_text assigned.now) }
+    ensures lawful { OnOk result (IsAssigned assigned.now) }
+{
+    put_name(out, &assigned.group)?;
+    put_four(out, assigned.generation.get())?;
+    put_name(out, &assigned.kind)?;
+    put_roster(out, &assigned.roster)?;
+    Ok(())
+}
+
+#[tactic(auto, unfolding(crate::specs::Spelling::replaced_text))]
+fn put_replaced(out: &mut Vec<u8>, replaced: &Replaced) -> Result<(), AllocError>
+    ensures ok { OnOk result (out.new.items ≡ out.old.items ++ replaced_text replaced.now) }
+    ensures lawful { OnOk result (IsReplaced replaced.now) }
+{
+    let member = replaced.member.member();
+    put_name(out, &replaced.group)?;
+    put_member(out, member)?;
+    Ok(())
+}
+
+#[tactic(auto, unfolding(crate::specs::Spelling::emptied_text))]
+fn put_emptied(out: &mut Vec<u8>, emptied: &Emptied) -> Result<(), AllocError>
+    ensures ok { OnOk result (out.new.items ≡ out.old.items ++ emptied_text emptied.now) }
+    ensures lawful { OnOk result (IsEmptied emptied.now) }
+{
+    put_name(out, &emptied.group)?;
+    put_four(out, emptied.generation.get())?;
+    put_name(out, &emptied.kind)?;
+    Ok(())
+}
+
+#[tactic(auto, unfolding(crate::specs::Spelling::deleted_text))]
+fn put_deleted(out: &mut Vec<u8>, deleted: &Deleted) -> Result<(), AllocError>
+    ensures ok { OnOk result (out.new.items ≡ out.old.items ++ deleted_text deleted.now) }
+    ensures lawful { OnOk result (IsDeleted deleted.now) }
+{
+    put_name(out, &deleted.group)?;
+    Ok(())
+}
+
 #[tactic(auto, unfolding(crate::specs::Spelling::command_text))]
 fn put_command(out: &mut Vec<u8>, command: &Command) -> Result<(), AllocError>
     ensures ok { OnOk result (out.new.items ≡ out.old.items ++ command_text command.now) }
     ensures lawful { OnOk result (IsCommand command.now) }
 {
     match command {
+        Command::Assigned(assigned) => {
+            out.push(ASSIGNED_KIND)?;
+            put_assigned(out, assigned)?;
+        }
+        Command::Emptied(emptied) => {
+            out.push(EMPTIED_KIND)?;
+            put_emptied(out, emptied)?;
+        }
+        Command::Replaced(replaced) => {
+            out.push(REPLACED_KIND)?;
+            put_replaced(out, replaced)?;
+        }
         Command::Committed(committed) => {
             out.push(COMMITTED_KIND)?;
             put_committed(out, committed)?;
+        }
+        Command::Deleted(deleted) => {
+            out.push(DELETED_KIND)?;
+            put_deleted(out, deleted)?;
         }
     }
     Ok(())

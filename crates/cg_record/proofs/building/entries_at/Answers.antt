@@ -1,17 +1,17 @@
 use Rattle.std.proofs.Common.{[], arith}
-use Rattle.cg_record.specs.Reading.{entries_at}
-use Rattle.cg_record.proofs.Steps.{entries_end}
+use Rattle.cg_record.specs.Reading.{entry_at, entries_at}
+use Rattle.cg_record.proofs.Steps.{many_end}
 use Rattle.cg_record.proofs.CommitLaws.{reads_entries}
 use Rattle.cg_record.proofs.building.entries_at.Goals as goal
 
 pub returns-clause-len : goal.returns-clause-len
 returns-clause-len c =
-    let read = entries_end c.args.version c.args.count c.loop.counter c.loop.entries.items c.loop.rest.now (entries_at c.args.version c.args.count [] c.args.bytes.now) c.loop-test.false c.loop.invariant in
+    let read = many_end (entry_at c.args.version) c.args.count c.loop.counter c.loop.entries.items c.loop.rest.now (entries_at c.args.version c.args.count [] c.args.bytes.now) c.loop-test.false c.loop.invariant in
     let t = (reads_entries c.args.version c.args.count).takes c.args.bytes.now c.loop.entries.items c.loop.rest.now (λ i. omega (arith, c.type_inv.bytes i)) read in
     t.2.count
 
 pub returns-clause-distinct : goal.returns-clause-distinct
 returns-clause-distinct c =
-    let read = entries_end c.args.version c.args.count c.loop.counter c.loop.entries.items c.loop.rest.now (entries_at c.args.version c.args.count [] c.args.bytes.now) c.loop-test.false c.loop.invariant in
+    let read = many_end (entry_at c.args.version) c.args.count c.loop.counter c.loop.entries.items c.loop.rest.now (entries_at c.args.version c.args.count [] c.args.bytes.now) c.loop-test.false c.loop.invariant in
     let t = (reads_entries c.args.version c.args.count).takes c.args.bytes.now c.loop.entries.items c.loop.rest.now (λ i. omega (arith, c.type_inv.bytes i)) read in
     t.2.distinct

@@ -1,0 +1,72 @@
+-- The records of groups, and the order in which they are kept.
+use Rattle.std.specs.Prelude.{◌≡◌, ℕ, ◌<◌, Bool, not, List, length, Option, Some, None, slice_index_or, slice_set, bytes_eq, refl}
+use Rattle.std.specs.declared.cmp.Ordering.TheVariants.{Equal}
+use Rattle.std.specs.Option.{option_map}
+use Rattle.std.specs.Ordering.{is_lt}
+use Rattle.std.specs.Coded.{Coded, code_by, coded×, coded_list, coded_option, coded_ℕ}
+use Rattle.std.specs.FinMap.{find, put}
+use Rattle.cg_record.specs.declared.assigned.Assigned.{Assigned}
+use Rattle.cg_record.specs.declared.emptied.Emptied.{Emptied}
+use Rattle.cg_record.specs.declared.member.Member.{Member}
+use Rattle.cg_record.specs.Rosters.{RosterParts, replaced_in}
+use Rattle.cg_fold.specs.declared.record.GroupRecord.{GroupRecord}
+use Rattle.cg_fold.specs.Key.{name_cmp}
+
+-- a record with the group that it is of
+abbrev pub KeptRecord : Type 0
+KeptRecord = List ℕ × GroupRecord
+
+-- whether a record stands before a group
+abbrev pub is_record_below : List ℕ → KeptRecord → Bool
+is_record_below group kept = is_lt (name_cmp kept.0 group)
+
+-- the record at this place is the group's own
+abbrev pub IsOwnRecord : List KeptRecord → ℕ → List ℕ → Type 0
+IsOwnRecord kept at group = (at < length kept) × ((d : KeptRecord) → name_cmp (slice_index_or kept at d).0 group ≡ Equal)
+
+-- no record at this place is the group's own
+abbrev pub IsOtherRecord : List KeptRecord → ℕ → List ℕ → Type 0
+IsOtherRecord kept at group = (d : KeptRecord) → at < length kept → name_cmp (slice_index_or kept at d).0 group ≡ Equal → ⊥
+
+-- what is kept of a group whose members have their assignments
+abbrev pub assigned_record : Assigned → GroupRecord
+assigned_record a = record { generation = a.generation; kind = a.kind; roster = Some a.roster }
+
+-- what is kept of a group without members
+abbrev pub emptied_record : Emptied → GroupRecord
+emptied_record e = record { generation = e.generation; kind = e.kind; roster = None }
+
+-- the record with a new member in the place of the one with its instance, where it may take it
+abbrev pub replaced_record : Member → GroupRecord → GroupRecord
+replaced_record new r = record r { roster = option_map (replaced_in new) r.roster }
+
+-- the one with the other records as they were, but for a new member in the one at this place
+abbrev pub ReplacesAt : List KeptRecord → List KeptRecord → ℕ → Member → Type 0
+ReplacesAt old new at member = (d : KeptRecord) → new ≡ slice_set old at ((slice_index_or old at d).0, replaced_record member (slice_index_or old at d).1)
+
+-- a record put among others that stand in order, if there is one to put
+abbrev pub put_found : List ℕ → Option GroupRecord → List KeptRecord → List KeptRecord
+put_found group None records = records
+put_found group (Some r) records = put name_cmp group r records
+
+-- the records with a new member in one group's
+abbrev pub replaced_among : List ℕ → Member → List KeptRecord → List KeptRecord
+replaced_among group new records = put_found group (option_map (replaced_record new) (find name_cmp group records)) records
+
+-- whether a record is of another group
+abbrev pub is_record_of_other : List ℕ → List ℕ → Bool
+is_record_of_other group held = not (bytes_eq held group)
+
+-- a member, what members joined in and a record are stored as their parts
+abbrev pub member_code : Coded Member
+member_code = code_by (List ℕ × (Option (List ℕ) × (List ℕ × (ℕ × (ℕ × (List ℕ × List ℕ))))))
+    (coded× (coded_list coded_ℕ) (coded× (coded_option (coded_list coded_ℕ)) (coded× (coded_list coded_ℕ) (coded× coded_ℕ (coded× coded_ℕ (coded× (coded_list coded_ℕ) (coded_list coded_ℕ)))))))
+    (λ m. (m.id, (m.instance, (m.client, (m.session, (m.rebalance, (m.subscription, m.assignment)))))))
+    (λ p. record { id = p.0; instance = p.1.0; client = p.1.1.0; session = p.1.1.1.0; rebalance = p.1.1.1.1.0; subscription = p.1.1.1.1.1.0; assignment = p.1.1.1.1.1.1 })
+    (λ _. refl)
+
+abbrev pub roster_code : Coded RosterParts
+roster_code = code_by (List ℕ × (List ℕ × List Member)) (coded× (coded_list coded_ℕ) (coded× (coded_list coded_ℕ) (coded_list member_code))) (λ r. (r.protocol, (r.leader, r.members))) (λ p. record { protocol = p.0; leader = p.1.0; members = p.1.1 }) (λ _. refl)
+
+abbrev pub record_code : Coded GroupRecord
+record_code = code_by (ℕ × (List ℕ × Option RosterParts)) (coded× coded_ℕ (coded× (coded_list coded_ℕ) (coded_option roster_code))) (λ r. (r.generation, (r.kind, r.roster))) (λ p. record { generation = p.0; kind = p.1.0; roster = p.1.1 }) (λ _. refl)

@@ -1,0 +1,53 @@
+ghost use Rattle.std.specs.Prelude.{◌≡◌, IfOk};
+ghost use Rattle.cg_fold.specs.Record.{assigned_record, emptied_record, replaced_record};
+
+use cg_names::{MemberId, ProtocolName};
+use cg_record::{Assigned, CompletedGeneration, Emptied, Member, Roster};
+use std::alloc::AllocError;
+
+/// What is kept of a group: its last completed generation and its type, and what its members joined in, where it has members.
+#[derive(Debug, Drop)]
+pub struct GroupRecord {
+    pub generation: CompletedGeneration,
+    /// The type of the protocols of the group.
+    pub kind: ProtocolName,
+    pub roster: Option<Roster>,
+}
+
+impl GroupRecord {
+    /// What is kept of a group whose members have their assignments.
+    pub(crate) fn assigned(assigned: &Assigned) -> Result<GroupRecord, AllocError>
+        ensures { IfOk result (λ held. held ≡ assigned_record assigned.now) }
+    {
+        let kind = assigned.kind.clone()?;
+        let roster = assigned.roster.clone()?;
+        Ok(GroupRecord {
+            generation: assigned.generation,
+            kind,
+            roster: Some(roster),
+        })
+    }
+
+    /// What is kept of a group without members.
+    pub(crate) fn emptied(emptied: &Emptied) -> Result<GroupRecord, AllocError>
+        ensures { IfOk result (λ held. held ≡ emptied_record emptied.now) }
+    {
+        let kind = emptied.kind.clone()?;
+        Ok(GroupRecord {
+            generation: emptied.generation,
+            kind,
+            roster: None,
+        })
+    }
+
+    /// Puts the new member, whose id this is, into the place of the one with its instance. Takes no memory.
+    pub(crate) fn replace(&mut self, new: Member, id: MemberId)
+        requires { id ≡ new.id }
+        ensures { self.new ≡ replaced_record new self.old }
+    {
+        match &mut self.roster {
+            None => {}
+            Some(roster) => roster.replace(new, id),
+        }
+    }
+}

@@ -1,0 +1,13 @@
+use crate::generation::CompletedGeneration;
+use crate::roster::Roster;
+use cg_names::{GroupId, ProtocolName};
+
+/// The members of the group have their assignments in this generation (SyncGroup).
+#[derive(Debug, Drop)]
+pub struct Assigned {
+    pub group: GroupId,
+    pub generation: CompletedGeneration,
+    /// The type of the protocols of the group.
+    pub kind: ProtocolName,
+    pub roster: Roster,
+}

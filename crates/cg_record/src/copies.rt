@@ -1,0 +1,68 @@
+//! Copies of what was read without one.
+
+ghost use Rattle.std.specs.Prelude.{◌≡◌, IfOk, IfSome};
+ghost use Rattle.std.specs.Option.{option_copied};
+ghost use Rattle.cg_names.specs.Grammar.{IsName};
+ghost use Rattle.cg_record.specs.Members.{IsProfile, member_of, profile_of};
+
+use crate::member::Member;
+use crate::millis::{RebalanceTimeout, SessionTimeout};
+use crate::opaque::Opaque;
+use crate::profile::Fields;
+use cg_names::{InstanceId, MEMBER_ID_BYTES_MAX, NAME_BYTES_MAX, Name};
+use std::alloc::{AllocError, Global};
+
+/// A copy of a name that was read.
+pub fn name_of<const MAX: usize, const SORT: u8>(
+    alloc: Global,
+    name: &[u8],
+) -> Result<Name<MAX, SORT>, AllocError>
+    requires { IsName MAX name.now }
+    ensures { IfOk result (λ copy. copy ≡ name.now) }
+{
+    Name::from_bytes(alloc, name).map_err(|_| AllocError)
+}
+
+// A copy of an instance that was read, if there is one.
+fn instance_of(alloc: Global, instance: Option<&[u8]>) -> Result<Option<InstanceId>, AllocError>
+    requires { IfSome (option_copied instance) (IsName NAME_BYTES_MAX) }
+    ensures { IfOk result (λ copy. copy ≡ option_copied instance.entry) }
+{
+    match instance {
+        None => Ok(None),
+        Some(name) => {
+            let copy = name_of(alloc, name)?;
+            Ok(Some(copy))
+        }
+    }
+}
+
+/// A copy of what was read of a member.
+pub fn member_of(
+    alloc: Global,
+    id: &[u8],
+    instance: Option<&[u8]>,
+    fields: Fields<'_>,
+) -> Result<Member, AllocError>
+    requires id { IsName MEMBER_ID_BYTES_MAX id.now }
+    requires instance { IfSome (option_copied instance) (IsName NAME_BYTES_MAX) }
+    requires profile { IsProfile (record { client = fields.client.now; session = fields.session; rebalance = fields.rebalance; subscription = fields.subscription.now; assignment = fields.assignment.now }) }
+    ensures { IfOk result (λ m. m ≡ member_of id.now (option_copied instance.entry) (record { client = fields.entry.client.now; session = fields.entry.session; rebalance = fields.entry.rebalance; subscription = fields.entry.subscription.now; assignment = fields.entry.assignment.now })) }
+{
+    let session = SessionTimeout::new(fields.session).unwrap();
+    let rebalance = RebalanceTimeout::new(fields.rebalance).unwrap();
+    let id = name_of(alloc, id)?;
+    let instance = instance_of(alloc, instance)?;
+    let client = name_of(alloc, fields.client)?;
+    let subscription = Opaque::from_bytes(alloc, fields.subscription)?;
+    let assignment = Opaque::from_bytes(alloc, fields.assignment)?;
+    Ok(Member {
+        id,
+        instance,
+        client,
+        session,
+        rebalance,
+        subscription,
+        assignment,
+    })
+}

@@ -1,0 +1,201 @@
+//! What commands tell of groups and their members, of its own memory, made from bytes in one pass.
+
+ghost use Rattle.std.specs.Prelude.{◌≡◌, [], length, IfOk};
+ghost use Rattle.std.specs.List.{list_any};
+ghost use Rattle.std.specs.Option.{option_copied};
+ghost use Rattle.cg_record.specs.Rosters.{AreApart, AreMembers, has_id, has_instance, is_one_instance};
+ghost use Rattle.cg_record.specs.Members.{member_at};
+ghost use Rattle.cg_record.specs.Reading.{Builds, members_at, listed_at, roster_at, assigned_at, emptied_at, replaced_at, deleted_at};
+
+use crate::assigned::Assigned;
+use crate::copies::{member_of, name_of};
+use crate::deleted::Deleted;
+use crate::emptied::Emptied;
+use crate::fault::RecordFault;
+use crate::fields::{name_at, optional_name_at};
+use crate::format::Version;
+use crate::generation::CompletedGeneration;
+use crate::group::{generation_at, members_count_at};
+use crate::member::Member;
+use crate::profile::profile_at;
+use crate::replaced::{Replaced, StaticMember};
+use crate::roster::{Roster, is_led_by};
+use cg_names::{InstanceId, MEMBER_ID_BYTES_MAX, NAME_BYTES_MAX};
+use std::alloc::Global;
+
+// Whether both are there, and are one.
+fn is_one_instance(held: &Option<InstanceId>, instance: Option<&[u8]>) -> bool
+    ensures { result ≡ is_one_instance held.now (option_copied instance.entry) }
+{
+    match (held, instance) {
+        (Some(a), Some(b)) => a.as_bytes() == b,
+        _ => false,
+    }
+}
+
+// Whether one of the members has this instance. Goes through them.
+fn is_instance_taken(front: &[Member], instance: Option<&[u8]>) -> bool
+    ensures { result ≡ list_any (has_instance (option_copied instance.entry)) front.now }
+{
+    front.iter().any(|m| is_one_instance(&m.instance, instance))
+}
+
+// A member behind others of its group.
+#[tactic(auto, unfolding(crate::specs::Members::member_at))]
+fn member_at<'a>(
+    alloc: Global,
+    version: Version,
+    front: &[Member],
+    bytes: &'a [u8],
+) -> Result<(Member, &'a [u8]), RecordFault>
+    ensures { Builds (λ x. (x.0, x.1.now)) result (member_at version front.now bytes.now) }
+{
+    let (id, rest) = name_at::<MEMBER_ID_BYTES_MAX>(bytes)?;
+    if is_led_by(id, front) {
+        return Err(RecordFault::Repeated);
+    }
+    let (instance, rest) = optional_name_at::<NAME_BYTES_MAX>(rest)?;
+    if is_instance_taken(front, instance) {
+        return Err(RecordFault::Repeated);
+    }
+    let (fields, rest) = profile_at(version, rest)?;
+    let member = member_of(alloc, id, instance, fields)?;
+    Ok((member, rest))
+}
+
+// So many members.
+#[tactic(auto, using(crate::proofs::Steps::many_on, crate::proofs::Steps::many_fail, crate::proofs::Steps::many_end))]
+fn members_at<'a>(
+    alloc: Global,
+    version: Version,
+    count: u8,
+    bytes: &'a [u8],
+) -> Result<(Vec<Member>, &'a [u8]), RecordFault>
+    ensures builds { Builds (λ x. (x.0.items, x.1.now)) result (members_at version count [] bytes.now) }
+    ensures len { IfOk result (λ x. length x.0.items ≡ count) }
+    ensures distinct { IfOk result (λ x. AreApart x.0.items) }
+{
+    let mut members = Vec::with_capacity(alloc, count as usize)?;
+    let mut rest = bytes;
+    for _ in 0..count {
+        let (member, after) = member_at(alloc, version, members.as_slice(), rest)?;
+        members.push(member)?;
+        rest = after;
+    }
+    Ok((members, rest))
+}
+
+// The members of a group, with their number before them.
+#[tactic(auto, unfolding(crate::specs::Reading::listed_at))]
+fn listed_at(
+    alloc: Global,
+    version: Version,
+    bytes: &[u8],
+) -> Result<(Vec<Member>, &[u8]), RecordFault>
+    ensures builds { Builds (λ x. (x.0.items, x.1.now)) result (listed_at version bytes.now) }
+    ensures lawful { IfOk result (λ x. AreMembers x.0.items) }
+{
+    let (count, rest) = members_count_at(bytes)?;
+    let (members, rest) = members_at(alloc, version, count, rest)?;
+    Ok((members, rest))
+}
+
+#[tactic(auto, unfolding(crate::specs::Reading::roster_at))]
+fn roster_at(alloc: Global, version: Version, bytes: &[u8]) -> Result<(Roster, &[u8]), RecordFault>
+    ensures { Builds (λ x. (x.0, x.1.now)) result (roster_at version bytes.now) }
+{
+    let (protocol, rest) = name_at::<NAME_BYTES_MAX>(bytes)?;
+    let (leader, rest) = name_at::<MEMBER_ID_BYTES_MAX>(rest)?;
+    let (members, rest) = listed_at(alloc, version, rest)?;
+    if !is_led_by(leader, members.as_slice()) {
+        return Err(RecordFault::BadName);
+    }
+    let protocol = name_of(alloc, protocol)?;
+    let leader = name_of(alloc, leader)?;
+    Ok((Roster::from_lawful(protocol, leader, members), rest))
+}
+
+/// What stands behind the kind of an assigned group.
+#[tactic(auto, unfolding(crate::specs::Reading::assigned_at))]
+pub fn assigned_at(
+    alloc: Global,
+    version: Version,
+    bytes: &[u8],
+) -> Result<(Assigned, &[u8]), RecordFault>
+    ensures { Builds (λ x. (x.0, x.1.now)) result (assigned_at version bytes.now) }
+{
+    let (group, rest) = name_at::<NAME_BYTES_MAX>(bytes)?;
+    let (generation, rest) = generation_at(rest)?;
+    let (kind, rest) = name_at::<NAME_BYTES_MAX>(rest)?;
+    let (roster, rest) = roster_at(alloc, version, rest)?;
+    let generation = CompletedGeneration::new(generation).unwrap();
+    let group = name_of(alloc, group)?;
+    let kind = name_of(alloc, kind)?;
+    Ok((
+        Assigned {
+            group,
+            generation,
+            kind,
+            roster,
+        },
+        rest,
+    ))
+}
+
+/// What stands behind the kind of an emptied group.
+#[tactic(auto, unfolding(crate::specs::Reading::emptied_at))]
+pub fn emptied_at(
+    alloc: Global,
+    version: Version,
+    bytes: &[u8],
+) -> Result<(Emptied, &[u8]), RecordFault>
+    ensures { Builds (λ x. (x.0, x.1.now)) result (emptied_at version bytes.now) }
+{
+    let (group, rest) = name_at::<NAME_BYTES_MAX>(bytes)?;
+    let (generation, rest) = generation_at(rest)?;
+    let (kind, rest) = name_at::<NAME_BYTES_MAX>(rest)?;
+    let generation = CompletedGeneration::new(generation).unwrap();
+    let group = name_of(alloc, group)?;
+    let kind = name_of(alloc, kind)?;
+    Ok((
+        Emptied {
+            group,
+            generation,
+            kind,
+        },
+        rest,
+    ))
+}
+
+/// What stands behind the kind of a deleted group.
+#[tactic(auto, unfolding(crate::specs::Reading::deleted_at))]
+pub fn deleted_at(
+    alloc: Global,
+    version: Version,
+    bytes: &[u8],
+) -> Result<(Deleted, &[u8]), RecordFault>
+    ensures { Builds (λ x. (x.0, x.1.now)) result (deleted_at version bytes.now) }
+{
+    let (group, rest) = name_at::<NAME_BYTES_MAX>(bytes)?;
+    let group = name_of(alloc, group)?;
+    Ok((Deleted { group }, rest))
+}
+
+/// What stands behind the kind of a replaced member.
+#[tactic(auto, unfolding(crate::specs::Reading::replaced_at))]
+pub fn replaced_at(
+    alloc: Global,
+    version: Version,
+    bytes: &[u8],
+) -> Result<(Replaced, &[u8]), RecordFault>
+    ensures { Builds (λ x. (x.0, x.1.now)) result (replaced_at version bytes.now) }
+{
+    let (group, rest) = name_at::<NAME_BYTES_MAX>(bytes)?;
+    let (id, rest) = name_at::<MEMBER_ID_BYTES_MAX>(rest)?;
+    let (instance, rest) = name_at::<NAME_BYTES_MAX>(rest)?;
+    let (fields, rest) = profile_at(version, rest)?;
+    let group = name_of(alloc, group)?;
+    let member = member_of(alloc, id, Some(instance), fields)?;
+    let member = StaticMember::from_lawful(member);
+    Ok((Replaced { group, member }, rest))
+}

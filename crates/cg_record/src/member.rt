@@ -1,0 +1,88 @@
+ghost use Rattle.std.specs.Prelude.{◌≡◌, IfOk};
+ghost use Rattle.cg_record.specs.Rosters.{have_one_name, has_id_of_other, is_one_instance, takes_place_of};
+
+use crate::millis::{RebalanceTimeout, SessionTimeout};
+use crate::opaque::{Assignment, Subscription};
+use cg_names::{ClientId, InstanceId, MemberId};
+use std::alloc::AllocError;
+
+/// A member of a group, as it is kept once a join phase is complete.
+#[derive(Debug, Drop)]
+pub struct Member {
+    pub id: MemberId,
+    /// The name that a static member gives itself (KIP-345).
+    pub instance: Option<InstanceId>,
+    pub client: ClientId,
+    pub session: SessionTimeout,
+    pub rebalance: RebalanceTimeout,
+    /// What it wants, in the words of the protocol that was chosen.
+    pub subscription: Subscription,
+    pub assignment: Assignment,
+}
+
+// Whether both are there, and are one.
+fn is_one_instance(a: &Option<InstanceId>, b: &Option<InstanceId>) -> bool
+    ensures { result ≡ is_one_instance a.now b.now }
+{
+    match (a, b) {
+        (Some(a), Some(b)) => a.as_bytes() == b.as_bytes(),
+        _ => false,
+    }
+}
+
+fn copied_instance(instance: &Option<InstanceId>) -> Result<Option<InstanceId>, AllocError>
+    ensures { IfOk result (λ copy. copy ≡ instance.now) }
+{
+    match instance {
+        None => Ok(None),
+        Some(name) => {
+            let copy = name.clone()?;
+            Ok(Some(copy))
+        }
+    }
+}
+
+impl Member {
+    /// Whether this one takes the other's place: it has the other's instance (KIP-345).
+    pub fn takes_place_of(&self, other: &Member) -> bool
+        ensures { result ≡ takes_place_of self.now other.now }
+    {
+        is_one_instance(&other.instance, &self.instance)
+    }
+
+    /// Whether this one has the id of the other, whose place it does not take.
+    pub fn has_id_of_other(&self, other: &Member) -> bool
+        ensures { result ≡ has_id_of_other self.now other.now }
+    {
+        other.id.as_bytes() == self.id.as_bytes() && !self.takes_place_of(other)
+    }
+
+    /// Whether both have one id, or one instance.
+    pub fn has_name_of(&self, other: &Member) -> bool
+        ensures { result ≡ have_one_name self.now other.now }
+    {
+        self.id.as_bytes() == other.id.as_bytes()
+            || is_one_instance(&self.instance, &other.instance)
+    }
+}
+
+impl Clone for Member {
+    ghost is_clone = { λ member copy. copy ≡ member };
+
+    fn clone(&self) -> Result<Self, AllocError> {
+        let id = self.id.clone()?;
+        let instance = copied_instance(&self.instance)?;
+        let client = self.client.clone()?;
+        let subscription = self.subscription.clone()?;
+        let assignment = self.assignment.clone()?;
+        Ok(Member {
+            id,
+            instance,
+            client,
+            session: self.session,
+            rebalance: self.rebalance,
+            subscription,
+            assignment,
+        })
+    }
+}

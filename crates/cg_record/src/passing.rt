@@ -1,0 +1,187 @@
+//! What commands tell of groups and their members, gone past without memory: what was read is read again where it is needed.
+
+ghost use Rattle.std.specs.Prelude.{◌≡◌, ℕ, List, [], Ok, IsSomeAnd};
+ghost use Rattle.std.specs.List.{list_any};
+ghost use Rattle.std.specs.Option.{option_copied};
+ghost use Rattle.std.specs.Str.{bytes_eq};
+ghost use Rattle.cg_record.specs.declared.member.Member.{Member};
+ghost use Rattle.cg_record.specs.Rosters.{has_id, has_instance, is_one_instance};
+ghost use Rattle.cg_record.specs.Members.{member_at};
+ghost use Rattle.cg_record.specs.Reading.{Skips, members_at, roster_at, assigned_at, emptied_at, replaced_at, deleted_at};
+
+use crate::fault::RecordFault;
+use crate::fields::{name_at, optional_name_at};
+use crate::format::Version;
+use crate::group::{generation_at, members_count_at};
+use crate::profile::profile_at;
+use cg_names::{MEMBER_ID_BYTES_MAX, NAME_BYTES_MAX};
+
+// What a member is called, as it stands in bytes.
+#[derive(Clone, Copy)]
+struct Names<'a> {
+    id: &'a [u8],
+    instance: Option<&'a [u8]>,
+}
+
+// The names of a member that was read before, and the bytes behind the member.
+#[tactic(auto, unfolding(crate::specs::Members::member_at))]
+fn read_again(version: Version, bytes: &[u8]) -> Option<(Names<'_>, &[u8])>
+    ensures { (front : List Member) (m : Member) (after : List ℕ) → member_at version front bytes.now ≡ Ok (m, after) →
+        IsSomeAnd result (λ x. (x.0.id.now ≡ m.id) × (option_copied x.0.instance ≡ m.instance) × (x.1.now ≡ after)) }
+{
+    let (id, rest) = name_at::<MEMBER_ID_BYTES_MAX>(bytes).ok()?;
+    let (instance, rest) = optional_name_at::<NAME_BYTES_MAX>(rest).ok()?;
+    let (_, rest) = profile_at(version, rest).ok()?;
+    Some((Names { id, instance }, rest))
+}
+
+fn is_same_id(id: &[u8], other: &[u8]) -> bool
+    ensures { result ≡ bytes_eq id.now other.now }
+{
+    id == other
+}
+
+// Whether both are there, and are one.
+fn is_one_instance(a: Option<&[u8]>, b: Option<&[u8]>) -> bool
+    ensures { result ≡ is_one_instance (option_copied a.entry) (option_copied b.entry) }
+{
+    match (a, b) {
+        (Some(a), Some(b)) => a == b,
+        _ => false,
+    }
+}
+
+// Whether one of the members that were read from the start has this id.
+fn is_id_repeated(version: Version, start: &[u8], count: u8, id: &[u8]) -> bool
+    ensures { (front : List Member) (rest : List ℕ) → members_at version count [] start.now ≡ Ok (front, rest) →
+        result ≡ list_any (has_id id.now) front }
+{
+    let mut rest = start;
+    for _ in 0..count {
+        match read_again(version, rest) {
+            None => return false,
+            Some((names, after)) => {
+                if is_same_id(names.id, id) {
+                    return true;
+                }
+                rest = after;
+            }
+        }
+    }
+    false
+}
+
+// Whether one of the members that were read from the start has this instance.
+fn is_instance_repeated(version: Version, start: &[u8], count: u8, instance: Option<&[u8]>) -> bool
+    ensures { (front : List Member) (rest : List ℕ) → members_at version count [] start.now ≡ Ok (front, rest) →
+        result ≡ list_any (has_instance (option_copied instance.entry)) front }
+{
+    let mut rest = start;
+    for _ in 0..count {
+        match read_again(version, rest) {
+            None => return false,
+            Some((names, after)) => {
+                if is_one_instance(names.instance, instance) {
+                    return true;
+                }
+                rest = after;
+            }
+        }
+    }
+    false
+}
+
+// Goes past a member behind others, which were read from the start.
+#[tactic(auto, unfolding(crate::specs::Members::member_at))]
+fn check_member<'a>(
+    version: Version,
+    start: &[u8],
+    count: u8,
+    bytes: &'a [u8],
+) -> Result<&'a [u8], RecordFault>
+    ensures { (front : List Member) → members_at version count [] start.now ≡ Ok (front, bytes.now) →
+        Skips (λ rest. rest.now) result (member_at version front bytes.now) }
+{
+    let (id, rest) = name_at::<MEMBER_ID_BYTES_MAX>(bytes)?;
+    if is_id_repeated(version, start, count, id) {
+        return Err(RecordFault::Repeated);
+    }
+    let (instance, rest) = optional_name_at::<NAME_BYTES_MAX>(rest)?;
+    if is_instance_repeated(version, start, count, instance) {
+        return Err(RecordFault::Repeated);
+    }
+    let (_, rest) = profile_at(version, rest)?;
+    Ok(rest)
+}
+
+// Goes past so many members. Reads each again twice for each one behind it.
+#[tactic(auto, using(crate::proofs::Again::checked_start, crate::proofs::Again::checked_on, crate::proofs::Again::checked_fail, crate::proofs::Again::checked_end))]
+fn check_members(version: Version, count: u8, bytes: &[u8]) -> Result<&[u8], RecordFault>
+    ensures { Skips (λ rest. rest.now) result (members_at version count [] bytes.now) }
+{
+    let mut rest = bytes;
+    for i in 0..count {
+        rest = check_member(version, bytes, i, rest)?;
+    }
+    Ok(rest)
+}
+
+// Goes past the members of a group, one of whom has to be the leader.
+#[tactic(auto, unfolding(crate::specs::Reading::roster_at, crate::specs::Reading::listed_at))]
+fn check_roster(version: Version, bytes: &[u8]) -> Result<&[u8], RecordFault>
+    ensures { Skips (λ rest. rest.now) result (roster_at version bytes.now) }
+{
+    let (_, rest) = name_at::<NAME_BYTES_MAX>(bytes)?;
+    let (leader, rest) = name_at::<MEMBER_ID_BYTES_MAX>(rest)?;
+    let (count, members) = members_count_at(rest)?;
+    let rest = check_members(version, count, members)?;
+    if is_id_repeated(version, members, count, leader) {
+        Ok(rest)
+    } else {
+        Err(RecordFault::BadName)
+    }
+}
+
+/// Goes past what stands behind the kind of an assigned group.
+#[tactic(auto, unfolding(crate::specs::Reading::assigned_at))]
+pub fn check_assigned(version: Version, bytes: &[u8]) -> Result<&[u8], RecordFault>
+    ensures { Skips (λ rest. rest.now) result (assigned_at version bytes.now) }
+{
+    let (_, rest) = name_at::<NAME_BYTES_MAX>(bytes)?;
+    let (_, rest) = generation_at(rest)?;
+    let (_, rest) = name_at::<NAME_BYTES_MAX>(rest)?;
+    let rest = check_roster(version, rest)?;
+    Ok(rest)
+}
+
+/// Goes past what stands behind the kind of an emptied group.
+#[tactic(auto, unfolding(crate::specs::Reading::emptied_at))]
+pub fn check_emptied(version: Version, bytes: &[u8]) -> Result<&[u8], RecordFault>
+    ensures { Skips (λ rest. rest.now) result (emptied_at version bytes.now) }
+{
+    let (_, rest) = name_at::<NAME_BYTES_MAX>(bytes)?;
+    let (_, rest) = generation_at(rest)?;
+    let (_, rest) = name_at::<NAME_BYTES_MAX>(rest)?;
+    Ok(rest)
+}
+
+/// Goes past what stands behind the kind of a deleted group.
+#[tactic(auto, unfolding(crate::specs::Reading::deleted_at))]
+pub fn check_deleted(version: Version, bytes: &[u8]) -> Result<&[u8], RecordFault>
+    ensures { Skips (λ rest. rest.now) result (deleted_at version bytes.now) }
+{
+    let (_, rest) = name_at::<NAME_BYTES_MAX>(bytes)?;
+    Ok(rest)
+}
+
+/// Goes past what stands behind the kind of a replaced member.
+#[tactic(auto, unfolding(crate::specs::Reading::replaced_at))]
+pub fn check_replaced(version: Version, bytes: &[u8]) -> Result<&[u8], RecordFault>
+    ensures { Skips (λ rest. rest.now) result (replaced_at version bytes.now) }
+{
+    let (_, rest) = name_at::<NAME_BYTES_MAX>(bytes)?;
+    let (_, rest) = name_at::<MEMBER_ID_BYTES_MAX>(rest)?;
+    let (_, rest) = name_at::<NAME_BYTES_MAX>(rest)?;
+    let (_, rest) = profile_at(version, rest)?;
+    Ok(rest)
+}

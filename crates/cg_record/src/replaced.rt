@@ -1,0 +1,60 @@
+ghost use Rattle.std.specs.Prelude.{◌≡◌, IsSome, MatchResult};
+
+use crate::member::Member;
+use cg_names::GroupId;
+use std::marker::Model;
+
+/// A member with an instance (KIP-345). Contracts see it as the member.
+#[derive(Debug, Drop)]
+pub struct StaticMember {
+    member: Member,
+}
+
+impl Model for StaticMember {
+    ghost use Rattle.std.specs.Prelude.{IsSome};
+    ghost use Rattle.cg_record.specs.declared.member.Member.{Member};
+
+    ghost Value = { Member };
+
+    ghost view = { λ s. s.member };
+
+    ghost invariant = { λ s. IsSome s.member.instance };
+}
+
+impl StaticMember {
+    /// A member without an instance is given back.
+    pub fn new(member: Member) -> Result<Self, Member>
+        ensures { MatchResult result
+            (λ s. IsSome member.instance × (s ≡ member))
+            (λ back. (¬ IsSome member.instance) × (back ≡ member)) }
+    {
+        if member.instance.is_some() {
+            Ok(StaticMember { member })
+        } else {
+            Err(member)
+        }
+    }
+
+    /// A member with an instance, by a caller who knows that it has one.
+    pub fn from_lawful(member: Member) -> Self
+        requires { IsSome member.instance }
+        ensures { result ≡ member }
+    {
+        StaticMember { member }
+    }
+
+    /// The member, which has an instance.
+    pub fn member(&self) -> &Member
+        ensures value { result.now ≡ self.now }
+        ensures instance { IsSome self.now.instance }
+    {
+        &self.member
+    }
+}
+
+/// A member takes the place of the member with its instance (KIP-345, "fencing").
+#[derive(Debug, Drop)]
+pub struct Replaced {
+    pub group: GroupId,
+    pub member: StaticMember,
+}

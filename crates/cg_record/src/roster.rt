@@ -1,0 +1,205 @@
+ghost use Rattle.std.specs.Prelude.{◌≡◌, ◌<◌, ◌↔◌, false, length, slice_set, position, if◌then◌else◌, IsTrue, IfOk, MatchOption, MatchResult};
+ghost use Rattle.std.specs.List.{list_any};
+ghost use Rattle.cg_record.specs.Rosters.{AreApart, AreMembers, IsPlace, IsRoster, roster_of, has_id_of_other, have_one_name, is_led_by, may_replace, replaced_in, takes_place_of};
+
+use crate::member::Member;
+use cg_names::{MemberId, ProtocolName};
+use std::alloc::{AllocError, Global};
+use std::marker::Model;
+
+/// The greatest number of members of a group.
+pub const MEMBERS_MAX: usize = 64;
+
+/// What the members of a group joined in: the protocol that was chosen, the leader, and the members in joining order.
+/// They are at least one and at most `MEMBERS_MAX`, no two of one id or one instance, and the leader is one of them.
+/// Contracts see it as its parts.
+#[derive(Debug, Drop)]
+pub struct Roster {
+    protocol: ProtocolName,
+    leader: MemberId,
+    members: Vec<Member>,
+}
+
+impl Model for Roster {
+    ghost use Rattle.cg_record.specs.Rosters.{RosterParts, IsRoster, roster_of};
+
+    ghost Value = { RosterParts };
+
+    ghost view = { λ r. roster_of r.protocol r.leader r.members.items };
+
+    ghost invariant = { λ r. IsRoster (roster_of r.protocol r.leader r.members.items) };
+}
+
+// Whether one of the others has the member's id or its instance.
+fn is_among(member: &Member, others: &[Member]) -> bool
+    ensures { result ≡ list_any (have_one_name member.now) others.now }
+{
+    others.iter().any(|other| member.has_name_of(other))
+}
+
+// Whether no id and no instance comes twice. Compares each member with each.
+fn are_apart(members: &[Member]) -> bool
+    ensures { IsTrue result ↔ AreApart members.now }
+{
+    match members {
+        [] => true,
+        [first, others @ ..] => !is_among(first, others) && are_apart(others),
+    }
+}
+
+/// Whether one of the members has this id. Goes through them.
+pub fn is_led_by(leader: &[u8], members: &[Member]) -> bool
+    ensures { result ≡ is_led_by leader.now members.now }
+{
+    members.iter().any(|member| member.id.as_bytes() == leader)
+}
+
+// Whether these may be the members of a group.
+fn are_members(members: &[Member]) -> bool
+    ensures { IsTrue result ↔ AreMembers members.now }
+{
+    !members.is_empty() && members.len() <= MEMBERS_MAX && are_apart(members)
+}
+
+// Whether another of the members has the new one's id.
+fn is_id_taken(new: &Member, members: &[Member]) -> bool
+    ensures { result ≡ list_any (has_id_of_other new.now) members.now }
+{
+    members.iter().any(|other| new.has_id_of_other(other))
+}
+
+// Where the member with the new one's instance stands.
+fn seat_of(new: &Member, members: &[Member]) -> Option<usize>
+    ensures { result ≡ position (takes_place_of new.now) members.now }
+{
+    members.iter().position(|old| new.takes_place_of(old))
+}
+
+// The place that the new member may take: that of the one with its instance, where no other has its id.
+#[tactic(auto, using(crate::proofs::Replacing::place_found, crate::proofs::Replacing::place_missed, crate::proofs::Replacing::place_refused))]
+fn place_of(new: &Member, members: &[Member]) -> Option<usize>
+    ensures { MatchOption result
+        (may_replace new.now members.now ≡ false)
+        (λ at. IsPlace new.now members.now at) }
+{
+    let at = seat_of(new, members)?;
+    if is_id_taken(new, members) {
+        None
+    } else {
+        Some(at)
+    }
+}
+
+fn seat(members: &mut Vec<Member>, at: usize, new: Member)
+    requires { at < length members.old.items }
+    ensures { members.new.items ≡ slice_set members.old.items at new }
+{
+    members[at] = new;
+}
+
+fn lead(leader: &mut MemberId, leads: bool, id: MemberId)
+    ensures { leader.new ≡ (if leads then id else leader.old) }
+{
+    if leads {
+        *leader = id;
+    }
+}
+
+// Copies of the members, in their order.
+fn copied(alloc: Global, members: &[Member]) -> Result<Vec<Member>, AllocError>
+    ensures { IfOk result (λ copies. copies.items ≡ members.now) }
+{
+    let mut copies = Vec::with_capacity(alloc, members.len())?;
+    for member in members {
+        copies.push(member.clone()?)?;
+    }
+    Ok(copies)
+}
+
+impl Roster {
+    /// The members of a group; what is none is given back. Compares each member with each.
+    pub fn new(
+        protocol: ProtocolName,
+        leader: MemberId,
+        members: Vec<Member>,
+    ) -> Result<Self, (ProtocolName, MemberId, Vec<Member>)>
+        ensures cases { MatchResult result
+            (λ roster. IsRoster (roster_of protocol leader members.items) × (roster ≡ roster_of protocol leader members.items))
+            (λ back. (¬ IsRoster (roster_of protocol leader members.items)) × (back ≡ (protocol, leader, members))) }
+    {
+        if are_members(members.as_slice()) && is_led_by(leader.as_bytes(), members.as_slice()) {
+            Ok(Roster {
+                protocol,
+                leader,
+                members,
+            })
+        } else {
+            Err((protocol, leader, members))
+        }
+    }
+
+    /// The members of a group, by a caller who knows that they are: takes no time.
+    pub fn from_lawful(protocol: ProtocolName, leader: MemberId, members: Vec<Member>) -> Self
+        requires { IsRoster (roster_of protocol leader members.items) }
+        ensures { result ≡ roster_of protocol leader members.items }
+    {
+        Roster {
+            protocol,
+            leader,
+            members,
+        }
+    }
+
+    /// Puts the new member, whose id this is, into the place of the one with its instance, and lets it lead where that one led
+    /// (KIP-345). Where none has its instance, or another its id, nothing changes. Takes no memory.
+    pub fn replace(&mut self, new: Member, id: MemberId)
+        requires { id ≡ new.id }
+        ensures { self.new ≡ replaced_in new self.old }
+    {
+        match place_of(&new, self.members.as_slice()) {
+            None => {}
+            Some(at) => {
+                let leads = self.members[at].id.as_bytes() == self.leader.as_bytes();
+                lead(&mut self.leader, leads, id);
+                seat(&mut self.members, at, new);
+            }
+        }
+    }
+
+    /// The protocol that was chosen.
+    pub fn protocol(&self) -> &ProtocolName
+        ensures { result.now ≡ self.now.protocol }
+    {
+        &self.protocol
+    }
+
+    /// The id of the member that leads.
+    pub fn leader(&self) -> &MemberId
+        ensures { result.now ≡ self.now.leader }
+    {
+        &self.leader
+    }
+
+    /// The members in joining order.
+    pub fn members(&self) -> &[Member]
+        ensures value { result.now ≡ self.now.members }
+        ensures lawful { IsRoster self.now }
+    {
+        self.members.as_slice()
+    }
+}
+
+impl Clone for Roster {
+    ghost is_clone = { λ roster copy. copy ≡ roster };
+
+    fn clone(&self) -> Result<Self, AllocError> {
+        let protocol = self.protocol.clone()?;
+        let leader = self.leader.clone()?;
+        let members = copied(*self.members.allocator(), self.members.as_slice())?;
+        Ok(Roster {
+            protocol,
+            leader,
+            members,
+        })
+    }
+}
