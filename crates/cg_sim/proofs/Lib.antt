@@ -11,3 +11,4 @@ pub mod Phases
 pub mod Flushing
 pub mod Lines
 pub mod Telling
+pub mod Digits

@@ -1,20 +1,22 @@
 //! The part of the program that knows no disk: the state that the commands so far make, and the replies that wait.
-ghost use Rattle.std.specs.Prelude.{◌≡◌, ◌+◌, ◌/◌, ◌≤◌, length, codes, List, [], ◌++◌, IfOk, OnOk, OnErr};
+ghost use Rattle.std.specs.Prelude.{◌≡◌, ◌+◌, ◌/◌, ◌≤◌, length, codes, List, [], ◌++◌, IfOk, IsTrue, OnOk, OnErr};
 ghost use Rattle.std.specs.VecDeque.{deque_len};
 ghost use Rattle.std.specs.Fmt.{decimal};
 ghost use Rattle.cg_record.specs.declared.command.Command.{Command};
 ghost use Rattle.cg_fold.specs.Durable.{counts_of, folded};
 ghost use Rattle.cg_record.specs.declared.metadata.TheConstants.{METADATA_BYTES_MAX};
 ghost use Rattle.cg_sim.specs.Program.{bytes_of, commit_of_one};
+ghost use Rattle.cg_sim.specs.Text.{are_pairs};
 ghost use Rattle.cg_sim.specs.declared.desk.TheConstants.{COMMAND_NUMBER_MAX};
 
 use crate::held::{self, HeldReply};
 use crate::line::{Place, Request};
 use crate::reply::ReplyLine;
-use crate::word::Word;
+use crate::word::{HexWord, NameWord};
 use cg_fold::Durable;
-use cg_names::{Code, NAME_BYTES_MAX, Name};
+use cg_names::{Code, NAME_BYTES_MAX, Name, NameFault};
 use cg_record::{Command, Committed, Entries, Entry, METADATA_BYTES_MAX, Metadata, Offset};
+use hex::FromHexError;
 use std::alloc::{AllocError, Global};
 use std::collections::VecDeque;
 
@@ -145,13 +147,13 @@ impl Desk {
         session: u64,
         place: &Place<'_>,
         offset: Offset,
-        metadata: &Word<'_>,
+        metadata: &HexWord<'_>,
     ) -> Result<(), AllocError>
         ensures ok { OnOk result ((s : State) → StandsFor self.old s
             → StandsFor self.new (asked session (Request.Commit place.now offset metadata.now) s)) }
         ensures err { OnErr result ((s : State) → StandsFor self.old s → StandsFor self.new s) }
     {
-        let digits = metadata.as_bytes();
+        let digits = metadata.digits();
         if digits.len() / 2 > METADATA_BYTES_MAX {
             let line = ReplyLine::err(self.alloc, session, Code::OffsetMetadataTooLarge)?;
             return self.hold(session, line);
@@ -178,11 +180,46 @@ impl Desk {
 // The name that a word of a line spells.
 fn name_of<const SORT: u8>(
     alloc: Global,
-    word: &Word<'_>,
+    word: &NameWord<'_>,
 ) -> Result<Name<NAME_BYTES_MAX, SORT>, AllocError>
     ensures { IfOk result (λ name. name ≡ word.now) }
 {
-    Name::from_bytes(alloc, word.as_bytes()).map_err(|_| AllocError)
+    match Name::from_bytes(alloc, word.as_bytes()) {
+        Ok(name) => Ok(name),
+        Err(NameFault::Memory) => Err(AllocError),
+        Err(_) => unreachable!(),
+    }
+}
+
+// The bytes that digits of a line spell.
+fn bytes_of(alloc: Global, digits: &[u8]) -> Result<Vec<u8>, AllocError>
+    requires { IsTrue (are_pairs digits.now) }
+    ensures { IfOk result (λ bytes. bytes.items ≡ bytes_of digits.now) }
+{
+    match hex::decode(alloc, digits) {
+        Ok(bytes) => Ok(bytes),
+        Err(fault) => Err(want_of_memory(fault)),
+    }
+}
+
+// Digits that a line has can be refused for memory alone.
+fn want_of_memory(fault: FromHexError) -> AllocError
+    requires { fault ≡ FromHexError.OutOfMemory }
+{
+    prove!(matches!(fault, FromHexError::OutOfMemory));
+    AllocError
+}
+
+// The metadata that digits of a line spell.
+fn metadata_of(alloc: Global, digits: &[u8]) -> Result<Metadata, AllocError>
+    requires in_pairs { IsTrue (are_pairs digits.now) }
+    requires short { length digits.now / 2 ≤ METADATA_BYTES_MAX }
+    ensures { IfOk result (λ metadata. metadata ≡ bytes_of digits.now) }
+{
+    match Metadata::from_vec(bytes_of(alloc, digits)?) {
+        Ok(metadata) => Ok(metadata),
+        Err(_) => unreachable!(),
+    }
 }
 
 // The command of a commit of one offset.
@@ -192,16 +229,15 @@ fn commit_of_one(
     offset: Offset,
     digits: &[u8],
 ) -> Result<Command, AllocError>
-    requires { length digits.now / 2 ≤ METADATA_BYTES_MAX }
+    requires in_pairs { IsTrue (are_pairs digits.now) }
+    requires short { length digits.now / 2 ≤ METADATA_BYTES_MAX }
     ensures { IfOk result (λ command. command ≡ commit_of_one place.now offset (bytes_of digits.now)) }
 {
-    let metadata = hex::decode(alloc, digits).map_err(|_| AllocError)?;
-    let metadata = Metadata::from_vec(metadata).map_err(|_| AllocError)?;
     let entry = Entry {
         topic: name_of(alloc, &place.topic)?,
         partition: place.partition,
         offset,
-        metadata,
+        metadata: metadata_of(alloc, digits)?,
     };
     let entries = Entries::from_lawful(vec![in alloc; entry]?);
     let group = name_of(alloc, &place.group)?;

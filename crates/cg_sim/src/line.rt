@@ -3,7 +3,7 @@ ghost use Rattle.std.specs.Prelude.{◌≡◌};
 ghost use Rattle.cg_sim.specs.Text.{is_skipped, number_of};
 
 use crate::text;
-use crate::word::Word;
+use crate::word::{HexWord, NameWord};
 use cg_disk::Crash;
 use cg_names::{GroupId, Topic};
 use cg_record::{OFFSET_MAX, Offset, PARTITION_MAX, Partition};
@@ -14,8 +14,8 @@ pub const FUSE_CALLS_MAX: u64 = u64::MAX;
 /// A partition of a topic, as one group reads it.
 #[derive(Drop)]
 pub struct Place<'a> {
-    pub group: Word<'a>,
-    pub topic: Word<'a>,
+    pub group: NameWord<'a>,
+    pub topic: NameWord<'a>,
     pub partition: Partition,
 }
 
@@ -23,7 +23,7 @@ pub struct Place<'a> {
 #[derive(Drop)]
 pub enum Request<'a> {
     /// `COMMIT group -1 - - topic:partition:offset:xHEX`: the offset, and the metadata in hexadecimal digits.
-    Commit(Place<'a>, Offset, Word<'a>),
+    Commit(Place<'a>, Offset, HexWord<'a>),
     /// `FETCH group topic:partition`
     Fetch(Place<'a>),
 }
@@ -146,7 +146,7 @@ impl<'a> Request<'a> {
         let (offset, metadata) = text::cut(rest, b':')?;
         let place = Place::read(group, topic, partition)?;
         let offset = offset_in(offset)?;
-        let metadata = Word::new(text::hex_digits(metadata)?);
+        let metadata = HexWord::new(text::hex_digits(metadata)?);
         Some(Request::Commit(place, offset, metadata))
     }
 
@@ -173,8 +173,8 @@ impl<'a> Place<'a> {
             return None;
         }
         Some(Place {
-            group: Word::new(group),
-            topic: Word::new(topic),
+            group: NameWord::new(group),
+            topic: NameWord::new(topic),
             partition,
         })
     }

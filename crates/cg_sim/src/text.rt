@@ -110,7 +110,8 @@ fn is_session(digits: &[u8]) -> bool
 /// The digits of bytes on a line: `x` and lower-case hexadecimal digits, two for each byte.
 #[tactic(auto, unfolding(crate::specs::Text::hex_digits_of))]
 pub fn hex_digits(word: &[u8]) -> Option<&[u8]>
-    ensures { option_map (λ digits. digits.now) result ≡ hex_digits_of word.now }
+    ensures value { option_map (λ digits. digits.now) result ≡ hex_digits_of word.now }
+    ensures in_pairs { IfSome result (λ digits. IsTrue (are_pairs digits.now)) }
 {
     let digits = behind(word, b"x")?;
     if are_pairs(digits) {
