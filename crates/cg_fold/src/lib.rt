@@ -5,6 +5,8 @@
 mod durable;
 mod key;
 mod rows;
+#[cfg(test)]
+mod tests;
 
 pub use durable::Durable;
 pub use key::{OffsetKey, StoredOffset};
