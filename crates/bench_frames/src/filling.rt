@@ -1,4 +1,4 @@
-ghost use Rattle.std.specs.Prelude.{◌≡◌, ◌+◌, ◌^◌, ◌<◌, ◌≤◌, [], true, length, IfOk, OnOk};
+ghost use Rattle.std.specs.Prelude.{◌≡◌, ◌+◌, ◌^◌, ◌<◌, ◌≤◌, [], true, IfOk, OnOk};
 ghost use Rattle.cg_disk.specs.Disk.{present};
 ghost use Rattle.cg_frame.specs.Outcomes.{KeepsFramesTo};
 ghost use Rattle.bench_frames.specs.Filled.{IsFilled};
