@@ -1,3 +1,5 @@
+mod commits;
+
 use super::*;
 use cg_names::{GroupId, Name, Topic};
 use cg_record::{Partition, read};
