@@ -176,6 +176,7 @@ led_by_old new leader (x ∷ xs) none led = cases (has_id leader x) (takes_place
   where
     parts : (leads_and_goes new leader x ≡ false) × (list_any (leads_and_goes new leader) xs ≡ false)
     parts = both_false (leads_and_goes new leader x) (list_any (leads_and_goes new leader) xs) none
+
     cases : (l p : Bool) → has_id leader x ≡ l → takes_place_of new x ≡ p → (list_any (leads_and_goes new leader) xs ≡ false → is_led_by leader xs ≡ true → is_led_by leader (map (seated new) xs) ≡ true) → (has_id leader (cond p new x) || is_led_by leader (map (seated new) xs)) ≡ true
     cases true true is also later = absurd (let goes : leads_and_goes new leader x ≡ true = rw (also, is) refl in let clash : true ≡ false = sym goes ∙ parts.0 in cc)
     cases true false is also later = rw is refl
