@@ -12,3 +12,4 @@ pub mod Flushing
 pub mod Lines
 pub mod Telling
 pub mod Digits
+pub mod Staying

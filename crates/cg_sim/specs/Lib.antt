@@ -6,5 +6,6 @@ pub mod Phase
 pub mod Desk
 pub mod Log
 pub mod Meaning
+pub mod Durability
 pub mod Running
 pub mod Telling

@@ -4,6 +4,7 @@
 mod desk;
 mod device;
 mod held;
+mod laws;
 mod line;
 mod loading;
 mod log;
@@ -17,6 +18,7 @@ mod tests;
 mod text;
 mod word;
 
+pub use laws::settled_commands_stay;
 pub use script::script;
 use std::io::{self, BufReader};
 use std::process::ExitCode;
