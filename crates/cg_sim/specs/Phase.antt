@@ -24,7 +24,7 @@ pub data Memory : Type 0 where
 -- what no script decides, at one line
 pub record Chance : Type 0 where
   pub memory : Memory
-  -- the disk failed, after so many of the waiting commands were settled
+  -- the disk failed, after so many of the waiting commands were settled: its fuse was burnt, or memory for its record of calls was wanting
   pub fails : Option ℕ
   -- what was on its way when the disk failed is on it after the stop
   pub survives : Bool
