@@ -1,0 +1,3 @@
+pub mod Groupings
+pub mod Places
+pub mod Votes

@@ -1,0 +1,13 @@
+pub mod Refusing
+pub mod Waiting
+pub mod Membership
+pub mod Vote
+pub mod Rebalance
+pub mod Joining
+pub mod Syncing
+pub mod Beating
+pub mod Leaving
+pub mod Ticking
+pub mod Describing
+pub mod Machine
+pub mod Reviving
