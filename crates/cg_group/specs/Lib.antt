@@ -11,3 +11,4 @@ pub mod Ticking
 pub mod Describing
 pub mod Machine
 pub mod Reviving
+pub mod Laws
