@@ -11,4 +11,5 @@ pub mod Ticking
 pub mod Describing
 pub mod Machine
 pub mod Reviving
+pub mod Kept
 pub mod Laws

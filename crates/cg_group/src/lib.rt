@@ -43,7 +43,9 @@ pub use effects::Effects;
 pub use event::Event;
 pub use group::{Group, Phase};
 pub use groups::Groups;
-pub use laws::members_stay_distinct;
+pub use laws::{
+    assignments_are_earned, machine_and_commands_agree, members_stay_distinct, rounds_are_one,
+};
 pub use listed::Listed;
 pub use member::{Member, Protocol, Waits};
 pub use members::Members;
