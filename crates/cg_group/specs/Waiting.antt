@@ -1,8 +1,9 @@
 -- Calls that wait. A member has at most one; where it is answered, the member is heard.
 use Rattle.std.specs.Prelude.{ℕ, Bool, List, [], ◌∷◌, map, Option, Some, None, is_some, option_map, option_to_list, ◌==◌, if◌then◌else◌}
-use Rattle.std.specs.List.{flat_map}
+use Rattle.std.specs.List.{filter_map, flat_map}
 use Rattle.cg_group.specs.declared.calls.Calls.{Calls}
 use Rattle.cg_group.specs.declared.calls.Calls.TheVariants.{Joins, Syncs, Any, OfSession}
+use Rattle.cg_group.specs.declared.group.Group.{Group}
 use Rattle.cg_group.specs.declared.member.Member.{Member}
 use Rattle.cg_group.specs.declared.member.Waits.{Waits}
 use Rattle.cg_group.specs.declared.member.Waits.TheVariants.{Nothing, Join, Sync}
@@ -57,3 +58,7 @@ answers which reply members = flat_map (answer which reply) members
 -- the same refusal for each
 abbrev pub refusing : Code → Member → Reply
 refusing code m = Refused code
+
+-- the calls that wait, by group and joining order
+unfoldable pub waiting_calls : List Group → List Ticket
+waiting_calls groups = filter_map (λ m. called Any m.waits) (flat_map (λ g. g.members) groups)

@@ -1,14 +1,17 @@
 //! The groups that are held, and the step of the machine.
-ghost use Rattle.std.specs.Prelude.{◌≡◌, IfOk, OnErr, length};
+ghost use Rattle.std.specs.Prelude.{◌≡◌, IfOk, OnErr, length, slice_get};
+ghost use Rattle.cg_group.specs.Waiting.{waiting_calls};
 ghost use Rattle.cg_group.specs.Machine.{step};
 ghost use Rattle.cg_group.specs.Reviving.{revive};
 
+use crate::calls::Calls;
 use crate::command::Command;
 use crate::effects::Effects;
 use crate::event::Event;
 use crate::group::Group;
 use crate::meeting::met;
 use crate::reviving::revived_all;
+use crate::ticket::Ticket;
 use cg_names::Moment;
 use std::alloc::{AllocError, Global};
 use std::marker::Model;
@@ -44,6 +47,18 @@ impl Groups {
         ensures { result ≡ length self.now.groups }
     {
         self.held.len() as u64
+    }
+
+    /// The i-th call that waits, counted from 0, by the bytes of the groups' ids and in joining order. Takes no memory.
+    #[tactic(auto, unfolding(crate::specs::Waiting::waiting_calls))]
+    pub fn parked(&self, i: u64) -> Option<Ticket>
+        ensures { result ≡ slice_get (waiting_calls self.now.groups) i }
+    {
+        self.held
+            .iter()
+            .flat_map(|g| g.members.as_slice().iter())
+            .filter_map(|m| Calls::Any.called(m.waits))
+            .nth(i as usize)
     }
 
     /// Meets an event. An earlier moment counts as the last one.
