@@ -203,7 +203,7 @@ unfolding revived
 id_revived now (Assigned a) = refl
 id_revived now (Emptied e) = refl
 
-ids_revived : (now : ℕ) (cs : List Command) → group_ids (map (revived now) cs) ≡ map group_of cs
+pub ids_revived : (now : ℕ) (cs : List Command) → group_ids (map (revived now) cs) ≡ map group_of cs
 ids_revived now [] = refl
 ids_revived now (c ∷ cs) = ap (λ x. x ∷ group_ids (map (revived now) cs)) (id_revived now c) ∙ ap (λ xs. group_of c ∷ xs) (ids_revived now cs)
 

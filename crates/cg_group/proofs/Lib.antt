@@ -8,6 +8,8 @@ pub mod Earned
 pub mod Elections
 pub mod Framed
 pub mod Groupings
+pub mod InOrder
+pub mod InPlace
 pub mod Keeping
 pub mod KeptLists
 pub mod KeptMachine

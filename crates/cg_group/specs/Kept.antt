@@ -2,7 +2,8 @@
 use Rattle.std.specs.Prelude.{◌≡◌, ℕ, Bool, true, not, ◌&&◌, List, [], ◌∷◌, map, Option, Some, None, if◌then◌else◌}
 use Rattle.std.specs.List.{list_any, flat_map}
 use Rattle.std.specs.Option.{option_to_list}
-use Rattle.std.specs.Ordering.{nat_cmp}
+use Rattle.std.specs.Ordering.{Ordering-set, nat_cmp}
+use mathlib.Core.HLevel.{Unit-prop, ×_prop}
 use Rattle.std.specs.Cmp.Lexicographic.{slice_cmp}
 use Rattle.std.specs.declared.cmp.Ordering.TheVariants.{Less}
 use Rattle.cg_group.specs.declared.command.AssignedMember.{AssignedMember}
@@ -49,6 +50,15 @@ ComesBefore x ys = Each (λ y. slice_cmp nat_cmp x y ≡ Less) ys
 abbrev pub Ascending : List (List ℕ) → Type 0
 Ascending [] = Unit {0}
 Ascending (x ∷ xs) = ComesBefore x xs × Ascending xs
+
+-- both are facts, and no more
+pub ComesBefore-prop : (x : List ℕ) (ys : List (List ℕ)) → IsProp (ComesBefore x ys)
+ComesBefore-prop x [] = Unit-prop
+ComesBefore-prop x (y ∷ ys) = ×_prop (Ordering-set (slice_cmp nat_cmp x y) Less) (ComesBefore-prop x ys)
+
+pub Ascending-prop : (xs : List (List ℕ)) → IsProp (Ascending xs)
+Ascending-prop [] = Unit-prop
+Ascending-prop (x ∷ xs) = ×_prop (ComesBefore-prop x xs) (Ascending-prop xs)
 
 -- the members of a record differ in their ids and instances
 abbrev pub HasOwnNames : List AssignedMember → Type 0

@@ -9,7 +9,8 @@ pub mod Beating
 pub mod Leaving
 pub mod Ticking
 pub mod Describing
-pub mod Machine
-pub mod Reviving
 pub mod Kept
+pub mod Machine
+pub mod InPlace
+pub mod Reviving
 pub mod Laws

@@ -1,5 +1,5 @@
 -- The machine: which groups are held, and what an event makes of them. The moment of an event is its own or the last one, whichever is later.
-use Rattle.std.specs.Prelude.{ℕ, max, List, [], ◌∷◌, ◌++◌, map, length, Option, Some, None, Result, Ok, Err, option_map, ok_or, find}
+use Rattle.std.specs.Prelude.{◌≡◌, ◌<◌, get_or, set, ℕ, max, List, [], ◌∷◌, ◌++◌, map, length, Option, Some, None, Result, Ok, Err, option_map, ok_or, find}
 use Rattle.std.specs.List.{flat_map}
 use Rattle.std.specs.Ordering.{nat_cmp, match_ordering}
 use Rattle.std.specs.Cmp.Lexicographic.{slice_cmp}
@@ -23,6 +23,7 @@ use Rattle.cg_group.specs.Beating.{beat_held}
 use Rattle.cg_group.specs.Describing.{description, listing}
 use Rattle.cg_group.specs.Joining.{is_session_refused, join_held, join_unheld}
 use Rattle.cg_group.specs.Leaving.{gone_in, leave_held}
+use Rattle.cg_group.specs.Kept.{Ascending}
 use Rattle.cg_group.specs.Membership.{is_same}
 use Rattle.cg_group.specs.Refusing.{◌>>=◌, refused_if}
 use Rattle.cg_group.specs.Syncing.{sync_held}
@@ -50,6 +51,10 @@ outcome now groups effects = record { after = at_moment now groups; effects = ef
 unfoldable pub find_group : List ℕ → List Group → Option Group
 find_group id groups = find (λ g. is_same g.id id) groups
 
+-- the groups stand by the bytes of their ids, each once
+abbrev pub InOrder : List Group → Type 0
+InOrder groups = Ascending (map (λ g. g.id) groups)
+
 -- the groups with this one in the place of its id
 unfoldable pub with_group : Group → List Group → List Group
 with_group g [] = g ∷ []
@@ -75,6 +80,12 @@ abbrev pub named_group : Option (List ℕ) → List Group → Result Group Code
 named_group id groups = do
   i ← ok_or id InvalidGroupId
   ok_or (find_group i groups) UnknownMemberId
+
+-- the group that a request names stands at this place: there it is found, and there a group with its id goes
+pub record IsNamedAt (id : Option (List ℕ)) (groups : List Group) (i : ℕ) : Type 0 where
+  pub within : i < length groups
+  pub found : (d : Group) → named_group id groups ≡ Ok (get_or groups i d)
+  pub put : (d : Group) (g : Group) → g.id ≡ (get_or groups i d).id → with_group g groups ≡ set groups i g
 
 -- JOIN, in its group
 abbrev pub join_in : ℕ → JoinRequest → List ℕ → Ticket → List Group → List ℕ → Option Group → Result Turn Code

@@ -1,19 +1,16 @@
 //! BEAT: a member says that it is there.
-ghost use Rattle.std.specs.Prelude.{◌≡◌, IfOk};
+ghost use Rattle.std.specs.Prelude.{◌≡◌, ℕ, Ok, Err, MatchResult};
 ghost use Rattle.cg_group.specs.Beating.{beat_reply, beat_taken, beat_held};
 
-use crate::copies::copied_group;
 use crate::group::{Group, Phase};
-use crate::rebalance::turn_of;
 use crate::reply::Reply;
 use crate::request::BeatRequest;
 use crate::ticket::Ticket;
-use crate::turn::Turn;
-use cg_names::{Code, MemberId, Moment};
-use std::alloc::{AllocError, Global};
+use cg_names::{Code, MemberId};
 
+/// What a BEAT that is taken is answered.
 #[tactic(auto, unfolding(crate::specs::Beating::beat_reply))]
-fn beat_reply(group: &Group) -> Reply
+pub fn beat_reply(group: &Group) -> Reply
     ensures { result ≡ beat_reply group.now }
 {
     match group.phase {
@@ -22,42 +19,21 @@ fn beat_reply(group: &Group) -> Reply
     }
 }
 
-#[tactic(auto, unfolding(crate::specs::Beating::beat_taken, crate::specs::Membership::hearing))]
-fn beat_taken(
-    alloc: Global,
-    now: Moment,
-    id: &MemberId,
-    ticket: Ticket,
-    group: &Group,
-) -> Result<Turn, AllocError>
-    ensures { IfOk result (λ t. t ≡ beat_taken now id.now ticket group.now) }
-{
-    let mut turn = turn_of(alloc, copied_group(alloc, group)?);
-    turn.group.members.hear(id, now);
-    turn.replies.push((ticket, beat_reply(group)))?;
-    Ok(turn)
-}
-
-/// BEAT in a group that is held.
+/// The member from which a BEAT is taken in its group.
 #[tactic(auto, unfolding(crate::specs::Beating::beat_held))]
-pub fn beat_held(
-    alloc: Global,
-    now: Moment,
-    r: &BeatRequest,
-    ticket: Ticket,
-    group: &Group,
-) -> Result<Result<Turn, Code>, AllocError>
-    ensures { IfOk result (λ o. o ≡ beat_held now r.now ticket group.now) }
+pub fn beating_member<'a>(r: &'a BeatRequest, group: &Group) -> Result<&'a MemberId, Code>
+    ensures { MatchResult result
+        (λ id. (now : ℕ) (ticket : Ticket) → beat_held now r.now ticket group.now ≡ Ok (beat_taken now id.now ticket group.now))
+        (λ code. (now : ℕ) (ticket : Ticket) → beat_held now r.now ticket group.now ≡ Err code) }
 {
     let Some(id) = &r.member else {
-        return Ok(Err(Code::UnknownMemberId));
+        return Err(Code::UnknownMemberId);
     };
     if group.members.find(id).is_none() {
-        return Ok(Err(Code::UnknownMemberId));
+        return Err(Code::UnknownMemberId);
     }
     if i64::from(r.generation) != i64::from(group.generation.get()) {
-        return Ok(Err(Code::IllegalGeneration));
+        return Err(Code::IllegalGeneration);
     }
-    let turn = beat_taken(alloc, now, id, ticket, group)?;
-    Ok(Ok(turn))
+    Ok(id)
 }

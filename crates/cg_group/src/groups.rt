@@ -1,7 +1,8 @@
 //! The groups that are held, and the step of the machine.
-ghost use Rattle.std.specs.Prelude.{◌≡◌, IfOk, OnErr, length, slice_get};
+ghost use Rattle.std.specs.Prelude.{◌≡◌, IfOk, OnErr, length, map, slice_get};
+ghost use Rattle.cg_group.specs.Kept.{Ascending, Ascending-prop, group_of};
 ghost use Rattle.cg_group.specs.Waiting.{waiting_calls};
-ghost use Rattle.cg_group.specs.Machine.{step};
+ghost use Rattle.cg_group.specs.Machine.{InOrder, step};
 ghost use Rattle.cg_group.specs.Reviving.{revive};
 
 use crate::calls::Calls;
@@ -22,6 +23,7 @@ use std::marker::Model;
 pub struct Groups {
     held: Vec<Group>,
     last: Moment,
+    ghost in_order: { InOrder held.items } by { Ascending-prop (map (λ g. g.id) held.items) },
 }
 
 impl Model for Groups {
@@ -36,6 +38,7 @@ impl Groups {
     /// The groups of the records that were kept, by the bytes of their groups' ids.
     #[tactic(auto, unfolding(crate::specs::Reviving::revive))]
     pub fn revive(alloc: Global, records: &[Command], now: Moment) -> Result<Self, AllocError>
+        requires { Ascending (map group_of records.now) }
         ensures { IfOk result (λ groups. groups ≡ revive records.now now) }
     {
         let held = revived_all(alloc, now, records)?;

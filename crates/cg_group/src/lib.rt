@@ -16,6 +16,7 @@ mod event;
 mod everywhere;
 mod group;
 mod groups;
+mod in_place;
 mod joining;
 mod laws;
 mod leaving;

@@ -1,20 +1,18 @@
 //! What an event does to the groups that are held.
-ghost use Rattle.std.specs.Prelude.{◌≡◌, IfOk, OnErr};
-ghost use Rattle.std.specs.Option.{option_copied};
-ghost use Rattle.cg_group.specs.Machine.{find_group, at_moment, outcome, reply_alone, concluded, join, sync, beat, leave, describe, everywhere, met};
+ghost use Rattle.std.specs.Prelude.{◌≡◌, Ok, Err, IfOk, OnErr, MatchResult};
+ghost use Rattle.cg_group.specs.Machine.{InOrder, named_group, at_moment, outcome, concluded, join, sync, leave, describe, everywhere, met};
 
-use crate::beating::beat_held;
 use crate::describing::{description, listings};
 use crate::effects::Effects;
 use crate::event::Event;
 use crate::everywhere::{Going, Ticking, Turning, everywhere};
 use crate::group::Group;
 use crate::joining::{is_session_refused, join_held, join_unheld};
+use crate::in_place::{meet_beat, meet_sync, reply_alone, syncing_place};
 use crate::leaving::leave_held;
-use crate::listed::Listed;
-use crate::placing::put_group;
+use crate::placing::{find_group, place_of, put_group};
 use crate::reply::Reply;
-use crate::request::{BeatRequest, JoinRequest, LeaveRequest, SyncRequest};
+use crate::request::{JoinRequest, LeaveRequest, SyncRequest};
 use crate::syncing::sync_held;
 use crate::ticket::Ticket;
 use crate::turn::Turn;
@@ -22,12 +20,15 @@ use cg_names::{Code, GroupId, Moment};
 use std::alloc::{AllocError, Global};
 use uuid::Uuid;
 
-// The group with this id.
-#[tactic(auto, unfolding(crate::specs::Machine::find_group))]
-fn find_group<'a>(groups: &'a [Group], id: &GroupId) -> Option<&'a Group>
-    ensures { option_copied result ≡ find_group id.now groups.now }
+// The group that a request names.
+fn named<'a>(groups: &'a [Group], id: &Option<GroupId>) -> Result<&'a Group, Code>
+    requires { InOrder groups.now }
+    ensures { MatchResult result (λ g. named_group id.now groups.now ≡ Ok g.now) (λ code. named_group id.now groups.now ≡ Err code) }
 {
-    groups.iter().find(|g| g.id == *id)
+    match place_of(groups, id) {
+        Ok(place) => Ok(&groups[place]),
+        Err(code) => Err(code),
+    }
 }
 
 #[tactic(auto, unfolding(crate::specs::Machine::join))]
@@ -39,6 +40,7 @@ fn join(
     ticket: Ticket,
     groups: &[Group],
 ) -> Result<Result<Turn, Code>, AllocError>
+    requires { InOrder groups.now }
     ensures { IfOk result (λ o. o ≡ join now r fresh ticket groups.now) }
 {
     let Some(id) = &r.group else {
@@ -68,37 +70,13 @@ fn sync(
     ticket: Ticket,
     groups: &[Group],
 ) -> Result<Result<Turn, Code>, AllocError>
+    requires { InOrder groups.now }
     ensures { IfOk result (λ o. o ≡ sync now r.now ticket groups.now) }
 {
-    let Some(id) = &r.group else {
-        return Ok(Err(Code::InvalidGroupId));
-    };
-    match find_group(groups, id) {
-        None => Ok(Err(Code::UnknownMemberId)),
-        Some(group) => {
+    match named(groups, &r.group) {
+        Err(code) => Ok(Err(code)),
+        Ok(group) => {
             let taken = sync_held(alloc, now, r, ticket, group)?;
-            Ok(taken)
-        }
-    }
-}
-
-#[tactic(auto, unfolding(crate::specs::Machine::beat))]
-fn beat(
-    alloc: Global,
-    now: Moment,
-    r: &BeatRequest,
-    ticket: Ticket,
-    groups: &[Group],
-) -> Result<Result<Turn, Code>, AllocError>
-    ensures { IfOk result (λ o. o ≡ beat now r.now ticket groups.now) }
-{
-    let Some(id) = &r.group else {
-        return Ok(Err(Code::InvalidGroupId));
-    };
-    match find_group(groups, id) {
-        None => Ok(Err(Code::UnknownMemberId)),
-        Some(group) => {
-            let taken = beat_held(alloc, now, r, ticket, group)?;
             Ok(taken)
         }
     }
@@ -112,14 +90,12 @@ fn leave(
     ticket: Ticket,
     groups: &[Group],
 ) -> Result<Result<Turn, Code>, AllocError>
+    requires { InOrder groups.now }
     ensures { IfOk result (λ o. o ≡ leave now r.now ticket groups.now) }
 {
-    let Some(id) = &r.group else {
-        return Ok(Err(Code::InvalidGroupId));
-    };
-    match find_group(groups, id) {
-        None => Ok(Err(Code::UnknownMemberId)),
-        Some(group) => {
+    match named(groups, &r.group) {
+        Err(code) => Ok(Err(code)),
+        Ok(group) => {
             let taken = leave_held(alloc, now, r, ticket, group)?;
             Ok(taken)
         }
@@ -128,6 +104,7 @@ fn leave(
 
 #[tactic(auto, unfolding(crate::specs::Machine::describe))]
 fn describe(alloc: Global, id: &Option<GroupId>, groups: &[Group]) -> Result<Reply, AllocError>
+    requires { InOrder groups.now }
     ensures { IfOk result (λ reply. reply ≡ describe id.now groups.now) }
 {
     match id {
@@ -142,18 +119,6 @@ fn describe(alloc: Global, id: &Option<GroupId>, groups: &[Group]) -> Result<Rep
     }
 }
 
-// One reply, and nothing else.
-fn reply_alone(alloc: Global, ticket: Ticket, reply: Reply) -> Result<Effects, AllocError>
-    ensures { IfOk result (λ e. e ≡ reply_alone ticket reply) }
-{
-    let mut replies = Listed::new(alloc);
-    replies.push((ticket, reply))?;
-    Ok(Effects {
-        commands: Listed::new(alloc),
-        replies,
-    })
-}
-
 // What a request does.
 #[tactic(auto, unfolding(crate::specs::Machine::concluded))]
 fn conclude(
@@ -163,6 +128,7 @@ fn conclude(
     ticket: Ticket,
     concluding: Result<Turn, Code>,
 ) -> Result<Effects, AllocError>
+    requires { InOrder held.old.items }
     ensures ok { IfOk result
         (λ e. concluded (at_moment now held.old.items) ticket concluding ≡ outcome now held.new.items e) }
     ensures err { OnErr result (held.new.items ≡ held.old.items) }
@@ -201,9 +167,32 @@ fn turn_all<T: Turning>(
     Ok(effects)
 }
 
+// A SYNC: in its group's place where it is answered at once.
+fn met_sync(
+    now: Moment,
+    held: &mut Vec<Group>,
+    ticket: Ticket,
+    r: &SyncRequest,
+) -> Result<Effects, AllocError>
+    requires { InOrder held.old.items }
+    ensures ok { IfOk result
+        (λ e. concluded (at_moment now held.old.items) ticket (sync now r.now ticket held.old.items) ≡ outcome now held.new.items e) }
+    ensures err { OnErr result (held.new.items ≡ held.old.items) }
+{
+    if let Some((place, id, assignment)) = syncing_place(r, held.as_slice())? {
+        let effects = meet_sync(now, held, ticket, place, id, assignment)?;
+        return Ok(effects);
+    }
+    let alloc = *held.allocator();
+    let concluding = sync(alloc, now, r, ticket, held.as_slice())?;
+    let effects = conclude(alloc, now, held, ticket, concluding)?;
+    Ok(effects)
+}
+
 /// An event at this moment, which is the last one.
 #[tactic(auto, unfolding(crate::specs::Machine::met))]
 pub fn met(now: Moment, held: &mut Vec<Group>, event: Event) -> Result<Effects, AllocError>
+    requires { InOrder held.old.items }
     ensures ok { IfOk result (λ e. met (at_moment now held.old.items) event ≡ outcome now held.new.items e) }
     ensures err { OnErr result (held.new.items ≡ held.old.items) }
 {
@@ -213,14 +202,8 @@ pub fn met(now: Moment, held: &mut Vec<Group>, event: Event) -> Result<Effects, 
             let concluding = join(alloc, now, r, fresh, ticket, held.as_slice())?;
             conclude(alloc, now, held, ticket, concluding)
         }
-        Event::Sync(ticket, r) => {
-            let concluding = sync(alloc, now, &r, ticket, held.as_slice())?;
-            conclude(alloc, now, held, ticket, concluding)
-        }
-        Event::Beat(ticket, r) => {
-            let concluding = beat(alloc, now, &r, ticket, held.as_slice())?;
-            conclude(alloc, now, held, ticket, concluding)
-        }
+        Event::Sync(ticket, r) => met_sync(now, held, ticket, &r),
+        Event::Beat(ticket, r) => meet_beat(now, held, ticket, &r),
         Event::Leave(ticket, r) => {
             let concluding = leave(alloc, now, &r, ticket, held.as_slice())?;
             conclude(alloc, now, held, ticket, concluding)
