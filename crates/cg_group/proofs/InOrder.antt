@@ -40,8 +40,8 @@ pub place_from_point : (x : List ℕ) (gs : List Group) (n : ℕ) → n ≤ leng
 place_from_point x [] n within point = omega arith
 place_from_point x (g ∷ gs) n within point =
     sym (prefix_len_is (λ g. not (not (is_gt (slice_cmp nat_cmp x g.id)))) (g ∷ gs) n g within
-      (λ k below. ap (λ b. not (not b)) (point.0 k g zero-le below))
-      (λ below. ap (λ b. not (not b)) (point.1 n g (omega arith) below)))
+    (λ k below. ap (λ b. not (not b)) (point.0 k g zero-le below))
+    (λ below. ap (λ b. not (not b)) (point.1 n g (omega arith) below)))
 
 greater_is : (o : Ordering) → is_gt o ≡ true → o ≡ Greater
 greater_is Less e = cc
@@ -91,8 +91,8 @@ find_at_place x (g ∷ gs) d h lt =
       | Less ↦ λ e lt. ap (λ b. cond b (Some g) (find (λ k. is_same k.id x) gs)) (nat_list_eq_equiv.symm g.id x ∙ differs_from_order x g.id Less e refl) ∙ none_behind x gs (before-trans x g.id (group_ids gs) e h.0) ∙ sym (ap (λ o. if is_eq o then Some g else None) e)
       | Equal ↦ λ e lt. ap (λ b. cond b (Some g) (find (λ k. is_same k.id x) gs)) (nat_list_eq_equiv.symm g.id x ∙ sym (is_eq-slice_cmp x g.id) ∙ ap is_eq e) ∙ sym (ap (λ o. if is_eq o then Some g else None) e)
       | Greater ↦ λ e lt.
-        let n : 1 + place x gs ≡ suc (place x gs) = omega arith in
-        rw n (ap (λ b. cond b (Some g) (find (λ k. is_same k.id x) gs)) (nat_list_eq_equiv.symm g.id x ∙ differs_from_order x g.id Greater e refl) ∙ find_at_place x gs d h.1 (omega arith))
+          let n : 1 + place x gs ≡ suc (place x gs) = omega arith in
+          rw n (ap (λ b. cond b (Some g) (find (λ k. is_same k.id x) gs)) (nat_list_eq_equiv.symm g.id x ∙ differs_from_order x g.id Greater e refl) ∙ find_at_place x gs d h.1 (omega arith))
     ] refl lt
 
 find_past_place : (x : List ℕ) (gs : List Group) → length gs ≤ place x gs → find_group x gs ≡ None
@@ -135,10 +135,10 @@ named_level x gs i g h at here level =
       within = within;
       found = λ d. ap (λ o. ok_or o UnknownMemberId) (found_place x gs i g h at ∙ ap (found_at x) (sym here) ∙ ap (λ b. if b then Some g else None) level) ∙ ap (λ y. Ok y) (here ∙ same_at gs i g d within);
       put = λ d new same.
-        let own : new.id ≡ x = same ∙ ap (λ (y : Group). y.id) (same_at gs i d g within ∙ sym here) ∙ sym (equal_is x g.id level) in
-        let P : List ℕ → Type 0 = λ y. position (λ k. not (is_gt (slice_cmp nat_cmp y k.id))) gs ≡ Some i in
-        let Q : List ℕ → Type 0 = λ y. is_eq (slice_cmp nat_cmp y g.id) ≡ true in
-        with_group_level new gs i g (subst P (sym own) at) here (subst Q (sym own) level);
+          let own : new.id ≡ x = same ∙ ap (λ (y : Group). y.id) (same_at gs i d g within ∙ sym here) ∙ sym (equal_is x g.id level) in
+          let P : List ℕ → Type 0 = λ y. position (λ k. not (is_gt (slice_cmp nat_cmp y k.id))) gs ≡ Some i in
+          let Q : List ℕ → Type 0 = λ y. is_eq (slice_cmp nat_cmp y g.id) ≡ true in
+          with_group_level new gs i g (subst P (sym own) at) here (subst Q (sym own) level);
     }
 
 -- each event leaves the groups in order

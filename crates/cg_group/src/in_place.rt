@@ -154,7 +154,7 @@ pub fn meet_sync(
     requires { place < length held.old.items }
     ensures ok { IfOk result
         (λ e. (r : SyncRequest) → IsSyncAt r held.old.items place id.now assignment
-            → concluded (at_moment now held.old.items) ticket (sync now r ticket held.old.items) ≡ outcome now held.new.items e) }
+        → concluded (at_moment now held.old.items) ticket (sync now r ticket held.old.items) ≡ outcome now held.new.items e) }
     ensures err { OnErr result (held.new.items ≡ held.old.items) }
 {
     let effects = hear_at(now, held, place, id, ticket, Reply::Synced(assignment))?;
