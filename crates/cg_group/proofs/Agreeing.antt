@@ -1,12 +1,11 @@
 -- A group and its record: what holds of both before an event holds after its turn.
-use Rattle.std.proofs.Common.{◌≡◌, ℕ, Bool, true, false, not, ◌&&◌, ◌||◌, List, [], ◌∷◌, ◌++◌, map, filter, find, cond, is_some, refl, sym, ap, ◌∙◌, subst, Option, Some, None}
+use Rattle.std.proofs.Common.{◌≡◌, ℕ, Bool, true, false, not, ◌&&◌, ◌||◌, List, [], ◌∷◌, ◌++◌, map, filter, cond, is_some, refl, sym, ap, ◌∙◌, subst, Option, Some, None}
 use Rattle.std.specs.Prelude.{if◌then◌else◌}
 use Rattle.std.specs.List.{list_any, list_all}
 use Rattle.std.specs.Option.{option_to_list, option_map, option_and_then}
-use Rattle.std.proofs.lemmas.Bool.{and_parts, and_from, or_parts, or_left, or_right, not_from_false, not-false, false≢true}
-use Rattle.std.proofs.lemmas.List.Folds.{list_all-append, list_all-map, list_any-append}
-use Rattle.cg_group.specs.declared.calls.Calls.{Calls}
-use Rattle.cg_group.specs.declared.calls.Calls.TheVariants.{Joins, Syncs, Any, OfSession}
+use Rattle.std.proofs.lemmas.Bool.{and_parts, and_from, or_parts, or_left, or_right, not-false, false≢true}
+use Rattle.std.proofs.lemmas.List.Folds.{list_all-append, list_all-map}
+use Rattle.cg_group.specs.declared.calls.Calls.TheVariants.{Joins, Syncs}
 use Rattle.cg_group.specs.declared.command.Command.{Command}
 use Rattle.cg_group.specs.declared.command.Command.TheVariants as command
 use Rattle.cg_group.specs.declared.event.Event.{Event}
@@ -15,29 +14,24 @@ use Rattle.cg_group.specs.declared.group.Phase.{Phase}
 use Rattle.cg_group.specs.declared.group.Phase.TheVariants.{Empty, Preparing, Completing, Stable}
 use Rattle.cg_group.specs.declared.member.Member.{Member}
 use Rattle.cg_group.specs.declared.member.Protocol.{Protocol}
-use Rattle.cg_group.specs.declared.member.Waits.{Waits}
-use Rattle.cg_group.specs.declared.member.Waits.TheVariants.{Nothing, Join, Sync}
+use Rattle.cg_group.specs.declared.member.Waits.TheVariants.{Join}
 use Rattle.cg_group.specs.declared.request.JoinRequest.{JoinRequest}
 use Rattle.cg_group.specs.declared.request.SyncEntry.{SyncEntry}
-use Rattle.cg_group.specs.declared.request.SyncRequest.{SyncRequest}
 use Rattle.cg_group.specs.declared.ticket.Ticket.{Ticket}
 use Rattle.cg_group.specs.declared.turn.Turn.{Turn}
-use Rattle.cg_group.specs.Beating.{beat_taken}
-use Rattle.cg_group.specs.Joining.{admitted, in_join_phase, is_current, is_inconsistent, join_again, join_current, join_known, join_new, new_group, new_member, updated, updating, waiting, waits_with}
-use Rattle.cg_group.specs.Kept.{Each, Kept, group_of, kept_after}
-use Rattle.cg_group.specs.Laws.{IsAssignedAs, IsEmptiedAs, TellsOf, has_named}
-use Rattle.cg_group.specs.Leaving.{after_removal, gone_in, has_joined, leave_taken, left}
-use Rattle.cg_group.specs.Membership.{find_member, has_id, heard, hearing, is_empty, is_named, is_preparing, is_same, keeping, leads, with_member}
-use Rattle.cg_group.specs.Rebalance.{completed, emptied, emptied_command, is_ready, next_round, prepared, told_to_joins, tried, turn_of}
-use Rattle.cg_group.specs.Syncing.{assigned, assigned_command, assigning, distributed, kept_member, sync_current, sync_taken, sync_waits, told_to_syncs}
-use Rattle.cg_group.specs.Ticking.{at_deadline, expired, is_due, is_overdue, ticked}
-use Rattle.cg_group.specs.Vote.{elected, is_common, offers}
-use Rattle.cg_group.specs.Waiting.{after_answers, is_waiting}
+use Rattle.cg_group.specs.Joining.{in_join_phase, is_inconsistent, updated, waiting, waits_with}
+use Rattle.cg_group.specs.Kept.{Kept, kept_after}
+use Rattle.cg_group.specs.Laws.{TellsOf}
+use Rattle.cg_group.specs.Leaving.{after_removal, has_joined}
+use Rattle.cg_group.specs.Membership.{has_id, heard, hearing, is_empty, is_named, is_preparing, is_same, with_member}
+use Rattle.cg_group.specs.Rebalance.{completed, emptied, emptied_command, is_ready, next_round, prepared, told_to_joins, tried}
+use Rattle.cg_group.specs.Syncing.{assigned, assigned_command, assigning, distributed, kept_member, told_to_syncs}
+use Rattle.cg_group.specs.Vote.{is_common, offers}
+use Rattle.cg_group.specs.Waiting.{after_answers}
 use Rattle.cg_group.proofs.Elections.{HasCommon, elected_is}
-use Rattle.cg_group.proofs.Framed.{Framed, framed-in_join_phase, framed-waiting, framed-expired_of}
-use Rattle.cg_group.proofs.Keeping.{IsLasting, map-same, map-with_member, keep-after_answers, keep-hearing, keep-in_join_phase, keep-next_round, keep-prepared, keep-told_to_joins, keep-told_to_syncs, keep-waiting}
-use Rattle.cg_group.proofs.KeptLists.{kept_after-append, kept_after-one, same_names, same_self}
-use Rattle.cg_group.proofs.Calling.{AllWaits, all-named, each-filter, is_named_wait, no_sync, no_sync-after_answers, waits-after_answers, waits-append, waits-assigned, waits-with_member}
+use Rattle.cg_group.proofs.Keeping.{IsLasting, map-same, map-with_member, keep-after_answers}
+use Rattle.cg_group.proofs.KeptLists.{kept_after-append, kept_after-one, same_self}
+use Rattle.cg_group.proofs.Calling.{AllWaits, all-named, is_named_wait, no_sync, no_sync-after_answers, waits-after_answers, waits-assigned, waits-with_member}
 
 -- what a group has in each phase
 abbrev pub Holds : Phase → Group → Option Command → Type 0

@@ -1,5 +1,5 @@
 -- Machine and commands agree: each event keeps it, and so does every list of events.
-use Rattle.std.proofs.Common.{◌≡◌, ℕ, Bool, true, false, ◌&&◌, ◌||◌, List, [], ◌∷◌, ◌++◌, append_assoc, append-nil, map, find, cond, is_some, refl, sym, ap, ◌∙◌, subst, max, nat_eq, Option, Some, None, Result, Ok, Err}
+use Rattle.std.proofs.Common.{◌≡◌, ℕ, Bool, true, false, ◌&&◌, ◌||◌, List, [], ◌∷◌, ◌++◌, append_assoc, append-nil, map, cond, is_some, refl, sym, ap, ◌∙◌, subst, max, nat_eq, Option, Some, None}
 use Rattle.std.specs.List.{list_any}
 use Rattle.std.proofs.lemmas.Bool.{and_from, or_left, or_right, false≢true}
 use Rattle.std.proofs.lemmas.Cmp.{nat_eq_equiv}
@@ -15,30 +15,28 @@ use Rattle.cg_group.specs.declared.event.Event.TheVariants as event
 use Rattle.cg_group.specs.declared.group.Group.{Group}
 use Rattle.cg_group.specs.declared.group.Phase.{Phase}
 use Rattle.cg_group.specs.declared.group.Phase.TheVariants.{Empty, Preparing, Completing, Stable}
-use Rattle.cg_group.specs.declared.member.Member.{Member}
 use Rattle.cg_group.specs.declared.member.Waits.{Waits}
 use Rattle.cg_group.specs.declared.member.Waits.TheVariants.{Nothing, Join, Sync}
 use Rattle.cg_group.specs.declared.request.SyncRequest.{SyncRequest}
 use Rattle.cg_group.specs.declared.ticket.Ticket.{Ticket}
-use Rattle.cg_group.specs.declared.turn.Turn.{Turn}
 use Rattle.cg_group.specs.Joining.{new_group}
-use Rattle.cg_group.specs.Kept.{AreRecords, Ascending, ComesBefore, Each, IsRecord, Kept, effect, group_of, kept_after, nothing_kept}
-use Rattle.cg_group.specs.Laws.{Agrees, AgreesIn, AreRequests, MachineAndCommandsAgree, TellsOf, after_all, commands_of, has_named, is_request, is_same_ticket, is_sync_of, kept_after_all}
+use Rattle.cg_group.specs.Kept.{AreRecords, Ascending, ComesBefore, Each, Kept, effect, group_of, kept_after, nothing_kept}
+use Rattle.cg_group.specs.Laws.{AgreesIn, AreRequests, MachineAndCommandsAgree, after_all, commands_of, has_named, is_request, is_same_ticket, is_sync_of, kept_after_all}
 use Rattle.cg_group.specs.Leaving.{gone_in}
-use Rattle.cg_group.specs.Machine.{Machine, beat, concluded, everywhere, find_group, join, leave, met, replying, step, sync}
-use Rattle.cg_group.specs.Membership.{is_empty, is_named, is_preparing, is_same}
+use Rattle.cg_group.specs.Machine.{Machine, beat, find_group, join, leave, met, step, sync}
+use Rattle.cg_group.specs.Membership.{is_empty, is_named, is_same}
 use Rattle.cg_group.specs.Rebalance.{subscription_for}
 use Rattle.cg_group.specs.Reviving.{revive, revived, revived_member}
 use Rattle.cg_group.specs.Syncing.{kept_member}
 use Rattle.cg_group.specs.Ticking.{ticked}
-use Rattle.cg_group.specs.Vote.{is_common, offers}
-use Rattle.cg_group.proofs.Agreeing.{Holds, Suits, Whole, kind_holds, suits_consistent, suits_empty}
+use Rattle.cg_group.specs.Vote.{is_common}
+use Rattle.cg_group.proofs.Agreeing.{Holds, Whole, kind_holds, suits_consistent, suits_empty}
 use Rattle.cg_group.proofs.AgreeingTurns.{after-beat_taken, after-gone_in, after-join_known, after-join_new, after-leave_taken, after-sync_taken, after-ticked}
 use Rattle.cg_group.proofs.Calling.{AllWaits, is_named_wait, no_sync}
 use Rattle.cg_group.proofs.Framed.{framed-beat_taken, framed-gone_in, framed-join_known, framed-join_new, framed-leave_taken, framed-sync_taken, framed-ticked}
-use Rattle.cg_group.proofs.KeptLists.{each-found, group_ids, id-found, kept_after-append, kept_after-none, kept_after-other, differs_from_order, same_names, same_self}
+use Rattle.cg_group.proofs.KeptLists.{each-found, group_ids, id-found, kept_after-append, kept_after-none, differs_from_order, same_self}
 use Rattle.cg_group.proofs.KeptMachine.{Fits, Invariant, each-over, fits_framed, invariant-concluded, invariant-everywhere}
-use Rattle.cg_group.proofs.Requests.{Fine, fine-beat, fine-join, fine-leave, fine-sync}
+use Rattle.cg_group.proofs.Requests.{fine-beat, fine-join, fine-leave, fine-sync}
 use Rattle.std.proofs.lemmas.Cmp.{nat_list_eq_equiv}
 use Rattle.std.specs.declared.cmp.Ordering.TheVariants.{Less}
 

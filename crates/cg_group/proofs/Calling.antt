@@ -1,5 +1,5 @@
 -- What holds of the calls of all members: which stages keep it.
-use Rattle.std.proofs.Common.{◌≡◌, ℕ, Bool, true, false, List, [], ◌∷◌, ◌++◌, map, filter, cond, refl, subst}
+use Rattle.std.proofs.Common.{◌≡◌, ℕ, Bool, true, false, List, [], ◌∷◌, ◌++◌, map, filter, cond, refl}
 use Rattle.std.specs.Prelude.{if◌then◌else◌, is_some}
 use Rattle.cg_group.specs.declared.calls.Calls.{Calls}
 use Rattle.cg_group.specs.declared.calls.Calls.TheVariants.{Syncs}
@@ -7,12 +7,10 @@ use Rattle.cg_group.specs.declared.event.Event.{Event}
 use Rattle.cg_group.specs.declared.member.Member.{Member}
 use Rattle.cg_group.specs.declared.member.Waits.{Waits}
 use Rattle.cg_group.specs.declared.member.Waits.TheVariants.{Nothing, Join, Sync}
-use Rattle.cg_group.specs.declared.request.JoinRequest.{JoinRequest}
 use Rattle.cg_group.specs.declared.request.SyncEntry.{SyncEntry}
-use Rattle.cg_group.specs.Joining.{updated, waits_with}
 use Rattle.cg_group.specs.Kept.{Each}
 use Rattle.cg_group.specs.Laws.{has_named}
-use Rattle.cg_group.specs.Membership.{has_id, heard, with_member}
+use Rattle.cg_group.specs.Membership.{has_id, with_member}
 use Rattle.cg_group.specs.Syncing.{assigned}
 use Rattle.cg_group.specs.Waiting.{after_answer, after_answers, answered, called, is_waiting}
 

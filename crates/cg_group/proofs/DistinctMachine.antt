@@ -1,5 +1,5 @@
 -- No two members of a group have one id or one instance: each event keeps it, and so does every list of events.
-use Rattle.std.proofs.Common.{◌≡◌, ℕ, true, List, [], ◌∷◌, ◌++◌, map, refl, sym, ap, ◌∙◌, subst, Option, Some, None, max}
+use Rattle.std.proofs.Common.{◌≡◌, ℕ, true, List, [], ◌∷◌, ◌++◌, map, refl, ap, ◌∙◌, max}
 use Rattle.std.specs.List.{flat_map}
 use Rattle.std.specs.Option.{option_to_list}
 use Rattle.std.proofs.lemmas.Bool.{and_from}
@@ -9,14 +9,13 @@ use Rattle.cg_group.specs.declared.command.Command.TheVariants.{Assigned, Emptie
 use Rattle.cg_group.specs.declared.event.Event.{Event}
 use Rattle.cg_group.specs.declared.event.Event.TheVariants as event
 use Rattle.cg_group.specs.declared.group.Group.{Group}
-use Rattle.cg_group.specs.declared.member.Member.{Member}
 use Rattle.cg_group.specs.declared.ticket.Ticket.{Ticket}
 use Rattle.cg_group.specs.declared.turn.Turn.{Turn}
 use Rattle.cg_group.specs.Joining.{new_group}
-use Rattle.cg_group.specs.Kept.{AreRecords, Each, HasOwnNames, IsRecord, are_distinct}
+use Rattle.cg_group.specs.Kept.{AreRecords, Each, IsRecord, are_distinct}
 use Rattle.cg_group.specs.Laws.{MembersStayDistinct, after_all, has_distinct_members, ids, instances}
 use Rattle.cg_group.specs.Leaving.{gone_in}
-use Rattle.cg_group.specs.Machine.{Machine, beat, concluded, everywhere, groups_after, join, leave, met, step, sync, with_group}
+use Rattle.cg_group.specs.Machine.{Machine, beat, concluded, everywhere, groups_after, join, leave, met, step, sync}
 use Rattle.cg_group.specs.Reviving.{revive, revived, revived_member}
 use Rattle.cg_group.specs.Ticking.{ticked}
 use Rattle.cg_group.proofs.Distinct.{Distinct, distinct-beat_taken, distinct-gone_in, distinct-join_known, distinct-join_new, distinct-leave_taken, distinct-new_group, distinct-sync_taken, distinct-ticked, free-new_group}

@@ -1,11 +1,11 @@
 -- A SYNCED reply is earned: the member named the generation, and the bytes are kept for it.
-use Rattle.std.proofs.Common.{◌≡◌, ℕ, Bool, true, false, not, ◌&&◌, ◌||◌, List, [], ◌∷◌, ◌++◌, map, find, cond, is_some, refl, sym, ap, ◌∙◌, subst, max, Option, Some, None, Result, Ok, Err}
-use Rattle.std.specs.Prelude.{if◌then◌else◌, pos}
+use Rattle.std.proofs.Common.{◌≡◌, ℕ, Bool, true, false, ◌&&◌, ◌||◌, List, [], ◌∷◌, ◌++◌, map, find, cond, is_some, refl, sym, ap, ◌∙◌, subst, max, Option, Some, None, Result, Ok, Err}
+use Rattle.std.specs.Prelude.{if◌then◌else◌}
 use Rattle.std.specs.List.{list_any, flat_map}
 use Rattle.std.specs.Cmp.Lexicographic.{slice_cmp}
-use Rattle.std.specs.Ordering.{int_eq, match_ordering, nat_cmp}
+use Rattle.std.specs.Ordering.{match_ordering, nat_cmp}
 use Rattle.std.specs.declared.cmp.Ordering.TheVariants.{Less, Equal, Greater}
-use Rattle.std.proofs.lemmas.Bool.{and_from, and_parts, false≢true, or_left, or_right}
+use Rattle.std.proofs.lemmas.Bool.{and_from, false≢true, or_left, or_right}
 use Rattle.cg_names.specs.declared.code.Code.{Code}
 use Rattle.cg_group.specs.declared.calls.Calls.TheVariants.{Any, Syncs}
 use Rattle.cg_group.specs.declared.command.Command.{Command}
@@ -26,19 +26,18 @@ use Rattle.cg_group.specs.declared.request.SyncEntry.{SyncEntry}
 use Rattle.cg_group.specs.declared.request.SyncRequest.{SyncRequest}
 use Rattle.cg_group.specs.declared.ticket.Ticket.{Ticket}
 use Rattle.cg_group.specs.declared.turn.Turn.{Turn}
-use Rattle.cg_group.specs.Beating.{beat_taken}
-use Rattle.cg_group.specs.Joining.{admitted, in_join_phase, is_current, join_again, join_current, join_known, join_new, new_group, new_member, updating, waiting, waits_with}
-use Rattle.cg_group.specs.Kept.{AreRecords, Each, Kept, kept_after}
-use Rattle.cg_group.specs.Laws.{AreRequests, AssignmentsAreEarned, TellsOf, after_all, has_named, is_earned, is_earned_in, is_kept_for, is_sync_of, kept_after_all}
+use Rattle.cg_group.specs.Joining.{admitted, is_current, join_again, join_current, join_known, join_new, new_group, new_member, updating, waiting, waits_with}
+use Rattle.cg_group.specs.Kept.{Each, Kept, kept_after}
+use Rattle.cg_group.specs.Laws.{AssignmentsAreEarned, TellsOf, after_all, has_named, is_earned, is_earned_in, is_kept_for, kept_after_all}
 use Rattle.cg_group.specs.Leaving.{after_removal, gone_in, leave_taken, left}
-use Rattle.cg_group.specs.Machine.{Machine, Outcome, beat, concluded, describe, everywhere, find_group, join, leave, met, replying, step, sync, with_group}
+use Rattle.cg_group.specs.Machine.{Machine, Outcome, beat, concluded, describe, everywhere, join, leave, met, step, sync, with_group}
 use Rattle.cg_group.specs.Membership.{find_member, has_id, heard, hearing, is_preparing, is_same, keeping, leads, with_member}
-use Rattle.cg_group.specs.Rebalance.{completed, joined_reply, next_round, prepared, tried, turn_of}
+use Rattle.cg_group.specs.Rebalance.{completed, joined_reply, next_round, tried, turn_of}
 use Rattle.cg_group.specs.Reviving.{revive}
-use Rattle.cg_group.specs.Syncing.{assigned, assigned_command, assigning, distributed, kept_member, sync_current, sync_taken, sync_waits, synced_reply, told_to_syncs}
+use Rattle.cg_group.specs.Syncing.{assigned_command, assigning, distributed, kept_member, sync_current, sync_taken, sync_waits, synced_reply, told_to_syncs}
 use Rattle.cg_group.specs.Ticking.{at_deadline, expired, is_due, ticked}
 use Rattle.cg_group.specs.Waiting.{after_answers, answers, called, is_waiting}
-use Rattle.cg_group.proofs.Agreeing.{Holds, Whole, assigned_tells, empty_members, lasting_kept}
+use Rattle.cg_group.proofs.Agreeing.{Holds, Whole, assigned_tells, empty_members}
 use Rattle.cg_group.proofs.AgreeingMachine.{WholeMachine, machine_more, sync_named, was_met_last, whole-all}
 use Rattle.cg_group.proofs.AgreeingTurns.{nothing_found, some_named}
 use Rattle.cg_group.proofs.Calling.{AllWaits, is_named_wait, waits-assigned, waits-with_member}
@@ -47,7 +46,7 @@ use Rattle.cg_group.proofs.Keeping.{keep-after_answers, keep-hearing}
 use Rattle.cg_group.proofs.KeptLists.{each-found, id-found, kept_after-append, same_names, same_self}
 use Rattle.cg_group.proofs.KeptMachine.{each-over}
 use Rattle.cg_group.proofs.Requests.{Fine, fine-beat, fine-join, fine-leave, fine-sync}
-use Rattle.cg_group.proofs.Telling.{Told, TriedFrom, each-answers, each-any, expired_tried, told-beat_taken, told-completed, told-gone_in, told-in_join_phase, told-left, told-removal, told-tried, told-waiting}
+use Rattle.cg_group.proofs.Telling.{Told, each-answers, expired_tried, told-beat_taken, told-completed, told-gone_in, told-in_join_phase, told-left, told-removal, told-tried, told-waiting}
 
 -- each element is found among what is made of all
 each-in : {A B : Type 0} (f : A → B) (q : B → A → Bool) → ((x : A) → q (f x) x ≡ true) → (xs : List A) → Each (λ x. list_any (λ y. q y x) (map f xs) ≡ true) xs

@@ -1,8 +1,7 @@
 -- Groups that stand by the bytes of their ids: a search finds them, and each event leaves them so.
-use Rattle.std.proofs.Common.{◌≡◌, ℕ, zero, suc, ◌+◌, ◌<◌, ◌≤◌, zero-le, Bool, true, false, not, cond, List, [], ◌∷◌, length, get_or, map, find, Option, Some, None, Result, Ok, Err, ok_or, max, refl, sym, ap, ◌∙◌, subst, arith}
-use Rattle.std.proofs.Math.ListN.{set}
+use Rattle.std.proofs.Common.{◌≡◌, ℕ, zero, suc, ◌+◌, ◌<◌, ◌≤◌, zero-le, Bool, true, false, not, cond, List, [], ◌∷◌, length, get_or, find, Option, Some, None, Result, Ok, Err, ok_or, refl, sym, ap, ◌∙◌, subst, arith}
 use Rattle.std.specs.Prelude.{if◌then◌else◌}
-use Rattle.std.specs.List.{position, position_or_len, prefix_len}
+use Rattle.std.specs.List.{position, position_or_len}
 use Rattle.std.specs.List.Sorted.{IsPartitionedBy}
 use Rattle.std.proofs.lemmas.Bool.Decides.{nat_tests}
 use Rattle.std.proofs.lemmas.Cmp.{nat_list_cmp_total, nat_list_eq_equiv}
@@ -21,12 +20,12 @@ use Rattle.cg_group.specs.declared.ticket.Ticket.{Ticket}
 use Rattle.cg_group.specs.declared.turn.Turn.{Turn}
 use Rattle.cg_group.specs.Kept.{Ascending, ComesBefore}
 use Rattle.cg_group.specs.Leaving.{gone_in}
-use Rattle.cg_group.specs.Machine.{InOrder, IsNamedAt, Machine, beat, concluded, everywhere, find_group, groups_after, join, leave, met, named_group, sync, with_group}
+use Rattle.cg_group.specs.Machine.{InOrder, IsNamedAt, Machine, beat, concluded, everywhere, find_group, groups_after, join, leave, met, named_group, sync}
 use Rattle.cg_group.specs.Membership.{is_same}
 use Rattle.cg_group.specs.Ticking.{ticked}
 use Rattle.cg_group.proofs.Framed.{Framed, framed-gone_in, framed-ticked}
 use Rattle.cg_group.proofs.Groupings.{with_group_level}
-use Rattle.cg_group.proofs.KeptLists.{ascending-with_group, before-same, before-trans, differs_from_order, group_ids, same_names, same_self}
+use Rattle.cg_group.proofs.KeptLists.{ascending-with_group, before-trans, differs_from_order, group_ids, same_names}
 use Rattle.cg_group.proofs.Places.{no_place_is, place_is}
 
 -- the id comes after the group's

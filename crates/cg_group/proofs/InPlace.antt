@@ -11,7 +11,7 @@ use Rattle.cg_group.specs.declared.ticket.Ticket.{Ticket}
 use Rattle.cg_group.specs.declared.turn.Turn.{Turn}
 use Rattle.cg_group.specs.Beating.{beat_held, beat_reply, beat_taken}
 use Rattle.cg_group.specs.InPlace.{IsBeatAt, IsCurrent, IsSyncAt}
-use Rattle.cg_group.specs.Machine.{IsNamedAt, at_moment, beat, concluded, named_group, outcome, reply_alone, sync, with_group}
+use Rattle.cg_group.specs.Machine.{at_moment, beat, concluded, named_group, outcome, reply_alone, sync}
 use Rattle.cg_group.specs.Membership.{hearing}
 use Rattle.cg_group.specs.Refusing.{◌>>=◌}
 use Rattle.cg_group.specs.Syncing.{sync_current, sync_held}

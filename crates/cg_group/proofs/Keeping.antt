@@ -1,7 +1,6 @@
 -- What a member has beside its last moment and its call: each stage of an event keeps it.
-use Rattle.std.proofs.Common.{◌≡◌, ℕ, Bool, true, false, List, [], ◌∷◌, ◌++◌, map, refl, ap, ◌∙◌}
+use Rattle.std.proofs.Common.{◌≡◌, ℕ, true, false, List, [], ◌∷◌, map, refl, ap, ◌∙◌}
 use Rattle.std.specs.Prelude.{if◌then◌else◌}
-use Rattle.std.specs.List.{list_any}
 use Rattle.cg_group.specs.declared.calls.Calls.{Calls}
 use Rattle.cg_group.specs.declared.calls.Calls.TheVariants.{Joins, Syncs}
 use Rattle.cg_group.specs.declared.group.Group.{Group}

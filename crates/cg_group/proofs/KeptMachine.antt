@@ -1,5 +1,5 @@
 -- From what holds of each group and of its record, to the machine and what is kept.
-use Rattle.std.proofs.Common.{◌≡◌, ℕ, Bool, true, false, not, ◌||◌, List, [], ◌∷◌, ◌++◌, map, find, cond, is_some, refl, sym, ap, ◌∙◌, subst, Option, Some, None, Result, Ok, Err}
+use Rattle.std.proofs.Common.{◌≡◌, ℕ, Bool, true, false, ◌||◌, List, [], ◌∷◌, ◌++◌, cond, is_some, refl, sym, ap, ◌∙◌, subst, Option, Some, Result, Ok, Err}
 use Rattle.std.specs.List.{flat_map}
 use Rattle.std.proofs.lemmas.Bool.{or_left, or_right}
 use Rattle.cg_names.specs.declared.code.Code.{Code}
@@ -7,10 +7,10 @@ use Rattle.cg_group.specs.declared.command.Command.{Command}
 use Rattle.cg_group.specs.declared.group.Group.{Group}
 use Rattle.cg_group.specs.declared.ticket.Ticket.{Ticket}
 use Rattle.cg_group.specs.declared.turn.Turn.{Turn}
-use Rattle.cg_group.specs.Kept.{Kept, Each, ComesBefore, Ascending, group_of, kept_after}
+use Rattle.cg_group.specs.Kept.{Kept, Each, ComesBefore, Ascending, kept_after}
 use Rattle.cg_group.specs.Machine.{Machine, concluded, everywhere, find_group, groups_after, with_group}
 use Rattle.cg_group.specs.Membership.{is_same}
-use Rattle.cg_group.proofs.Framed.{Framed, OfGroup, each-append}
+use Rattle.cg_group.proofs.Framed.{Framed, OfGroup}
 use Rattle.cg_group.proofs.KeptLists.{kept_after-append, kept_after-none, kept_after-other, differs_from_order, group_ids, ascending-with_group, each-after, each-with_group, found-with_group}
 use Rattle.cg_group.proofs.Requests.{Fine}
 use Rattle.std.proofs.lemmas.Cmp.{nat_list_eq_equiv}

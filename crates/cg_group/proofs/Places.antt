@@ -1,9 +1,9 @@
 -- A member is changed at the place where it stands.
-use Rattle.std.proofs.Common.{◌≡◌, ℕ, find, zero, suc, ◌+◌, ◌<◌, ◌≤◌, Bool, true, false, cond, not, List, [], ◌∷◌, length, get_or, nat_lt, subst, Option, Some, None, refl, sym, ap, ◌∙◌, arith, rules, add-zero}
+use Rattle.std.proofs.Common.{◌≡◌, ℕ, find, suc, ◌+◌, ◌<◌, ◌≤◌, Bool, true, false, cond, not, List, [], ◌∷◌, length, get_or, nat_lt, subst, Some, None, refl, sym, ap, ◌∙◌, arith}
 use Rattle.std.proofs.Math.ListN.{set}
 use Rattle.std.proofs.lemmas.Bool.Decides.{nat_tests}
 use Rattle.std.specs.Prelude.{if◌then◌else◌}
-use Rattle.std.specs.List.{position, position_or_len, prefix_len}
+use Rattle.std.specs.List.{position, position_or_len}
 use Rattle.cg_group.specs.declared.member.Member.{Member}
 use Rattle.cg_group.specs.Membership.{has_id, with_member}
 

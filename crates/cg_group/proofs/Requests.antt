@@ -1,5 +1,5 @@
 -- What a request that is taken does, and what was tested before.
-use Rattle.std.proofs.Common.{◌≡◌, ℕ, Bool, true, false, not, List, [], ◌∷◌, find, is_some, refl, sym, ap, ◌∙◌, Option, Some, None, Result, Ok, Err, ok_or, nat_le, length, pos}
+use Rattle.std.proofs.Common.{◌≡◌, ℕ, Bool, true, false, not, List, is_some, refl, Option, Some, None, Result, Ok, Err, ok_or, nat_le, length, pos}
 use Rattle.std.proofs.lemmas.Bool.{not-false}
 use Rattle.std.specs.Ordering.{int_eq}
 use Rattle.cg_names.specs.declared.code.Code.{Code}

@@ -1,12 +1,11 @@
 -- The join replies of an event in one group are of one round.
-use Rattle.std.proofs.Common.{◌≡◌, ℕ, Bool, true, false, not, ◌&&◌, List, [], ◌∷◌, ◌++◌, map, find, cond, is_some, refl, sym, ap, ◌∙◌, subst, Option, Some, None, Result, Ok, Err, max}
+use Rattle.std.proofs.Common.{◌≡◌, ℕ, Bool, true, false, List, [], ◌∷◌, map, refl, sym, ◌∙◌, subst, Option, Some, None, Result, Ok, Err}
 use Rattle.std.proofs.lemmas.List.{append-nil}
-use Rattle.std.specs.Prelude.{if◌then◌else◌, option_map}
-use Rattle.std.specs.List.{list_any, list_all, flat_map}
+use Rattle.std.specs.Prelude.{if◌then◌else◌}
+use Rattle.std.specs.List.{flat_map}
 use Rattle.std.proofs.lemmas.Bool.{and_parts, false≢true}
 use Rattle.cg_names.specs.declared.code.Code.{Code}
 use Rattle.cg_group.specs.declared.calls.Calls.TheVariants.{Any}
-use Rattle.cg_group.specs.declared.event.Event.{Event}
 use Rattle.cg_group.specs.declared.event.Event.TheVariants as event
 use Rattle.cg_group.specs.declared.group.Group.{Group}
 use Rattle.cg_group.specs.declared.group.Phase.{Phase}
@@ -21,22 +20,21 @@ use Rattle.cg_group.specs.declared.request.SyncEntry.{SyncEntry}
 use Rattle.cg_group.specs.declared.ticket.Ticket.{Ticket}
 use Rattle.cg_group.specs.declared.turn.Turn.{Turn}
 use Rattle.cg_group.specs.Beating.{beat_taken}
-use Rattle.cg_group.specs.Describing.{description}
-use Rattle.cg_group.specs.Joining.{admitted, in_join_phase, is_current, join_again, join_current, join_known, join_new, new_member, updating, waiting}
+use Rattle.cg_group.specs.Joining.{admitted, is_current, join_again, join_current, join_known, join_new, new_member, updating, waiting}
 use Rattle.cg_group.specs.Kept.{Each}
-use Rattle.cg_group.specs.Laws.{IsInRounds, IsOneRound, Names, RoundsAreOne, replies_by_group}
-use Rattle.cg_group.specs.Leaving.{after_removal, gone_in, has_joined, leave_taken, left}
-use Rattle.cg_group.specs.Machine.{Machine, beat, concluded, describe, everywhere, find_group, join, leave, met, replying, sync}
+use Rattle.cg_group.specs.Laws.{IsOneRound, Names, RoundsAreOne, replies_by_group}
+use Rattle.cg_group.specs.Leaving.{after_removal, gone_in, leave_taken, left}
+use Rattle.cg_group.specs.Machine.{Machine, beat, concluded, describe, everywhere, join, leave, met, sync}
 use Rattle.cg_group.specs.Membership.{hearing, is_empty, is_preparing, keeping, leads}
-use Rattle.cg_group.specs.Rebalance.{completed, emptied, is_ready, joined_reply, next_round, prepared, told_to_joins, tried, turn_of}
+use Rattle.cg_group.specs.Rebalance.{completed, emptied, is_ready, joined_reply, next_round, told_to_joins, tried, turn_of}
 use Rattle.cg_group.specs.Syncing.{distributed, sync_current, sync_taken, sync_waits, synced_reply, told_to_syncs}
-use Rattle.cg_group.specs.Ticking.{at_deadline, expired, is_due, ticked}
-use Rattle.cg_group.specs.Waiting.{answers, is_waiting}
+use Rattle.cg_group.specs.Ticking.{at_deadline, is_due, ticked}
+use Rattle.cg_group.specs.Waiting.{is_waiting}
 use Rattle.cg_group.proofs.Distinct.{flat_map-map}
 use Rattle.cg_group.proofs.Framed.{each-append}
 use Rattle.cg_group.proofs.KeptMachine.{each-over}
 use Rattle.cg_group.proofs.Requests.{Fine, fine-beat, fine-join, fine-leave, fine-sync}
-use Rattle.cg_group.proofs.Telling.{Told, TriedFrom, each-answers, each-any, expired_tried, told-beat_taken, told-completed, told-gone_in, told-in_join_phase, told-left, told-removal, told-tried, told-waiting}
+use Rattle.cg_group.proofs.Telling.{Told, each-answers, each-any, expired_tried, told-beat_taken, told-completed, told-gone_in, told-in_join_phase, told-left, told-removal, told-tried, told-waiting}
 
 -- no join reply
 abbrev Bare : Reply → Type 0

@@ -1,8 +1,7 @@
 -- What holds of every refusal, and of every join reply of a round, holds of the replies of an event.
-use Rattle.std.proofs.Common.{◌≡◌, ℕ, Bool, true, false, not, ◌&&◌, List, [], ◌∷◌, ◌++◌, find, cond, is_some, refl, sym, ap, ◌∙◌, subst, Option, Some, None}
+use Rattle.std.proofs.Common.{◌≡◌, ℕ, Bool, true, false, not, List, [], ◌∷◌, refl, Option, Some, None}
 use Rattle.std.specs.Prelude.{if◌then◌else◌, option_map, option_to_list}
-use Rattle.std.specs.List.{list_any, list_all, flat_map}
-use Rattle.std.proofs.lemmas.Bool.{and_parts, false≢true}
+use Rattle.std.specs.List.{list_any, flat_map}
 use Rattle.cg_names.specs.declared.code.Code.{Code}
 use Rattle.cg_names.specs.declared.code.Code.TheVariants.{RebalanceInProgress, UnknownMemberId}
 use Rattle.cg_group.specs.declared.calls.Calls.{Calls}
@@ -10,20 +9,18 @@ use Rattle.cg_group.specs.declared.calls.Calls.TheVariants.{Any, Joins, OfSessio
 use Rattle.cg_group.specs.declared.group.Group.{Group}
 use Rattle.cg_group.specs.declared.member.Member.{Member}
 use Rattle.cg_group.specs.declared.member.Waits.{Waits}
-use Rattle.cg_group.specs.declared.member.Waits.TheVariants.{Join}
 use Rattle.cg_group.specs.declared.reply.Reply.{Reply}
 use Rattle.cg_group.specs.declared.reply.Reply.TheVariants as reply
-use Rattle.cg_group.specs.declared.request.JoinRequest.{JoinRequest}
 use Rattle.cg_group.specs.declared.ticket.Ticket.{Ticket}
 use Rattle.cg_group.specs.declared.turn.Turn.{Turn}
 use Rattle.cg_group.specs.Beating.{beat_reply, beat_taken}
-use Rattle.cg_group.specs.Joining.{admitted, displaced, in_join_phase, is_current, join_again, join_current, join_known, join_new, new_member, updating, waiting}
+use Rattle.cg_group.specs.Joining.{displaced, in_join_phase, waiting}
 use Rattle.cg_group.specs.Kept.{Each}
-use Rattle.cg_group.specs.Leaving.{after_removal, gone_in, has_joined, leave_taken, left}
+use Rattle.cg_group.specs.Leaving.{after_removal, gone_in, has_joined, left}
 use Rattle.cg_group.specs.Membership.{find_member, is_empty, is_preparing, keeping}
 use Rattle.cg_group.specs.Rebalance.{completed, emptied, is_ready, joined_reply, next_round, prepared, told_to_joins, tried, turn_of}
-use Rattle.cg_group.specs.Ticking.{at_deadline, expired, is_due, is_overdue, ticked}
-use Rattle.cg_group.specs.Waiting.{answer, answers, called, is_waiting, refusing}
+use Rattle.cg_group.specs.Ticking.{expired, is_overdue}
+use Rattle.cg_group.specs.Waiting.{answer, answers, called, refusing}
 use Rattle.cg_group.proofs.Framed.{each-append}
 
 -- each reply of the turn

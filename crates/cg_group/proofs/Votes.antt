@@ -1,5 +1,5 @@
 -- The vote, from a list of the candidates.
-use Rattle.std.proofs.Common.{◌≡◌, ℕ, not, List, get_or, find, Option, Some, None, subst, sym, ap, ◌∙◌}
+use Rattle.std.proofs.Common.{◌≡◌, ℕ, not, List, get_or, find, Some, None, subst, sym, ap, ◌∙◌}
 use Rattle.std.specs.List.{position}
 use Rattle.cg_group.specs.declared.member.Member.{Member}
 use Rattle.cg_group.specs.Vote.{candidates, elected, is_beaten}

@@ -1,5 +1,5 @@
 -- BEAT (protocol guide, "Heartbeat").
-use Rattle.std.specs.Prelude.{ℕ, List, pos, not, [], ◌∷◌, Result, Ok, Err, ok_or, if◌then◌else◌}
+use Rattle.std.specs.Prelude.{ℕ, List, pos, not, [], ◌∷◌, Result, Ok, ok_or, if◌then◌else◌}
 use Rattle.std.specs.Ordering.{int_eq}
 use Rattle.cg_names.specs.declared.code.Code.{Code}
 use Rattle.cg_names.specs.declared.code.Code.TheVariants.{IllegalGeneration, UnknownMemberId, RebalanceInProgress}

@@ -1,5 +1,5 @@
 -- Requests that hear a member and change nothing else: they are taken in their group's place.
-use Rattle.std.specs.Prelude.{◌≡◌, ℕ, List, get_or, Result, Ok}
+use Rattle.std.specs.Prelude.{◌≡◌, ℕ, List, get_or, Ok}
 use Rattle.cg_group.specs.declared.group.Group.{Group}
 use Rattle.cg_group.specs.declared.member.Member.{Member}
 use Rattle.cg_group.specs.declared.request.BeatRequest.{BeatRequest}

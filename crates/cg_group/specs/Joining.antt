@@ -1,9 +1,9 @@
 -- JOIN (protocol guide, "JoinGroup"; KIP-62).
-use Rattle.std.specs.Prelude.{ℕ, Bool, true, false, not, ◌&&◌, ◌||◌, nat_lt, nat_le, List, [], ◌∷◌, ◌++◌, length, Option, Some, None, Result, Ok, Err, is_some, ok_or, if◌then◌else◌}
+use Rattle.std.specs.Prelude.{ℕ, Bool, true, false, not, ◌&&◌, ◌||◌, nat_lt, nat_le, List, [], ◌∷◌, ◌++◌, length, Option, Some, None, Result, Ok, is_some, ok_or, if◌then◌else◌}
 use Rattle.std.specs.List.{list_any}
 use Rattle.uuid.specs.Text.{hyphenated_text, lower}
 use Rattle.cg_names.specs.declared.code.Code.{Code}
-use Rattle.cg_names.specs.declared.code.Code.TheVariants.{CoordinatorNotAvailable, InconsistentGroupProtocol, InvalidGroupId, UnknownMemberId, InvalidSessionTimeout, RebalanceInProgress, GroupMaxSizeReached}
+use Rattle.cg_names.specs.declared.code.Code.TheVariants.{CoordinatorNotAvailable, InconsistentGroupProtocol, UnknownMemberId, RebalanceInProgress, GroupMaxSizeReached}
 use Rattle.cg_group.specs.declared.bounds.TheConstants.{GROUPS_MAX, MEMBERS_MAX, SESSION_MS_MIN, SESSION_MS_MAX}
 use Rattle.cg_group.specs.declared.calls.Calls.TheVariants.{Any}
 use Rattle.cg_group.specs.declared.group.Group.{Group}
@@ -16,11 +16,11 @@ use Rattle.cg_group.specs.declared.reply.Reply.{Reply}
 use Rattle.cg_group.specs.declared.request.JoinRequest.{JoinRequest}
 use Rattle.cg_group.specs.declared.ticket.Ticket.{Ticket}
 use Rattle.cg_group.specs.declared.turn.Turn.{Turn}
-use Rattle.cg_group.specs.Membership.{is_named, has_id, find_member, with_member, hearing, leads, is_empty, is_preparing, are_same_protocols}
+use Rattle.cg_group.specs.Membership.{is_named, find_member, with_member, hearing, leads, is_empty, is_preparing, are_same_protocols}
 use Rattle.cg_group.specs.Rebalance.{turn_of, prepared, joined_reply, tried}
 use Rattle.cg_group.specs.Refusing.{◌>>=◌, refused_if}
 use Rattle.cg_group.specs.Vote.{is_common}
-use Rattle.cg_group.specs.Waiting.{answer, answered, is_waiting, refusing}
+use Rattle.cg_group.specs.Waiting.{answer, is_waiting, refusing}
 
 -- the id of a new member: the client, a dash, and a UUID in lower case with hyphens
 unfoldable pub drawn : List ℕ → List ℕ → List ℕ

@@ -1,5 +1,5 @@
 -- The laws of the machine, over every list of events from every state that a loading begins with.
-use Rattle.std.specs.Prelude.{◌≡◌, ℕ, Bool, true, false, pos, not, ◌&&◌, ◌==◌, List, [], ◌∷◌, ◌++◌, map, Option, Some, None, is_some, find}
+use Rattle.std.specs.Prelude.{◌≡◌, ℕ, Bool, true, false, pos, ◌&&◌, ◌==◌, List, [], ◌∷◌, ◌++◌, map, Option, Some, None, is_some}
 use Rattle.std.specs.List.{list_any, flat_map}
 use Rattle.std.specs.Option.{option_to_list}
 use Rattle.std.specs.Ordering.{int_eq}

@@ -1,5 +1,5 @@
 -- LEAVE (protocol guide, "LeaveGroup"), and sessions that are closed.
-use Rattle.std.specs.Prelude.{ℕ, List, ok_or, Bool, true, false, not, [], ◌∷◌, ◌++◌, Result, Ok, Err, if◌then◌else◌}
+use Rattle.std.specs.Prelude.{ℕ, List, ok_or, Bool, true, false, not, [], ◌∷◌, ◌++◌, Result, Ok, if◌then◌else◌}
 use Rattle.cg_names.specs.declared.code.Code.{Code}
 use Rattle.cg_names.specs.declared.code.Code.TheVariants.{CoordinatorNotAvailable, UnknownMemberId}
 use Rattle.cg_group.specs.declared.calls.Calls.TheVariants.{Any, OfSession}

@@ -1,11 +1,10 @@
 -- The machine: which groups are held, and what an event makes of them. The moment of an event is its own or the last one, whichever is later.
-use Rattle.std.specs.Prelude.{◌≡◌, ◌<◌, get_or, set, ℕ, max, List, [], ◌∷◌, ◌++◌, map, length, Option, Some, None, Result, Ok, Err, option_map, ok_or, find}
+use Rattle.std.specs.Prelude.{◌≡◌, ◌<◌, get_or, set, ℕ, max, List, [], ◌∷◌, map, length, Option, Some, None, Result, Ok, Err, option_map, ok_or, find}
 use Rattle.std.specs.List.{flat_map}
 use Rattle.std.specs.Ordering.{nat_cmp, match_ordering}
 use Rattle.std.specs.Cmp.Lexicographic.{slice_cmp}
 use Rattle.cg_names.specs.declared.code.Code.{Code}
 use Rattle.cg_names.specs.declared.code.Code.TheVariants.{InvalidGroupId, UnknownMemberId, InvalidSessionTimeout}
-use Rattle.cg_group.specs.declared.command.Command.{Command}
 use Rattle.cg_group.specs.declared.effects.Effects.{Effects}
 use Rattle.cg_group.specs.declared.event.Event.{Event}
 use Rattle.cg_group.specs.declared.event.Event.TheVariants.{Join, Sync, Beat, Leave, Describe, Gone, Tick}

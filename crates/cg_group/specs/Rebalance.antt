@@ -1,5 +1,5 @@
 -- The join phase: how it begins, when it completes, and what its members are told (KIP-62; protocol guide, "JoinGroup").
-use Rattle.std.specs.Prelude.{ℕ, Bool, ◌&&◌, List, [], ◌∷◌, ◌++◌, map, Option, Some, None, option_map, option_and_then, option_to_list, unwrap_or, find, if◌then◌else◌}
+use Rattle.std.specs.Prelude.{ℕ, Bool, ◌&&◌, List, [], ◌++◌, map, Option, None, option_map, option_to_list, unwrap_or, find, if◌then◌else◌}
 use Rattle.std.specs.List.{list_any, list_all}
 use Rattle.cg_names.specs.Generations.{next_generation}
 use Rattle.cg_names.specs.declared.code.Code.TheVariants.{RebalanceInProgress}
@@ -14,7 +14,7 @@ use Rattle.cg_group.specs.declared.reply.JoinedMember.{JoinedMember}
 use Rattle.cg_group.specs.declared.reply.Reply.{Reply}
 use Rattle.cg_group.specs.declared.reply.Reply.TheVariants as reply
 use Rattle.cg_group.specs.declared.turn.Turn.{Turn}
-use Rattle.cg_group.specs.Membership.{is_named, is_same, leads, is_empty, is_preparing}
+use Rattle.cg_group.specs.Membership.{is_named, leads, is_empty, is_preparing}
 use Rattle.cg_group.specs.Vote.{elected}
 use Rattle.cg_group.specs.Waiting.{is_waiting, after_answers, answers, refusing}
 

@@ -1,5 +1,5 @@
 -- SYNC (protocol guide, "SyncGroup"): the leader hands the assignments in, and each member gets its own.
-use Rattle.std.specs.Prelude.{ℕ, pos, not, List, [], ◌∷◌, ◌++◌, map, Option, Some, None, Result, Ok, Err, option_map, option_and_then, option_to_list, ok_or, unwrap_or, find, if◌then◌else◌}
+use Rattle.std.specs.Prelude.{ℕ, pos, not, List, [], ◌∷◌, ◌++◌, map, Option, Result, Ok, option_map, option_and_then, option_to_list, ok_or, unwrap_or, find, if◌then◌else◌}
 use Rattle.std.specs.Ordering.{int_eq}
 use Rattle.cg_names.specs.declared.code.Code.{Code}
 use Rattle.cg_names.specs.declared.code.Code.TheVariants.{IllegalGeneration, UnknownMemberId, RebalanceInProgress}

@@ -1,5 +1,5 @@
 -- Time-outs (KIP-62): sessions that expire, and the deadline of the join phase.
-use Rattle.std.specs.Prelude.{ℕ, Bool, not, ◌&&◌, ◌+◌, nat_le, max, List, [], ◌∷◌, map, fold, if◌then◌else◌}
+use Rattle.std.specs.Prelude.{ℕ, Bool, not, ◌&&◌, ◌+◌, nat_le, max, List, map, fold, if◌then◌else◌}
 use Rattle.std.specs.List.{list_any}
 use Rattle.cg_group.specs.declared.calls.Calls.TheVariants.{Any}
 use Rattle.cg_group.specs.declared.group.Group.{Group}

@@ -1,5 +1,5 @@
 -- Calls that wait. A member has at most one; where it is answered, the member is heard.
-use Rattle.std.specs.Prelude.{ℕ, Bool, List, [], ◌∷◌, map, Option, Some, None, is_some, option_map, option_to_list, ◌==◌, if◌then◌else◌}
+use Rattle.std.specs.Prelude.{ℕ, Bool, List, map, Option, Some, None, is_some, option_map, option_to_list, ◌==◌, if◌then◌else◌}
 use Rattle.std.specs.List.{filter_map, flat_map}
 use Rattle.cg_group.specs.declared.calls.Calls.{Calls}
 use Rattle.cg_group.specs.declared.calls.Calls.TheVariants.{Joins, Syncs, Any, OfSession}

@@ -143,7 +143,7 @@ pub fn syncing_place<'a>(
 }
 
 /// A SYNC that is answered at once.
-pub fn meet_sync(
+pub fn sync_at(
     now: Moment,
     held: &mut Vec<Group>,
     ticket: Ticket,

@@ -7,7 +7,7 @@ use crate::effects::Effects;
 use crate::event::Event;
 use crate::everywhere::{Going, Ticking, Turning, everywhere};
 use crate::group::Group;
-use crate::in_place::{meet_beat, meet_sync, reply_alone, syncing_place};
+use crate::in_place::{meet_beat, reply_alone, sync_at, syncing_place};
 use crate::joining::{is_session_refused, join_held, join_unheld};
 use crate::leaving::leave_held;
 use crate::placing::{find_group, place_of, put_group};
@@ -168,7 +168,7 @@ fn turn_all<T: Turning>(
 }
 
 // A SYNC: in its group's place where it is answered at once.
-fn met_sync(
+fn meet_sync(
     now: Moment,
     held: &mut Vec<Group>,
     ticket: Ticket,
@@ -180,7 +180,7 @@ fn met_sync(
     ensures err { OnErr result (held.new.items ≡ held.old.items) }
 {
     if let Some((place, id, assignment)) = syncing_place(r, held.as_slice())? {
-        let effects = meet_sync(now, held, ticket, place, id, assignment)?;
+        let effects = sync_at(now, held, ticket, place, id, assignment)?;
         return Ok(effects);
     }
     let alloc = *held.allocator();
@@ -202,7 +202,7 @@ pub fn met(now: Moment, held: &mut Vec<Group>, event: Event) -> Result<Effects, 
             let concluding = join(alloc, now, r, fresh, ticket, held.as_slice())?;
             conclude(alloc, now, held, ticket, concluding)
         }
-        Event::Sync(ticket, r) => met_sync(now, held, ticket, &r),
+        Event::Sync(ticket, r) => meet_sync(now, held, ticket, &r),
         Event::Beat(ticket, r) => meet_beat(now, held, ticket, &r),
         Event::Leave(ticket, r) => {
             let concluding = leave(alloc, now, &r, ticket, held.as_slice())?;

@@ -47,19 +47,28 @@ fn two_members_join_and_sync(rt: HostRuntime) -> Result<(), Fail> {
 fn session_time_outs_have_limits(rt: HostRuntime) -> Result<(), Fail> {
     let alloc = rt.alloc();
     let mut s = Scene::new(alloc)?;
-    for (group, session_ms, begin) in [
+    for (group, session_ms, line) in [
         ("a", 5_999, "s1 ERR 26|"),
-        ("b", 6_000, "s1 JOINED 1 "),
-        ("c", 1_800_000, "s1 JOINED 1 "),
+        (
+            "b",
+            6_000,
+            "s1 JOINED 1 consumer range c1-00000000-0000-0000-0000-000000000002 c1-00000000-0000-0000-0000-000000000002 c1-00000000-0000-0000-0000-000000000002:-:x|",
+        ),
+        (
+            "c",
+            1_800_000,
+            "s1 JOINED 1 consumer range c1-00000000-0000-0000-0000-000000000003 c1-00000000-0000-0000-0000-000000000003 c1-00000000-0000-0000-0000-000000000003:-:x|",
+        ),
         ("d", 1_800_001, "s1 ERR 26|"),
     ] {
         let j = Joiner {
             session_ms,
             rebalance_ms: 0,
+            protocols: &[("range", 0)],
             ..C1
         };
         let said = s.join(alloc, 0, 1, group, j)?;
-        assert!(rt; said.as_str().starts_with(begin), "at {session_ms}");
+        assert_eq!(rt; said.as_str(), line);
     }
     assert_eq!(rt;
         s.list(alloc, 0, 1)?.as_str(),
@@ -208,5 +217,47 @@ fn an_id_that_is_drawn_again_is_refused(rt: HostRuntime) -> Result<(), Fail> {
     s.drawn = 0;
     assert_eq!(rt; s.join(alloc, 0, 2, "g", C1)?.as_str(), "s2 ERR 15|");
     assert_eq!(rt; s.groups.held(), 1);
+    Ok(())
+}
+
+#[test]
+fn a_stable_group_answers_at_once(rt: HostRuntime) -> Result<(), Fail> {
+    let alloc = rt.alloc();
+    let mut s = Scene::new(alloc)?;
+    assert_eq!(rt; s.join(alloc, 0, 1, "g", C1)?.as_str(), JOINED_1);
+    let synced =
+        "Assigned g 1 consumer range c1-00000000-0000-0000-0000-000000000001 1|s1 SYNCED xaa|";
+    assert_eq!(rt; s.sync(alloc, 0, 1, 1, M1, &[(M1, 0xaa)])?.as_str(), synced);
+    assert_eq!(rt;
+        s.sync(alloc, 6_000, 1, 1, M1, &[])?.as_str(),
+        "s1 SYNCED xaa|"
+    );
+    assert_eq!(rt; s.tick(alloc, 15_999)?.as_str(), "");
+    assert_eq!(rt; s.beat(alloc, 15_999, 1, 1, M1)?.as_str(), "s1 OK|");
+    assert_eq!(rt; s.tick(alloc, 25_998)?.as_str(), "");
+    assert_eq!(rt; s.tick(alloc, 25_999)?.as_str(), "Emptied g 2 consumer|");
+    Ok(())
+}
+
+#[test]
+fn calls_wait_by_group_and_joining_order(rt: HostRuntime) -> Result<(), Fail> {
+    let alloc = rt.alloc();
+    let mut s = Scene::new(alloc)?;
+    for (session, group, client) in [
+        (1, "b", "c1"),
+        (2, "b", "c2"),
+        (3, "a", "c3"),
+        (4, "a", "c4"),
+        (5, "b", "c5"),
+    ] {
+        let j = Joiner { client, ..C1 };
+        let _said = s.join(alloc, 0, session, group, j)?;
+    }
+    for (i, session) in [(0, 4), (1, 2), (2, 5)] {
+        let call = s.groups.parked(i).ok_or("too few wait")?;
+        assert_eq!(rt; call.session, session);
+    }
+    assert!(rt; s.groups.parked(3).is_none());
+    assert_eq!(rt; s.groups.held(), 2);
     Ok(())
 }

@@ -1,4 +1,4 @@
-use Rattle.std.proofs.Common.{◌≡◌, ℕ, List, Option, Some, Err, sym, ◌∙◌, subst}
+use Rattle.std.proofs.Common.{◌≡◌, ℕ, List, Option, Err, sym, ◌∙◌, subst}
 use Rattle.cg_names.specs.declared.code.Code.TheVariants.{UnknownMemberId}
 use Rattle.cg_group.specs.Machine.{IsNamedAt, named_group}
 use Rattle.cg_group.proofs.InOrder.{named_level, unnamed_between, unnamed_past}

@@ -1,6 +1,4 @@
-use Rattle.std.proofs.Common.{◌≡◌, Some, None, not, sym, ap, ◌∙◌}
-use Rattle.std.specs.List.{position}
-use Rattle.cg_group.specs.Vote.{is_beaten}
+use Rattle.std.proofs.Common.{Some, sym, ap, ◌∙◌}
 use Rattle.cg_group.proofs.Votes.{elected_none, elected_some}
 use Rattle.cg_group.proofs.vote.elected.Goals as goal
 

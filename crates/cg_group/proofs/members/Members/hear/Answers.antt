@@ -1,4 +1,4 @@
-use Rattle.std.proofs.Common.{◌≡◌, Some, sym, refl, ◌∙◌, rules}
+use Rattle.std.proofs.Common.{◌≡◌, Some, sym, refl, ◌∙◌}
 use Rattle.std.specs.List.{position}
 use Rattle.cg_group.specs.Membership.{has_id, heard}
 use Rattle.cg_group.proofs.Places.{with_member_from_place}

@@ -1,4 +1,4 @@
-use Rattle.std.proofs.Common.{◌≡◌, Some, sym, refl, ◌∙◌, rules}
+use Rattle.std.proofs.Common.{◌≡◌, Some, sym, ◌∙◌}
 use Rattle.std.specs.List.{position}
 use Rattle.cg_group.specs.Membership.{has_id}
 use Rattle.cg_group.specs.Joining.{updated}

@@ -1,5 +1,5 @@
 use Rattle.cg_group.proofs.InPlace.{any_group, sync_in_place}
-use Rattle.cg_group.proofs.in_place.meet_sync.Goals as goal
+use Rattle.cg_group.proofs.in_place.sync_at.Goals as goal
 
 pub returns-clause-ok : goal.returns-clause-ok
 returns-clause-ok c =
