@@ -1,0 +1,260 @@
+-- Machine and commands agree: each event keeps it, and so does every list of events.
+use Rattle.std.proofs.Common.{◌≡◌, ℕ, Bool, true, false, ◌&&◌, ◌||◌, List, [], ◌∷◌, ◌++◌, append_assoc, append-nil, map, cond, is_some, refl, sym, ap, ◌∙◌, subst, max, nat_eq, Option, Some, None}
+use Rattle.std.specs.List.{list_any}
+use Rattle.std.proofs.lemmas.Bool.{and_from, or_left, or_right, false≢true}
+use Rattle.std.proofs.lemmas.Cmp.{nat_eq_equiv}
+use Rattle.std.proofs.lemmas.List.Folds.{list_any-append}
+use Rattle.std.specs.Prelude.{pos, unwrap_or, option_map}
+use Rattle.cg_group.specs.declared.member.Protocol.{Protocol}
+use Rattle.std.specs.Ordering.{int_eq}
+use Rattle.cg_group.specs.declared.command.AssignedMember.{AssignedMember}
+use Rattle.cg_group.specs.declared.command.Command.{Command}
+use Rattle.cg_group.specs.declared.command.Command.TheVariants.{Assigned, Emptied}
+use Rattle.cg_group.specs.declared.event.Event.{Event}
+use Rattle.cg_group.specs.declared.event.Event.TheVariants as event
+use Rattle.cg_group.specs.declared.group.Group.{Group}
+use Rattle.cg_group.specs.declared.group.Phase.{Phase}
+use Rattle.cg_group.specs.declared.group.Phase.TheVariants.{Empty, Preparing, Completing, Stable}
+use Rattle.cg_group.specs.declared.member.Waits.{Waits}
+use Rattle.cg_group.specs.declared.member.Waits.TheVariants.{Nothing, Join, Sync}
+use Rattle.cg_group.specs.declared.request.SyncRequest.{SyncRequest}
+use Rattle.cg_group.specs.declared.ticket.Ticket.{Ticket}
+use Rattle.cg_group.specs.Joining.{new_group}
+use Rattle.cg_group.specs.Kept.{AreRecords, Ascending, ComesBefore, Each, Kept, effect, group_of, kept_after, nothing_kept}
+use Rattle.cg_group.specs.Laws.{AgreesIn, AreRequests, MachineAndCommandsAgree, after_all, commands_of, has_named, is_request, is_same_ticket, is_sync_of, kept_after_all}
+use Rattle.cg_group.specs.Leaving.{gone_in}
+use Rattle.cg_group.specs.Machine.{Machine, beat, find_group, join, leave, met, step, sync}
+use Rattle.cg_group.specs.Membership.{is_empty, is_named, is_same}
+use Rattle.cg_group.specs.Rebalance.{subscription_for}
+use Rattle.cg_group.specs.Reviving.{revive, revived, revived_member}
+use Rattle.cg_group.specs.Syncing.{kept_member}
+use Rattle.cg_group.specs.Ticking.{ticked}
+use Rattle.cg_group.specs.Vote.{is_common}
+use Rattle.cg_group.proofs.Agreeing.{Holds, Whole, kind_holds, suits_consistent, suits_empty}
+use Rattle.cg_group.proofs.AgreeingTurns.{after-beat_taken, after-gone_in, after-join_known, after-join_new, after-leave_taken, after-sync_taken, after-ticked}
+use Rattle.cg_group.proofs.Calling.{AllWaits, is_named_wait, no_sync}
+use Rattle.cg_group.proofs.Framed.{framed-beat_taken, framed-gone_in, framed-join_known, framed-join_new, framed-leave_taken, framed-sync_taken, framed-ticked}
+use Rattle.cg_group.proofs.KeptLists.{each-found, group_ids, id-found, kept_after-append, kept_after-none, differs_from_order, same_self}
+use Rattle.cg_group.proofs.KeptMachine.{Fits, Invariant, each-over, fits_framed, invariant-concluded, invariant-everywhere}
+use Rattle.cg_group.proofs.Requests.{fine-beat, fine-join, fine-leave, fine-sync}
+use Rattle.std.proofs.lemmas.Cmp.{nat_list_eq_equiv}
+use Rattle.std.specs.declared.cmp.Ordering.TheVariants.{Less}
+
+-- the machine, with what is kept, after these events
+abbrev pub WholeMachine : List (Event × ℕ) → Machine → Kept → Type 0
+WholeMachine events s kept = Invariant (Whole events) s.groups kept
+
+-- one more event
+
+named_more : (events : List (Event × ℕ)) (e : Event × ℕ) (group : List ℕ) (generation : ℕ) (id : List ℕ) (w : Waits) → is_named_wait events group generation id w ≡ true → is_named_wait (events ++ e ∷ []) group generation id w ≡ true
+named_more events e group generation id Nothing h = refl
+named_more events e group generation id (Join t) h = refl
+named_more events e group generation id (Sync t) h =
+    list_any-append (λ x. is_sync_of group generation id t x.0) events (e ∷ []) ∙ or_left (has_named events group generation id t) (list_any (λ x. is_sync_of group generation id t x.0) (e ∷ [])) h
+
+whole_more : (events : List (Event × ℕ)) (e : Event × ℕ) (g : Group) (o : Option Command) → Whole events g o → Whole (events ++ e ∷ []) g o
+whole_more events e g o h = record {
+  common = h.common;
+  holds = h.holds;
+  named = each-over (λ m. is_named_wait events g.id g.generation m.id m.waits ≡ true) (λ m. is_named_wait (events ++ e ∷ []) g.id g.generation m.id m.waits ≡ true) (λ m k. named_more events e g.id g.generation m.id m.waits k) g.members h.named;
+  quiet = h.quiet;
+}
+
+pub machine_more : (events : List (Event × ℕ)) (e : Event × ℕ) (s : Machine) (kept : Kept) → WholeMachine events s kept → WholeMachine (events ++ e ∷ []) s kept
+machine_more events e s kept v = record {
+  ascending = v.ascending;
+  each = each-over (λ g. Whole events g (kept g.id)) (λ g. Whole (events ++ e ∷ []) g (kept g.id)) (λ g h. whole_more events e g (kept g.id) h) s.groups v.each;
+  held = v.held;
+}
+
+-- the event is one of those that were met
+abbrev pub WasMet : List (Event × ℕ) → Event → Type 0
+WasMet events e = (group : List ℕ) (generation : ℕ) (member : List ℕ) (t : Ticket) → is_sync_of group generation member t e ≡ true → has_named events group generation member t ≡ true
+
+pub was_met_last : (events : List (Event × ℕ)) (e : Event) (m : ℕ) → WasMet (events ++ (e, m) ∷ []) e
+was_met_last events e m group generation member t h =
+    list_any-append (λ x. is_sync_of group generation member t x.0) events ((e, m) ∷ [])
+    ∙ or_right (has_named events group generation member t) (is_sync_of group generation member t e || false) (or_left (is_sync_of group generation member t e) false h)
+
+same_ticket : (t : Ticket) → is_same_ticket t t ≡ true
+same_ticket t = and_from (nat_eq t.session t.session) (nat_eq t.number t.number) (nat_eq_equiv.refl t.session) (nat_eq_equiv.refl t.number)
+
+named_given : (o : Option (List ℕ)) (x y : List ℕ) → o ≡ Some x → is_same y x ≡ true → is_named o y ≡ true
+named_given o x y e s = let P : Option (List ℕ) → Type 0 = λ p. is_named p y ≡ true in subst P (sym e) (nat_list_eq_equiv.symm x y ∙ s)
+
+pub sync_named : (r : SyncRequest) (t : Ticket) (id own : List ℕ) (g : Group) → r.group ≡ Some id → is_same g.id id ≡ true → r.member ≡ Some own → int_eq r.generation (pos g.generation) ≡ true → is_sync_of g.id g.generation own t (event.Sync t r) ≡ true
+sync_named r t id own g grouped found given dated =
+    and_from (is_same_ticket t t && is_named r.group g.id && is_named r.member own) (int_eq r.generation (pos g.generation))
+    (and_from (is_same_ticket t t && is_named r.group g.id) (is_named r.member own)
+    (and_from (is_same_ticket t t) (is_named r.group g.id) (same_ticket t) (named_given r.group id g.id grouped found))
+    (named_given r.member own own given (same_self own))) dated
+
+none_in_new : (id : List ℕ) → is_empty (new_group id).members ≡ true
+unfolding new_group
+none_in_new id = refl
+
+quiet_in_new : (id : List ℕ) → AllWaits no_sync (new_group id).members
+unfolding new_group
+quiet_in_new id = tt
+
+module _ (events : List (Event × ℕ)) (kept : Kept) where
+  pub whole-met : (s : Machine) (e : Event) → is_request e ≡ true → WasMet events e → WholeMachine events s kept → WholeMachine events (met s e).after (kept_after kept (met s e).effects.commands)
+  unfolding met
+  whole-met s (event.Join ticket r fresh) asked seen v =
+      invariant-concluded (Whole events) s kept ticket (join s.last r fresh ticket s.groups)
+      (fine-join (Fits (Whole events) kept) s.last r fresh ticket s.groups
+      (λ id new _ _. fits_framed (Whole events) kept (new_group id).id _ (framed-join_new s.last r new ticket (new_group id))
+      (after-join_new events kept s.last r new ticket (new_group id) (suits_empty r (new_group id).members asked (none_in_new id)) (λ e. absurd (false≢true (sym e ∙ none_in_new id))) (λ _. quiet_in_new id)))
+      (λ id new g _ e _ fits.
+      let h : Whole events g (kept g.id) = each-found (λ k. Whole events k (kept k.id)) id s.groups g e v.each in
+      fits_framed (Whole events) kept g.id _ (framed-join_new s.last r new ticket g)
+      (after-join_new events kept s.last r new ticket g (suits_consistent r g asked fits) (λ _. kind_holds g.phase g (kept g.id) h.holds) h.quiet))
+      (λ id own g m _ e _ fits.
+      let h : Whole events g (kept g.id) = each-found (λ k. Whole events k (kept k.id)) id s.groups g e v.each in
+      fits_framed (Whole events) kept g.id _ (framed-join_known s.last r own ticket m g)
+      (after-join_known events kept s.last r own ticket m g (suits_consistent r g asked fits) h))) v
+  whole-met s (event.Sync ticket r) asked seen v =
+      invariant-concluded (Whole events) s kept ticket (sync s.last r ticket s.groups)
+      (fine-sync (Fits (Whole events) kept) s.last r ticket s.groups
+      (λ id own g m grouped e given _ dated _.
+      let h : Whole events g (kept g.id) = each-found (λ k. Whole events k (kept k.id)) id s.groups g e v.each in
+      fits_framed (Whole events) kept g.id _ (framed-sync_taken s.last r own ticket m g g.phase)
+      (after-sync_taken events kept s.last r own ticket m g g.phase refl (seen g.id g.generation own ticket (sync_named r ticket id own g grouped (id-found id s.groups g e) given dated)) h))) v
+  whole-met s (event.Beat ticket r) asked seen v =
+      invariant-concluded (Whole events) s kept ticket (beat s.last r ticket s.groups)
+      (fine-beat (Fits (Whole events) kept) s.last r ticket s.groups
+      (λ id own g e. fits_framed (Whole events) kept g.id _ (framed-beat_taken s.last own ticket g) (after-beat_taken events kept s.last own ticket g (each-found (λ k. Whole events k (kept k.id)) id s.groups g e v.each)))) v
+  whole-met s (event.Leave ticket r) asked seen v =
+      invariant-concluded (Whole events) s kept ticket (leave s.last r ticket s.groups)
+      (fine-leave (Fits (Whole events) kept) s.last r ticket s.groups
+      (λ id own g m e found. fits_framed (Whole events) kept g.id _ (framed-leave_taken s.last own ticket m g) (after-leave_taken events kept s.last own ticket m g found (each-found (λ k. Whole events k (kept k.id)) id s.groups g e v.each)))) v
+  whole-met s (event.Describe ticket id) asked seen v = let P : Kept → Type 0 = λ k. WholeMachine events s k in subst P (sym (kept_after-none kept)) v
+  whole-met s (event.List ticket) asked seen v = let P : Kept → Type 0 = λ k. WholeMachine events s k in subst P (sym (kept_after-none kept)) v
+  whole-met s (event.Gone session) asked seen v =
+      invariant-everywhere (Whole events) (gone_in s.last session) (framed-gone_in s.last session) (λ g k h. after-gone_in events k s.last session g h) s kept v
+  whole-met s event.Tick asked seen v =
+      invariant-everywhere (Whole events) (ticked s.last) (framed-ticked s.last) (λ g k h. after-ticked events k s.last g h) s kept v
+
+pub whole-step : (events : List (Event × ℕ)) (kept : Kept) (s : Machine) (e : Event) (m : ℕ) → is_request e ≡ true → WholeMachine events s kept → WholeMachine (events ++ (e, m) ∷ []) (step s e m).after (kept_after kept (step s e m).effects.commands)
+unfolding step
+whole-step events kept s e m asked v =
+    whole-met (events ++ (e, m) ∷ []) kept (record s { last = max s.last m }) e asked (was_met_last events e m) (machine_more events (e, m) s kept v)
+
+pub whole-after_all : (more events : List (Event × ℕ)) (kept : Kept) (s : Machine) → AreRequests more → WholeMachine events s kept → WholeMachine (events ++ more) (after_all more s) (kept_after kept (commands_of more s))
+unfolding after_all commands_of
+whole-after_all [] events kept s asked v =
+    let P : List (Event × ℕ) → Type 0 = λ es. WholeMachine es s (kept_after kept []) in
+    let Q : Kept → Type 0 = λ k. WholeMachine events s k in
+    subst P (sym (append-nil events)) (subst Q (sym (kept_after-none kept)) v)
+whole-after_all (e ∷ es) events kept s asked v =
+    let o = step s e.0 e.1 in
+    let rest : List Command = commands_of es o.after in
+    let P : List (Event × ℕ) → Type 0 = λ xs. WholeMachine xs (after_all es o.after) (kept_after kept (o.effects.commands ++ rest)) in
+    let Q : Kept → Type 0 = λ k. WholeMachine ((events ++ e ∷ []) ++ es) (after_all es o.after) k in
+    subst P (append_assoc events (e ∷ []) es)
+    (subst Q (sym (kept_after-append kept o.effects.commands rest))
+    (whole-after_all es (events ++ e ∷ []) (kept_after kept o.effects.commands) o.after asked.1 (whole-step events kept s e.0 e.1 asked.0 v)))
+
+-- the machine that a loading begins with
+
+kept_revived : (now : ℕ) (protocol : List ℕ) (m : AssignedMember) → kept_member (Some protocol) (revived_member now protocol m) ≡ m
+unfolding revived_member subscription_for
+kept_revived now protocol m =
+    let only : Protocol = record { name = protocol; subscription = m.subscription } in
+    let found : Bool → Option Protocol = λ b. cond b (Some only) None in
+    (elim (is_same protocol protocol) as (λ b. is_same protocol protocol ≡ b → record m { subscription = unwrap_or (option_map (λ (p : Protocol). p.subscription) (found b)) [] } ≡ m) [
+      | true ↦ λ e. refl
+      | false ↦ λ e. absurd (false≢true (sym e ∙ same_self protocol))
+    ]) refl
+
+kept_back : (now : ℕ) (protocol : List ℕ) (ms : List AssignedMember) → ms ≡ map (kept_member (Some protocol)) (map (revived_member now protocol) ms)
+kept_back now protocol [] = refl
+kept_back now protocol (m ∷ ms) = ap (λ x. x ∷ ms) (sym (kept_revived now protocol m)) ∙ ap (λ xs. kept_member (Some protocol) (revived_member now protocol m) ∷ xs) (kept_back now protocol ms)
+
+common_revived : (now : ℕ) (protocol : List ℕ) (ms : List AssignedMember) → is_common (map (revived_member now protocol) ms) protocol ≡ true
+unfolding is_common revived_member
+common_revived now protocol [] = refl
+common_revived now protocol (m ∷ ms) = and_from (is_same protocol protocol || false) _ (or_left (is_same protocol protocol) false (same_self protocol)) (common_revived now protocol ms)
+
+quiet_revived : (q : List ℕ → Waits → Bool) → ((id : List ℕ) → q id Nothing ≡ true) → (now : ℕ) (protocol : List ℕ) (ms : List AssignedMember) → AllWaits q (map (revived_member now protocol) ms)
+unfolding revived_member
+quiet_revived q calm now protocol [] = tt
+quiet_revived q calm now protocol (m ∷ ms) = (calm m.id, quiet_revived q calm now protocol ms)
+
+whole_revived : (now : ℕ) (c : Command) → Whole [] (revived now c) (Some c)
+unfolding revived is_common
+whole_revived now (Assigned a) = record {
+  common = (a.protocol, common_revived now a.protocol a.members);
+  holds = record { phase = refl; generation = refl; kind = refl; protocol = refl; leader = refl; members = kept_back now a.protocol a.members };
+  named = quiet_revived (is_named_wait [] a.group a.generation) (λ _. refl) now a.protocol a.members;
+  quiet = λ e. absurd (false≢true e);
+}
+whole_revived now (Emptied e) = record {
+  common = ([], refl);
+  holds = record { phase = refl; generation = refl; kind = refl; members = refl };
+  named = tt;
+  quiet = λ e. absurd (false≢true e);
+}
+
+id_revived : (now : ℕ) (c : Command) → (revived now c).id ≡ group_of c
+unfolding revived
+id_revived now (Assigned a) = refl
+id_revived now (Emptied e) = refl
+
+pub ids_revived : (now : ℕ) (cs : List Command) → group_ids (map (revived now) cs) ≡ map group_of cs
+ids_revived now [] = refl
+ids_revived now (c ∷ cs) = ap (λ x. x ∷ group_ids (map (revived now) cs)) (id_revived now c) ∙ ap (λ xs. group_of c ∷ xs) (ids_revived now cs)
+
+kept_before : (x : List ℕ) (kept : Kept) (cs : List Command) → ComesBefore x (map group_of cs) → kept_after kept cs x ≡ kept x
+unfolding kept_after
+kept_before x kept [] h = refl
+kept_before x kept (c ∷ cs) h =
+    kept_before x (effect kept c) cs h.1
+    ∙ ap (λ b. cond b (Some c) (kept x)) (nat_list_eq_equiv.symm (group_of c) x ∙ differs_from_order x (group_of c) Less h.0 refl)
+
+each_revived : (now : ℕ) (kept : Kept) (cs : List Command) → Ascending (map group_of cs) → Each (λ g. Whole [] g (kept_after kept cs g.id)) (map (revived now) cs)
+unfolding kept_after
+each_revived now kept [] a = tt
+each_revived now kept (c ∷ cs) a =
+    let own : kept_after (effect kept c) cs (revived now c).id ≡ Some c = ap (kept_after (effect kept c) cs) (id_revived now c) ∙ kept_before (group_of c) (effect kept c) cs a.0 ∙ ap (λ b. cond b (Some c) (kept (group_of c))) (same_self (group_of c)) in
+    let P : Option Command → Type 0 = λ o. Whole [] (revived now c) o in
+    (subst P (sym own) (whole_revived now c), each_revived now (effect kept c) cs a.1)
+
+held_revived : (now : ℕ) (id : List ℕ) (kept : Kept) (cs : List Command) → is_some (kept_after kept cs id) ≡ true → (is_some (kept id) || is_some (find_group id (map (revived now) cs))) ≡ true
+unfolding kept_after find_group
+held_revived now id kept [] h = or_left (is_some (kept id)) false h
+held_revived now id kept (c ∷ cs) h =
+    let P : List ℕ → Type 0 = λ i. (is_some (kept id) || is_some (cond (is_same i id) (Some (revived now c)) (find_group id (map (revived now) cs)))) ≡ true in
+    subst P (sym (id_revived now c))
+    ((elim (is_same (group_of c) id) as (λ b. (is_some (cond b (Some c) (kept id)) || is_some (find_group id (map (revived now) cs))) ≡ true → (is_some (kept id) || is_some (cond b (Some (revived now c)) (find_group id (map (revived now) cs)))) ≡ true) [
+      | true ↦ λ _. or_right (is_some (kept id)) true refl
+      | false ↦ λ k. k
+    ]) (held_revived now id (effect kept c) cs h))
+
+pub whole-revive : (records : List Command) (now : ℕ) → AreRecords records → WholeMachine [] (revive records now) (kept_after nothing_kept records)
+unfolding revive
+whole-revive records now h = record {
+  ascending = let P : List (List ℕ) → Type 0 = λ xs. Ascending xs in subst P (sym (ids_revived now records)) h.ascending;
+  each = each_revived now nothing_kept records h.ascending;
+  held = λ id e. held_revived now id nothing_kept records e;
+}
+
+agrees_in : (p : Phase) (g : Group) (o : Option Command) → Holds p g o → AgreesIn p g o
+agrees_in Stable g o h = h
+agrees_in Empty g o h = h
+agrees_in Preparing g o h = tt
+agrees_in Completing g o h = tt
+
+pub whole-all : (records : List Command) (now : ℕ) (events : List (Event × ℕ)) → AreRecords records → AreRequests events → WholeMachine events (after_all events (revive records now)) (kept_after_all records now events)
+whole-all records now events h asked =
+    let P : Kept → Type 0 = λ k. WholeMachine events (after_all events (revive records now)) k in
+    subst P (sym (kept_after-append nothing_kept records (commands_of events (revive records now))))
+    (whole-after_all events [] (kept_after nothing_kept records) (revive records now) asked (whole-revive records now h))
+
+pub machine_and_commands_agree : MachineAndCommandsAgree
+machine_and_commands_agree records now events h asked =
+    let v = whole-all records now events h asked in
+    record {
+      held = v.held;
+      told = each-over (λ g. Whole events g (kept_after_all records now events g.id)) (λ g. AgreesIn g.phase g (kept_after_all records now events g.id)) (λ g w. agrees_in g.phase g (kept_after_all records now events g.id) w.holds) (after_all events (revive records now)).groups v.each;
+    }

@@ -1,0 +1,168 @@
+-- A group and its record: each event that is taken keeps what holds of both.
+use Rattle.std.proofs.Common.{◌≡◌, ℕ, Bool, true, false, not, List, [], ◌∷◌, map, is_some, refl, sym, ap, ◌∙◌, subst, Option, Some, None}
+use Rattle.std.specs.Prelude.{if◌then◌else◌}
+use Rattle.std.specs.List.{list_any, list_all}
+use Rattle.std.proofs.lemmas.Bool.{and_parts, false≢true}
+use Rattle.cg_group.specs.declared.calls.Calls.TheVariants.{Joins, Any, OfSession}
+use Rattle.cg_group.specs.declared.event.Event.{Event}
+use Rattle.cg_group.specs.declared.group.Group.{Group}
+use Rattle.cg_group.specs.declared.group.Phase.{Phase}
+use Rattle.cg_group.specs.declared.group.Phase.TheVariants.{Empty, Preparing, Completing, Stable}
+use Rattle.cg_group.specs.declared.member.Member.{Member}
+use Rattle.cg_group.specs.declared.member.Waits.{Waits}
+use Rattle.cg_group.specs.declared.member.Waits.TheVariants.{Join, Sync}
+use Rattle.cg_group.specs.declared.request.JoinRequest.{JoinRequest}
+use Rattle.cg_group.specs.declared.request.SyncRequest.{SyncRequest}
+use Rattle.cg_group.specs.declared.ticket.Ticket.{Ticket}
+use Rattle.cg_group.specs.declared.turn.Turn.{Turn}
+use Rattle.cg_group.specs.Beating.{beat_taken}
+use Rattle.cg_group.specs.Joining.{admitted, in_join_phase, is_current, join_again, join_current, join_known, join_new, new_member, updated, updating, waiting, waits_with}
+use Rattle.cg_group.specs.Kept.{Kept, kept_after}
+use Rattle.cg_group.specs.Laws.{has_named}
+use Rattle.cg_group.specs.Leaving.{after_removal, gone_in, leave_taken, left}
+use Rattle.cg_group.specs.Membership.{find_member, has_id, heard, hearing, is_empty, is_named, is_preparing, keeping, leads, with_member}
+use Rattle.cg_group.specs.Rebalance.{completed, is_ready, tried, turn_of}
+use Rattle.cg_group.specs.Syncing.{distributed, kept_member, sync_current, sync_taken, sync_waits}
+use Rattle.cg_group.specs.Ticking.{at_deadline, expired, is_due, is_overdue, ticked}
+use Rattle.cg_group.specs.Waiting.{after_answers, is_waiting}
+use Rattle.cg_group.proofs.Framed.{Framed, framed-in_join_phase, framed-waiting, framed-expired_of}
+use Rattle.cg_group.proofs.Keeping.{map-with_member, keep-after_answers}
+use Rattle.cg_group.proofs.KeptLists.{same_names}
+use Rattle.cg_group.proofs.Calling.{AllWaits, each-filter, is_named_wait, no_sync, waits-after_answers, waits-append, waits-with_member}
+use Rattle.cg_group.proofs.Agreeing.{After, Holds, Joining, Suits, Whole, after-after_removal, after-completed, after-distributed, after-hearing, after-tried, common-append, common-filter, common-map, common-update, empty_members, joining-in_join_phase, joining-waiting, joining_from, kind_holds, lasting_kept, lasting_protocols, preparing_is, whole-members}
+
+-- an event
+
+pub some_named : (o : Option (List ℕ)) (x : List ℕ) → is_named o x ≡ true → is_some o ≡ true
+some_named None x e = e
+some_named (Some y) x e = refl
+
+pub nothing_found : (own : List ℕ) (ms : List Member) (m : Member) → find_member own ms ≡ Some m → ms ≡ [] → ⊥
+unfolding find_member
+nothing_found own [] m e n = cc
+nothing_found own (x ∷ xs) m e n = cc
+
+nothing_passes : (p : Member → Bool) (ms : List Member) → list_any p ms ≡ true → ms ≡ [] → ⊥
+nothing_passes p [] e n = cc
+nothing_passes p (x ∷ xs) e n = cc
+
+joining-keeping : (stays : Member → Bool) (g : Group) → Joining g → Joining (keeping stays g)
+unfolding keeping
+joining-keeping stays g j = record { phase = j.phase; kind = j.kind; common = common-filter stays g.members j.common; quiet = each-filter (λ m. no_sync m.id m.waits ≡ true) stays g.members j.quiet }
+
+id-keeping : (stays : Member → Bool) (g : Group) → (keeping stays g).id ≡ g.id
+unfolding keeping
+id-keeping stays g = refl
+
+is_preparing_due : (now : ℕ) (g : Group) → is_due now g ≡ true → is_preparing g.phase ≡ true
+is_preparing_due now g e = (and_parts (is_preparing g.phase) _ e).0
+
+module _ (events : List (Event × ℕ)) (kept : Kept) where
+  pub after-join_new : (now : ℕ) (r : JoinRequest) (new : List ℕ) (ticket : Ticket) (g : Group) → Suits r g.members → (is_empty g.members ≡ false → is_some g.kind ≡ true) → (is_preparing g.phase ≡ true → AllWaits no_sync g.members) → After events kept g.id (join_new now r new ticket g)
+  unfolding join_new admitted new_member
+  after-join_new now r new ticket g suits kinds quiet =
+      let m : Member = new_member now r new ticket in
+      let t : Turn = turn_of (admitted m r.kind g) in
+      let kind : is_some t.group.kind ≡ true = (elim (is_empty g.members) as (λ b. is_empty g.members ≡ b → is_some (if b then Some r.kind else g.kind) ≡ true) [ true ↦ λ _. refl | false ↦ kinds ]) refl in
+      after-tried events kept g.id now (in_join_phase now t) (framed-in_join_phase g.id now t (refl, tt)).0
+      (joining-in_join_phase events kept g.id now t kind (common-append suits.name g.members m suits.common suits.offers) (λ p. waits-append no_sync g.members m (quiet p) refl))
+
+  after-join_again : (now : ℕ) (r : JoinRequest) (own : List ℕ) (ticket : Ticket) (g : Group) → Suits r g.members → Whole events g (kept g.id) → After events kept g.id (join_again now r own ticket g)
+  unfolding join_again updating
+  after-join_again now r own ticket g suits h =
+      let t : Turn = turn_of (updating r own g) in
+      let u : Turn = in_join_phase now t in
+      let j : Joining u.group = joining-in_join_phase events kept g.id now t (kind_holds g.phase g (kept g.id) h.holds) (suits.name, common-update suits.name own r g.members suits.common suits.offers) (λ p. waits-with_member no_sync own (updated r) (λ m _ e. e) g.members (h.quiet p)) in
+      after-tried events kept g.id now (waiting now own (Join ticket) u) (framed-waiting g.id now own (Join ticket) u (framed-in_join_phase g.id now t (refl, tt))).0 (joining-waiting events kept g.id now own ticket u j)
+
+  after-join_current : (now : ℕ) (own : List ℕ) (ticket : Ticket) (m : Member) (g : Group) → Whole events g (kept g.id) → After events kept g.id (join_current now own ticket m g)
+  unfolding join_current kept_after
+  after-join_current now own ticket m g h = after-hearing events kept g.id now own g h
+
+  pub after-join_known : (now : ℕ) (r : JoinRequest) (own : List ℕ) (ticket : Ticket) (m : Member) (g : Group) → Suits r g.members → Whole events g (kept g.id) → After events kept g.id (join_known now r own ticket m g)
+  unfolding join_known
+  after-join_known now r own ticket m g suits h =
+      elim (is_current r m g g.phase) as (λ b. After events kept g.id (if b then join_current now own ticket m g else join_again now r own ticket g)) [
+        | true ↦ after-join_current now own ticket m g h
+        | false ↦ after-join_again now r own ticket g suits h
+      ]
+
+  after-sync_waits : (now : ℕ) (r : SyncRequest) (own : List ℕ) (ticket : Ticket) (m : Member) (g : Group) → g.phase ≡ Completing → has_named events g.id g.generation own ticket ≡ true → Whole events g (kept g.id) → After events kept g.id (sync_waits now r own ticket m g)
+  unfolding sync_waits waiting hearing kept_after
+  after-sync_waits now r own ticket m g phase here h =
+      let t : Turn = waiting now own (Sync ticket) (turn_of (hearing now own g)) in
+      let first : List Member = with_member own (heard now) g.members in
+      let q : List ℕ → Waits → Bool = is_named_wait events g.id g.generation in
+      let P : Phase → Type 0 = λ x. Holds x g (kept g.id) in
+      let holds : Holds Completing g (kept g.id) = subst P phase h.holds in
+      let at : (x : Member) → has_id own x ≡ true → q x.id (Sync ticket) ≡ true = λ x e. let Q : List ℕ → Type 0 = λ i. q i (Sync ticket) ≡ true in subst Q (sym (same_names x.id own e)) here in
+      let named : AllWaits q t.group.members = waits-with_member q own (waits_with now (Sync ticket)) (λ x e _. at x e) first (waits-with_member q own (heard now) (λ x _ e. e) g.members h.named) in
+      let protocols : map (λ x. x.protocols) t.group.members ≡ map (λ x. x.protocols) g.members = map-with_member (λ x. x.protocols) own (waits_with now (Sync ticket)) (λ x. refl) first ∙ map-with_member (λ x. x.protocols) own (heard now) (λ x. refl) g.members in
+      let stored : map (kept_member g.protocol) t.group.members ≡ map (kept_member g.protocol) g.members = map-with_member (kept_member g.protocol) own (waits_with now (Sync ticket)) (λ x. refl) first ∙ map-with_member (kept_member g.protocol) own (heard now) (λ x. refl) g.members in
+      (elim (leads g m) as (λ b. leads g m ≡ b → After events kept g.id (if b then distributed now r.entries t else t)) [
+        | true ↦ λ e. after-distributed events kept g.id now r.entries t refl holds.0 holds.1 (some_named g.leader m.id e) (common-map t.group.members g.members protocols h.common) named
+        | false ↦ λ e. whole-members events g t.group.members (kept g.id) protocols stored named (λ p. absurd (false≢true (sym (ap is_preparing phase) ∙ p))) h
+      ]) refl
+
+  after-sync_current : (now : ℕ) (own : List ℕ) (ticket : Ticket) (m : Member) (g : Group) → Whole events g (kept g.id) → After events kept g.id (sync_current now own ticket m g)
+  unfolding sync_current kept_after
+  after-sync_current now own ticket m g h = after-hearing events kept g.id now own g h
+
+  pub after-sync_taken : (now : ℕ) (r : SyncRequest) (own : List ℕ) (ticket : Ticket) (m : Member) (g : Group) (phase : Phase) → g.phase ≡ phase → has_named events g.id g.generation own ticket ≡ true → Whole events g (kept g.id) → After events kept g.id (sync_taken now r own ticket m g phase)
+  unfolding sync_taken
+  after-sync_taken now r own ticket m g Completing e here h = after-sync_waits now r own ticket m g e here h
+  after-sync_taken now r own ticket m g Stable e here h = after-sync_current now own ticket m g h
+  after-sync_taken now r own ticket m g Empty e here h = after-sync_current now own ticket m g h
+  after-sync_taken now r own ticket m g Preparing e here h = after-sync_current now own ticket m g h
+
+  pub after-beat_taken : (now : ℕ) (own : List ℕ) (ticket : Ticket) (g : Group) → Whole events g (kept g.id) → After events kept g.id (beat_taken now own ticket g)
+  unfolding beat_taken kept_after
+  after-beat_taken now own ticket g h = after-hearing events kept g.id now own g h
+
+  pub after-leave_taken : (now : ℕ) (own : List ℕ) (ticket : Ticket) (m : Member) (g : Group) → find_member own g.members ≡ Some m → Whole events g (kept g.id) → After events kept g.id (leave_taken now own ticket m g)
+  unfolding leave_taken left keeping
+  after-leave_taken now own ticket m g found h =
+      after-after_removal events kept g.id now (left own ticket m g) refl (kind_holds g.phase g (kept g.id) h.holds) (common-filter (λ x. not (has_id own x)) g.members h.common)
+      (λ p. each-filter (λ x. no_sync x.id x.waits ≡ true) (λ x. not (has_id own x)) g.members (h.quiet p))
+      (λ p. nothing_found own g.members m found (empty_members events g (kept g.id) h p))
+
+  pub after-gone_in : (now session : ℕ) (g : Group) → Whole events g (kept g.id) → After events kept g.id (gone_in now session g)
+  unfolding gone_in kept_after
+  after-gone_in now session g h =
+      whole-members events g (after_answers (OfSession session) now g.members) (kept g.id)
+      (keep-after_answers (λ m. m.protocols) lasting_protocols (OfSession session) now g.members)
+      (keep-after_answers (kept_member g.protocol) (lasting_kept g.protocol) (OfSession session) now g.members)
+      (waits-after_answers (is_named_wait events g.id g.generation) (λ _. refl) (OfSession session) now g.members h.named)
+      (λ p. waits-after_answers no_sync (λ _. refl) (OfSession session) now g.members (h.quiet p)) h
+
+  after-tried_any : (now : ℕ) (g : Group) → Whole events g (kept g.id) → After events kept g.id (tried now (turn_of g))
+  unfolding tried is_ready kept_after
+  after-tried_any now g h =
+      (elim (is_ready g) as (λ b. is_ready g ≡ b → After events kept g.id (if b then completed now (turn_of g) else turn_of g)) [
+        | true ↦ λ e. after-completed events kept g.id now (turn_of g) refl (joining_from events g (kept g.id) h (preparing_is g.phase (and_parts (is_preparing g.phase) (list_all (is_waiting Joins) g.members) e).0))
+        | false ↦ λ e. h
+      ]) refl
+
+  after-expired : (now : ℕ) (g : Group) → Whole events g (kept g.id) → After events kept g.id (expired now (turn_of g))
+  unfolding expired keeping
+  after-expired now g h =
+      let stays : Member → Bool = λ m. not (is_overdue now m) in
+      (elim (list_any (is_overdue now) g.members) as (λ b. list_any (is_overdue now) g.members ≡ b → After events kept g.id (if b then after_removal now (record (turn_of g) { group = keeping stays g }) else tried now (turn_of g))) [
+        | true ↦ λ e. after-after_removal events kept g.id now (record (turn_of g) { group = keeping stays g }) refl (kind_holds g.phase g (kept g.id) h.holds) (common-filter stays g.members h.common)
+            (λ p. each-filter (λ x. no_sync x.id x.waits ≡ true) stays g.members (h.quiet p))
+            (λ p. nothing_passes (is_overdue now) g.members e (empty_members events g (kept g.id) h p))
+        | false ↦ λ e. after-tried_any now g h
+      ]) refl
+
+  after-at_deadline : (now : ℕ) (id : List ℕ) (t : Turn) → Framed id t → After events kept id t → After events kept id (at_deadline now t)
+  unfolding at_deadline
+  after-at_deadline now id t f h =
+      (elim (is_due now t.group) as (λ b. is_due now t.group ≡ b → After events kept id (if b then completed now (record t { group = keeping (is_waiting Any) t.group }) else t)) [
+        | true ↦ λ e. after-completed events kept id now (record t { group = keeping (is_waiting Any) t.group }) (id-keeping (is_waiting Any) t.group ∙ f.0)
+            (joining-keeping (is_waiting Any) t.group (joining_from events t.group (kept_after kept t.commands id) h (preparing_is t.group.phase (is_preparing_due now t.group e))))
+        | false ↦ λ e. h
+      ]) refl
+
+  pub after-ticked : (now : ℕ) (g : Group) → Whole events g (kept g.id) → After events kept g.id (ticked now g)
+  unfolding ticked
+  after-ticked now g h = after-at_deadline now g.id (expired now (turn_of g)) (framed-expired_of now g) (after-expired now g h)

@@ -1,0 +1,114 @@
+-- From what holds of each group and of its record, to the machine and what is kept.
+use Rattle.std.proofs.Common.{◌≡◌, ℕ, Bool, true, false, ◌||◌, List, [], ◌∷◌, ◌++◌, cond, is_some, refl, sym, ap, ◌∙◌, subst, Option, Some, Result, Ok, Err}
+use Rattle.std.specs.List.{flat_map}
+use Rattle.std.proofs.lemmas.Bool.{or_left, or_right}
+use Rattle.cg_names.specs.declared.code.Code.{Code}
+use Rattle.cg_group.specs.declared.command.Command.{Command}
+use Rattle.cg_group.specs.declared.group.Group.{Group}
+use Rattle.cg_group.specs.declared.ticket.Ticket.{Ticket}
+use Rattle.cg_group.specs.declared.turn.Turn.{Turn}
+use Rattle.cg_group.specs.Kept.{Kept, Each, ComesBefore, Ascending, kept_after}
+use Rattle.cg_group.specs.Machine.{Machine, concluded, everywhere, find_group, groups_after, with_group}
+use Rattle.cg_group.specs.Membership.{is_same}
+use Rattle.cg_group.proofs.Framed.{Framed, OfGroup}
+use Rattle.cg_group.proofs.KeptLists.{kept_after-append, kept_after-none, kept_after-other, differs_from_order, group_ids, ascending-with_group, each-after, each-with_group, found-with_group}
+use Rattle.cg_group.proofs.Requests.{Fine}
+use Rattle.std.proofs.lemmas.Cmp.{nat_list_eq_equiv}
+use Rattle.std.specs.declared.cmp.Ordering.TheVariants.{Less}
+
+pub each-over : {X : Type 0} (P Q : X → Type 0) → ((x : X) → P x → Q x) → (xs : List X) → Each P xs → Each Q xs
+each-over P Q over [] h = tt
+each-over P Q over (x ∷ xs) h = (over x h.0, each-over P Q over xs h.1)
+
+-- the groups stand by their ids, each holds with its record, and each that has a record is held
+pub record Invariant (I : Group → Option Command → Type 0) (groups : List Group) (kept : Kept) : Type 0 where
+  pub ascending : Ascending (group_ids groups)
+  pub each : Each (λ g. I g (kept g.id)) groups
+  pub held : (id : List ℕ) → is_some (kept id) ≡ true → is_some (find_group id groups) ≡ true
+
+-- a turn in a group, and what holds after it
+pub record Fits (I : Group → Option Command → Type 0) (kept : Kept) (t : Turn) : Type 0 where
+  pub own : OfGroup t.group.id t.commands
+  pub good : I t.group (kept_after kept t.commands t.group.id)
+
+pub fits_framed : (I : Group → Option Command → Type 0) (kept : Kept) (id : List ℕ) (t : Turn) → Framed id t → I t.group (kept_after kept t.commands id) → Fits I kept t
+fits_framed I kept id t f h =
+    let P : List ℕ → Type 0 = λ i. OfGroup i t.commands in
+    let Q : List ℕ → Type 0 = λ i. I t.group (kept_after kept t.commands i) in
+    record { own = subst P (sym f.0) f.1; good = subst Q (sym f.0) h }
+
+module _ (I : Group → Option Command → Type 0) where
+  taken_held : (groups : List Group) (kept : Kept) (t : Turn) (id : List ℕ) → OfGroup t.group.id t.commands → ((i : List ℕ) → is_some (kept i) ≡ true → is_some (find_group i groups) ≡ true) → is_some (kept_after kept t.commands id) ≡ true → (is_same t.group.id id || is_some (find_group id groups)) ≡ true
+  taken_held groups kept t id own held e =
+      (elim (is_same t.group.id id) as (λ b. is_same t.group.id id ≡ b → (b || is_some (find_group id groups)) ≡ true) [
+        | true ↦ λ d. refl
+        | false ↦ λ d. held id (ap is_some (sym (kept_after-other t.group.id id kept t.commands own d)) ∙ e)
+      ]) refl
+
+  pub invariant-taken : (groups : List Group) (kept : Kept) (t : Turn) → Fits I kept t → Invariant I groups kept → Invariant I (with_group t.group groups) (kept_after kept t.commands)
+  invariant-taken groups kept t f v = record {
+    ascending = ascending-with_group t.group groups v.ascending;
+    each = each-with_group (λ g. I g (kept g.id)) (λ g. I g (kept_after kept t.commands g.id)) t.group groups f.good
+        (λ k d h. let P : Option Command → Type 0 = λ o. I k o in subst P (sym (kept_after-other t.group.id k.id kept t.commands f.own d)) h) v.ascending v.each;
+    held = λ id e. found-with_group id t.group groups (taken_held groups kept t id f.own v.held e);
+  }
+
+  pub invariant-concluded : (s : Machine) (kept : Kept) (ticket : Ticket) (o : Result Turn Code) → Fine (Fits I kept) o → Invariant I s.groups kept → Invariant I (concluded s ticket o).after.groups (kept_after kept (concluded s ticket o).effects.commands)
+  unfolding concluded
+  invariant-concluded s kept ticket (Ok t) f v = invariant-taken s.groups kept t f v
+  invariant-concluded s kept ticket (Err code) f v = let P : Kept → Type 0 = λ k. Invariant I s.groups k in subst P (sym (kept_after-none kept)) v
+
+  module _ (turn : Group → Turn) (framed : (g : Group) → Framed g.id (turn g)) (keeps : (g : Group) (kept : Kept) → I g (kept g.id) → I (turn g).group (kept_after kept (turn g).commands g.id)) where
+    ids_after : (gs : List Group) → group_ids (groups_after turn gs) ≡ group_ids gs
+    ids_after [] = refl
+    ids_after (g ∷ gs) = ap (λ x. x ∷ group_ids (groups_after turn gs)) (framed g).0 ∙ ap (λ xs. g.id ∷ xs) (ids_after gs)
+
+    kept-before : (x : List ℕ) (kept : Kept) (gs : List Group) → ComesBefore x (group_ids gs) → kept_after kept (flat_map (λ g. (turn g).commands) gs) x ≡ kept x
+    kept-before x kept [] h = ap (λ k. k x) (kept_after-none kept)
+    kept-before x kept (g ∷ gs) h =
+        ap (λ k. k x) (kept_after-append kept (turn g).commands (flat_map (λ g. (turn g).commands) gs))
+        ∙ kept-before x (kept_after kept (turn g).commands) gs h.1
+        ∙ kept_after-other g.id x kept (turn g).commands (framed g).1 (nat_list_eq_equiv.symm g.id x ∙ differs_from_order x g.id Less h.0 refl)
+
+    each-turns : (kept : Kept) (gs : List Group) → Ascending (group_ids gs) → Each (λ g. I g (kept g.id)) gs → Each (λ g. I g (kept_after kept (flat_map (λ g. (turn g).commands) gs) g.id)) (groups_after turn gs)
+    each-turns kept [] a h = tt
+    each-turns kept (g ∷ gs) a h =
+        let first : Kept = kept_after kept (turn g).commands in
+        let rest : List Command = flat_map (λ g. (turn g).commands) gs in
+        let whole : kept_after kept ((turn g).commands ++ rest) ≡ kept_after first rest = kept_after-append kept (turn g).commands rest in
+        let P : Kept → Type 0 = λ k. Each (λ g. I g (k g.id)) (groups_after turn (g ∷ gs)) in
+        let Q : Option Command → Type 0 = λ o. I (turn g).group o in
+        let own : kept_after first rest (turn g).group.id ≡ kept_after kept (turn g).commands g.id = ap (kept_after first rest) (framed g).0 ∙ kept-before g.id first gs a.0 in
+        let others : Each (λ k. I k (first k.id)) gs = each-after (λ k. I k (kept k.id)) (λ k. I k (first k.id)) g.id gs (λ k d i. let R : Option Command → Type 0 = λ o. I k o in subst R (sym (kept_after-other g.id k.id kept (turn g).commands (framed g).1 d)) i) a.0 h.1 in
+        subst P (sym whole) (subst Q (sym own) (keeps g kept h.0), each-turns first gs a.1 others)
+
+    found-turns : (id : List ℕ) (gs : List Group) → is_some (find_group id (groups_after turn gs)) ≡ is_some (find_group id gs)
+    unfolding find_group
+    found-turns id [] = refl
+    found-turns id (g ∷ gs) =
+        let P : List ℕ → Type 0 = λ i. is_some (cond (is_same (turn g).group.id id) (Some (turn g).group) (find_group id (groups_after turn gs))) ≡ is_some (cond (is_same i id) (Some g) (find_group id gs)) in
+        subst P (framed g).0 (elim (is_same (turn g).group.id id) as (λ b. is_some (cond b (Some (turn g).group) (find_group id (groups_after turn gs))) ≡ is_some (cond b (Some g) (find_group id gs))) [ true ↦ refl | false ↦ found-turns id gs ])
+
+    held-turns : (id : List ℕ) (kept : Kept) (gs : List Group) → is_some (kept_after kept (flat_map (λ g. (turn g).commands) gs) id) ≡ true → (is_some (kept id) || is_some (find_group id gs)) ≡ true
+    unfolding find_group
+    held-turns id kept [] e = or_left (is_some (kept id)) false (ap (λ k. is_some (k id)) (sym (kept_after-none kept)) ∙ e)
+    held-turns id kept (g ∷ gs) e =
+        let first : Kept = kept_after kept (turn g).commands in
+        let rest : List Command = flat_map (λ g. (turn g).commands) gs in
+        let whole : is_some (kept_after first rest id) ≡ true = ap (λ k. is_some (k id)) (sym (kept_after-append kept (turn g).commands rest)) ∙ e in
+        (elim (is_same g.id id) as (λ b. is_same g.id id ≡ b → (is_some (kept id) || is_some (cond b (Some g) (find_group id gs))) ≡ true) [
+          | true ↦ λ d. or_right (is_some (kept id)) true refl
+          | false ↦ λ d. ap (λ o. is_some o || is_some (find_group id gs)) (sym (kept_after-other g.id id kept (turn g).commands (framed g).1 d)) ∙ held-turns id first gs whole
+        ]) refl
+
+    either : (a b : Bool) → (a || b) ≡ true → (a ≡ true → b ≡ true) → b ≡ true
+    either true b e k = k refl
+    either false b e k = e
+
+    pub invariant-everywhere : (s : Machine) (kept : Kept) → Invariant I s.groups kept → Invariant I (everywhere turn s).after.groups (kept_after kept (everywhere turn s).effects.commands)
+    unfolding everywhere
+    invariant-everywhere s kept v = record {
+      ascending = subst (λ (xs : List (List ℕ)). Ascending xs) (sym (ids_after s.groups)) v.ascending;
+      each = each-turns kept s.groups v.ascending v.each;
+      held = λ id e. found-turns id s.groups ∙ either (is_some (kept id)) (is_some (find_group id s.groups)) (held-turns id kept s.groups e) (v.held id);
+    }

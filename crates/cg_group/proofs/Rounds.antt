@@ -1,0 +1,244 @@
+-- The join replies of an event in one group are of one round.
+use Rattle.std.proofs.Common.{◌≡◌, ℕ, Bool, true, false, List, [], ◌∷◌, map, refl, sym, ◌∙◌, subst, Option, Some, None, Result, Ok, Err}
+use Rattle.std.proofs.lemmas.List.{append-nil}
+use Rattle.std.specs.Prelude.{if◌then◌else◌}
+use Rattle.std.specs.List.{flat_map}
+use Rattle.std.proofs.lemmas.Bool.{and_parts, false≢true}
+use Rattle.cg_names.specs.declared.code.Code.{Code}
+use Rattle.cg_group.specs.declared.calls.Calls.TheVariants.{Any}
+use Rattle.cg_group.specs.declared.event.Event.TheVariants as event
+use Rattle.cg_group.specs.declared.group.Group.{Group}
+use Rattle.cg_group.specs.declared.group.Phase.{Phase}
+use Rattle.cg_group.specs.declared.group.Phase.TheVariants.{Empty, Preparing, Completing, Stable}
+use Rattle.cg_group.specs.declared.member.Member.{Member}
+use Rattle.cg_group.specs.declared.member.Waits.TheVariants.{Join, Sync}
+use Rattle.cg_group.specs.declared.reply.Reply.{Reply}
+use Rattle.cg_group.specs.declared.reply.Reply.TheVariants as reply
+use Rattle.cg_group.specs.declared.request.JoinRequest.{JoinRequest}
+use Rattle.cg_group.specs.declared.request.SyncRequest.{SyncRequest}
+use Rattle.cg_group.specs.declared.request.SyncEntry.{SyncEntry}
+use Rattle.cg_group.specs.declared.ticket.Ticket.{Ticket}
+use Rattle.cg_group.specs.declared.turn.Turn.{Turn}
+use Rattle.cg_group.specs.Beating.{beat_taken}
+use Rattle.cg_group.specs.Joining.{admitted, is_current, join_again, join_current, join_known, join_new, new_member, updating, waiting}
+use Rattle.cg_group.specs.Kept.{Each}
+use Rattle.cg_group.specs.Laws.{IsOneRound, Names, RoundsAreOne, replies_by_group}
+use Rattle.cg_group.specs.Leaving.{after_removal, gone_in, leave_taken, left}
+use Rattle.cg_group.specs.Machine.{Machine, beat, concluded, describe, everywhere, join, leave, met, sync}
+use Rattle.cg_group.specs.Membership.{hearing, is_empty, is_preparing, keeping, leads}
+use Rattle.cg_group.specs.Rebalance.{completed, emptied, is_ready, joined_reply, next_round, told_to_joins, tried, turn_of}
+use Rattle.cg_group.specs.Syncing.{distributed, sync_current, sync_taken, sync_waits, synced_reply, told_to_syncs}
+use Rattle.cg_group.specs.Ticking.{at_deadline, is_due, ticked}
+use Rattle.cg_group.specs.Waiting.{is_waiting}
+use Rattle.cg_group.proofs.Distinct.{flat_map-map}
+use Rattle.cg_group.proofs.Framed.{each-append}
+use Rattle.cg_group.proofs.KeptMachine.{each-over}
+use Rattle.cg_group.proofs.Requests.{Fine, fine-beat, fine-join, fine-leave, fine-sync}
+use Rattle.cg_group.proofs.Telling.{Told, each-answers, each-any, expired_tried, told-beat_taken, told-completed, told-gone_in, told-in_join_phase, told-left, told-removal, told-tried, told-waiting}
+
+-- no join reply
+abbrev Bare : Reply → Type 0
+Bare (reply.Joined j) = ⊥
+Bare (reply.Synced bytes) = Unit {0}
+Bare reply.Done = Unit {0}
+Bare (reply.Described d) = Unit {0}
+Bare (reply.Groups groups) = Unit {0}
+Bare (reply.Refused code) = Unit {0}
+
+-- a join reply of the round that the group is in, or another reply
+abbrev OfRound : Group → Reply → Type 0
+OfRound g r = Names g.generation g.protocol g.leader r
+
+bare_of : (g : Group) (r : Reply) → Bare r → OfRound g r
+bare_of g (reply.Joined j) h = absurd h
+bare_of g (reply.Synced bytes) h = tt
+bare_of g reply.Done h = tt
+bare_of g (reply.Described d) h = tt
+bare_of g (reply.Groups groups) h = tt
+bare_of g (reply.Refused code) h = tt
+
+round_of : (g : Group) (replies : List (Ticket × Reply)) → Each (λ r. OfRound g r.1) replies → IsOneRound replies
+round_of g replies h = record { generation = g.generation; protocol = g.protocol; leader = g.leader; each = h }
+
+bare_round : (g : Group) (replies : List (Ticket × Reply)) → Each (λ r. Bare r.1) replies → IsOneRound replies
+bare_round g replies h = round_of g replies (each-over (λ r. Bare r.1) (λ r. OfRound g r.1) (λ r k. bare_of g r.1 k) replies h)
+
+own_round : (g : Group) (m : Member) → OfRound g (joined_reply g m)
+unfolding joined_reply
+own_round g m = (refl, refl, refl)
+
+round-tried : (now : ℕ) (t : Turn) → Told Bare t → IsOneRound (tried now t).replies
+round-tried now t h =
+    let g : Group = next_round t.group in
+    round_of g (tried now t).replies (told-tried (OfRound g) (λ _. tt) now t (own_round g) (each-over (λ r. Bare r.1) (λ r. OfRound g r.1) (λ r k. bare_of g r.1 k) t.replies h))
+
+round-completed : (now : ℕ) (t : Turn) → Told Bare t → IsOneRound (completed now t).replies
+round-completed now t h =
+    let g : Group = next_round t.group in
+    round_of g (completed now t).replies (told-completed (OfRound g) (λ _. tt) now t (own_round g) (each-over (λ r. Bare r.1) (λ r. OfRound g r.1) (λ r k. bare_of g r.1 k) t.replies h))
+
+-- where the members still join, nobody was told
+
+abbrev Joins : Turn → Bool
+Joins t = is_preparing t.group.phase
+
+joins-emptied : (t : Turn) → Joins (emptied t) ≡ false
+unfolding emptied
+joins-emptied t = refl
+
+joins-round : (now : ℕ) (t : Turn) → Joins (told_to_joins now (record t { group = next_round t.group })) ≡ false
+unfolding told_to_joins next_round
+joins-round now t = refl
+
+joins-completed : (now : ℕ) (t : Turn) → Joins (completed now t) ≡ false
+unfolding completed
+joins-completed now t =
+    elim (is_empty t.group.members) as (λ b. Joins (if b then emptied t else told_to_joins now (record t { group = next_round t.group })) ≡ false) [ true ↦ joins-emptied t | false ↦ joins-round now t ]
+
+bare-tried : (now : ℕ) (t : Turn) → Told Bare t → Joins (tried now t) ≡ true → Told Bare (tried now t)
+unfolding tried
+bare-tried now t h =
+    elim (is_ready t.group) as (λ b. Joins (if b then completed now t else t) ≡ true → Told Bare (if b then completed now t else t)) [
+      | true ↦ λ e. absurd (false≢true (sym (joins-completed now t) ∙ e))
+      | false ↦ λ e. h
+    ]
+
+-- each event
+
+round-join_new : (now : ℕ) (r : JoinRequest) (new : List ℕ) (ticket : Ticket) (g : Group) → IsOneRound (join_new now r new ticket g).replies
+unfolding join_new
+round-join_new now r new ticket g = round-tried now _ (told-in_join_phase Bare (λ _. tt) now (turn_of (admitted (new_member now r new ticket) r.kind g)) tt)
+
+round-join_again : (now : ℕ) (r : JoinRequest) (own : List ℕ) (ticket : Ticket) (g : Group) → IsOneRound (join_again now r own ticket g).replies
+unfolding join_again
+round-join_again now r own ticket g = round-tried now _ (told-waiting Bare (λ _. tt) now own (Join ticket) _ (told-in_join_phase Bare (λ _. tt) now (turn_of (updating r own g)) tt))
+
+round-join_current : (now : ℕ) (own : List ℕ) (ticket : Ticket) (m : Member) (g : Group) → IsOneRound (join_current now own ticket m g).replies
+unfolding join_current
+round-join_current now own ticket m g = round_of g ((ticket, joined_reply g m) ∷ []) (own_round g m, tt)
+
+round-join_known : (now : ℕ) (r : JoinRequest) (own : List ℕ) (ticket : Ticket) (m : Member) (g : Group) → IsOneRound (join_known now r own ticket m g).replies
+unfolding join_known
+round-join_known now r own ticket m g =
+    elim (is_current r m g g.phase) as (λ b. IsOneRound (if b then join_current now own ticket m g else join_again now r own ticket g).replies) [
+      | true ↦ round-join_current now own ticket m g
+      | false ↦ round-join_again now r own ticket g
+    ]
+
+bare-told_to_syncs : (now : ℕ) (t : Turn) → Told Bare t → Told Bare (told_to_syncs now t)
+unfolding told_to_syncs
+bare-told_to_syncs now t h = each-append (λ r. Bare r.1) t.replies _ h (each-answers (λ r. Bare r.1) _ synced_reply t.group.members (each-any _ (λ m t e. tt) t.group.members))
+
+bare-distributed : (now : ℕ) (entries : List SyncEntry) (t : Turn) → Told Bare t → Told Bare (distributed now entries t)
+unfolding distributed
+bare-distributed now entries t h = bare-told_to_syncs now _ h
+
+bare-sync_waits : (now : ℕ) (r : SyncRequest) (own : List ℕ) (ticket : Ticket) (m : Member) (g : Group) → Told Bare (sync_waits now r own ticket m g)
+unfolding sync_waits
+bare-sync_waits now r own ticket m g =
+    let t : Turn = waiting now own (Sync ticket) (turn_of (hearing now own g)) in
+    let h : Told Bare t = told-waiting Bare (λ _. tt) now own (Sync ticket) (turn_of (hearing now own g)) tt in
+    elim (leads g m) as (λ b. Told Bare (if b then distributed now r.entries t else t)) [ true ↦ bare-distributed now r.entries t h | false ↦ h ]
+
+bare-sync_current : (now : ℕ) (own : List ℕ) (ticket : Ticket) (m : Member) (g : Group) → Told Bare (sync_current now own ticket m g)
+unfolding sync_current
+bare-sync_current now own ticket m g = (tt, tt)
+
+bare-sync_taken : (now : ℕ) (r : SyncRequest) (own : List ℕ) (ticket : Ticket) (m : Member) (g : Group) (phase : Phase) → Told Bare (sync_taken now r own ticket m g phase)
+unfolding sync_taken
+bare-sync_taken now r own ticket m g Completing = bare-sync_waits now r own ticket m g
+bare-sync_taken now r own ticket m g Stable = bare-sync_current now own ticket m g
+bare-sync_taken now r own ticket m g Empty = bare-sync_current now own ticket m g
+bare-sync_taken now r own ticket m g Preparing = bare-sync_current now own ticket m g
+
+round-leave_taken : (now : ℕ) (own : List ℕ) (ticket : Ticket) (m : Member) (g : Group) → IsOneRound (leave_taken now own ticket m g).replies
+unfolding leave_taken after_removal
+round-leave_taken now own ticket m g = round-tried now _ (told-removal Bare (λ _. tt) now (left own ticket m g) (told-left Bare (λ _. tt) tt own ticket m g))
+
+round-at_deadline : (now : ℕ) (from : Turn) → Told Bare from → IsOneRound (at_deadline now (tried now from)).replies
+unfolding at_deadline
+round-at_deadline now from h =
+    let t : Turn = tried now from in
+    (elim (is_due now t.group) as (λ b. is_due now t.group ≡ b → IsOneRound (if b then completed now (record t { group = keeping (is_waiting Any) t.group }) else t).replies) [
+      | true ↦ λ e. round-completed now (record t { group = keeping (is_waiting Any) t.group }) (bare-tried now from h (and_parts (is_preparing t.group.phase) _ e).0)
+      | false ↦ λ e. round-tried now from h
+    ]) refl
+
+round-ticked : (now : ℕ) (g : Group) → IsOneRound (ticked now g).replies
+unfolding ticked
+round-ticked now g =
+    let x = expired_tried Bare (λ _. tt) now g in
+    let P : Turn → Type 0 = λ t. IsOneRound (at_deadline now t).replies in
+    subst P (sym x.is) (round-at_deadline now x.from x.told)
+
+-- the machine
+
+abbrev InRound : Turn → Type 0
+InRound t = IsOneRound t.replies
+
+no_round : (replies : List (Ticket × Reply)) → Each (λ r. Names 0 None None r.1) replies → IsOneRound replies
+no_round replies h = record { generation = 0; protocol = None; leader = None; each = h }
+
+round-concluded : (s : Machine) (ticket : Ticket) (o : Result Turn Code) → Fine InRound o → IsOneRound (concluded s ticket o).effects.replies
+unfolding concluded
+round-concluded s ticket (Ok t) h = h
+round-concluded s ticket (Err code) h = no_round ((ticket, reply.Refused code) ∷ []) (tt, tt)
+
+round-describe : (id : Option (List ℕ)) (groups : List Group) → Names 0 None None (describe id groups)
+unfolding describe
+round-describe None groups = tt
+round-describe (Some id) groups = tt
+
+whole-one : (replies : List (Ticket × Reply)) → replies ≡ flat_map (λ rs. rs) (replies ∷ [])
+whole-one replies = sym (append-nil replies)
+
+round-groups : (turn : Group → Turn) → ((g : Group) → IsOneRound (turn g).replies) → (gs : List Group) → Each IsOneRound (map (λ g. (turn g).replies) gs)
+round-groups turn k [] = tt
+round-groups turn k (g ∷ gs) = (k g, round-groups turn k gs)
+
+pub rounds_are_one : RoundsAreOne
+unfolding replies_by_group met everywhere
+rounds_are_one s (event.Join ticket r fresh) = record {
+  whole = whole-one _;
+  rounds = (
+    round-concluded s ticket (join s.last r fresh ticket s.groups) (fine-join InRound s.last r fresh ticket s.groups
+        (λ id new _ _. round-join_new s.last r new ticket _)
+        (λ id new g _ _ _ _. round-join_new s.last r new ticket g)
+        (λ id own g m _ _ _ _. round-join_known s.last r own ticket m g)),
+    tt,
+  );
+}
+rounds_are_one s (event.Sync ticket r) = record {
+  whole = whole-one _;
+  rounds = (
+    round-concluded s ticket (sync s.last r ticket s.groups) (fine-sync InRound s.last r ticket s.groups
+        (λ id own g m _ _ _ _ _ _. bare_round g (sync_taken s.last r own ticket m g g.phase).replies (bare-sync_taken s.last r own ticket m g g.phase))),
+    tt,
+  );
+}
+rounds_are_one s (event.Beat ticket r) = record {
+  whole = whole-one _;
+  rounds = (
+    round-concluded s ticket (beat s.last r ticket s.groups) (fine-beat InRound s.last r ticket s.groups
+        (λ id own g _. bare_round g (beat_taken s.last own ticket g).replies (told-beat_taken Bare (λ _. tt) tt s.last own ticket g))),
+    tt,
+  );
+}
+rounds_are_one s (event.Leave ticket r) = record {
+  whole = whole-one _;
+  rounds = (
+    round-concluded s ticket (leave s.last r ticket s.groups) (fine-leave InRound s.last r ticket s.groups
+        (λ id own g m _ _. round-leave_taken s.last own ticket m g)),
+    tt,
+  );
+}
+rounds_are_one s (event.Describe ticket id) = record { whole = refl; rounds = (no_round ((ticket, describe id s.groups) ∷ []) (round-describe id s.groups, tt), tt) }
+rounds_are_one s (event.List ticket) = record { whole = refl; rounds = (no_round _ (tt, tt), tt) }
+rounds_are_one s (event.Gone session) = record {
+  whole = flat_map-map (λ g. (gone_in s.last session g).replies) s.groups;
+  rounds = round-groups (gone_in s.last session) (λ g. bare_round g (gone_in s.last session g).replies (told-gone_in Bare (λ _. tt) s.last session g)) s.groups;
+}
+rounds_are_one s event.Tick = record {
+  whole = flat_map-map (λ g. (ticked s.last g).replies) s.groups;
+  rounds = round-groups (ticked s.last) (λ g. round-ticked s.last g) s.groups;
+}

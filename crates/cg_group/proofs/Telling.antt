@@ -1,0 +1,114 @@
+-- What holds of every refusal, and of every join reply of a round, holds of the replies of an event.
+use Rattle.std.proofs.Common.{◌≡◌, ℕ, Bool, true, false, not, List, [], ◌∷◌, refl, Option, Some, None}
+use Rattle.std.specs.Prelude.{if◌then◌else◌, option_map, option_to_list}
+use Rattle.std.specs.List.{list_any, flat_map}
+use Rattle.cg_names.specs.declared.code.Code.{Code}
+use Rattle.cg_names.specs.declared.code.Code.TheVariants.{RebalanceInProgress, UnknownMemberId}
+use Rattle.cg_group.specs.declared.calls.Calls.{Calls}
+use Rattle.cg_group.specs.declared.calls.Calls.TheVariants.{Any, Joins, OfSession, Syncs}
+use Rattle.cg_group.specs.declared.group.Group.{Group}
+use Rattle.cg_group.specs.declared.member.Member.{Member}
+use Rattle.cg_group.specs.declared.member.Waits.{Waits}
+use Rattle.cg_group.specs.declared.reply.Reply.{Reply}
+use Rattle.cg_group.specs.declared.reply.Reply.TheVariants as reply
+use Rattle.cg_group.specs.declared.ticket.Ticket.{Ticket}
+use Rattle.cg_group.specs.declared.turn.Turn.{Turn}
+use Rattle.cg_group.specs.Beating.{beat_reply, beat_taken}
+use Rattle.cg_group.specs.Joining.{displaced, in_join_phase, waiting}
+use Rattle.cg_group.specs.Kept.{Each}
+use Rattle.cg_group.specs.Leaving.{after_removal, gone_in, has_joined, left}
+use Rattle.cg_group.specs.Membership.{find_member, is_empty, is_preparing, keeping}
+use Rattle.cg_group.specs.Rebalance.{completed, emptied, is_ready, joined_reply, next_round, prepared, told_to_joins, tried, turn_of}
+use Rattle.cg_group.specs.Ticking.{expired, is_overdue}
+use Rattle.cg_group.specs.Waiting.{answer, answers, called, refusing}
+use Rattle.cg_group.proofs.Framed.{each-append}
+
+-- each reply of the turn
+abbrev pub Told : (Reply → Type 0) → Turn → Type 0
+Told P t = Each (λ r. P r.1) t.replies
+
+pub each-answer : (P : Ticket × Reply → Type 0) (which : Calls) (tell : Member → Reply) (m : Member) → ((t : Ticket) → called which m.waits ≡ Some t → P (t, tell m)) → Each P (answer which tell m)
+each-answer P which tell m k = go (called which m.waits) k
+  where
+    go : (o : Option Ticket) → ((t : Ticket) → o ≡ Some t → P (t, tell m)) → Each P (option_to_list (option_map (λ t. (t, tell m)) o))
+    go None k = tt
+    go (Some t) k = (k t refl, tt)
+
+pub each-answers : (P : Ticket × Reply → Type 0) (which : Calls) (tell : Member → Reply) (ms : List Member) → Each (λ m. (t : Ticket) → called which m.waits ≡ Some t → P (t, tell m)) ms → Each P (answers which tell ms)
+unfolding answers
+each-answers P which tell [] k = tt
+each-answers P which tell (m ∷ ms) k = each-append P (answer which tell m) (flat_map (answer which tell) ms) (each-answer P which tell m k.0) (each-answers P which tell ms k.1)
+
+pub each-any : {X : Type 0} (P : X → Type 0) → ((x : X) → P x) → (xs : List X) → Each P xs
+each-any P k [] = tt
+each-any P k (x ∷ xs) = (k x, each-any P k xs)
+
+module _ (P : Reply → Type 0) (refused : (code : Code) → P (reply.Refused code)) where
+  told-alike : (which : Calls) (tell : Member → Reply) → ((m : Member) → P (tell m)) → (ms : List Member) → Each (λ r. P r.1) (answers which tell ms)
+  told-alike which tell k ms = each-answers (λ r. P r.1) which tell ms (each-any (λ m. (t : Ticket) → called which m.waits ≡ Some t → P (tell m)) (λ m t e. k m) ms)
+
+  pub told-prepared : (now : ℕ) (t : Turn) → Told P t → Told P (prepared now t)
+  unfolding prepared
+  told-prepared now t h = each-append (λ r. P r.1) t.replies _ h (told-alike Syncs _ (λ m. refused _) t.group.members)
+
+  pub told-in_join_phase : (now : ℕ) (t : Turn) → Told P t → Told P (in_join_phase now t)
+  told-in_join_phase now t h = elim (is_preparing t.group.phase) as (λ b. Told P (if b then t else prepared now t)) [ true ↦ h | false ↦ told-prepared now t h ]
+
+  told-displaced : (o : Option Member) → Each (λ r. P r.1) (displaced o)
+  told-displaced None = tt
+  told-displaced (Some m) = each-answer (λ r. P r.1) Any (refusing RebalanceInProgress) m (λ t e. refused RebalanceInProgress)
+
+  pub told-waiting : (now : ℕ) (own : List ℕ) (waits : Waits) (t : Turn) → Told P t → Told P (waiting now own waits t)
+  unfolding waiting
+  told-waiting now own waits t h = each-append (λ r. P r.1) t.replies _ h (told-displaced (find_member own t.group.members))
+
+  told-told_to_joins : (now : ℕ) (t : Turn) → ((m : Member) → P (joined_reply t.group m)) → Told P t → Told P (told_to_joins now t)
+  unfolding told_to_joins
+  told-told_to_joins now t k h = each-append (λ r. P r.1) t.replies _ h (told-alike Joins (joined_reply t.group) k t.group.members)
+
+  told-emptied : (t : Turn) → Told P t → Told P (emptied t)
+  unfolding emptied
+  told-emptied t h = h
+
+  pub told-completed : (now : ℕ) (t : Turn) → ((m : Member) → P (joined_reply (next_round t.group) m)) → Told P t → Told P (completed now t)
+  unfolding completed
+  told-completed now t k h =
+      elim (is_empty t.group.members) as (λ b. Told P (if b then emptied t else told_to_joins now (record t { group = next_round t.group }))) [
+        | true ↦ told-emptied t h
+        | false ↦ told-told_to_joins now (record t { group = next_round t.group }) k h
+      ]
+
+  pub told-tried : (now : ℕ) (t : Turn) → ((m : Member) → P (joined_reply (next_round t.group) m)) → Told P t → Told P (tried now t)
+  unfolding tried
+  told-tried now t k h = elim (is_ready t.group) as (λ b. Told P (if b then completed now t else t)) [ true ↦ told-completed now t k h | false ↦ h ]
+
+  pub told-removal : (now : ℕ) (t : Turn) → Told P t → Told P (if has_joined t.group.phase then prepared now t else t)
+  told-removal now t h = elim (has_joined t.group.phase) as (λ b. Told P (if b then prepared now t else t)) [ true ↦ told-prepared now t h | false ↦ h ]
+
+  pub told-left : P reply.Done → (own : List ℕ) (ticket : Ticket) (m : Member) (g : Group) → Told P (left own ticket m g)
+  unfolding left
+  told-left done own ticket m g = each-append (λ r. P r.1) (answer Any (refusing UnknownMemberId) m) ((ticket, reply.Done) ∷ []) (each-answer (λ r. P r.1) Any (refusing UnknownMemberId) m (λ t e. refused UnknownMemberId)) (done, tt)
+
+  pub told-gone_in : (now session : ℕ) (g : Group) → Told P (gone_in now session g)
+  unfolding gone_in
+  told-gone_in now session g = told-alike (OfSession session) _ (λ m. refused _) g.members
+
+  pub told-beat_taken : P reply.Done → (now : ℕ) (own : List ℕ) (ticket : Ticket) (g : Group) → Told P (beat_taken now own ticket g)
+  unfolding beat_taken beat_reply
+  told-beat_taken done now own ticket g = (elim (is_preparing g.phase) as (λ b. P (if b then reply.Refused RebalanceInProgress else reply.Done)) [ true ↦ refused RebalanceInProgress | false ↦ done ], tt)
+
+-- what the sessions that expired leave to be tried
+pub record TriedFrom (P : Reply → Type 0) (now : ℕ) (t : Turn) : Type 0 where
+  pub from : Turn
+  pub is : t ≡ tried now from
+  pub told : Told P from
+
+pub expired_tried : (P : Reply → Type 0) → ((code : Code) → P (reply.Refused code)) → (now : ℕ) (g : Group) → TriedFrom P now (expired now (turn_of g))
+unfolding expired after_removal
+expired_tried P refused now g =
+    let stays : Member → Bool = λ m. not (is_overdue now m) in
+    let fewer : Turn = record (turn_of g) { group = keeping stays g } in
+    elim (list_any (is_overdue now) g.members) as (λ b. TriedFrom P now (if b then after_removal now fewer else tried now (turn_of g))) [
+      | true ↦ record { from = if has_joined fewer.group.phase then prepared now fewer else fewer; is = refl; told = told-removal P refused now fewer tt }
+      | false ↦ record { from = turn_of g; is = refl; told = tt }
+    ]

@@ -1,0 +1,5 @@
+use Rattle.cg_group.proofs.Earned.{assignments_are_earned}
+use Rattle.cg_group.proofs.laws.assignments_are_earned.Goals as goal
+
+pub returns : goal.returns
+returns c = assignments_are_earned

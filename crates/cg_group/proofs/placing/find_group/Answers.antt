@@ -1,0 +1,14 @@
+use Rattle.std.proofs.Common.{sym, ◌∙◌}
+use Rattle.cg_group.proofs.InOrder.{found_between, found_level, found_past}
+use Rattle.cg_group.proofs.placing.find_group.Goals as goal
+
+pub returns-in_default : goal.returns-in_default
+returns-in_default c = found_past c.args.id.now c.args.groups.now (sym c.place_for.ensures ∙ c.in_default.is)
+
+pub returns-then-comes_level : goal.returns-then-comes_level
+returns-then-comes_level c =
+    found_level c.args.id.now c.args.groups.now c.in-Some.place c.index-groups-place.result c.index-groups-place-then-comes_level.result c.requires (sym c.place_for.ensures ∙ c.in-Some.is) c.index-groups-place.is c.index-groups-place-then-comes_level.is (sym c.comes_level.ensures ∙ c.if-comes_level.true)
+
+pub returns-else-comes_level : goal.returns-else-comes_level
+returns-else-comes_level c =
+    found_between c.args.id.now c.args.groups.now c.in-Some.place c.index-groups-place.result c.requires (sym c.place_for.ensures ∙ c.in-Some.is) c.index-groups-place.is (sym c.comes_level.ensures ∙ c.if-comes_level.false)

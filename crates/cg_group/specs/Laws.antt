@@ -1,0 +1,201 @@
+-- The laws of the machine, over every list of events from every state that a loading begins with.
+use Rattle.std.specs.Prelude.{◌≡◌, ℕ, Bool, true, false, pos, ◌&&◌, ◌==◌, List, [], ◌∷◌, ◌++◌, map, Option, Some, None, is_some}
+use Rattle.std.specs.List.{list_any, flat_map}
+use Rattle.std.specs.Option.{option_to_list}
+use Rattle.std.specs.Ordering.{int_eq}
+use Rattle.cg_group.specs.declared.command.Assigned.{Assigned}
+use Rattle.cg_group.specs.declared.command.Command.{Command}
+use Rattle.cg_group.specs.declared.command.Command.TheVariants as command
+use Rattle.cg_group.specs.declared.command.Emptied.{Emptied}
+use Rattle.cg_group.specs.declared.event.Event.{Event}
+use Rattle.cg_group.specs.declared.event.Event.TheVariants as event
+use Rattle.cg_group.specs.declared.group.Group.{Group}
+use Rattle.cg_group.specs.declared.group.Phase.{Phase}
+use Rattle.cg_group.specs.declared.group.Phase.TheVariants.{Empty, Preparing, Completing, Stable}
+use Rattle.cg_group.specs.declared.member.Member.{Member}
+use Rattle.cg_group.specs.declared.reply.Reply.{Reply}
+use Rattle.cg_group.specs.declared.reply.Reply.TheVariants as reply
+use Rattle.cg_group.specs.declared.ticket.Ticket.{Ticket}
+use Rattle.cg_group.specs.Kept.{Kept, AreRecords, Each, are_distinct, kept_after, nothing_kept}
+use Rattle.cg_group.specs.Leaving.{gone_in}
+use Rattle.cg_group.specs.Machine.{Machine, Outcome, find_group, met, step}
+use Rattle.cg_group.specs.Membership.{is_named, is_same}
+use Rattle.cg_group.specs.Reviving.{revive}
+use Rattle.cg_group.specs.Syncing.{kept_member}
+use Rattle.cg_group.specs.Ticking.{ticked}
+
+-- the machine after these events, each at its moment
+unfoldable pub after_all : List (Event × ℕ) → Machine → Machine
+after_all [] s = s
+after_all (e ∷ es) s = after_all es (step s e.0 e.1).after
+
+-- the commands that these events made, in their order
+unfoldable pub commands_of : List (Event × ℕ) → Machine → List Command
+commands_of [] s = []
+commands_of (e ∷ es) s = (step s e.0 e.1).effects.commands ++ commands_of es (step s e.0 e.1).after
+
+-- a JOIN offers a protocol at least
+abbrev pub is_request : Event → Bool
+is_request (event.Join ticket r fresh) = list_any (λ p. true) r.protocols
+is_request (event.Sync ticket r) = true
+is_request (event.Beat ticket r) = true
+is_request (event.Leave ticket r) = true
+is_request (event.Describe ticket id) = true
+is_request (event.List ticket) = true
+is_request (event.Gone session) = true
+is_request event.Tick = true
+
+abbrev pub AreRequests : List (Event × ℕ) → Type 0
+AreRequests events = Each (λ e. is_request e.0 ≡ true) events
+
+-- 1. No two members of a group have one id or one instance.
+
+-- the ids of the members, in joining order
+abbrev pub ids : List Member → List (List ℕ)
+ids members = map (λ m. m.id) members
+
+-- the instances of those that have one
+abbrev pub instances : List Member → List (List ℕ)
+instances members = flat_map (λ m. option_to_list m.instance) members
+
+abbrev pub has_distinct_members : Group → Bool
+has_distinct_members g = are_distinct (ids g.members) && are_distinct (instances g.members)
+
+abbrev pub MembersStayDistinct : Type 0
+MembersStayDistinct =
+    (records : List Command) (now : ℕ) (events : List (Event × ℕ)) → AreRecords records
+    → Each (λ g. has_distinct_members g ≡ true) (after_all events (revive records now)).groups
+
+-- 2. All join replies that one completing makes name one leader, protocol and generation.
+
+-- the replies of an event, group by group: a request has its replies in one group
+unfoldable pub replies_by_group : Machine → Event → List (List (Ticket × Reply))
+replies_by_group s (event.Gone session) = map (λ g. (gone_in s.last session g).replies) s.groups
+replies_by_group s event.Tick = map (λ g. (ticked s.last g).replies) s.groups
+replies_by_group s (event.Join ticket r fresh) = (met s (event.Join ticket r fresh)).effects.replies ∷ []
+replies_by_group s (event.Sync ticket r) = (met s (event.Sync ticket r)).effects.replies ∷ []
+replies_by_group s (event.Beat ticket r) = (met s (event.Beat ticket r)).effects.replies ∷ []
+replies_by_group s (event.Leave ticket r) = (met s (event.Leave ticket r)).effects.replies ∷ []
+replies_by_group s (event.Describe ticket id) = (met s (event.Describe ticket id)).effects.replies ∷ []
+replies_by_group s (event.List ticket) = (met s (event.List ticket)).effects.replies ∷ []
+
+-- a join reply names this generation, protocol and leader
+abbrev pub Names : ℕ → Option (List ℕ) → Option (List ℕ) → Reply → Type 0
+Names generation protocol leader (reply.Joined j) = (j.generation ≡ generation) × (j.protocol ≡ protocol) × (j.leader ≡ leader)
+Names generation protocol leader (reply.Synced bytes) = Unit {0}
+Names generation protocol leader reply.Done = Unit {0}
+Names generation protocol leader (reply.Described d) = Unit {0}
+Names generation protocol leader (reply.Groups groups) = Unit {0}
+Names generation protocol leader (reply.Refused code) = Unit {0}
+
+-- the join replies among these name one generation, protocol and leader
+pub record IsOneRound (replies : List (Ticket × Reply)) : Type 0 where
+  pub generation : ℕ
+  pub protocol : Option (List ℕ)
+  pub leader : Option (List ℕ)
+  pub each : Each (λ r. Names generation protocol leader r.1) replies
+
+-- the replies of an event are those of its groups, one after the other, and each group's are of one round
+pub record IsInRounds (s : Machine) (e : Event) : Type 0 where
+  pub whole : (met s e).effects.replies ≡ flat_map (λ replies. replies) (replies_by_group s e)
+  pub rounds : Each IsOneRound (replies_by_group s e)
+
+abbrev pub RoundsAreOne : Type 0
+RoundsAreOne = (s : Machine) (e : Event) → IsInRounds s e
+
+-- 5. Machine and commands agree.
+
+-- the record of a stable group
+pub record IsAssignedAs (a : Assigned) (g : Group) : Type 0 where
+  pub phase : g.phase ≡ Stable
+  pub generation : a.generation ≡ g.generation
+  pub kind : Some a.kind ≡ g.kind
+  pub protocol : Some a.protocol ≡ g.protocol
+  pub leader : Some a.leader ≡ g.leader
+  pub members : a.members ≡ map (kept_member g.protocol) g.members
+
+-- the record of a group without members
+pub record IsEmptiedAs (e : Emptied) (g : Group) : Type 0 where
+  pub phase : g.phase ≡ Empty
+  pub generation : e.generation ≡ g.generation
+  pub kind : Some e.kind ≡ g.kind
+  pub members : g.members ≡ []
+
+-- the record is there, and has all of the group
+abbrev pub TellsOf : Group → Option Command → Type 0
+TellsOf g None = ⊥
+TellsOf g (Some (command.Assigned a)) = IsAssignedAs a g
+TellsOf g (Some (command.Emptied e)) = IsEmptiedAs e g
+
+-- a stable or empty group is what its record tells; nothing is said of one in the join phase
+abbrev pub AgreesIn : Phase → Group → Option Command → Type 0
+AgreesIn Stable g kept = TellsOf g kept
+AgreesIn Empty g kept = TellsOf g kept
+AgreesIn Preparing g kept = Unit {0}
+AgreesIn Completing g kept = Unit {0}
+
+pub record Agrees (s : Machine) (kept : Kept) : Type 0 where
+  pub held : (id : List ℕ) → is_some (kept id) ≡ true → is_some (find_group id s.groups) ≡ true
+  pub told : Each (λ g. AgreesIn g.phase g (kept g.id)) s.groups
+
+-- what is kept after these events, from these records on
+abbrev pub kept_after_all : List Command → ℕ → List (Event × ℕ) → Kept
+kept_after_all records now events = kept_after nothing_kept (records ++ commands_of events (revive records now))
+
+abbrev pub MachineAndCommandsAgree : Type 0
+MachineAndCommandsAgree =
+    (records : List Command) (now : ℕ) (events : List (Event × ℕ)) → AreRecords records → AreRequests events
+    → Agrees (after_all events (revive records now)) (kept_after_all records now events)
+
+-- 4. A SYNCED reply goes to a member that named the group's generation, and gives the bytes that are kept for it.
+
+abbrev pub is_same_ticket : Ticket → Ticket → Bool
+is_same_ticket t u = (t.session == u.session) && (t.number == u.number)
+
+-- the event is the SYNC with this ticket, of this member of this group, and it named this generation
+abbrev pub is_sync_of : List ℕ → ℕ → List ℕ → Ticket → Event → Bool
+is_sync_of group generation member t (event.Sync ticket r) =
+    is_same_ticket ticket t && is_named r.group group && is_named r.member member && int_eq r.generation (pos generation)
+is_sync_of group generation member t (event.Join ticket r fresh) = false
+is_sync_of group generation member t (event.Beat ticket r) = false
+is_sync_of group generation member t (event.Leave ticket r) = false
+is_sync_of group generation member t (event.Describe ticket id) = false
+is_sync_of group generation member t (event.List ticket) = false
+is_sync_of group generation member t (event.Gone session) = false
+is_sync_of group generation member t event.Tick = false
+
+-- one of these events is
+abbrev pub has_named : List (Event × ℕ) → List ℕ → ℕ → List ℕ → Ticket → Bool
+has_named events group generation member t = list_any (λ e. is_sync_of group generation member t e.0) events
+
+-- these bytes are kept for the member with this id
+abbrev pub is_kept_for : Option Command → List ℕ → List ℕ → Bool
+is_kept_for None member bytes = false
+is_kept_for (Some (command.Assigned a)) member bytes = list_any (λ m. is_same m.id member && is_same m.assignment bytes) a.members
+is_kept_for (Some (command.Emptied e)) member bytes = false
+
+-- a SYNCED reply is to a SYNC of a member of the group, which named its generation, and has what is kept for that member
+abbrev pub is_earned_in : List (Event × ℕ) → Group → Option Command → Ticket × Reply → Bool
+is_earned_in events g kept (t, reply.Synced bytes) =
+    list_any (λ m. has_named events g.id g.generation m.id t && is_kept_for kept m.id bytes) g.members
+is_earned_in events g kept (t, reply.Joined j) = true
+is_earned_in events g kept (t, reply.Done) = true
+is_earned_in events g kept (t, reply.Described d) = true
+is_earned_in events g kept (t, reply.Groups listings) = true
+is_earned_in events g kept (t, reply.Refused code) = true
+
+-- it is so in a group that is held, or it is another reply
+abbrev pub is_earned : List (Event × ℕ) → List Group → Kept → Ticket × Reply → Bool
+is_earned events groups kept (t, reply.Synced bytes) = list_any (λ g. is_earned_in events g (kept g.id) (t, reply.Synced bytes)) groups
+is_earned events groups kept (t, reply.Joined j) = true
+is_earned events groups kept (t, reply.Done) = true
+is_earned events groups kept (t, reply.Described d) = true
+is_earned events groups kept (t, reply.Groups listings) = true
+is_earned events groups kept (t, reply.Refused code) = true
+
+-- each reply of one more event, by what was met with it, and what is held and kept at its end
+abbrev pub AssignmentsAreEarned : Type 0
+AssignmentsAreEarned =
+    (records : List Command) (now : ℕ) (events : List (Event × ℕ)) (e : Event) (m : ℕ) → AreRecords records → AreRequests events
+    → let o : Outcome = step (after_all events (revive records now)) e m in
+    Each (λ r. is_earned (events ++ (e, m) ∷ []) o.after.groups (kept_after (kept_after_all records now events) o.effects.commands) r ≡ true) o.effects.replies

@@ -1,0 +1,16 @@
+pub mod Refusing
+pub mod Waiting
+pub mod Membership
+pub mod Vote
+pub mod Rebalance
+pub mod Joining
+pub mod Syncing
+pub mod Beating
+pub mod Leaving
+pub mod Ticking
+pub mod Describing
+pub mod Kept
+pub mod Machine
+pub mod InPlace
+pub mod Reviving
+pub mod Laws

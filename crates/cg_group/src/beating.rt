@@ -1,0 +1,39 @@
+//! BEAT: a member says that it is there.
+ghost use Rattle.std.specs.Prelude.{◌≡◌, ℕ, Ok, Err, MatchResult};
+ghost use Rattle.cg_group.specs.Beating.{beat_reply, beat_taken, beat_held};
+
+use crate::group::{Group, Phase};
+use crate::reply::Reply;
+use crate::request::BeatRequest;
+use crate::ticket::Ticket;
+use cg_names::{Code, MemberId};
+
+/// What a BEAT that is taken is answered.
+#[tactic(auto, unfolding(crate::specs::Beating::beat_reply))]
+pub fn beat_reply(group: &Group) -> Reply
+    ensures { result ≡ beat_reply group.now }
+{
+    match group.phase {
+        Phase::Preparing => Reply::Refused(Code::RebalanceInProgress),
+        _ => Reply::Done,
+    }
+}
+
+/// The member from which a BEAT is taken in its group.
+#[tactic(auto, unfolding(crate::specs::Beating::beat_held))]
+pub fn beating_member<'a>(r: &'a BeatRequest, group: &Group) -> Result<&'a MemberId, Code>
+    ensures { MatchResult result
+        (λ id. (now : ℕ) (ticket : Ticket) → beat_held now r.now ticket group.now ≡ Ok (beat_taken now id.now ticket group.now))
+        (λ code. (now : ℕ) (ticket : Ticket) → beat_held now r.now ticket group.now ≡ Err code) }
+{
+    let Some(id) = &r.member else {
+        return Err(Code::UnknownMemberId);
+    };
+    if group.members.find(id).is_none() {
+        return Err(Code::UnknownMemberId);
+    }
+    if i64::from(r.generation) != i64::from(group.generation.get()) {
+        return Err(Code::IllegalGeneration);
+    }
+    Ok(id)
+}

@@ -1,0 +1,132 @@
+//! LEAVE, and sessions that are closed.
+ghost use Rattle.std.specs.Prelude.{◌≡◌, not, IfOk};
+ghost use Rattle.cg_group.specs.Leaving.{after_removal, left, leave_taken, leave_held, gone_in};
+ghost use Rattle.cg_group.specs.Membership.{has_id, is_named, keeping, leader_among};
+ghost use Rattle.std.specs.List.{list_any};
+
+use crate::answers::{Refusing, answer_all, answer_one};
+use crate::calls::Calls;
+use crate::copies::copied_group;
+use crate::group::{Group, Phase};
+use crate::listed::Listed;
+use crate::member::Member;
+use crate::rebalance::{leads, prepared, tried, turn_of};
+use crate::reply::Reply;
+use crate::request::LeaveRequest;
+use crate::ticket::Ticket;
+use crate::turn::Turn;
+use cg_names::{Code, MemberId, Moment};
+use std::alloc::{AllocError, Global};
+
+fn has_leader(group: &Group) -> bool
+    ensures { result ≡ list_any (λ m. is_named group.now.leader m.id) group.now.members }
+{
+    group.members.as_slice().iter().any(|m| leads(group, m))
+}
+
+/// The leader, where it is still a member.
+pub fn checked_leader(mut group: Group) -> Group
+    ensures { result ≡ record group { leader = leader_among group.members group.leader } }
+{
+    if !has_leader(&group) {
+        group.leader = None;
+    }
+    group
+}
+
+/// Prepares, where the members had joined; then tries.
+#[tactic(auto, unfolding(crate::specs::Leaving::after_removal))]
+pub fn after_removal(alloc: Global, now: Moment, turn: Turn) -> Result<Turn, AllocError>
+    ensures { IfOk result (λ t. t ≡ after_removal now turn) }
+{
+    let turn = match turn.group.phase {
+        Phase::Completing | Phase::Stable => prepared(now, turn)?,
+        _ => turn,
+    };
+    tried(alloc, now, turn)
+}
+
+#[tactic(auto, unfolding(crate::specs::Membership::keeping))]
+fn without(alloc: Global, id: &MemberId, group: &Group) -> Result<Group, AllocError>
+    ensures { IfOk result (λ g. g ≡ keeping (λ other. not (has_id id.now other)) group.now) }
+{
+    let mut own = copied_group(alloc, group)?;
+    own.members.remove(id);
+    Ok(checked_leader(own))
+}
+
+#[tactic(auto, unfolding(crate::specs::Leaving::left))]
+fn left(
+    alloc: Global,
+    id: &MemberId,
+    ticket: Ticket,
+    member: &Member,
+    group: &Group,
+) -> Result<Turn, AllocError>
+    ensures { IfOk result (λ t. t ≡ left id.now ticket member.now group.now) }
+{
+    let group = without(alloc, id, group)?;
+    let mut replies = Listed::new(alloc);
+    let refusing = Refusing(Code::UnknownMemberId);
+    answer_one(Calls::Any, &refusing, member, &mut replies)?;
+    replies.push((ticket, Reply::Done))?;
+    Ok(Turn {
+        group,
+        replies,
+        commands: Listed::new(alloc),
+    })
+}
+
+#[tactic(auto, unfolding(crate::specs::Leaving::leave_taken))]
+fn leave_taken(
+    alloc: Global,
+    now: Moment,
+    id: &MemberId,
+    ticket: Ticket,
+    member: &Member,
+    group: &Group,
+) -> Result<Turn, AllocError>
+    ensures { IfOk result (λ t. t ≡ leave_taken now id.now ticket member.now group.now) }
+{
+    let turn = left(alloc, id, ticket, member, group)?;
+    let turn = after_removal(alloc, now, turn)?;
+    Ok(turn)
+}
+
+/// LEAVE in a group that is held.
+#[tactic(auto, unfolding(crate::specs::Leaving::leave_held))]
+pub fn leave_held(
+    alloc: Global,
+    now: Moment,
+    r: &LeaveRequest,
+    ticket: Ticket,
+    group: &Group,
+) -> Result<Result<Turn, Code>, AllocError>
+    ensures { IfOk result (λ o. o ≡ leave_held now r.now ticket group.now) }
+{
+    let Some(id) = &r.member else {
+        return Ok(Err(Code::UnknownMemberId));
+    };
+    let Some(member) = group.members.find(id) else {
+        return Ok(Err(Code::UnknownMemberId));
+    };
+    let turn = leave_taken(alloc, now, id, ticket, member, group)?;
+    Ok(Ok(turn))
+}
+
+/// A closed session, in one group.
+#[tactic(auto, unfolding(crate::specs::Leaving::gone_in))]
+pub fn gone_in(alloc: Global, now: Moment, session: u64, group: &Group) -> Result<Turn, AllocError>
+    ensures { IfOk result (λ t. t ≡ gone_in now session group.now) }
+{
+    let mut turn = turn_of(alloc, copied_group(alloc, group)?);
+    let refusing = Refusing(Code::CoordinatorNotAvailable);
+    answer_all(
+        Calls::OfSession(session),
+        &refusing,
+        group.members.as_slice(),
+        &mut turn.replies,
+    )?;
+    turn.group.members.answer(Calls::OfSession(session), now);
+    Ok(turn)
+}

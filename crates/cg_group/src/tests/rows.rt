@@ -1,0 +1,263 @@
+use super::lines::{Joiner, Scene};
+use super::*;
+
+const M1: &str = "c1-00000000-0000-0000-0000-000000000001";
+
+const M2: &str = "c2-00000000-0000-0000-0000-000000000002";
+
+const C1: Joiner<'static> = Joiner {
+    member: "-",
+    client: "c1",
+    session_ms: 10_000,
+    rebalance_ms: 20_000,
+    kind: "consumer",
+    protocols: &[("range", 1)],
+};
+
+const C2: Joiner<'static> = Joiner {
+    member: "-",
+    client: "c2",
+    session_ms: 10_000,
+    rebalance_ms: 20_000,
+    kind: "consumer",
+    protocols: &[("range", 2)],
+};
+
+const JOINED_1: &str =
+    "s1 JOINED 1 consumer range c1-00000000-0000-0000-0000-000000000001 c1-00000000-0000-0000-0000-000000000001 c1-00000000-0000-0000-0000-000000000001:-:x01|";
+
+#[test]
+fn two_members_join_and_sync(rt: HostRuntime) -> Result<(), Fail> {
+    let alloc = rt.alloc();
+    let mut s = Scene::new(alloc)?;
+    assert_eq!(rt; s.join(alloc, 0, 1, "g", C1)?.as_str(), JOINED_1);
+    assert_eq!(rt; s.join(alloc, 0, 2, "g", C2)?.as_str(), "");
+    let c1 = Joiner { member: M1, ..C1 };
+    let both =
+        "s1 JOINED 2 consumer range c1-00000000-0000-0000-0000-000000000001 c1-00000000-0000-0000-0000-000000000001 c1-00000000-0000-0000-0000-000000000001:-:x01 c2-00000000-0000-0000-0000-000000000002:-:x02|s2 JOINED 2 consumer range c1-00000000-0000-0000-0000-000000000001 c2-00000000-0000-0000-0000-000000000002|";
+    assert_eq!(rt; s.join(alloc, 0, 1, "g", c1)?.as_str(), both);
+    assert_eq!(rt; s.sync(alloc, 0, 2, 2, M2, &[])?.as_str(), "");
+    let synced =
+        "Assigned g 2 consumer range c1-00000000-0000-0000-0000-000000000001 2|s1 SYNCED xaa|s2 SYNCED x|";
+    assert_eq!(rt; s.sync(alloc, 0, 1, 2, M1, &[(M1, 0xaa)])?.as_str(), synced);
+    Ok(())
+}
+
+#[test]
+fn session_time_outs_have_limits(rt: HostRuntime) -> Result<(), Fail> {
+    let alloc = rt.alloc();
+    let mut s = Scene::new(alloc)?;
+    for (group, session_ms, line) in [
+        ("a", 5_999, "s1 ERR 26|"),
+        (
+            "b",
+            6_000,
+            "s1 JOINED 1 consumer range c1-00000000-0000-0000-0000-000000000002 c1-00000000-0000-0000-0000-000000000002 c1-00000000-0000-0000-0000-000000000002:-:x|",
+        ),
+        (
+            "c",
+            1_800_000,
+            "s1 JOINED 1 consumer range c1-00000000-0000-0000-0000-000000000003 c1-00000000-0000-0000-0000-000000000003 c1-00000000-0000-0000-0000-000000000003:-:x|",
+        ),
+        ("d", 1_800_001, "s1 ERR 26|"),
+    ] {
+        let j = Joiner {
+            session_ms,
+            rebalance_ms: 0,
+            protocols: &[("range", 0)],
+            ..C1
+        };
+        let said = s.join(alloc, 0, 1, group, j)?;
+        assert_eq!(rt; said.as_str(), line);
+    }
+    assert_eq!(rt;
+        s.list(alloc, 0, 1)?.as_str(),
+        "s1 GROUPS b:consumer:CompletingRebalance c:consumer:CompletingRebalance|"
+    );
+    Ok(())
+}
+
+#[test]
+fn a_session_expires(rt: HostRuntime) -> Result<(), Fail> {
+    let alloc = rt.alloc();
+    let mut s = Scene::new(alloc)?;
+    let c1 = Joiner {
+        session_ms: 6_000,
+        ..C1
+    };
+    assert_eq!(rt; s.join(alloc, 0, 1, "g", c1)?.as_str(), JOINED_1);
+    let synced =
+        "Assigned g 1 consumer range c1-00000000-0000-0000-0000-000000000001 1|s1 SYNCED xaa|";
+    assert_eq!(rt; s.sync(alloc, 0, 1, 1, M1, &[(M1, 0xaa)])?.as_str(), synced);
+    assert_eq!(rt; s.tick(alloc, 5_999)?.as_str(), "");
+    let stable =
+        "s2 GROUP Stable 1 consumer range c1-00000000-0000-0000-0000-000000000001:-:c1:x01:xaa|";
+    assert_eq!(rt; s.describe(alloc, 5_999, 2)?.as_str(), stable);
+    assert_eq!(rt; s.tick(alloc, 6_000)?.as_str(), "Emptied g 2 consumer|");
+    assert_eq!(rt;
+        s.describe(alloc, 6_000, 2)?.as_str(),
+        "s2 GROUP Empty 2 consumer -|"
+    );
+    Ok(())
+}
+
+#[test]
+fn a_join_phase_ends_at_its_deadline(rt: HostRuntime) -> Result<(), Fail> {
+    let alloc = rt.alloc();
+    let mut s = Scene::new(alloc)?;
+    let c1 = Joiner {
+        session_ms: 60_000,
+        ..C1
+    };
+    let c2 = Joiner {
+        session_ms: 60_000,
+        ..C2
+    };
+    assert_eq!(rt; s.join(alloc, 0, 1, "g", c1)?.as_str(), JOINED_1);
+    assert_eq!(rt; s.join(alloc, 0, 2, "g", c2)?.as_str(), "");
+    let again = Joiner { member: M1, ..c1 };
+    let said = s.join(alloc, 0, 1, "g", again)?;
+    assert!(rt; said.as_str().starts_with("s1 JOINED 2 "));
+    let other = Joiner {
+        protocols: &[("range", 9)],
+        ..again
+    };
+    assert_eq!(rt; s.join(alloc, 1_000, 1, "g", other)?.as_str(), "");
+    assert_eq!(rt; s.tick(alloc, 20_999)?.as_str(), "");
+    let joined =
+        "s1 JOINED 3 consumer range c1-00000000-0000-0000-0000-000000000001 c1-00000000-0000-0000-0000-000000000001 c1-00000000-0000-0000-0000-000000000001:-:x09|";
+    assert_eq!(rt; s.tick(alloc, 21_000)?.as_str(), joined);
+    assert_eq!(rt; s.beat(alloc, 21_000, 2, 3, M2)?.as_str(), "s2 ERR 25|");
+    assert_eq!(rt; s.beat(alloc, 21_000, 1, 3, M1)?.as_str(), "s1 OK|");
+    Ok(())
+}
+
+#[test]
+fn a_join_that_was_lost_is_unknown(rt: HostRuntime) -> Result<(), Fail> {
+    let alloc = rt.alloc();
+    let mut s = Scene::new(alloc)?;
+    let c1 = Joiner { member: M1, ..C1 };
+    assert_eq!(rt; s.join(alloc, 0, 1, "g", c1)?.as_str(), "s1 ERR 25|");
+    assert_eq!(rt; s.describe(alloc, 0, 1)?.as_str(), "s1 GROUP Dead 0 - -|");
+    let said = s.join(alloc, 0, 1, "g", C1)?;
+    assert_eq!(rt;
+        said.as_str(),
+        "s1 JOINED 1 consumer range c1-00000000-0000-0000-0000-000000000002 c1-00000000-0000-0000-0000-000000000002 c1-00000000-0000-0000-0000-000000000002:-:x01|"
+    );
+    Ok(())
+}
+
+#[test]
+fn a_tie_of_votes_goes_to_the_least_name(rt: HostRuntime) -> Result<(), Fail> {
+    let alloc = rt.alloc();
+    let mut s = Scene::new(alloc)?;
+    let c1 = Joiner {
+        protocols: &[("roundrobin", 0), ("range", 0)],
+        ..C1
+    };
+    let c2 = Joiner {
+        protocols: &[("range", 0), ("roundrobin", 0)],
+        ..C2
+    };
+    let first =
+        "s1 JOINED 1 consumer roundrobin c1-00000000-0000-0000-0000-000000000001 c1-00000000-0000-0000-0000-000000000001 c1-00000000-0000-0000-0000-000000000001:-:x|";
+    assert_eq!(rt; s.join(alloc, 0, 1, "g", c1)?.as_str(), first);
+    assert_eq!(rt; s.join(alloc, 0, 2, "g", c2)?.as_str(), "");
+    let again = Joiner { member: M1, ..c1 };
+    let both =
+        "s1 JOINED 2 consumer range c1-00000000-0000-0000-0000-000000000001 c1-00000000-0000-0000-0000-000000000001 c1-00000000-0000-0000-0000-000000000001:-:x c2-00000000-0000-0000-0000-000000000002:-:x|s2 JOINED 2 consumer range c1-00000000-0000-0000-0000-000000000001 c2-00000000-0000-0000-0000-000000000002|";
+    assert_eq!(rt; s.join(alloc, 0, 1, "g", again)?.as_str(), both);
+    let stranger = Joiner {
+        client: "c3",
+        kind: "connect",
+        ..C1
+    };
+    assert_eq!(rt; s.join(alloc, 0, 3, "g", stranger)?.as_str(), "s3 ERR 23|");
+    Ok(())
+}
+
+#[test]
+fn a_closed_session_waits_no_longer(rt: HostRuntime) -> Result<(), Fail> {
+    let alloc = rt.alloc();
+    let mut s = Scene::new(alloc)?;
+    assert_eq!(rt; s.join(alloc, 0, 1, "g", C1)?.as_str(), JOINED_1);
+    assert_eq!(rt; s.join(alloc, 0, 2, "g", C2)?.as_str(), "");
+    assert_eq!(rt; s.gone(alloc, 0, 2)?.as_str(), "s2 ERR 15|");
+    let c1 = Joiner { member: M1, ..C1 };
+    assert_eq!(rt; s.join(alloc, 0, 1, "g", c1)?.as_str(), "");
+    let joined =
+        "s1 JOINED 2 consumer range c1-00000000-0000-0000-0000-000000000001 c1-00000000-0000-0000-0000-000000000001 c1-00000000-0000-0000-0000-000000000001:-:x01|";
+    assert_eq!(rt; s.tick(alloc, 10_000)?.as_str(), joined);
+    assert_eq!(rt;
+        s.leave(alloc, 10_000, 1, M1)?.as_str(),
+        "Emptied g 3 consumer|s1 OK|"
+    );
+    Ok(())
+}
+
+#[test]
+fn the_generation_after_the_last_is_one(rt: HostRuntime) -> Result<(), Fail> {
+    let alloc = rt.alloc();
+    let emptied = Command::Emptied(Emptied {
+        group: Name::parse(alloc, "g")?,
+        generation: Generation::new(GENERATION_MAX).ok_or("no last generation")?,
+        kind: Name::parse(alloc, "consumer")?,
+    });
+    let groups = Groups::revive(alloc, &[emptied], Moment::from_millis(0))?;
+    let mut s = Scene { groups, drawn: 0 };
+    assert_eq!(rt; s.join(alloc, 0, 1, "g", C1)?.as_str(), JOINED_1);
+    Ok(())
+}
+
+#[test]
+fn an_id_that_is_drawn_again_is_refused(rt: HostRuntime) -> Result<(), Fail> {
+    let alloc = rt.alloc();
+    let mut s = Scene::new(alloc)?;
+    assert_eq!(rt; s.join(alloc, 0, 1, "g", C1)?.as_str(), JOINED_1);
+    s.drawn = 0;
+    assert_eq!(rt; s.join(alloc, 0, 2, "g", C1)?.as_str(), "s2 ERR 15|");
+    assert_eq!(rt; s.groups.held(), 1);
+    Ok(())
+}
+
+#[test]
+fn a_stable_group_answers_at_once(rt: HostRuntime) -> Result<(), Fail> {
+    let alloc = rt.alloc();
+    let mut s = Scene::new(alloc)?;
+    assert_eq!(rt; s.join(alloc, 0, 1, "g", C1)?.as_str(), JOINED_1);
+    let synced =
+        "Assigned g 1 consumer range c1-00000000-0000-0000-0000-000000000001 1|s1 SYNCED xaa|";
+    assert_eq!(rt; s.sync(alloc, 0, 1, 1, M1, &[(M1, 0xaa)])?.as_str(), synced);
+    assert_eq!(rt;
+        s.sync(alloc, 6_000, 1, 1, M1, &[])?.as_str(),
+        "s1 SYNCED xaa|"
+    );
+    assert_eq!(rt; s.tick(alloc, 15_999)?.as_str(), "");
+    assert_eq!(rt; s.beat(alloc, 15_999, 1, 1, M1)?.as_str(), "s1 OK|");
+    assert_eq!(rt; s.tick(alloc, 25_998)?.as_str(), "");
+    assert_eq!(rt; s.tick(alloc, 25_999)?.as_str(), "Emptied g 2 consumer|");
+    Ok(())
+}
+
+#[test]
+fn calls_wait_by_group_and_joining_order(rt: HostRuntime) -> Result<(), Fail> {
+    let alloc = rt.alloc();
+    let mut s = Scene::new(alloc)?;
+    for (session, group, client) in [
+        (1, "b", "c1"),
+        (2, "b", "c2"),
+        (3, "a", "c3"),
+        (4, "a", "c4"),
+        (5, "b", "c5"),
+    ] {
+        let j = Joiner { client, ..C1 };
+        let _said = s.join(alloc, 0, session, group, j)?;
+    }
+    for (i, session) in [(0, 4), (1, 2), (2, 5)] {
+        let call = s.groups.parked(i).ok_or("too few wait")?;
+        assert_eq!(rt; call.session, session);
+    }
+    assert!(rt; s.groups.parked(3).is_none());
+    assert_eq!(rt; s.groups.held(), 2);
+    Ok(())
+}

@@ -1,0 +1,90 @@
+//! Time-outs: sessions that expire, and the deadline of the join phase.
+ghost use Rattle.std.specs.Prelude.{◌≡◌, IfOk};
+ghost use Rattle.cg_group.specs.Ticking.{expired, greatest_rebalance, is_due, at_deadline, ticked};
+
+use crate::copies::copied_group;
+use crate::group::Group;
+use crate::leaving::{after_removal, checked_leader};
+use crate::member::Member;
+use crate::rebalance::{completed, is_preparing, tried, turn_of};
+use crate::turn::Turn;
+use cg_names::Moment;
+use std::alloc::{AllocError, Global};
+
+#[tactic(auto, unfolding(crate::specs::Ticking::expired, crate::specs::Membership::keeping))]
+fn expired(alloc: Global, now: Moment, turn: Turn) -> Result<Turn, AllocError>
+    ensures { IfOk result (λ t. t ≡ expired now turn) }
+{
+    if !turn.group.members.has_overdue(now) {
+        return tried(alloc, now, turn);
+    }
+    let Turn {
+        mut group,
+        replies,
+        commands,
+    } = turn;
+    group.members.remove_overdue(now);
+    let group = checked_leader(group);
+    after_removal(
+        alloc,
+        now,
+        Turn {
+            group,
+            replies,
+            commands,
+        },
+    )
+}
+
+#[tactic(auto, unfolding(crate::specs::Ticking::greatest_rebalance))]
+fn greatest_rebalance(members: &[Member]) -> u32
+    ensures { result ≡ greatest_rebalance members.now }
+{
+    let mut greatest = 0;
+    for member in members {
+        greatest = member.rebalance_ms.max(greatest);
+    }
+    greatest
+}
+
+fn is_due(now: Moment, group: &Group) -> bool
+    ensures { result ≡ is_due now group.now }
+{
+    is_preparing(group.phase)
+        && now.is_past(group.started, greatest_rebalance(group.members.as_slice()))
+}
+
+#[tactic(auto, unfolding(crate::specs::Ticking::at_deadline, crate::specs::Membership::keeping))]
+fn at_deadline(alloc: Global, now: Moment, turn: Turn) -> Result<Turn, AllocError>
+    ensures { IfOk result (λ t. t ≡ at_deadline now turn) }
+{
+    if !is_due(now, &turn.group) {
+        return Ok(turn);
+    }
+    let Turn {
+        mut group,
+        replies,
+        commands,
+    } = turn;
+    group.members.remove_idle();
+    let group = checked_leader(group);
+    completed(
+        alloc,
+        now,
+        Turn {
+            group,
+            replies,
+            commands,
+        },
+    )
+}
+
+/// A Tick, in one group.
+#[tactic(auto, unfolding(crate::specs::Ticking::ticked))]
+pub fn ticked(alloc: Global, now: Moment, group: &Group) -> Result<Turn, AllocError>
+    ensures { IfOk result (λ t. t ≡ ticked now group.now) }
+{
+    let turn = turn_of(alloc, copied_group(alloc, group)?);
+    let turn = expired(alloc, now, turn)?;
+    at_deadline(alloc, now, turn)
+}

@@ -1,0 +1,13 @@
+use crate::command::Command;
+use crate::group::Group;
+use crate::listed::Listed;
+use crate::reply::Reply;
+use crate::ticket::Ticket;
+
+/// What an event has done so far in one group: the group as it is now, and the replies and commands in their order.
+#[derive(Debug, Drop)]
+pub struct Turn {
+    pub group: Group,
+    pub replies: Listed<(Ticket, Reply)>,
+    pub commands: Listed<Command>,
+}
