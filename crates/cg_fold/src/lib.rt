@@ -7,8 +7,6 @@ mod key;
 mod record;
 mod records;
 mod rows;
-#[cfg(test)]
-mod tests;
 
 pub use durable::Durable;
 pub use key::{OffsetKey, StoredOffset};
