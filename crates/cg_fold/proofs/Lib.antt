@@ -3,3 +3,4 @@ pub mod KeyOrder
 pub mod Put
 pub mod Kept
 pub mod Taken
+pub mod Anew

@@ -1,3 +1,4 @@
 pub mod Key
 pub mod Record
 pub mod Durable
+pub mod Snapshot

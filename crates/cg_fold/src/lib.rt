@@ -4,14 +4,14 @@
 
 mod durable;
 mod key;
+mod law;
 mod record;
 mod records;
 mod rows;
-#[cfg(test)]
-mod tests;
 
 pub use durable::Durable;
 pub use key::{OffsetKey, StoredOffset};
+pub use law::snapshots_make_the_state_anew;
 pub use record::GroupRecord;
 
 #[cfg(test)]

@@ -1,4 +1,4 @@
-use Rattle.std.proofs.Common.{rules, of_calls}
+use Rattle.std.proofs.Common.{rules}
 use Rattle.std.proofs.lemmas.Fn.{filter_same}
 use Rattle.cg_fold.proofs.records.take_away.Goals as goal
 

@@ -1,4 +1,4 @@
-use Rattle.std.proofs.Common.{rules, of_calls, ◌≡◌, sym, subst}
+use Rattle.std.proofs.Common.{rules, of_calls, sym, subst}
 use Rattle.std.proofs.Math.Dec.{T}
 use Rattle.std.proofs.lemmas.Fn.{always_returns_same}
 use Rattle.cg_fold.specs.Key.{key_of, is_below}

@@ -1,4 +1,4 @@
-use Rattle.std.proofs.Common.{sym, ap, Some}
+use Rattle.std.proofs.Common.{sym}
 use Rattle.cg_fold.specs.Key.{key_of}
 use Rattle.cg_fold.proofs.KeyOrder.{key_total}
 use Rattle.cg_fold.proofs.Place.{find-own, find-other}

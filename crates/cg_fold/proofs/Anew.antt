@@ -1,0 +1,294 @@
+-- The commands of a snapshot make the state that it was taken of.
+use Rattle.std.proofs.Common.{◌≡◌, ℕ, zero, suc, ◌≤◌, Bool, true, false, cond, List, [], ◌∷◌, ◌++◌, length, map as each, take, drop, Option, Some, None, ap, sym, ◌∙◌, refl, arith}
+use Rattle.std.proofs.Math.Dec.{T}
+use Rattle.std.specs.Prelude.{◌||◌, filter, flat_map, bytes_eq, is_some}
+use Rattle.std.specs.List.{fold, list_any}
+use Rattle.std.specs.Ordering.{eq_by_cmp, is_eq, is_lt}
+use Rattle.std.specs.declared.cmp.Ordering.{Ordering}
+use Rattle.std.specs.declared.cmp.Ordering.TheVariants.{Less, Equal, Greater}
+use Rattle.std.specs.Cmp.{tied_itself}
+use Rattle.std.specs.FinMap as map
+use Rattle.std.specs.FinMap.{find, is_sorted}
+use Rattle.std.specs.FinMap.Entries.{is_some-find, is_sorted-where_key, find-where_key}
+use Rattle.std.proofs.lemmas.List.{take-append-drop, length-drop}
+use Rattle.std.proofs.lemmas.List.Concat.{flat_map-cons}
+use Rattle.std.proofs.lemmas.List.Folds.{list_any-append}
+use Rattle.std.proofs.lemmas.Slice.Eq.{bytes_eq-Decides}
+use Rattle.cg_record.specs.declared.entries.TheConstants.{ENTRIES_MAX}
+use Rattle.cg_record.specs.Rosters.{RosterParts}
+use Rattle.cg_fold.specs.declared.key.OffsetKey.{OffsetKey}
+use Rattle.cg_fold.specs.declared.key.StoredOffset.{StoredOffset}
+use Rattle.cg_fold.specs.declared.record.GroupRecord.{GroupRecord}
+use Rattle.cg_fold.specs.Key.{KeptOffset, key_cmp, name_cmp}
+use Rattle.cg_fold.specs.Durable.{State, after, effect, empty, folded, with_entry, with_record}
+use Rattle.cg_fold.specs.Snapshot.{groups_in, marked, in_order, record_command, record_commands, entry_of, commits_of, is_of_group, offsets_of, group_commands, snapshot_of}
+use Rattle.cg_fold.proofs.KeyOrder.{key_total, key_same, name_total, name_same}
+use Rattle.cg_fold.proofs.Place.{below_all, both}
+
+-- ---- chains of commands
+
+fold-append : {A B : Type 0} (f : A → B → A) (a : A) (xs ys : List B) → fold f a (xs ++ ys) ≡ fold f (fold f a xs) ys
+fold-append f a [] ys = refl
+fold-append f a (x ∷ xs) ys = fold-append f (f a x) xs ys
+
+-- the first of these two that there is
+abbrev pub or_else : {X : Type 0} → Option X → Option X → Option X
+or_else None y = y
+or_else (Some x) y = Some x
+
+-- ---- the record of a group
+
+-- what sets a record of these parts
+made_record : (state : State) (group : List ℕ) (generation : ℕ) (kind : List ℕ) (roster : Option RosterParts)
+    → effect state (record_command group generation kind roster) ≡ with_record state group (record { generation = generation; kind = kind; roster = roster })
+unfolding effect
+made_record state group generation kind None = refl
+made_record state group generation kind (Some roster) = refl
+
+-- the record of a group after its command
+abbrev then_record : State → List ℕ → Option GroupRecord → State
+then_record state group None = state
+then_record state group (Some held) = with_record state group held
+
+after_record : (state : State) (group : List ℕ) (held : Option GroupRecord) → after state (record_commands group held) ≡ then_record state group held
+after_record state group None = refl
+after_record state group (Some held) = made_record state group held.generation held.kind held.roster
+
+-- ---- the offsets of a group
+
+abbrev with_row : map.FinMap key_cmp StoredOffset → KeptOffset → map.FinMap key_cmp StoredOffset
+with_row offsets row = map.insert offsets row.0 row.1
+
+-- rows of one group
+abbrev AreOf : List ℕ → List KeptOffset → Type 0
+AreOf group [] = Unit {0}
+AreOf group (row ∷ rows) = (row.0.group ≡ group) × AreOf group rows
+
+entries_as_rows : (group : List ℕ) (rows : List KeptOffset) (offsets : map.FinMap key_cmp StoredOffset) → AreOf group rows → fold (with_entry group) offsets (each entry_of rows) ≡ fold with_row offsets rows
+entries_as_rows group [] offsets are = refl
+entries_as_rows group (row ∷ rows) offsets are =
+    let same : with_entry group offsets (entry_of row) ≡ with_row offsets row = ap (λ g. map.insert offsets (record { group = g; topic = row.0.topic; partition = row.0.partition }) row.1) (sym are.0) in
+    ap (λ m. fold (with_entry group) m (each entry_of rows)) same ∙ entries_as_rows group rows (with_row offsets row) are.1
+
+AreOf-take : (group : List ℕ) (n : ℕ) (rows : List KeptOffset) → AreOf group rows → AreOf group (take n rows)
+AreOf-take group zero rows are = tt
+AreOf-take group (suc n) [] are = tt
+AreOf-take group (suc n) (row ∷ rows) are = (are.0, AreOf-take group n rows are.1)
+
+AreOf-drop : (group : List ℕ) (n : ℕ) (rows : List KeptOffset) → AreOf group rows → AreOf group (drop n rows)
+AreOf-drop group zero rows are = are
+AreOf-drop group (suc n) [] are = tt
+AreOf-drop group (suc n) (row ∷ rows) are = AreOf-drop group n rows are.1
+
+abbrev with_rows : State → List KeptOffset → State
+with_rows state rows = record state { offsets = fold with_row state.offsets rows }
+
+after_commits : (most : ℕ) (group : List ℕ) (rows : List KeptOffset) (state : State) → length rows ≤ most → AreOf group rows → after state (commits_of most group rows) ≡ with_rows state rows
+unfolding commits_of effect
+after_commits zero group [] state le are = refl
+after_commits zero group (row ∷ rows) state le are = absurd (omega arith)
+after_commits (suc most) group [] state le are = refl
+after_commits (suc most) group (row ∷ rows) state le are =
+    let shorter : length (drop ENTRIES_MAX (row ∷ rows)) ≤ most = omega (arith, length-drop ENTRIES_MAX (row ∷ rows)) in
+    let first : record state { offsets = fold (with_entry group) state.offsets (each entry_of (take ENTRIES_MAX (row ∷ rows))) } ≡ with_rows state (take ENTRIES_MAX (row ∷ rows)) =
+    ap (λ m. record state { offsets = m }) (entries_as_rows group (take ENTRIES_MAX (row ∷ rows)) state.offsets (AreOf-take group ENTRIES_MAX (row ∷ rows) are)) in
+    let others = after_commits most group (drop ENTRIES_MAX (row ∷ rows)) (with_rows state (take ENTRIES_MAX (row ∷ rows))) shorter (AreOf-drop group ENTRIES_MAX (row ∷ rows) are) in
+    let joined : fold with_row (fold with_row state.offsets (take ENTRIES_MAX (row ∷ rows))) (drop ENTRIES_MAX (row ∷ rows)) ≡ fold with_row state.offsets (row ∷ rows) =
+    sym (fold-append with_row state.offsets (take ENTRIES_MAX (row ∷ rows)) (drop ENTRIES_MAX (row ∷ rows))) ∙ ap (fold with_row state.offsets) (take-append-drop ENTRIES_MAX (row ∷ rows)) in
+    ap (λ s. after s (commits_of most group (drop ENTRIES_MAX (row ∷ rows)))) first ∙ others ∙ ap (λ m. record state { offsets = m }) joined
+
+-- ---- look-ups
+
+equal : (o : Ordering) → is_eq o ≡ true → o ≡ Equal
+equal Less e = absurd cc
+equal Equal e = refl
+equal Greater e = absurd cc
+
+or_true : (b : Bool) → (b || true) ≡ true
+or_true true = refl
+or_true false = refl
+
+abbrev state_from : map.FinMap name_cmp GroupRecord → map.FinMap key_cmp StoredOffset → State
+state_from records offsets = record { records = records; offsets = offsets }
+
+none_above : {K X : Type 0} (R : K → K → Ordering) (x : K) (es : List (K × X)) → T (below_all R x es) → find R x es ≡ None
+none_above R x [] all = refl
+none_above {K} {X} R x (e ∷ es) all =
+    let parts = both (is_lt (R x e.0)) (below_all R x es) all in
+    step (R x e.0) parts.0 (none_above R x es parts.1)
+  where
+    step : (r : Ordering) → T (is_lt r) → find R x es ≡ None → cond (is_eq r) (Some e.1) (find R x es) ≡ None
+    step Less before rest = rest
+    step Equal before rest = absurd before
+    step Greater before rest = absurd before
+
+get-with_rows : (rows : List KeptOffset) (m : map.FinMap key_cmp StoredOffset) (k : OffsetKey) → T (is_sorted key_cmp rows) → map.get (fold with_row m rows) k ≡ or_else (find key_cmp k rows) (map.get m k)
+get-with_rows [] m k sorted = refl
+get-with_rows (row ∷ rows) m k sorted =
+    let parts = both (below_all key_cmp row.0 rows) (is_sorted key_cmp rows) sorted in
+    get-with_rows rows (with_row m row) k parts.1 ∙ ap (or_else (find key_cmp k rows)) (map.get-insert key_total m row.0 row.1 k)
+    ∙ step (eq_by_cmp key_cmp k row.0) refl parts.0
+  where
+    step : (b : Bool) → eq_by_cmp key_cmp k row.0 ≡ b → T (below_all key_cmp row.0 rows) → or_else (find key_cmp k rows) (cond b (Some row.1) (map.get m k)) ≡ or_else (cond b (Some row.1) (find key_cmp k rows)) (map.get m k)
+    step true is above =
+        let same : k ≡ row.0 = key_same k row.0 (equal (key_cmp k row.0) is) in
+        let none : find key_cmp k rows ≡ None = ap (λ q. find key_cmp q rows) same ∙ none_above key_cmp row.0 rows above in
+        ap (λ o. or_else o (Some row.1)) none
+    step false is above = refl
+
+-- a name ties with another where it is that one
+tie_is_same : (a b : List ℕ) → eq_by_cmp name_cmp a b ≡ bytes_eq a b
+tie_is_same a b = cases (eq_by_cmp name_cmp a b) (bytes_eq a b) refl refl
+  where
+    cases : (p q : Bool) → eq_by_cmp name_cmp a b ≡ p → bytes_eq a b ≡ q → p ≡ q
+    cases true true is also = refl
+    cases false false is also = refl
+    cases true false is also = sym ((bytes_eq-Decides a b).1 (name_same a b (equal (name_cmp a b) is))) ∙ also
+    cases false true is also = sym is ∙ (ap (λ x. eq_by_cmp name_cmp x b) ((bytes_eq-Decides a b).0 also) ∙ ap is_eq (tied_itself name_total b))
+
+filter_are_of : (group : List ℕ) (rows : List KeptOffset) → AreOf group (filter (λ row. is_of_group group row.0) rows)
+filter_are_of group [] = tt
+filter_are_of group (row ∷ rows) = step (is_of_group group row.0) refl (filter_are_of group rows)
+  where
+    step : (b : Bool) → is_of_group group row.0 ≡ b → AreOf group (filter (λ r. is_of_group group r.0) rows) → AreOf group (cond b (row ∷ filter (λ r. is_of_group group r.0) rows) (filter (λ r. is_of_group group r.0) rows))
+    step true is rest = ((bytes_eq-Decides row.0.group group).0 is, rest)
+    step false is rest = rest
+
+-- ---- one group after the other
+
+-- of the groups that pass, this state has what that one has, and of the others nothing
+record Holds (whole now : State) (done : List ℕ → Bool) : Type 0 where
+  records : (q : List ℕ) → map.get now.records q ≡ cond (done q) (map.get whole.records q) None
+  offsets : (k : OffsetKey) → map.get now.offsets k ≡ cond (done k.group) (map.get whole.offsets k) None
+
+abbrev and_this : List ℕ → (List ℕ → Bool) → List ℕ → Bool
+and_this group done q = bytes_eq q group || done q
+
+after_group : (whole now : State) (group : List ℕ) → after now (group_commands whole group) ≡ with_rows (then_record now group (map.get whole.records group)) (offsets_of whole group)
+unfolding group_commands
+after_group whole now group =
+    fold-append effect now (record_commands group (map.get whole.records group)) (commits_of (length (offsets_of whole group)) group (offsets_of whole group))
+    ∙ ap (λ s. after s (commits_of (length (offsets_of whole group)) group (offsets_of whole group))) (after_record now group (map.get whole.records group))
+    ∙ after_commits (length (offsets_of whole group)) group (offsets_of whole group) (then_record now group (map.get whole.records group)) (omega arith) (filter_are_of group (map.entries whole.offsets))
+
+records_then : (whole now : State) (group : List ℕ) (done : List ℕ → Bool) (held : Option GroupRecord) (q : List ℕ) → map.get whole.records group ≡ held
+    → map.get now.records q ≡ cond (done q) (map.get whole.records q) None → map.get (then_record now group held).records q ≡ cond (bytes_eq q group || done q) (map.get whole.records q) None
+records_then whole now group done None q is before = before ∙ cases (bytes_eq q group) (done q) refl
+  where
+    cases : (b d : Bool) → bytes_eq q group ≡ b → cond d (map.get whole.records q) None ≡ cond (b || d) (map.get whole.records q) None
+    cases true true same = refl
+    cases true false same = sym (ap (map.get whole.records) ((bytes_eq-Decides q group).0 same) ∙ is)
+    cases false d same = refl
+records_then whole now group done (Some held) q is before =
+    map.get-insert name_total now.records group held q ∙ ap (λ b. cond b (Some held) (map.get now.records q)) (tie_is_same q group) ∙ cases (bytes_eq q group) refl
+  where
+    cases : (b : Bool) → bytes_eq q group ≡ b → cond b (Some held) (map.get now.records q) ≡ cond (b || done q) (map.get whole.records q) None
+    cases true same = sym (ap (map.get whole.records) ((bytes_eq-Decides q group).0 same) ∙ is)
+    cases false same = before
+
+offsets_unmoved : (now : State) (group : List ℕ) (held : Option GroupRecord) → (then_record now group held).offsets ≡ now.offsets
+offsets_unmoved now group None = refl
+offsets_unmoved now group (Some held) = refl
+
+records_unmoved : (now : State) (rows : List KeptOffset) → (with_rows now rows).records ≡ now.records
+records_unmoved now rows = refl
+
+offsets_then : (b d : Bool) (there : Option StoredOffset) → or_else (cond b there None) (cond d there None) ≡ cond (b || d) there None
+offsets_then true d (Some v) = refl
+offsets_then true true None = refl
+offsets_then true false None = refl
+offsets_then false d there = refl
+
+holds_on : (whole now : State) (group : List ℕ) (done : List ℕ → Bool) → Holds whole now done → Holds whole (after now (group_commands whole group)) (and_this group done)
+holds_on whole now group done holds = record {
+  records = λ q. ap (λ (s : State). map.get s.records q) (after_group whole now group) ∙ records_then whole now group done (map.get whole.records group) q refl (holds.records q);
+  offsets = λ k.
+      let found : find key_cmp k (offsets_of whole group) ≡ cond (is_of_group group k) (map.get whole.offsets k) None =
+      find-where_key key_cmp (is_of_group group) k (λ x tie. ap (is_of_group group) (sym (key_same k x tie))) (map.entries whole.offsets)
+      ∙ ap (λ o. cond (is_of_group group k) o None) (sym (map.get-entries whole.offsets k)) in
+      ap (λ (s : State). map.get s.offsets k) (after_group whole now group)
+      ∙ get-with_rows (offsets_of whole group) (then_record now group (map.get whole.records group)).offsets k (is_sorted-where_key key_cmp (is_of_group group) (map.entries whole.offsets) (map.entries_sorted whole.offsets))
+      ∙ ap (λ m. or_else (find key_cmp k (offsets_of whole group)) (map.get m k)) (offsets_unmoved now group (map.get whole.records group))
+      ∙ ap (λ o. or_else o (map.get now.offsets k)) found
+      ∙ ap (or_else (cond (is_of_group group k) (map.get whole.offsets k) None)) (holds.offsets k)
+      ∙ offsets_then (is_of_group group k) (done k.group) (map.get whole.offsets k);
+}
+
+or_turned : (a b d : Bool) → (b || (a || d)) ≡ ((a || b) || d)
+or_turned true true d = refl
+or_turned true false d = refl
+or_turned false true d = refl
+or_turned false false d = refl
+
+holds_all : (whole : State) (groups : List (List ℕ)) (now : State) (done : List ℕ → Bool) → Holds whole now done → Holds whole (after now (flat_map (group_commands whole) groups)) (λ q. list_any (bytes_eq q) groups || done q)
+holds_all whole [] now done holds = record { records = holds.records; offsets = holds.offsets }
+holds_all whole (group ∷ groups) now done holds =
+    let next = holds_all whole groups (after now (group_commands whole group)) (and_this group done) (holds_on whole now group done holds) in
+    let split : after now (flat_map (group_commands whole) (group ∷ groups)) ≡ after (after now (group_commands whole group)) (flat_map (group_commands whole) groups) =
+    ap (after now) (flat_map-cons (group_commands whole) group groups) ∙ fold-append effect now (group_commands whole group) (flat_map (group_commands whole) groups) in
+    record {
+      records = λ q. ap (λ (s : State). map.get s.records q) split ∙ next.records q ∙ ap (λ b. cond b (map.get whole.records q) None) (or_turned (bytes_eq q group) (list_any (bytes_eq q) groups) (done q));
+      offsets = λ k. ap (λ (s : State). map.get s.offsets k) split ∙ next.offsets k ∙ ap (λ b. cond b (map.get whole.offsets k) None) (or_turned (bytes_eq k.group group) (list_any (bytes_eq k.group) groups) (done k.group));
+    }
+
+-- ---- each group is there
+
+any_tie : (q : List ℕ) (names : List (List ℕ)) → list_any (eq_by_cmp name_cmp q) names ≡ list_any (bytes_eq q) names
+any_tie q [] = refl
+any_tie q (n ∷ names) = rw (tie_is_same q n, any_tie q names) refl
+
+names_again : (names : List (List ℕ)) → each (λ (e : List ℕ × Unit {0}). e.0) (each marked names) ≡ names
+names_again [] = refl
+names_again (n ∷ names) = ap (λ l. n ∷ l) (names_again names)
+
+any_in_order : (q : List ℕ) (names : List (List ℕ)) → list_any (bytes_eq q) (in_order names) ≡ list_any (bytes_eq q) names
+any_in_order q names =
+    sym (any_tie q (in_order names))
+    ∙ sym (map.contains_key-keys (map.from_entries {R = name_cmp} (each marked names)) q)
+    ∙ ap is_some (map.get-from_entries name_total (each marked names) q)
+    ∙ is_some-find name_cmp q (each marked names)
+    ∙ ap (list_any (eq_by_cmp name_cmp q)) (names_again names)
+    ∙ any_tie q names
+
+any_group : (k : OffsetKey) (keys : List OffsetKey) → list_any (eq_by_cmp key_cmp k) keys ≡ true → list_any (bytes_eq k.group) (each (λ x. x.group) keys) ≡ true
+any_group k [] hit = absurd cc
+any_group k (x ∷ keys) hit = step (eq_by_cmp key_cmp k x) refl (any_group k keys)
+  where
+    step : (b : Bool) → eq_by_cmp key_cmp k x ≡ b → (list_any (eq_by_cmp key_cmp k) keys ≡ true → list_any (bytes_eq k.group) (each (λ y. y.group) keys) ≡ true)
+        → (bytes_eq k.group x.group || list_any (bytes_eq k.group) (each (λ y. y.group) keys)) ≡ true
+    step true is rest =
+        let same : bytes_eq k.group x.group ≡ true = (bytes_eq-Decides k.group x.group).1 (ap (λ y. y.group) (key_same k x (equal (key_cmp k x) is))) in
+        rw same refl
+    step false is rest =
+        let more : list_any (eq_by_cmp key_cmp k) keys ≡ true = rw is at hit in
+        rw (rest more) (or_true (bytes_eq k.group x.group))
+
+covered : {X : Type 0} (there : Option X) (b : Bool) → (is_some there ≡ true → b ≡ true) → cond (b || false) there None ≡ there
+covered None true h = refl
+covered None false h = refl
+covered (Some v) true h = refl
+covered (Some v) false h = absurd (cc (h refl))
+
+record_covered : (state : State) (q : List ℕ) → is_some (map.get state.records q) ≡ true → list_any (bytes_eq q) (in_order (groups_in state)) ≡ true
+record_covered state q there =
+    let known : list_any (bytes_eq q) (map.keys state.records) ≡ true = sym (any_tie q (map.keys state.records)) ∙ sym (map.contains_key-keys state.records q) ∙ there in
+    any_in_order q (groups_in state) ∙ list_any-append (bytes_eq q) (map.keys state.records) (each (λ k. k.group) (map.keys state.offsets))
+    ∙ ap (λ b. b || list_any (bytes_eq q) (each (λ k. k.group) (map.keys state.offsets))) known
+
+offset_covered : (state : State) (k : OffsetKey) → is_some (map.get state.offsets k) ≡ true → list_any (bytes_eq k.group) (in_order (groups_in state)) ≡ true
+offset_covered state k there =
+    let known : list_any (bytes_eq k.group) (each (λ x. x.group) (map.keys state.offsets)) ≡ true = any_group k (map.keys state.offsets) (sym (map.contains_key-keys state.offsets k) ∙ there) in
+    any_in_order k.group (groups_in state) ∙ list_any-append (bytes_eq k.group) (map.keys state.records) (each (λ x. x.group) (map.keys state.offsets))
+    ∙ ap (λ b. list_any (bytes_eq k.group) (map.keys state.records) || b) known ∙ or_true (list_any (bytes_eq k.group) (map.keys state.records))
+
+nothing_holds : (whole : State) → Holds whole empty (λ q. false)
+nothing_holds whole = record { records = λ q. map.get-empty name_cmp q; offsets = λ k. map.get-empty key_cmp k }
+
+pub folded_snapshot : (state : State) → folded (snapshot_of state) ≡ state
+folded_snapshot state =
+    let all = holds_all state (in_order (groups_in state)) empty (λ q. false) (nothing_holds state) in
+    let records : (folded (snapshot_of state)).records ≡ state.records =
+    map.same_map name_total name_same _ _ (λ q. all.records q ∙ covered (map.get state.records q) (list_any (bytes_eq q) (in_order (groups_in state))) (record_covered state q)) in
+    let offsets : (folded (snapshot_of state)).offsets ≡ state.offsets =
+    map.same_map key_total key_same _ _ (λ k. all.offsets k ∙ covered (map.get state.offsets k) (list_any (bytes_eq k.group) (in_order (groups_in state))) (offset_covered state k)) in
+    ap (λ m. state_from m (folded (snapshot_of state)).offsets) records ∙ ap (state_from state.records) offsets

@@ -1,0 +1,60 @@
+-- The commands that make a state anew.
+use Rattle.std.specs.Prelude.{ℕ, zero, suc, Bool, List, [], ◌∷◌, ◌++◌, length, map as each, take, drop, filter, flat_map, Option, Some, None, bytes_eq}
+use Rattle.std.specs.FinMap as map
+use Rattle.cg_record.specs.declared.command.Command.{Command}
+use Rattle.cg_record.specs.declared.command.Command.TheVariants.{Assigned, Emptied, Committed}
+use Rattle.cg_record.specs.declared.entries.TheConstants.{ENTRIES_MAX}
+use Rattle.cg_record.specs.declared.entry.Entry.{Entry}
+use Rattle.cg_record.specs.Rosters.{RosterParts}
+use Rattle.cg_fold.specs.declared.key.OffsetKey.{OffsetKey}
+use Rattle.cg_fold.specs.declared.record.GroupRecord.{GroupRecord}
+use Rattle.cg_fold.specs.Key.{KeptOffset, name_cmp}
+use Rattle.cg_fold.specs.Durable.{State}
+
+-- the groups that have a record or an offset
+abbrev pub groups_in : State → List (List ℕ)
+groups_in state = map.keys state.records ++ each (λ k. k.group) (map.keys state.offsets)
+
+-- a name as a key with nothing at it
+abbrev pub marked : List ℕ → List ℕ × Unit {0}
+marked name = (name, tt)
+
+-- names, each once, by bytes
+abbrev pub in_order : List (List ℕ) → List (List ℕ)
+in_order names = map.keys (map.from_entries {R = name_cmp} (each marked names))
+
+-- the command that sets a record
+abbrev pub record_command : List ℕ → ℕ → List ℕ → Option RosterParts → Command
+record_command group generation kind None = Emptied (record { group = group; generation = generation; kind = kind })
+record_command group generation kind (Some roster) = Assigned (record { group = group; generation = generation; kind = kind; roster = roster })
+
+abbrev pub record_commands : List ℕ → Option GroupRecord → List Command
+record_commands group None = []
+record_commands group (Some held) = record_command group held.generation held.kind held.roster ∷ []
+
+-- the entry of a commit that sets an offset
+abbrev pub entry_of : KeptOffset → Entry
+entry_of kept = record { topic = kept.0.topic; partition = kept.0.partition; offset = kept.1.offset; metadata = kept.1.metadata }
+
+-- commits of as many entries each as one may have; there are at most `most` entries
+unfoldable pub commits_of : ℕ → List ℕ → List KeptOffset → List Command
+commits_of zero group rows = []
+commits_of (suc most) group [] = []
+commits_of (suc most) group (row ∷ rows) =
+    Committed (record { group = group; entries = each entry_of (take ENTRIES_MAX (row ∷ rows)) }) ∷ commits_of most group (drop ENTRIES_MAX (row ∷ rows))
+
+-- the offset is the group's
+abbrev pub is_of_group : List ℕ → OffsetKey → Bool
+is_of_group group key = bytes_eq key.group group
+
+-- the offsets of a group, by topic and partition
+abbrev pub offsets_of : State → List ℕ → List KeptOffset
+offsets_of state group = filter (λ row. is_of_group group row.0) (map.entries state.offsets)
+
+-- what makes one group anew: its record, and then its offsets
+unfoldable pub group_commands : State → List ℕ → List Command
+group_commands state group = record_commands group (map.get state.records group) ++ commits_of (length (offsets_of state group)) group (offsets_of state group)
+
+-- what makes a state anew, group by group
+abbrev pub snapshot_of : State → List Command
+snapshot_of state = flat_map (group_commands state) (in_order (groups_in state))
