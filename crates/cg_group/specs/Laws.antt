@@ -48,7 +48,7 @@ is_request event.Tick = true
 abbrev pub AreRequests : List (Event × ℕ) → Type 0
 AreRequests events = Each (λ e. is_request e.0 ≡ true) events
 
--- 1. No two members of a group have one id or one instance.
+-- No two members of a group have one id or one instance.
 
 -- the ids of the members, in joining order
 abbrev pub ids : List Member → List (List ℕ)
@@ -66,7 +66,7 @@ MembersStayDistinct =
     (records : List Command) (now : ℕ) (events : List (Event × ℕ)) → AreRecords records
     → Each (λ g. has_distinct_members g ≡ true) (after_all events (revive records now)).groups
 
--- 2. All join replies that one completing makes name one leader, protocol and generation.
+-- All join replies that one completing makes name one leader, protocol and generation.
 
 -- the replies of an event, group by group: a request has its replies in one group
 unfoldable pub replies_by_group : Machine → Event → List (List (Ticket × Reply))
@@ -103,7 +103,7 @@ pub record IsInRounds (s : Machine) (e : Event) : Type 0 where
 abbrev pub RoundsAreOne : Type 0
 RoundsAreOne = (s : Machine) (e : Event) → IsInRounds s e
 
--- 5. Machine and commands agree.
+-- Machine and commands agree.
 
 -- the record of a stable group
 pub record IsAssignedAs (a : Assigned) (g : Group) : Type 0 where
@@ -147,7 +147,7 @@ MachineAndCommandsAgree =
     (records : List Command) (now : ℕ) (events : List (Event × ℕ)) → AreRecords records → AreRequests events
     → Agrees (after_all events (revive records now)) (kept_after_all records now events)
 
--- 4. A SYNCED reply goes to a member that named the group's generation, and gives the bytes that are kept for it.
+-- A SYNCED reply goes to a member that named the group's generation, and gives the bytes that are kept for it.
 
 abbrev pub is_same_ticket : Ticket → Ticket → Bool
 is_same_ticket t u = (t.session == u.session) && (t.number == u.number)
