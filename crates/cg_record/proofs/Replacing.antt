@@ -1,13 +1,13 @@
 -- A member that takes another's place among the members of a group.
 use Rattle.std.proofs.Common.{◌≡◌, ℕ, zero, suc, ◌+◌, ◌<◌, ◌≤◌, Bool, true, false, cond, List, [], ◌∷◌, length, get_or, set, map, Option, Some, None, refl, sym, ap, subst, ◌∙◌, arith}
-use Rattle.std.specs.Prelude.{◌||◌, ◌&&◌, not, bytes_eq, position, nat_lt, IsTrue}
+use Rattle.std.specs.Prelude.{◌||◌, ◌&&◌, not, bytes_eq, position, nat_lt}
 use Rattle.std.proofs.lemmas.List.Quantifiers.{position-Some}
 use Rattle.std.proofs.lemmas.Bool.{ltb-false}
 use Rattle.std.specs.List.{list_any, position_or_len, AllByRecursion, IsDistinct}
 use Rattle.std.proofs.lemmas.Slice.Eq.{bytes_eq-Decides}
 use Rattle.std.proofs.lemmas.List.{length-map}
 use Rattle.cg_record.specs.declared.member.Member.{Member}
-use Rattle.cg_record.specs.Rosters.{RosterParts, roster_of, has_id, has_instance, is_one_instance, have_one_name, is_led_by, AreApart, AreMembers, IsRoster, IsPlace, takes_place_of, has_id_of_other, may_replace, seated, leads_and_goes, leader_after, replaced_in}
+use Rattle.cg_record.specs.Rosters.{RosterParts, roster_of, has_id, has_instance, is_one_instance, have_one_name, is_led_by, AreApart, IsRoster, IsPlace, takes_place_of, has_id_of_other, may_replace, seated, leads_and_goes, leader_after, replaced_in}
 use Rattle.cg_record.proofs.Keys.{both_false, all_fail}
 
 -- ---- one element of a list that passes a test
@@ -176,6 +176,7 @@ led_by_old new leader (x ∷ xs) none led = cases (has_id leader x) (takes_place
   where
     parts : (leads_and_goes new leader x ≡ false) × (list_any (leads_and_goes new leader) xs ≡ false)
     parts = both_false (leads_and_goes new leader x) (list_any (leads_and_goes new leader) xs) none
+
     cases : (l p : Bool) → has_id leader x ≡ l → takes_place_of new x ≡ p → (list_any (leads_and_goes new leader) xs ≡ false → is_led_by leader xs ≡ true → is_led_by leader (map (seated new) xs) ≡ true) → (has_id leader (cond p new x) || is_led_by leader (map (seated new) xs)) ≡ true
     cases true true is also later = absurd (let goes : leads_and_goes new leader x ≡ true = rw (also, is) refl in let clash : true ≡ false = sym goes ∙ parts.0 in cc)
     cases true false is also later = rw is refl

@@ -380,6 +380,7 @@ fn repeated(rt: HostRuntime) -> Result<(), Fail> {
 #[test]
 fn rosters(rt: HostRuntime) -> Result<(), Fail> {
     let commands = read(rt.alloc(), &ONE_REPLACED)?;
+    assert_eq!(rt; commands.len(), 1);
     let Command::Replaced(replaced) = &commands[0] else {
         return Err(Fail::from("the command is of a replaced member"));
     };
