@@ -13,7 +13,7 @@ use Rattle.cg_names.specs.declared.name.TheConstants.{NAME_BYTES_MAX, MEMBER_ID_
 use Rattle.cg_record.specs.Keys.{is_of}
 use Rattle.cg_record.specs.Rosters.{has_id, has_instance}
 use Rattle.cg_record.specs.Members.{Profile, member_of, profile_at, member_at}
-use Rattle.cg_record.specs.Fields.{Read, ◌>>=◌, name_at, optional_name_at, many_at}
+use Rattle.cg_record.specs.Fields.{Read, name_at, optional_name_at, many_at}
 use Rattle.cg_record.specs.Reading.{Skips, key_at, kept_at, entry_at, command_at, commands_to_end}
 use Rattle.cg_record.proofs.Laws.{bind_ok, ok_is}
 use Rattle.cg_record.proofs.Steps.{many_step, many_on, many_end, IsLeft, left_step, commands_start, commands_on, commands_end}

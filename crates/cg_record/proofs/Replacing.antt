@@ -1,13 +1,13 @@
 -- A member that takes another's place among the members of a group.
 use Rattle.std.proofs.Common.{◌≡◌, ℕ, zero, suc, ◌+◌, ◌<◌, ◌≤◌, Bool, true, false, cond, List, [], ◌∷◌, length, get_or, set, map, Option, Some, None, refl, sym, ap, subst, ◌∙◌, arith}
-use Rattle.std.specs.Prelude.{◌||◌, ◌&&◌, not, bytes_eq, position, nat_lt, IsTrue}
+use Rattle.std.specs.Prelude.{◌||◌, ◌&&◌, not, bytes_eq, position, nat_lt}
 use Rattle.std.proofs.lemmas.List.Quantifiers.{position-Some}
 use Rattle.std.proofs.lemmas.Bool.{ltb-false}
 use Rattle.std.specs.List.{list_any, position_or_len, AllByRecursion, IsDistinct}
 use Rattle.std.proofs.lemmas.Slice.Eq.{bytes_eq-Decides}
 use Rattle.std.proofs.lemmas.List.{length-map}
 use Rattle.cg_record.specs.declared.member.Member.{Member}
-use Rattle.cg_record.specs.Rosters.{RosterParts, roster_of, has_id, has_instance, is_one_instance, have_one_name, is_led_by, AreApart, AreMembers, IsRoster, IsPlace, takes_place_of, has_id_of_other, may_replace, seated, leads_and_goes, leader_after, replaced_in}
+use Rattle.cg_record.specs.Rosters.{RosterParts, roster_of, has_id, has_instance, is_one_instance, have_one_name, is_led_by, AreApart, IsRoster, IsPlace, takes_place_of, has_id_of_other, may_replace, seated, leads_and_goes, leader_after, replaced_in}
 use Rattle.cg_record.proofs.Keys.{both_false, all_fail}
 
 -- ---- one element of a list that passes a test

@@ -1,6 +1,6 @@
 -- The laws of the members of a group, and of a group that has its assignments: each reader takes its text, and nothing else.
-use Rattle.std.proofs.Common.{◌≡◌, ℕ, true, false, List, [], ◌∷◌, ◌++◌, length, refl, sym, ap, subst, ◌∙◌, append_assoc, arith}
-use Rattle.std.specs.List.{flat_map, list_any, AllByRecursion}
+use Rattle.std.proofs.Common.{◌≡◌, ℕ, true, List, [], ◌∷◌, ◌++◌, length, refl, sym, subst, append_assoc, arith}
+use Rattle.std.specs.List.{flat_map, AllByRecursion}
 use Rattle.std.proofs.lemmas.List.{append-nil}
 use Rattle.cg_names.specs.declared.name.TheConstants.{NAME_BYTES_MAX, MEMBER_ID_BYTES_MAX}
 use Rattle.cg_names.specs.declared.generation.TheConstants.{GENERATION_MAX}
@@ -9,7 +9,7 @@ use Rattle.cg_record.specs.declared.format.Version.{Version}
 use Rattle.cg_record.specs.declared.fault.RecordFault.TheVariants.{BadName, BadLength}
 use Rattle.cg_record.specs.declared.member.Member.{Member}
 use Rattle.cg_record.specs.declared.assigned.Assigned.{Assigned}
-use Rattle.cg_record.specs.Rosters.{RosterParts, roster_of, have_one_name, is_led_by, AreApart, AreMembers, IsRoster}
+use Rattle.cg_record.specs.Rosters.{RosterParts, roster_of, have_one_name, is_led_by, AreApart, AreMembers}
 use Rattle.cg_record.specs.Members.{IsMember, member_text, member_at}
 use Rattle.cg_record.specs.Lawful.{IsJoined, IsAssigned}
 use Rattle.cg_record.specs.Texts.{four, name_text}

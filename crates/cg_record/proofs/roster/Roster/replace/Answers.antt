@@ -1,5 +1,5 @@
-use Rattle.std.proofs.Common.{◌≡◌, false, Bool, cond, get_or, set, sym, ap, ◌∙◌, subst, rules}
-use Rattle.cg_record.specs.Rosters.{IsPlace, IsRoster, has_id, may_replace, replaced_in, roster_of}
+use Rattle.std.proofs.Common.{◌≡◌, false, cond, get_or, ap, ◌∙◌, subst, rules}
+use Rattle.cg_record.specs.Rosters.{IsPlace, has_id, may_replace, replaced_in, roster_of}
 use Rattle.cg_record.proofs.Replacing.{placed, unplaced}
 use Rattle.cg_record.proofs.roster.Roster.replace.Goals as goal
 
