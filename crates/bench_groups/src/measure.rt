@@ -31,7 +31,7 @@ struct Rates {
     join: u64,
 }
 
-fn rates<R: Clock>(rt: &R, alloc: Global, groups: u64, members: u64) -> Result<Rates> {
+fn measured<R: Clock>(rt: &R, alloc: Global, groups: u64, members: u64) -> Result<Rates> {
     let mut scene = Scene::new(alloc, groups, members)?;
     Ok(Rates {
         beat: rate(rt, alloc, &mut scene, Sort::Beat)?,
@@ -59,10 +59,10 @@ fn report<R: Print>(rt: &R, groups: u64, members: u64, rates: Rates, base: Rates
 /// Measures one group of 8 members, and beside it 64 and 4,096 of them, and one group of 2, 16 and 64 members.
 pub fn all<R: Clock + Print + Alloc<A = Global>>(rt: &R) -> Result<()> {
     let alloc = rt.alloc();
-    let base = rates(rt, alloc, 1, 8)?;
+    let base = measured(rt, alloc, 1, 8)?;
     report(rt, 1, 8, base, base)?;
     for (groups, members) in [(64, 8), (4_096, 8), (1, 2), (1, 16), (1, 64)] {
-        let rates = rates(rt, alloc, groups, members)?;
+        let rates = measured(rt, alloc, groups, members)?;
         report(rt, groups, members, rates, base)?;
     }
     Ok(())

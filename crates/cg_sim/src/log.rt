@@ -1,5 +1,5 @@
 //! The settled commands on a disk: a frame for each, in one segment.
-ghost use Rattle.std.specs.Prelude.{◌≡◌, ◌+◌, ◌<◌, ◌≤◌, ℕ, length, map, [], ◌∷◌, ◌++◌, true, false, List, OnOk, IfOk, MatchResult, IsErrOf, ◌⊎◌};
+ghost use Rattle.std.specs.Prelude.{None, ◌≡◌, ◌+◌, ◌<◌, ◌≤◌, ℕ, length, map, [], ◌∷◌, ◌++◌, true, false, List, OnOk, IfOk, MatchResult, IsErrOf, ◌⊎◌};
 ghost use Rattle.cg_record.specs.declared.command.Command.{Command};
 ghost use Rattle.cg_sim.specs.Program.{fits};
 ghost use Rattle.cg_disk.specs.Disk.{Stays, IsImage, IsSynced, present};
@@ -157,6 +157,7 @@ impl<D: Breakable> Log<D> {
         ensures same_history { D.history self.new.disk ≡ D.history self.old.disk }
         ensures same_end { self.new.end ≡ self.old.end }
         ensures same_up { self.new.is_up ≡ self.old.is_up }
+        ensures fuse { D.calls_left self.new.disk ≡ calls }
     {
         self.disk.set_fuse(calls);
     }
@@ -166,6 +167,7 @@ impl<D: Breakable> Log<D> {
         ensures same_honesty { D.is_honest result.disk ≡ D.is_honest self.disk }
         ensures image { D.is_honest self.disk ≡ true → IsImage (present (D.history self.disk)) (present (D.history result.disk)).content }
         ensures synced { D.is_honest self.disk ≡ true → IsSynced (present (D.history result.disk)) }
+        ensures fuse { D.calls_left result.disk ≡ None }
     {
         let Log { disk, .. } = self;
         Log::new(disk.lose_power(crash))

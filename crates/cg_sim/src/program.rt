@@ -81,6 +81,7 @@ impl<D: Breakable + Drop> Program<D> {
         ensures stopped { (phase : Phase) → Stands self.stage (D.is_honest self.log.disk) (D.history self.log.disk) self.log.end self.desk phase
             → (survives : Bool) × Rests (D.is_honest result.log.disk) (D.history result.log.disk) (on_disk survives phase) }
         ensures stage { result.stage ≡ Stage.Unloaded }
+        ensures fuse { D.calls_left result.log.disk ≡ None }
     {
         let Program { alloc, log, .. } = self;
         Program::new(alloc, log.lose_power(crash))
@@ -99,8 +100,9 @@ impl<D: Breakable + Drop> Program<D> {
 
     // Sets the fuse of the disk, which changes nothing else.
     fn fuse(mut self, calls: u64) -> Self
-        ensures { (phase : Phase) → Stands self.stage (D.is_honest self.log.disk) (D.history self.log.disk) self.log.end self.desk phase
+        ensures stands { (phase : Phase) → Stands self.stage (D.is_honest self.log.disk) (D.history self.log.disk) self.log.end self.desk phase
             → Stands result.stage (D.is_honest result.log.disk) (D.history result.log.disk) result.log.end result.desk phase }
+        ensures fuse { D.calls_left result.log.disk ≡ Some calls }
     {
         self.log.set_fuse(Some(calls));
         self

@@ -21,7 +21,7 @@ returns-in_ok-program-in-Flush g c phase stands =
 
 pub returns-in_ok-program-in-Fuse : goal.returns-in_ok-program-in-Fuse
 returns-in_ok-program-in-Fuse g c phase stands =
-    (fair, (λ is. cc), (idle_step phase, fuse-line fair c.args.line.now phase c.in-Fuse.calls c.in-Fuse.is, c.in_ok-program-in-Fuse.ensures phase (c.fuse.ensures phase stands)))
+    (fair, (λ is. cc), (idle_step phase, fuse-line fair c.args.line.now phase c.in-Fuse.calls c.in-Fuse.is, c.in_ok-program-in-Fuse.ensures phase (c.fuse.ensures.stands phase stands)))
 
 pub returns-in-Stop : goal.returns-in-Stop
 returns-in-Stop g c phase stands =
