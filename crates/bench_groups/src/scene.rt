@@ -1,4 +1,6 @@
 //! Stable groups of equally many members, and events for them.
+ghost use Rattle.std.specs.Prelude.{◌≡◌, IfOk, vec_len};
+
 use anyhow::{Result, bail};
 use cg_group::{
     BeatRequest, Effects, Event, Groups, JoinRequest, Listed, Protocol, Reply, Subscription,
@@ -146,18 +148,17 @@ impl Scene {
         }
     }
 
-    /// At least so many events of a sort, from group to group.
-    pub fn events(&self, sort: Sort, count: usize) -> Result<Vec<Event>> {
+    /// So many events of a sort, from group to group.
+    pub fn events(&self, sort: Sort, count: usize) -> Result<Vec<Event>>
+        ensures { IfOk result (λ events. vec_len events ≡ count) }
+    {
         let mut events = Vec::new(self.alloc);
-        for _ in 0..count {
-            for (group, member) in &self.followers {
-                if events.len() < count {
-                    events.push(self.event(sort, group.clone()?, member.clone()?)?)?;
-                }
-            }
-            if events.len() >= count {
-                break;
-            }
+        for n in 0..count {
+            let Some((group, member)) = self.followers.get(n % self.followers.len().max(1)) else {
+                bail!("there is no group");
+            };
+            let event = self.event(sort, group.clone()?, member.clone()?)?;
+            events.push(event)?;
         }
         Ok(events)
     }

@@ -1,5 +1,6 @@
 -- What requests and flushes make of a program that serves.
 use Rattle.std.proofs.Common.{◌≡◌, ℕ, zero, suc, Bool, true, false, cond, List, [], ◌∷◌, ◌++◌, length, codes, take, drop, None, Some, sym, ap, ◌∙◌, subst, refl, append_assoc, append-nil}
+use Rattle.std.proofs.lemmas.List.{take-append-drop}
 use Rattle.cg_disk.specs.Disk.{History}
 use Rattle.cg_names.specs.declared.code.Code.{Code}
 use Rattle.cg_record.specs.declared.command.Command.{Command}
@@ -17,6 +18,7 @@ use Rattle.cg_sim.specs.Phase.{Step, broken, failed, serving, serving_flush, tol
 use Rattle.cg_sim.specs.Desk.{StandsFor}
 use Rattle.cg_sim.specs.Log.{Keeps, Moves, Settles}
 use Rattle.cg_sim.specs.Running.{Makes, Runs, Stands}
+use Rattle.cg_sim.proofs.Cases.{either}
 
 pub told-makes : (session : ℕ) (code : Code) (line : List ℕ) (step : Step) (stage : Stage) (honest : Bool) (history : History) (end : ℕ) (desk : Desk) (before mid after : List ℕ)
     → line ≡ err_line session code → mid ≡ before ++ line → Makes step stage honest history end desk mid after → Makes (told session code step) stage honest history end desk before after
@@ -27,13 +29,9 @@ told-makes session code line step stage honest history end desk before mid after
 
 -- ---- a request settles nothing
 
-either-settled : (b : Bool) (x y : State) (cs : List Command) → x.settled ≡ cs → y.settled ≡ cs → (cond b x y).settled ≡ cs
-either-settled true x y cs is_x is_y = is_x
-either-settled false x y cs is_x is_y = is_y
-
 pub asked-settled : (session : ℕ) (request : Request) (s : State) → (asked session request s).settled ≡ s.settled
 unfolding asked
-asked-settled session (Commit place offset metadata) s = either-settled (is_too_long metadata) _ _ s.settled refl refl
+asked-settled session (Commit place offset metadata) s = either (λ (t : State). t.settled ≡ s.settled) (is_too_long metadata) _ _ refl refl
 asked-settled session (Fetch place) s = refl
 
 pub asked-runs : (session : ℕ) (request : Request) (honest : Bool) (history : History) (end : ℕ) (desk desk' : Desk) (s : State)
@@ -45,20 +43,11 @@ asked-runs session request honest history end desk desk' s stands runs = record 
 
 -- ---- settling keeps the commands and their order
 
-pick : (b : Bool) (x y : List Command × List Command) (all : List Command) → x.0 ++ x.1 ≡ all → y.0 ++ y.1 ≡ all → (cond b x y).0 ++ (cond b x y).1 ≡ all
-pick true x y all is_x is_y = is_x
-pick false x y all is_x is_y = is_y
-
 pub settling-all : (cs waiting : List Command) → (settling cs waiting).0 ++ (settling cs waiting).1 ≡ cs ++ waiting
 unfolding settling
 settling-all cs [] = refl
 settling-all cs (c ∷ waiting) =
-    pick (fits cs c) (settling (cs ++ c ∷ []) waiting) (cs, c ∷ waiting) (cs ++ c ∷ waiting) (settling-all (cs ++ c ∷ []) waiting ∙ append_assoc cs (c ∷ []) waiting) refl
-
-take-drop : (n : ℕ) (waiting : List Command) → take n waiting ++ drop n waiting ≡ waiting
-take-drop zero waiting = refl
-take-drop (suc n) [] = refl
-take-drop (suc n) (c ∷ waiting) = ap (λ l. c ∷ l) (take-drop n waiting)
+    either (λ (m : List Command × List Command). m.0 ++ m.1 ≡ cs ++ c ∷ waiting) (fits cs c) (settling (cs ++ c ∷ []) waiting) (cs, c ∷ waiting) (settling-all (cs ++ c ∷ []) waiting ∙ append_assoc cs (c ∷ []) waiting) refl
 
 -- ---- a flush
 
@@ -125,7 +114,7 @@ module _ (s : State) (honest0 honest : Bool) (history0 history : History) (end0 
       let how_is = settled-as variants.Broken is in
       let settled = s.settled ++ take how_is.n s.waiting in
       let all : settled ++ drop how_is.n s.waiting ≡ s.settled ++ s.waiting =
-      append_assoc s.settled (take how_is.n s.waiting) (drop how_is.n s.waiting) ∙ ap (λ l. s.settled ++ l) (take-drop how_is.n s.waiting) in
+      append_assoc s.settled (take how_is.n s.waiting) (drop how_is.n s.waiting) ∙ ap (λ l. s.settled ++ l) (take-append-drop how_is.n s.waiting) in
       let next : State = record s { settled = settled; waiting = drop how_is.n s.waiting } in
       let freed = frees next (moved-desk settled (drop how_is.n s.waiting) all how_is.count_is how_is.left_is) in
       let turn = released next in (

@@ -13,3 +13,4 @@ pub mod Lines
 pub mod Telling
 pub mod Digits
 pub mod Staying
+pub mod Cases

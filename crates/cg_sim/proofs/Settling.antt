@@ -2,6 +2,7 @@
 use Rattle.cg_sim.specs.declared.settle.Settled.TheVariants as variants
 use Rattle.std.proofs.Common.{zero, suc, take, drop, append-nil, ◌≡◌, ℕ, ◌+◌, ◌≤◌, Bool, true, false, List, [], ◌∷◌, ◌++◌, length, cond, sym, ap, ◌∙◌, subst, refl, arith, append_assoc}
 use Rattle.std.specs.List.{fold}
+use Rattle.std.proofs.lemmas.List.{length_push}
 use Rattle.cg_disk.specs.Disk.{History}
 use Rattle.cg_frame.specs.Frames.{next_gate}
 use Rattle.cg_record.specs.declared.command.Command.{Command}
@@ -77,14 +78,10 @@ step cs waiting left rest c honest honest' history history' end end' settled set
     record {
       n = suc s.n;
       keeps = subst (λ l. Keeps honest' history' end' l) (sym more) done.1;
-      settled_is = omega (arith, one, s.settled_is, length-push now c, ap length more);
+      settled_is = omega (arith, one, s.settled_is, length_push now c, ap length more);
       left_is = sym (drop-next s.n waiting rest c (sym s.left_is ∙ is));
       rest = ap (λ l. settling l rest) more ∙ sym (settling-fits now c rest done.0) ∙ ap (settling now) (sym is) ∙ s.rest;
     }
-  where
-    length-push : (xs : List Command) (x : Command) → length (xs ++ x ∷ []) ≡ length xs + 1
-    length-push [] x = refl
-    length-push (y ∷ xs) x = omega (arith, length-push xs x)
 
 pub stops_full : (cs waiting left rest : List Command) (c : Command) (honest honest' : Bool) (history history' : History) (end end' settled : ℕ)
     → left ≡ c ∷ rest → (s : Progress cs waiting honest history end left settled)

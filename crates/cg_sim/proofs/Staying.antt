@@ -8,6 +8,7 @@ use Rattle.cg_sim.specs.Program.{State, asked, fits, flushed, released, settling
 use Rattle.cg_sim.specs.Phase.{Memory, Phase, broken, enough, failed, first_load, flush_step, idle_step, line_step, load_step, on_disk, request_step, serving, serving_flush, serving_step, short, short_for_request, unloaded}
 use Rattle.cg_sim.specs.Durability.{GoesOn, SettledStay, settled_in}
 use Rattle.cg_sim.proofs.Flushing.{asked-settled}
+use Rattle.cg_sim.proofs.Cases.{either}
 
 same : (cs ds : List Command) → ds ≡ cs → GoesOn cs ds
 same cs ds is = ([], is ∙ sym (append-nil cs))
@@ -33,16 +34,12 @@ idle-goes (serving s) = same s.settled _ (released-settled s)
 idle-goes (failed ss ws) = same ss ss refl
 idle-goes (unloaded ss) = same ss ss refl
 
-either : (b : Bool) (cs : List Command) (x y : List Command × List Command) → GoesOn cs x.0 → GoesOn cs y.0 → GoesOn cs (cond b x y).0
-either true cs x y of_x of_y = of_x
-either false cs x y of_x of_y = of_y
-
 settling-goes : (cs waiting : List Command) → GoesOn cs (settling cs waiting).0
 unfolding settling
 settling-goes cs [] = same cs cs refl
 settling-goes cs (c ∷ waiting) =
     let later = settling-goes (cs ++ c ∷ []) waiting in
-    either (fits cs c) cs (settling (cs ++ c ∷ []) waiting) (cs, c ∷ waiting)
+    either (λ (m : List Command × List Command). GoesOn cs m.0) (fits cs c) (settling (cs ++ c ∷ []) waiting) (cs, c ∷ waiting)
     (c ∷ later.0, later.1 ∙ append_assoc cs (c ∷ []) later.0) (same cs cs refl)
 
 flushed-goes : (fails : Option ℕ) (s : State) → GoesOn s.settled (settled_in (serving_flush fails s).phase)

@@ -7,14 +7,18 @@ use Rattle.cg_sim.specs.Phase.{Chance, Memory, Phase, Step, enough, fair, line_s
 use Rattle.cg_sim.specs.Program.{fault_line}
 use Rattle.cg_sim.specs.declared.script.TheConstants.{STATUS_DONE, STATUS_BAD_LINE, STATUS_MEMORY}
 
--- the lines of a text; the last may lack its line feed
+-- a byte in front of the first line
 abbrev pub with_byte : ℕ → List (List ℕ) → List (List ℕ)
 with_byte b [] = (b ∷ []) ∷ []
 with_byte b (line ∷ lines) = (b ∷ line) ∷ lines
 
+abbrev pub line_feed : ℕ
+line_feed = 10
+
+-- the lines of a text; the last may lack its line feed
 unfoldable pub lines_of : List ℕ → List (List ℕ)
 lines_of [] = []
-lines_of (b ∷ bs) = if b == 10 then [] ∷ lines_of bs else with_byte b (lines_of bs)
+lines_of (b ∷ bs) = if b == line_feed then [] ∷ lines_of bs else with_byte b (lines_of bs)
 
 -- what is printed, and the status at the end
 pub record Output : Type 0 where

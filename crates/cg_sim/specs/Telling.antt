@@ -4,16 +4,16 @@ use Rattle.std.specs.Io.BufRead.{take_through, drop_through}
 use Rattle.cg_sim.specs.declared.script.Stop.{Stop}
 use Rattle.cg_sim.specs.declared.script.Stop.TheVariants.{Io, Memory}
 use Rattle.cg_sim.specs.Phase.{Chance}
-use Rattle.cg_sim.specs.Meaning.{Output, out_of_memory, printed}
+use Rattle.cg_sim.specs.Meaning.{Output, line_feed, out_of_memory, printed}
 
 -- what a read took of what was left, up to the first line feed, and what is left behind it; or nothing was left
 abbrev pub IsNext : List ℕ → Bool → List ℕ → Option (List ℕ) → Type 0
 IsNext left false taken behind = left ≡ []
-IsNext left true taken behind = (taken ≡ take_through 10 left) × (behind ≡ Some (drop_through 10 left)) × (left ≢ [])
+IsNext left true taken behind = (taken ≡ take_through line_feed left) × (behind ≡ Some (drop_through line_feed left)) × (left ≢ [])
 
 -- a line without the line feed at its end, where it has one
 abbrev pub IsWithoutEnd : List ℕ → List ℕ → Type 0
-IsWithoutEnd line front = (line ≡ front ++ 10 ∷ []) ⊎ (front ≡ line) × ((p : List ℕ) → line ≢ p ++ 10 ∷ [])
+IsWithoutEnd line front = (line ≡ front ++ line_feed ∷ []) ⊎ (front ≡ line) × ((p : List ℕ) → line ≢ p ++ line_feed ∷ [])
 
 -- by some chances this is the output: behind what stood there it was written, and its status answered
 pub record EndsAs (output : List Chance → Output) (before : List ℕ) (status : ℕ) (contents : Option (List ℕ)) : Type 0 where
