@@ -1,15 +1,14 @@
 -- The commands of a snapshot make the state that it was taken of.
 use Rattle.std.proofs.Common.{◌≡◌, ℕ, zero, suc, ◌≤◌, Bool, true, false, cond, List, [], ◌∷◌, ◌++◌, length, map as each, take, drop, Option, Some, None, ap, sym, ◌∙◌, refl, arith}
 use Rattle.std.proofs.Math.Dec.{T}
-use Rattle.std.specs.Prelude.{◌||◌, filter, flat_map, bytes_eq, is_some}
+use Rattle.std.specs.Prelude.{◌||◌, flat_map, bytes_eq, is_some}
 use Rattle.std.specs.List.{fold, list_any}
 use Rattle.std.specs.Ordering.{eq_by_cmp, is_eq, is_lt}
 use Rattle.std.specs.declared.cmp.Ordering.{Ordering}
 use Rattle.std.specs.declared.cmp.Ordering.TheVariants.{Less, Equal, Greater}
-use Rattle.std.specs.Cmp.{tied_itself}
 use Rattle.std.specs.FinMap as map
 use Rattle.std.specs.FinMap.{find, is_sorted}
-use Rattle.std.specs.FinMap.Entries.{is_some-find, is_sorted-where_key, find-where_key}
+use Rattle.std.specs.FinMap.Entries.{is_sorted-where_key, find-where_key}
 use Rattle.std.proofs.lemmas.List.{take-append-drop, length-drop}
 use Rattle.std.proofs.lemmas.List.Concat.{flat_map-cons}
 use Rattle.std.proofs.lemmas.List.Folds.{list_any-append}
@@ -21,9 +20,12 @@ use Rattle.cg_fold.specs.declared.key.StoredOffset.{StoredOffset}
 use Rattle.cg_fold.specs.declared.record.GroupRecord.{GroupRecord}
 use Rattle.cg_fold.specs.Key.{KeptOffset, key_cmp, name_cmp}
 use Rattle.cg_fold.specs.Durable.{State, after, effect, empty, folded, with_entry, with_record}
-use Rattle.cg_fold.specs.Snapshot.{groups_in, marked, in_order, record_command, record_commands, entry_of, commits_of, is_of_group, offsets_of, group_commands, snapshot_of}
+use Rattle.cg_fold.specs.Snapshot.{groups_in, in_order, record_command, record_commands, entry_of, commits_of, is_of_group, offsets_of, group_commands, snapshot_of}
+use Rattle.cg_fold.specs.Shelf.{AreOf}
+use Rattle.cg_fold.proofs.Own.{AreOf-take, AreOf-drop, filter_are_of}
 use Rattle.cg_fold.proofs.KeyOrder.{key_total, key_same, name_total, name_same}
 use Rattle.cg_fold.proofs.Place.{below_all, both}
+use Rattle.cg_fold.proofs.Names.{any_in_order, any_tie, equal, or_true, tie_is_same}
 
 -- ---- chains of commands
 
@@ -59,26 +61,11 @@ after_record state group (Some held) = made_record state group held.generation h
 abbrev with_row : map.FinMap key_cmp StoredOffset → KeptOffset → map.FinMap key_cmp StoredOffset
 with_row offsets row = map.insert offsets row.0 row.1
 
--- rows of one group
-abbrev AreOf : List ℕ → List KeptOffset → Type 0
-AreOf group [] = Unit {0}
-AreOf group (row ∷ rows) = (row.0.group ≡ group) × AreOf group rows
-
 entries_as_rows : (group : List ℕ) (rows : List KeptOffset) (offsets : map.FinMap key_cmp StoredOffset) → AreOf group rows → fold (with_entry group) offsets (each entry_of rows) ≡ fold with_row offsets rows
 entries_as_rows group [] offsets are = refl
 entries_as_rows group (row ∷ rows) offsets are =
     let same : with_entry group offsets (entry_of row) ≡ with_row offsets row = ap (λ g. map.insert offsets (record { group = g; topic = row.0.topic; partition = row.0.partition }) row.1) (sym are.0) in
     ap (λ m. fold (with_entry group) m (each entry_of rows)) same ∙ entries_as_rows group rows (with_row offsets row) are.1
-
-AreOf-take : (group : List ℕ) (n : ℕ) (rows : List KeptOffset) → AreOf group rows → AreOf group (take n rows)
-AreOf-take group zero rows are = tt
-AreOf-take group (suc n) [] are = tt
-AreOf-take group (suc n) (row ∷ rows) are = (are.0, AreOf-take group n rows are.1)
-
-AreOf-drop : (group : List ℕ) (n : ℕ) (rows : List KeptOffset) → AreOf group rows → AreOf group (drop n rows)
-AreOf-drop group zero rows are = are
-AreOf-drop group (suc n) [] are = tt
-AreOf-drop group (suc n) (row ∷ rows) are = AreOf-drop group n rows are.1
 
 abbrev with_rows : State → List KeptOffset → State
 with_rows state rows = record state { offsets = fold with_row state.offsets rows }
@@ -98,15 +85,6 @@ after_commits (suc most) group (row ∷ rows) state le are =
     ap (λ s. after s (commits_of most group (drop ENTRIES_MAX (row ∷ rows)))) first ∙ others ∙ ap (λ m. record state { offsets = m }) joined
 
 -- ---- look-ups
-
-equal : (o : Ordering) → is_eq o ≡ true → o ≡ Equal
-equal Less e = absurd cc
-equal Equal e = refl
-equal Greater e = absurd cc
-
-or_true : (b : Bool) → (b || true) ≡ true
-or_true true = refl
-or_true false = refl
 
 abbrev state_from : map.FinMap name_cmp GroupRecord → map.FinMap key_cmp StoredOffset → State
 state_from records offsets = record { records = records; offsets = offsets }
@@ -135,24 +113,6 @@ get-with_rows (row ∷ rows) m k sorted =
         let none : find key_cmp k rows ≡ None = ap (λ q. find key_cmp q rows) same ∙ none_above key_cmp row.0 rows above in
         ap (λ o. or_else o (Some row.1)) none
     step false is above = refl
-
--- a name ties with another where it is that one
-tie_is_same : (a b : List ℕ) → eq_by_cmp name_cmp a b ≡ bytes_eq a b
-tie_is_same a b = cases (eq_by_cmp name_cmp a b) (bytes_eq a b) refl refl
-  where
-    cases : (p q : Bool) → eq_by_cmp name_cmp a b ≡ p → bytes_eq a b ≡ q → p ≡ q
-    cases true true is also = refl
-    cases false false is also = refl
-    cases true false is also = sym ((bytes_eq-Decides a b).1 (name_same a b (equal (name_cmp a b) is))) ∙ also
-    cases false true is also = sym is ∙ (ap (λ x. eq_by_cmp name_cmp x b) ((bytes_eq-Decides a b).0 also) ∙ ap is_eq (tied_itself name_total b))
-
-filter_are_of : (group : List ℕ) (rows : List KeptOffset) → AreOf group (filter (λ row. is_of_group group row.0) rows)
-filter_are_of group [] = tt
-filter_are_of group (row ∷ rows) = step (is_of_group group row.0) refl (filter_are_of group rows)
-  where
-    step : (b : Bool) → is_of_group group row.0 ≡ b → AreOf group (filter (λ r. is_of_group group r.0) rows) → AreOf group (cond b (row ∷ filter (λ r. is_of_group group r.0) rows) (filter (λ r. is_of_group group r.0) rows))
-    step true is rest = ((bytes_eq-Decides row.0.group group).0 is, rest)
-    step false is rest = rest
 
 -- ---- one group after the other
 
@@ -189,9 +149,6 @@ records_then whole now group done (Some held) q is before =
 offsets_unmoved : (now : State) (group : List ℕ) (held : Option GroupRecord) → (then_record now group held).offsets ≡ now.offsets
 offsets_unmoved now group None = refl
 offsets_unmoved now group (Some held) = refl
-
-records_unmoved : (now : State) (rows : List KeptOffset) → (with_rows now rows).records ≡ now.records
-records_unmoved now rows = refl
 
 offsets_then : (b d : Bool) (there : Option StoredOffset) → or_else (cond b there None) (cond d there None) ≡ cond (b || d) there None
 offsets_then true d (Some v) = refl
@@ -233,23 +190,6 @@ holds_all whole (group ∷ groups) now done holds =
 
 -- ---- each group is there
 
-any_tie : (q : List ℕ) (names : List (List ℕ)) → list_any (eq_by_cmp name_cmp q) names ≡ list_any (bytes_eq q) names
-any_tie q [] = refl
-any_tie q (n ∷ names) = rw (tie_is_same q n, any_tie q names) refl
-
-names_again : (names : List (List ℕ)) → each (λ (e : List ℕ × Unit {0}). e.0) (each marked names) ≡ names
-names_again [] = refl
-names_again (n ∷ names) = ap (λ l. n ∷ l) (names_again names)
-
-any_in_order : (q : List ℕ) (names : List (List ℕ)) → list_any (bytes_eq q) (in_order names) ≡ list_any (bytes_eq q) names
-any_in_order q names =
-    sym (any_tie q (in_order names))
-    ∙ sym (map.contains_key-keys (map.from_entries {R = name_cmp} (each marked names)) q)
-    ∙ ap is_some (map.get-from_entries name_total (each marked names) q)
-    ∙ is_some-find name_cmp q (each marked names)
-    ∙ ap (list_any (eq_by_cmp name_cmp q)) (names_again names)
-    ∙ any_tie q names
-
 any_group : (k : OffsetKey) (keys : List OffsetKey) → list_any (eq_by_cmp key_cmp k) keys ≡ true → list_any (bytes_eq k.group) (each (λ x. x.group) keys) ≡ true
 any_group k [] hit = absurd cc
 any_group k (x ∷ keys) hit = step (eq_by_cmp key_cmp k x) refl (any_group k keys)
@@ -263,23 +203,27 @@ any_group k (x ∷ keys) hit = step (eq_by_cmp key_cmp k x) refl (any_group k ke
         let more : list_any (eq_by_cmp key_cmp k) keys ≡ true = rw is at hit in
         rw (rest more) (or_true (bytes_eq k.group x.group))
 
+-- a name is one of the groups of a state where it has a record or an offset
+pub any_group_in : (state : State) (q : List ℕ) → list_any (bytes_eq q) (in_order (groups_in state)) ≡ (map.contains_key state.records q || list_any (bytes_eq q) (each (λ k. k.group) (map.keys state.offsets)))
+any_group_in state q =
+    any_in_order q (groups_in state) ∙ list_any-append (bytes_eq q) (map.keys state.records) (each (λ k. k.group) (map.keys state.offsets))
+    ∙ ap (λ b. b || list_any (bytes_eq q) (each (λ k. k.group) (map.keys state.offsets))) (sym (any_tie q (map.keys state.records)) ∙ sym (map.contains_key-keys state.records q))
+
 covered : {X : Type 0} (there : Option X) (b : Bool) → (is_some there ≡ true → b ≡ true) → cond (b || false) there None ≡ there
 covered None true h = refl
 covered None false h = refl
 covered (Some v) true h = refl
 covered (Some v) false h = absurd (cc (h refl))
 
-record_covered : (state : State) (q : List ℕ) → is_some (map.get state.records q) ≡ true → list_any (bytes_eq q) (in_order (groups_in state)) ≡ true
-record_covered state q there =
-    let known : list_any (bytes_eq q) (map.keys state.records) ≡ true = sym (any_tie q (map.keys state.records)) ∙ sym (map.contains_key-keys state.records q) ∙ there in
-    any_in_order q (groups_in state) ∙ list_any-append (bytes_eq q) (map.keys state.records) (each (λ k. k.group) (map.keys state.offsets))
-    ∙ ap (λ b. b || list_any (bytes_eq q) (each (λ k. k.group) (map.keys state.offsets))) known
+-- each group that has a record is one of them
+pub record_covered : (state : State) (q : List ℕ) → is_some (map.get state.records q) ≡ true → list_any (bytes_eq q) (in_order (groups_in state)) ≡ true
+record_covered state q there = any_group_in state q ∙ ap (λ b. b || list_any (bytes_eq q) (each (λ k. k.group) (map.keys state.offsets))) there
 
-offset_covered : (state : State) (k : OffsetKey) → is_some (map.get state.offsets k) ≡ true → list_any (bytes_eq k.group) (in_order (groups_in state)) ≡ true
+-- and each that has an offset
+pub offset_covered : (state : State) (k : OffsetKey) → is_some (map.get state.offsets k) ≡ true → list_any (bytes_eq k.group) (in_order (groups_in state)) ≡ true
 offset_covered state k there =
     let known : list_any (bytes_eq k.group) (each (λ x. x.group) (map.keys state.offsets)) ≡ true = any_group k (map.keys state.offsets) (sym (map.contains_key-keys state.offsets k) ∙ there) in
-    any_in_order k.group (groups_in state) ∙ list_any-append (bytes_eq k.group) (map.keys state.records) (each (λ x. x.group) (map.keys state.offsets))
-    ∙ ap (λ b. list_any (bytes_eq k.group) (map.keys state.records) || b) known ∙ or_true (list_any (bytes_eq k.group) (map.keys state.records))
+    any_group_in state k.group ∙ ap (λ b. map.contains_key state.records k.group || b) known ∙ or_true (map.contains_key state.records k.group)
 
 nothing_holds : (whole : State) → Holds whole empty (λ q. false)
 nothing_holds whole = record { records = λ q. map.get-empty name_cmp q; offsets = λ k. map.get-empty key_cmp k }

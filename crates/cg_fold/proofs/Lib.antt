@@ -3,4 +3,11 @@ pub mod KeyOrder
 pub mod Put
 pub mod Kept
 pub mod Taken
+pub mod Names
+pub mod Merging
+pub mod Own
+pub mod Stock
+pub mod Restock
+pub mod Added
+pub mod Commits
 pub mod Anew

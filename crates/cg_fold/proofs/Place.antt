@@ -15,7 +15,11 @@ pub both : (a b : Bool) → T (a && b) → T a × T b
 both true b h = (tt, h)
 both false b h = absurd h
 
-less : (o : Ordering) → T (is_lt o) → o ≡ Less
+pub and : (a b : Bool) → T a → T b → T (a && b)
+and true b p q = q
+and false b p q = p
+
+pub less : (o : Ordering) → T (is_lt o) → o ≡ Less
 less Less h = refl
 less Equal h = absurd h
 less Greater h = absurd h
@@ -107,7 +111,7 @@ module _ {K X : Type 0} {R : K → K → Ordering} (o : IsTotalOrder R) where
           let here : R e.0 key ≡ Equal = rw n-is at same in
           absurd (let clash : Greater ≡ Equal = sym after ∙ here in cc)
 
-  above_all : (key x : K) (es : List (K × X)) → R key x ≡ Less → T (below_all R x es) → find R key es ≡ None
+  pub above_all : (key x : K) (es : List (K × X)) → R key x ≡ Less → T (below_all R x es) → find R key es ≡ None
   above_all key x [] before all = refl
   above_all key x (e ∷ es) before all =
       let parts = both (is_lt (R x e.0)) (below_all R x es) all in

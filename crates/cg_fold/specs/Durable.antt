@@ -1,8 +1,7 @@
 -- The durable state, and what a command does to it.
-use Rattle.std.specs.Prelude.{ℕ, Bool, not, List, Option, Some, None, IsTrue, bytes_eq, refl}
+use Rattle.std.specs.Prelude.{ℕ, Bool, not, List, Option, Some, None, bytes_eq, refl}
 use Rattle.std.specs.List.{fold}
 use Rattle.std.specs.FinMap as map
-use Rattle.std.specs.FinMap.{is_sorted}
 use Rattle.std.specs.Coded.{Coded, code_by, coded×, coded_list, coded_ℕ}
 use Rattle.cg_record.specs.declared.command.Command.{Command}
 use Rattle.cg_record.specs.declared.command.Command.TheVariants.{Assigned, Emptied, Replaced, Committed, Deleted}
@@ -11,8 +10,9 @@ use Rattle.cg_record.specs.declared.member.Member.{Member}
 use Rattle.cg_fold.specs.declared.key.OffsetKey.{OffsetKey}
 use Rattle.cg_fold.specs.declared.key.StoredOffset.{StoredOffset}
 use Rattle.cg_fold.specs.declared.record.GroupRecord.{GroupRecord}
-use Rattle.cg_fold.specs.Key.{KeptOffset, key_cmp, name_cmp, kept_of, key_code, stored_code}
-use Rattle.cg_fold.specs.Record.{KeptRecord, assigned_record, emptied_record, replaced_record, is_record_of_other, record_code}
+use Rattle.cg_fold.specs.Key.{key_cmp, name_cmp, kept_of, offsets_code}
+use Rattle.cg_fold.specs.Record.{assigned_record, emptied_record, replaced_record, record_code}
+use Rattle.cg_fold.specs.Grouped.{is_another}
 
 -- what loading has to give back: the record of each group, and for each partition of each topic how far a group has read it
 pub record State : Type 0 where
@@ -21,12 +21,7 @@ pub record State : Type 0 where
 
 -- a state is stored as its maps
 abbrev pub state_code : Coded State
-state_code = code_by (map.FinMap name_cmp GroupRecord × map.FinMap key_cmp StoredOffset) (coded× (map.code (coded_list coded_ℕ) record_code) (map.code key_code stored_code)) (λ s. (s.records, s.offsets)) (λ m. record { records = m.0; offsets = m.1 }) (λ _. refl)
-
--- records and offsets in the orders in which they are kept
-pub record AreInOrder (records : List KeptRecord) (rows : List KeptOffset) : Type 0 where
-  pub by_group : IsTrue (is_sorted name_cmp records)
-  pub by_key : IsTrue (is_sorted key_cmp rows)
+state_code = code_by (map.FinMap name_cmp GroupRecord × map.FinMap key_cmp StoredOffset) (coded× (map.code (coded_list coded_ℕ) record_code) offsets_code) (λ s. (s.records, s.offsets)) (λ m. record { records = m.0; offsets = m.1 }) (λ _. refl)
 
 -- before any command
 abbrev pub empty : State
@@ -51,7 +46,7 @@ is_of_other group key = not (bytes_eq key.group group)
 
 -- the records and offsets of other groups
 abbrev pub without_group : State → List ℕ → State
-without_group state group = record { records = map.retain_keys state.records (is_record_of_other group); offsets = map.retain_keys state.offsets (is_of_other group) }
+without_group state group = record { records = map.retain_keys state.records (is_another group); offsets = map.retain_keys state.offsets (is_of_other group) }
 
 -- what one command does
 unfoldable pub effect : State → Command → State

@@ -5,6 +5,7 @@ use Rattle.std.specs.declared.cmp.Ordering.TheVariants.{Equal}
 use Rattle.std.specs.Ordering.{nat_cmp, is_lt, on, then_cmp}
 use Rattle.std.specs.Cmp.Lexicographic.{slice_cmp}
 use Rattle.std.specs.Coded.{Coded, code_by, coded×, coded_list, coded_ℕ}
+use Rattle.std.specs.FinMap as map
 use Rattle.std.specs.FinMap.{put}
 use Rattle.cg_record.specs.declared.entry.Entry.{Entry}
 use Rattle.cg_fold.specs.declared.key.OffsetKey.{OffsetKey}
@@ -51,3 +52,7 @@ key_code = code_by (List ℕ × (List ℕ × ℕ)) (coded× (coded_list coded_�
 
 abbrev pub stored_code : Coded StoredOffset
 stored_code = code_by (ℕ × List ℕ) (coded× coded_ℕ (coded_list coded_ℕ)) (λ s. (s.offset, s.metadata)) (λ p. record { offset = p.0; metadata = p.1 }) (λ _. refl)
+
+-- a map of offsets is stored as its entries
+abbrev pub offsets_code : Coded (map.FinMap key_cmp StoredOffset)
+offsets_code = map.code key_code stored_code

@@ -1,4 +1,6 @@
 pub mod Key
+pub mod Grouped
+pub mod Shelf
 pub mod Record
 pub mod Durable
 pub mod Snapshot

@@ -1,8 +1,6 @@
--- The records of groups, and the order in which they are kept.
-use Rattle.std.specs.Prelude.{◌≡◌, ℕ, ◌<◌, Bool, not, List, length, Option, Some, None, slice_index_or, slice_set, bytes_eq, refl}
-use Rattle.std.specs.declared.cmp.Ordering.TheVariants.{Equal}
+-- The records of groups.
+use Rattle.std.specs.Prelude.{◌≡◌, ℕ, List, Option, Some, None, slice_index_or, slice_set, refl}
 use Rattle.std.specs.Option.{option_map}
-use Rattle.std.specs.Ordering.{is_lt}
 use Rattle.std.specs.Coded.{Coded, code_by, coded×, coded_list, coded_option, coded_ℕ}
 use Rattle.std.specs.FinMap.{find, put}
 use Rattle.cg_record.specs.declared.assigned.Assigned.{Assigned}
@@ -11,22 +9,11 @@ use Rattle.cg_record.specs.declared.member.Member.{Member}
 use Rattle.cg_record.specs.Rosters.{RosterParts, replaced_in}
 use Rattle.cg_fold.specs.declared.record.GroupRecord.{GroupRecord}
 use Rattle.cg_fold.specs.Key.{name_cmp}
+use Rattle.cg_fold.specs.Grouped.{OfGroup}
 
 -- a record with the group that it is of
 abbrev pub KeptRecord : Type 0
-KeptRecord = List ℕ × GroupRecord
-
--- whether a record stands before a group
-abbrev pub is_record_below : List ℕ → KeptRecord → Bool
-is_record_below group kept = is_lt (name_cmp kept.0 group)
-
--- the record at this place is the group's own
-abbrev pub IsOwnRecord : List KeptRecord → ℕ → List ℕ → Type 0
-IsOwnRecord kept at group = (at < length kept) × ((d : KeptRecord) → name_cmp (slice_index_or kept at d).0 group ≡ Equal)
-
--- no record at this place is the group's own
-abbrev pub IsOtherRecord : List KeptRecord → ℕ → List ℕ → Type 0
-IsOtherRecord kept at group = (d : KeptRecord) → at < length kept → name_cmp (slice_index_or kept at d).0 group ≡ Equal → ⊥
+KeptRecord = OfGroup GroupRecord
 
 -- what is kept of a group whose members have their assignments
 abbrev pub assigned_record : Assigned → GroupRecord
@@ -52,10 +39,6 @@ put_found group (Some r) records = put name_cmp group r records
 -- the records with a new member in one group's
 abbrev pub replaced_among : List ℕ → Member → List KeptRecord → List KeptRecord
 replaced_among group new records = put_found group (option_map (replaced_record new) (find name_cmp group records)) records
-
--- whether a record is of another group
-abbrev pub is_record_of_other : List ℕ → List ℕ → Bool
-is_record_of_other group held = not (bytes_eq held group)
 
 -- a member, what members joined in and a record are stored as their parts
 abbrev pub member_code : Coded Member

@@ -1,6 +1,8 @@
 -- The commands that make a state anew.
-use Rattle.std.specs.Prelude.{ℕ, zero, suc, Bool, List, [], ◌∷◌, ◌++◌, length, map as each, take, drop, filter, flat_map, Option, Some, None, bytes_eq}
+use Rattle.std.specs.Prelude.{◌≡◌, ℕ, zero, suc, ◌+◌, ◌<◌, Bool, List, [], ◌∷◌, ◌++◌, length, map as each, take, drop, filter, flat_map, Option, Some, None, IsTrue, bytes_eq}
+use Rattle.std.specs.declared.cmp.Ordering.TheVariants.{Less}
 use Rattle.std.specs.FinMap as map
+use Rattle.std.specs.FinMap.{is_sorted}
 use Rattle.cg_record.specs.declared.command.Command.{Command}
 use Rattle.cg_record.specs.declared.command.Command.TheVariants.{Assigned, Emptied, Committed}
 use Rattle.cg_record.specs.declared.entries.TheConstants.{ENTRIES_MAX}
@@ -8,7 +10,8 @@ use Rattle.cg_record.specs.declared.entry.Entry.{Entry}
 use Rattle.cg_record.specs.Rosters.{RosterParts}
 use Rattle.cg_fold.specs.declared.key.OffsetKey.{OffsetKey}
 use Rattle.cg_fold.specs.declared.record.GroupRecord.{GroupRecord}
-use Rattle.cg_fold.specs.Key.{KeptOffset, name_cmp}
+use Rattle.cg_fold.specs.declared.key.StoredOffset.{StoredOffset}
+use Rattle.cg_fold.specs.Key.{KeptOffset, key_cmp, name_cmp}
 use Rattle.cg_fold.specs.Durable.{State}
 
 -- the groups that have a record or an offset
@@ -23,6 +26,27 @@ marked name = (name, tt)
 abbrev pub in_order : List (List ℕ) → List (List ℕ)
 in_order names = map.keys (map.from_entries {R = name_cmp} (each marked names))
 
+-- the first comes before each of the others, by bytes
+abbrev pub ComesBefore : List ℕ → List (List ℕ) → Type 0
+ComesBefore name [] = Unit {0}
+ComesBefore name (other ∷ others) = (name_cmp name other ≡ Less) × ComesBefore name others
+
+-- names by their bytes, each once
+abbrev pub Ascending : List (List ℕ) → Type 0
+Ascending [] = Unit {0}
+Ascending (name ∷ names) = ComesBefore name names × Ascending names
+
+-- the groups that either list keeps something of, each once, by bytes
+abbrev pub groups_of_either : {X Y : Type 0} → List (List ℕ × X) → List (List ℕ × Y) → List (List ℕ)
+groups_of_either left right = in_order (each (λ kept. kept.0) left ++ each (λ kept. kept.0) right)
+
+-- the group is the first of either list, and these are what they keep of the others
+pub record ComesFirst {X Y : Type 0} (left : List (List ℕ × X)) (right : List (List ℕ × Y)) (group : List ℕ) (left_rest : List (List ℕ × X)) (right_rest : List (List ℕ × Y)) : Type 0 where
+  pub groups : groups_of_either left right ≡ group ∷ groups_of_either left_rest right_rest
+  pub left_sorted : IsTrue (is_sorted name_cmp left_rest)
+  pub right_sorted : IsTrue (is_sorted name_cmp right_rest)
+  pub fewer : length left_rest + length right_rest < length left + length right
+
 -- the command that sets a record
 abbrev pub record_command : List ℕ → ℕ → List ℕ → Option RosterParts → Command
 record_command group generation kind None = Emptied (record { group = group; generation = generation; kind = kind })
@@ -36,20 +60,27 @@ record_commands group (Some held) = record_command group held.generation held.ki
 abbrev pub entry_of : KeptOffset → Entry
 entry_of kept = record { topic = kept.0.topic; partition = kept.0.partition; offset = kept.1.offset; metadata = kept.1.metadata }
 
+-- the commit that sets these offsets
+abbrev pub commit_command : List ℕ → List KeptOffset → Command
+commit_command group rows = Committed (record { group = group; entries = each entry_of rows })
+
 -- commits of as many entries each as one may have; there are at most `most` entries
 unfoldable pub commits_of : ℕ → List ℕ → List KeptOffset → List Command
 commits_of zero group rows = []
 commits_of (suc most) group [] = []
 commits_of (suc most) group (row ∷ rows) =
-    Committed (record { group = group; entries = each entry_of (take ENTRIES_MAX (row ∷ rows)) }) ∷ commits_of most group (drop ENTRIES_MAX (row ∷ rows))
+    commit_command group (take ENTRIES_MAX (row ∷ rows)) ∷ commits_of most group (drop ENTRIES_MAX (row ∷ rows))
 
 -- the offset is the group's
 abbrev pub is_of_group : List ℕ → OffsetKey → Bool
 is_of_group group key = bytes_eq key.group group
 
 -- the offsets of a group, by topic and partition
+abbrev pub offsets_in : map.FinMap key_cmp StoredOffset → List ℕ → List KeptOffset
+offsets_in offsets group = filter (λ row. is_of_group group row.0) (map.entries offsets)
+
 abbrev pub offsets_of : State → List ℕ → List KeptOffset
-offsets_of state group = filter (λ row. is_of_group group row.0) (map.entries state.offsets)
+offsets_of state group = offsets_in state.offsets group
 
 -- what makes one group anew: its record, and then its offsets
 unfoldable pub group_commands : State → List ℕ → List Command

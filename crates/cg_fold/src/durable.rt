@@ -1,13 +1,15 @@
-ghost use Rattle.std.specs.Prelude.{◌≡◌, OnOk, OnErr};
+ghost use Rattle.std.specs.Prelude.{◌≡◌, ◌++◌, IfOk, OnOk, OnErr};
 ghost use Rattle.std.specs.Option.{option_copied};
 ghost use Rattle.std.specs.FinMap as finmap;
 ghost use Rattle.cg_fold.specs.Key.{key_of};
 ghost use Rattle.cg_fold.specs.Durable.{counts_of, effect, empty, with_record};
+ghost use Rattle.cg_fold.specs.Snapshot.{Ascending, group_commands, groups_in, in_order, snapshot_of};
 
 use crate::key::StoredOffset;
+use crate::offsets::Offsets;
 use crate::record::GroupRecord;
 use crate::records::{self, Kept};
-use crate::rows::{self, Row};
+use crate::{either, grouped, snapshots};
 use cg_names::{GroupId, Topic};
 use cg_record::{Assigned, Command, Committed, Deleted, Emptied, Partition, Replaced};
 use std::alloc::{AllocError, Global};
@@ -15,27 +17,28 @@ use std::marker::Model;
 
 /// The state that loading gives back: what the commands so far make. Contracts see it as the maps of `State`.
 ///
-/// The records stand in one sorted vector and the offsets in another: a look-up takes time logarithmic in their number and no
-/// memory, and so does a commit of partitions that are there; a group or a partition that is new moves those behind it, and
-/// deleting a group goes through all of them.
+/// The records stand in one sorted vector: a look-up takes time logarithmic in their number and no memory; a group that is new
+/// moves those behind it, and deleting a group goes through all of them. The offsets stand in `Offsets`.
 #[derive(Drop)]
 pub struct Durable {
     alloc: Global,
     records: Vec<Kept>,
-    rows: Vec<Row>,
+    offsets: Offsets,
 }
 
 impl Model for Durable {
-    ghost use Rattle.std.specs.FinMap.{from_sorted};
-    ghost use Rattle.cg_fold.specs.Durable.{AreInOrder, State, state_code};
+    ghost use Rattle.std.specs.Prelude.{IsTrue};
+    ghost use Rattle.std.specs.FinMap.{from_sorted, is_sorted};
+    ghost use Rattle.cg_fold.specs.Key.{name_cmp};
+    ghost use Rattle.cg_fold.specs.Durable.{State, state_code};
 
     ghost Value = { State };
 
     ghost coded = { state_code };
 
-    ghost view = { λ d. record { records = from_sorted d.records.items; offsets = from_sorted d.rows.items } };
+    ghost view = { λ d. record { records = from_sorted d.records.items; offsets = d.offsets } };
 
-    ghost invariant = { λ d. AreInOrder d.records.items d.rows.items };
+    ghost invariant = { λ d. IsTrue (is_sorted name_cmp d.records.items) };
 }
 
 impl Durable {
@@ -46,7 +49,7 @@ impl Durable {
         Durable {
             alloc,
             records: Vec::new(alloc),
-            rows: Vec::new(alloc),
+            offsets: Offsets::new(alloc),
         }
     }
 
@@ -95,7 +98,7 @@ impl Durable {
         ensures err { OnErr result (self.new ≡ self.old) }
     {
         self.records.reserve(1)?;
-        records::put_record(&mut self.records, kept);
+        grouped::put(&mut self.records, kept);
         Ok(())
     }
 
@@ -112,17 +115,15 @@ impl Durable {
     fn delete(&mut self, deleted: &Deleted)
         ensures { self.new ≡ effect self.old (Command.Deleted deleted.now) }
     {
-        records::take_away(&mut self.records, &deleted.group);
-        rows::take_away(&mut self.rows, &deleted.group);
+        grouped::take_away(&mut self.records, &deleted.group);
+        self.offsets.forget(&deleted.group);
     }
 
     fn commit(&mut self, commit: &Committed) -> Result<(), AllocError>
         ensures ok { OnOk result (self.new ≡ effect self.old (Command.Committed commit.now)) }
         ensures err { OnErr result (self.new ≡ self.old) }
     {
-        let rows = rows::rows_of(self.alloc, commit)?;
-        self.rows.reserve(rows.len())?;
-        rows::put_rows(&mut self.rows, rows);
+        self.offsets.commit(commit)?;
         Ok(())
     }
 
@@ -130,7 +131,7 @@ impl Durable {
     pub fn group(&self, group: &GroupId) -> Option<&GroupRecord>
         ensures { option_copied result ≡ finmap.get self.now.records group.now }
     {
-        records::record_at(&self.records, group)
+        grouped::held_at(&self.records, group)
     }
 
     /// What a group has committed for a partition, where it has committed anything. Takes no memory.
@@ -142,13 +143,52 @@ impl Durable {
     ) -> Option<&StoredOffset>
         ensures { option_copied result ≡ finmap.get self.now.offsets (key_of group.now topic.now partition) }
     {
-        rows::stored_at(&self.rows, group, topic, partition)
+        self.offsets.get(group, topic, partition)
     }
 
     /// How many group records and how many offsets there are. Takes no memory.
     pub fn counts(&self) -> (u64, u64)
         ensures { result ≡ counts_of self.now }
     {
-        (self.records.len() as u64, self.rows.len() as u64)
+        (self.records.len() as u64, self.offsets.len())
+    }
+
+    /// The ids of the groups that have a record or an offset, each once, by bytes. Takes time linear in the groups.
+    pub fn group_ids(&self) -> Result<Vec<GroupId>, AllocError>
+        ensures value { IfOk result (λ ids. ids.items ≡ in_order (groups_in self.now)) }
+        ensures ascending { IfOk result (λ ids. Ascending ids.items) }
+    {
+        let ids = either::ids_of_either(self.alloc, &self.records, self.offsets.shelves())?;
+        Ok(ids)
+    }
+
+    // Adds what makes one group anew.
+    #[tactic(auto, unfolding(crate::specs::Snapshot::group_commands))]
+    fn push_group(&self, commands: &mut Vec<Command>, group: &GroupId) -> Result<(), AllocError>
+        ensures { OnOk result (commands.new.items ≡ commands.old.items ++ group_commands self.now group.now) }
+    {
+        snapshots::push_record(commands, group, self.group(group))?;
+        snapshots::push_commits(self.alloc, commands, group, self.offsets.of_group(group))?;
+        Ok(())
+    }
+
+    /// The commands that make this state from nothing: for each group its record, then its offsets. Copies all that there is.
+    pub fn snapshot(&self) -> Result<Vec<Command>, AllocError>
+        ensures { IfOk result (λ commands. commands.items ≡ snapshot_of self.now) }
+    {
+        let ids = self.group_ids()?;
+        let mut commands = Vec::new(self.alloc);
+        for id in &ids {
+            self.push_group(&mut commands, id)?;
+        }
+        Ok(commands)
+    }
+
+    /// The offsets alone, of whatever groups. Takes no memory.
+    pub fn into_offsets(self) -> Offsets
+        ensures { result ≡ self.offsets }
+    {
+        let Durable { offsets, .. } = self;
+        offsets
     }
 }

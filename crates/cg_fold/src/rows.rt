@@ -1,11 +1,10 @@
 //! The offsets as rows in the order of their keys: a look-up is a binary search, which takes no memory.
-ghost use Rattle.std.specs.Prelude.{◌≡◌, ◌+◌, ◌<◌, ◌≤◌, IsTrue, length, vec_len, vec_capacity, filter, IfOk, map};
+ghost use Rattle.std.specs.Prelude.{◌≡◌, ◌+◌, ◌<◌, ◌≤◌, IsTrue, length, vec_len, vec_capacity, [], IfOk, OnErr, OnOk, map};
 ghost use Rattle.std.specs.List.{fold, prefix_len};
 ghost use Rattle.std.specs.FinMap.{find, is_sorted, put};
 ghost use Rattle.std.specs.Bool.{OnTrue, OnFalse};
 ghost use Rattle.std.specs.Option.{option_copied};
 ghost use Rattle.std.specs.VecDeque.{deque_len};
-ghost use Rattle.cg_fold.specs.Durable.{is_of_other};
 ghost use Rattle.cg_fold.specs.Key.{IsOther, IsOwn, kept_of, is_below, key_cmp, key_of, put_kept};
 
 use crate::key::{OffsetKey, StoredOffset};
@@ -14,9 +13,60 @@ use cg_record::{Committed, Entry, Partition};
 use std::alloc::{AllocError, Global};
 use std::cmp::Ordering;
 use std::collections::VecDeque;
+use std::marker::Model;
 
 /// One offset with its key.
 pub type Row = (OffsetKey, StoredOffset);
+
+/// Rows in the order of their keys. Contracts see them as a list.
+#[derive(Drop)]
+pub struct Rows {
+    rows: Vec<Row>,
+}
+
+impl Model for Rows {
+    ghost use Rattle.std.specs.Prelude.{List, IsTrue};
+    ghost use Rattle.std.specs.FinMap.{is_sorted};
+    ghost use Rattle.cg_fold.specs.Key.{KeptOffset, key_cmp};
+    ghost use Rattle.cg_fold.specs.Shelf.{rows_code};
+
+    ghost Value = { List KeptOffset };
+
+    ghost coded = { rows_code };
+
+    ghost view = { λ r. r.rows.items };
+
+    ghost invariant = { λ r. IsTrue (is_sorted key_cmp r.rows.items) };
+}
+
+impl Rows {
+    /// No rows. Takes no memory.
+    pub fn new(alloc: Global) -> Self
+        ensures { result ≡ [] }
+    {
+        Rows {
+            rows: Vec::new(alloc),
+        }
+    }
+
+    /// The rows in their order.
+    pub fn as_slice(&self) -> &[Row]
+        ensures value { result.now ≡ self.now }
+        ensures sorted { IsTrue (is_sorted key_cmp self.now) }
+    {
+        self.rows.as_slice()
+    }
+
+    /// Puts these rows, one after the other. Want of memory changes nothing.
+    pub fn put_all(&mut self, waiting: VecDeque<Row>) -> Result<(), AllocError>
+        ensures ok { OnOk result (self.new ≡ fold put_kept self.old waiting.items) }
+        ensures err { OnErr result (self.new ≡ self.old) }
+    {
+        self.rows.reserve(waiting.len())?;
+        put_rows(&mut self.rows, waiting);
+        Ok(())
+    }
+}
 
 /// How many rows stand before a key.
 pub fn place(rows: &[Row], group: &GroupId, topic: &Topic, partition: Partition) -> usize
@@ -89,13 +139,6 @@ pub fn rows_of(alloc: Global, commit: &Committed) -> Result<VecDeque<Row>, Alloc
         rows.push_back(row_of(&commit.group, entry)?)?;
     }
     Ok(rows)
-}
-
-/// Takes the rows of a group away. Takes no memory.
-pub fn take_away(rows: &mut Vec<Row>, group: &GroupId)
-    ensures { rows.new.items ≡ filter (λ row. is_of_other group.now row.0) rows.old.items }
-{
-    rows.retain(|row| row.0.group.as_bytes() != group.as_bytes());
 }
 
 /// What is kept at a key. Takes no memory.

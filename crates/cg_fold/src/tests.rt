@@ -1,4 +1,5 @@
 mod commits;
+mod snapshots;
 
 use super::*;
 use cg_names::{GroupId, Name, Topic};
@@ -123,6 +124,23 @@ fn replacements(rt: HostRuntime) -> Result<(), Fail> {
         return Err(Fail::from("the group has members"));
     };
     assert_eq!(rt; roster.members()[0].assignment.as_bytes(), [3].as_slice());
+    Ok(())
+}
+
+#[test]
+fn groups(rt: HostRuntime) -> Result<(), Fail> {
+    let mut durable = Durable::new(rt.alloc());
+    assert!(rt; durable.group_ids()?.is_empty());
+    apply_with(rt, &mut durable, &COMMITTED, 3, b'h')?;
+    apply_with(rt, &mut durable, &COMMITTED, 3, b'a')?;
+    apply(rt, &mut durable, &EMPTIED)?;
+    apply(rt, &mut durable, &COMMITTED)?;
+    apply_with(rt, &mut durable, &EMPTIED, 3, b'b')?;
+    let mut text = String::new(rt.alloc());
+    for id in &durable.group_ids()? {
+        text.push_str(id.as_str())?;
+    }
+    assert_eq!(rt; text.as_str(), "abgh");
     Ok(())
 }
 

@@ -3,5 +3,4 @@ use Rattle.cg_fold.proofs.durable.Durable.commit.Goals as goal
 
 pub returns-clause-ok : goal.returns-clause-ok
 returns-clause-ok c =
-    state-commit c.args.commit.now c.self.inside.records.items c.self.inside.rows.items c.reserve.new.self.items c.put_rows.new.rows.items c.in_ok-rows.rows.items c.args.self.now
-    c.self.invariant.by_key c.reserve.ensures.items c.in_ok-rows.ensures c.put_rows.ensures.rows c.self.view_is
+    state-commit c.args.commit.now c.self.inside.records.items c.self.inside.offsets c.commit.new.self c.args.self.now c.in_ok-commit.ensures.ok c.self.view_is

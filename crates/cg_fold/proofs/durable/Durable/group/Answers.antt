@@ -8,4 +8,4 @@ use Rattle.cg_fold.proofs.durable.Durable.group.Goals as goal
 pub returns : goal.returns
 returns c =
     let group = c.args.group.now in
-    c.record_at.ensures ∙ ap (find name_cmp group) c.deref.ensures.value ∙ sym (map-get name_cmp c.self.inside.records.items group c.self.invariant.by_group) ∙ ap (λ s. map.get s.records group) c.self.view_is
+    c.held_at.ensures ∙ ap (find name_cmp group) c.deref.ensures.value ∙ sym (map-get name_cmp c.self.inside.records.items group c.self.invariant) ∙ ap (λ s. map.get s.records group) c.self.view_is

@@ -1,0 +1,67 @@
+//! What is kept by group, in the order of the groups' ids: a look-up is a binary search, which takes no memory.
+ghost use Rattle.std.specs.Prelude.{◌≡◌, ◌<◌, ◌≤◌, IsTrue, length, vec_len, vec_capacity, filter};
+ghost use Rattle.std.specs.List.{prefix_len};
+ghost use Rattle.std.specs.FinMap.{find, is_sorted, put};
+ghost use Rattle.std.specs.Bool.{OnTrue, OnFalse};
+ghost use Rattle.std.specs.Option.{option_copied};
+ghost use Rattle.cg_fold.specs.Key.{name_cmp};
+ghost use Rattle.cg_fold.specs.Grouped.{IsOtherPlace, IsOwnPlace, is_another, is_before};
+
+use cg_names::GroupId;
+use std::cmp::Ordering;
+
+/// What is kept of a group, with the group's id.
+pub type OfGroup<T> = (GroupId, T);
+
+/// How many stand before a group.
+pub fn place<T>(kept: &[OfGroup<T>], group: &GroupId) -> usize
+    requires { IsTrue (is_sorted name_cmp kept.now) }
+    ensures value { result ≡ prefix_len (is_before group.now) kept.now }
+    ensures within { result ≤ length kept.now }
+{
+    kept.partition_point(|held| held.0.cmp(group) == Ordering::Less)
+}
+
+/// Whether what stands at this place is the group's own.
+pub fn is_at<T>(kept: &[OfGroup<T>], at: usize, group: &GroupId) -> bool
+    ensures own { OnTrue result (IsOwnPlace kept.now at group.now) }
+    ensures other { OnFalse result (IsOtherPlace kept.now at group.now) }
+{
+    at < kept.len() && kept[at].0.cmp(group) == Ordering::Equal
+}
+
+/// Puts what is kept of a group in its place: over the group's own, or between two others. Takes no memory.
+pub fn put<T: Drop>(kept: &mut Vec<OfGroup<T>>, entry: OfGroup<T>)
+    requires sorted { IsTrue (is_sorted name_cmp kept.old.items) }
+    requires room { vec_len kept.old < vec_capacity kept.old }
+    ensures entries { kept.new.items ≡ put name_cmp entry.0 entry.1 kept.old.items }
+    ensures sorted { IsTrue (is_sorted name_cmp kept.new.items) }
+{
+    let (group, value) = entry;
+    let at = place(kept, &group);
+    if is_at(kept, at, &group) {
+        kept[at].1 = value;
+    } else {
+        kept.insert(at, (group, value)).unwrap();
+    }
+}
+
+/// Takes away what is kept of a group, if anything is. Takes no memory.
+pub fn take_away<T: Drop>(kept: &mut Vec<OfGroup<T>>, group: &GroupId)
+    ensures { kept.new.items ≡ filter (λ held. is_another group.now held.0) kept.old.items }
+{
+    kept.retain(|held| held.0.as_bytes() != group.as_bytes());
+}
+
+/// What is kept of a group. Takes no memory.
+pub fn held_at<'a, T>(kept: &'a [OfGroup<T>], group: &GroupId) -> Option<&'a T>
+    requires { IsTrue (is_sorted name_cmp kept.now) }
+    ensures { option_copied result ≡ find name_cmp group.now kept.now }
+{
+    let at = place(kept, group);
+    if is_at(kept, at, group) {
+        Some(&kept[at].1)
+    } else {
+        None
+    }
+}

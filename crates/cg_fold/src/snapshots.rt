@@ -1,0 +1,126 @@
+//! The commands that make a group anew.
+ghost use Rattle.std.specs.Prelude.{◌≡◌, ◌<◌, ◌≤◌, ◌++◌, IsTrue, length, drop, take, map, IfOk, OnOk};
+ghost use Rattle.std.specs.FinMap.{is_sorted};
+ghost use Rattle.std.specs.Option.{option_copied};
+ghost use Rattle.cg_record.specs.declared.entries.TheConstants.{ENTRIES_MAX};
+ghost use Rattle.cg_fold.specs.Key.{key_cmp};
+ghost use Rattle.cg_fold.specs.Shelf.{AreOf};
+ghost use Rattle.cg_fold.specs.Snapshot.{commit_command, commits_of, entry_of, record_command, record_commands};
+
+use crate::record::GroupRecord;
+use crate::rows::Row;
+use cg_names::GroupId;
+use cg_record::{Assigned, Command, Committed, ENTRIES_MAX, Emptied, Entries, Entry};
+use std::alloc::{AllocError, Global};
+
+// The command that sets the record of a group.
+fn record_command(group: &GroupId, held: &GroupRecord) -> Result<Command, AllocError>
+    ensures { IfOk result (λ command. command ≡ record_command group.now held.now.generation held.now.kind held.now.roster) }
+{
+    let group = group.clone()?;
+    let kind = held.kind.clone()?;
+    match &held.roster {
+        None => Ok(Command::Emptied(Emptied {
+            group,
+            generation: held.generation,
+            kind,
+        })),
+        Some(roster) => {
+            let roster = roster.clone()?;
+            Ok(Command::Assigned(Assigned {
+                group,
+                generation: held.generation,
+                kind,
+                roster,
+            }))
+        }
+    }
+}
+
+/// Adds the command that sets the record of a group, where it has one.
+pub fn push_record(
+    commands: &mut Vec<Command>,
+    group: &GroupId,
+    held: Option<&GroupRecord>,
+) -> Result<(), AllocError>
+    ensures { OnOk result (commands.new.items ≡ commands.old.items ++ record_commands group.now (option_copied held.entry)) }
+{
+    match held {
+        None => Ok(()),
+        Some(held) => {
+            commands.push(record_command(group, held)?)?;
+            Ok(())
+        }
+    }
+}
+
+fn entry_of(row: &Row) -> Result<Entry, AllocError>
+    ensures { IfOk result (λ entry. entry ≡ entry_of row.now) }
+{
+    let topic = row.0.topic.clone()?;
+    let metadata = row.1.metadata.clone()?;
+    Ok(Entry {
+        topic,
+        partition: row.0.partition,
+        offset: row.1.offset,
+        metadata,
+    })
+}
+
+fn entries_of(alloc: Global, rows: &[Row]) -> Result<Vec<Entry>, AllocError>
+    ensures { IfOk result (λ entries. entries.items ≡ map entry_of rows.now) }
+{
+    let mut entries = Vec::with_capacity(alloc, rows.len())?;
+    for row in rows {
+        entries.push(entry_of(row)?)?;
+    }
+    Ok(entries)
+}
+
+// The commit of these offsets.
+fn commit_of(alloc: Global, group: &GroupId, rows: &[Row]) -> Result<Command, AllocError>
+    requires some { 0 < length rows.now }
+    requires few { length rows.now ≤ ENTRIES_MAX }
+    requires own { AreOf group.now rows.now }
+    requires sorted { IsTrue (is_sorted key_cmp rows.now) }
+    ensures { IfOk result (λ command. command ≡ commit_command group.now rows.now) }
+{
+    let group = group.clone()?;
+    let entries = entries_of(alloc, rows)?;
+    Ok(Command::Committed(Committed {
+        group,
+        entries: Entries::from_lawful(entries),
+    }))
+}
+
+// As many rows as one commit may have, and the others.
+fn first_entries(rows: &[Row]) -> (&[Row], &[Row])
+    ensures first { result.0.now ≡ take ENTRIES_MAX rows.now }
+    ensures others { result.1.now ≡ drop ENTRIES_MAX rows.now }
+{
+    if rows.len() <= ENTRIES_MAX {
+        (rows, &[])
+    } else {
+        rows.split_at(ENTRIES_MAX)
+    }
+}
+
+/// Adds the commits of the offsets of a group, each of as many as one commit may have.
+pub fn push_commits(
+    alloc: Global,
+    commands: &mut Vec<Command>,
+    group: &GroupId,
+    rows: &[Row],
+) -> Result<(), AllocError>
+    requires own { AreOf group.now rows.now }
+    requires sorted { IsTrue (is_sorted key_cmp rows.now) }
+    ensures { OnOk result (commands.new.items ≡ commands.old.items ++ commits_of (length rows.now) group.now rows.now) }
+{
+    let mut rest = rows;
+    while !rest.is_empty() {
+        let (first, others) = first_entries(rest);
+        commands.push(commit_of(alloc, group, first)?)?;
+        rest = others;
+    }
+    Ok(())
+}
