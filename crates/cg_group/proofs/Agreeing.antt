@@ -1,31 +1,37 @@
 -- A group and its record: what holds of both before an event holds after its turn.
-use Rattle.std.proofs.Common.{◌≡◌, ℕ, Bool, true, false, not, ◌&&◌, ◌||◌, List, [], ◌∷◌, ◌++◌, map, filter, cond, is_some, refl, sym, ap, ◌∙◌, subst, Option, Some, None}
+use Rattle.std.proofs.Common.{◌≡◌, ℕ, ◌+◌, ◌≤◌, nat_lt, arith, Bool, true, false, not, ◌&&◌, ◌||◌, List, [], ◌∷◌, ◌++◌, map, filter, cond, is_some, refl, sym, ap, ◌∙◌, subst, Option, Some, None}
 use Rattle.std.specs.Prelude.{if◌then◌else◌}
 use Rattle.std.specs.List.{list_any, list_all}
 use Rattle.std.specs.Option.{option_to_list, option_map, option_and_then}
+use Rattle.std.proofs.lemmas.Bool.Decides.{nat_tests}
+use Rattle.cg_names.specs.Generations.{next_generation}
+use Rattle.cg_names.specs.declared.generation.TheConstants.{GENERATION_MAX}
+use Rattle.cg_record.specs.Rosters.{RosterParts}
 use Rattle.std.proofs.lemmas.Bool.{and_parts, and_from, or_parts, or_left, or_right, not-false, false≢true}
 use Rattle.std.proofs.lemmas.List.Folds.{list_all-append, list_all-map}
 use Rattle.cg_group.specs.declared.calls.Calls.TheVariants.{Joins, Syncs}
-use Rattle.cg_group.specs.declared.command.Command.{Command}
-use Rattle.cg_group.specs.declared.command.Command.TheVariants as command
+use Rattle.cg_record.specs.declared.command.Command.{Command}
+use Rattle.cg_record.specs.declared.command.Command.TheVariants as command
 use Rattle.cg_group.specs.declared.event.Event.{Event}
+use Rattle.cg_fold.specs.declared.record.GroupRecord.{GroupRecord}
 use Rattle.cg_group.specs.declared.group.Group.{Group}
 use Rattle.cg_group.specs.declared.group.Phase.{Phase}
 use Rattle.cg_group.specs.declared.group.Phase.TheVariants.{Empty, Preparing, Completing, Stable}
 use Rattle.cg_group.specs.declared.member.Member.{Member}
-use Rattle.cg_group.specs.declared.member.Protocol.{Protocol}
+use Rattle.cg_group.specs.declared.protocol.Protocol.{Protocol}
 use Rattle.cg_group.specs.declared.member.Waits.TheVariants.{Join}
 use Rattle.cg_group.specs.declared.request.JoinRequest.{JoinRequest}
 use Rattle.cg_group.specs.declared.request.SyncEntry.{SyncEntry}
 use Rattle.cg_group.specs.declared.ticket.Ticket.{Ticket}
 use Rattle.cg_group.specs.declared.turn.Turn.{Turn}
 use Rattle.cg_group.specs.Joining.{in_join_phase, is_inconsistent, updated, waiting, waits_with}
-use Rattle.cg_group.specs.Kept.{Kept, kept_after}
-use Rattle.cg_group.specs.Laws.{TellsOf}
+use Rattle.cg_group.specs.Kept.{Kept}
+use Rattle.cg_group.proofs.Kept.{kept_after}
+use Rattle.cg_group.specs.Laws.{IsRecordedAs, TellsOf}
 use Rattle.cg_group.specs.Leaving.{after_removal, has_joined}
 use Rattle.cg_group.specs.Membership.{has_id, heard, hearing, is_empty, is_named, is_preparing, is_same, with_member}
-use Rattle.cg_group.specs.Rebalance.{completed, emptied, emptied_command, is_ready, next_round, prepared, told_to_joins, tried}
-use Rattle.cg_group.specs.Syncing.{assigned, assigned_command, assigning, distributed, kept_member, told_to_syncs}
+use Rattle.cg_group.specs.Rebalance.{completed, completed_generation, emptied, emptied_command, is_ready, next_round, prepared, told_to_joins, tried}
+use Rattle.cg_group.specs.Syncing.{assigned, assigned_command, assigning, distributed, kept_member, kept_roster, told_to_syncs}
 use Rattle.cg_group.specs.Vote.{is_common, offers}
 use Rattle.cg_group.specs.Waiting.{after_answers}
 use Rattle.cg_group.proofs.Elections.{HasCommon, elected_is}
@@ -33,15 +39,19 @@ use Rattle.cg_group.proofs.Keeping.{IsLasting, map-same, map-with_member, keep-a
 use Rattle.cg_group.proofs.KeptLists.{kept_after-append, kept_after-one, same_self}
 use Rattle.cg_group.proofs.Calling.{AllWaits, all-named, is_named_wait, no_sync, no_sync-after_answers, waits-after_answers, waits-assigned, waits-with_member}
 
+-- a join phase has completed the group's generation
+abbrev pub IsCompleted : Group → Type 0
+IsCompleted g = completed_generation g.generation ≡ Some g.generation
+
 -- what a group has in each phase
-abbrev pub Holds : Phase → Group → Option Command → Type 0
+abbrev pub Holds : Phase → Group → Option GroupRecord → Type 0
 Holds Stable g o = TellsOf g o
 Holds Empty g o = TellsOf g o
 Holds Preparing g o = is_some g.kind ≡ true
-Holds Completing g o = (is_some g.kind ≡ true) × (is_some g.protocol ≡ true)
+Holds Completing g o = (is_some g.kind ≡ true) × (is_some g.protocol ≡ true) × IsCompleted g
 
 -- a group, with its record and the events so far
-pub record Whole (events : List (Event × ℕ)) (g : Group) (o : Option Command) : Type 0 where
+pub record Whole (events : List (Event × ℕ)) (g : Group) (o : Option GroupRecord) : Type 0 where
   pub common : HasCommon g.members
   pub holds : Holds g.phase g o
   pub named : AllWaits (is_named_wait events g.id g.generation) g.members
@@ -144,34 +154,40 @@ suits_consistent r g some e =
 
 -- records
 
-kind_told : (g : Group) (o : Option Command) → TellsOf g o → is_some g.kind ≡ true
-kind_told g None h = absurd h
-kind_told g (Some (command.Assigned a)) h = ap is_some (sym h.kind)
-kind_told g (Some (command.Emptied e)) h = ap is_some (sym h.kind)
+kind_recorded : (g : Group) (r : GroupRecord) (roster : Option RosterParts) → IsRecordedAs r roster g → is_some g.kind ≡ true
+kind_recorded g r (Some roster) h = ap is_some (sym h.kind)
+kind_recorded g r None h = ap is_some (sym h.kind)
 
-pub kind_holds : (p : Phase) (g : Group) (o : Option Command) → Holds p g o → is_some g.kind ≡ true
-kind_holds Stable g o h = kind_told g o h
-kind_holds Empty g o h = kind_told g o h
-kind_holds Preparing g o h = h
-kind_holds Completing g o h = h.0
+kind_told : (g : Group) (o : Option GroupRecord) → is_empty g.members ≡ false → TellsOf g o → is_some g.kind ≡ true
+kind_told g None filled h = absurd (false≢true (sym filled ∙ ap is_empty h.members))
+kind_told g (Some r) filled h = kind_recorded g r r.roster h
+
+pub kind_holds : (p : Phase) (g : Group) (o : Option GroupRecord) → is_empty g.members ≡ false → Holds p g o → is_some g.kind ≡ true
+kind_holds Stable g o filled h = kind_told g o filled h
+kind_holds Empty g o filled h = kind_told g o filled h
+kind_holds Preparing g o filled h = h
+kind_holds Completing g o filled h = h.0
 
 nil_from_map : {A : Type 0} (f : Member → A) (ms ns : List Member) → map f ms ≡ map f ns → ns ≡ [] → ms ≡ []
 nil_from_map f [] ns e h = refl
 nil_from_map f (m ∷ ms) ns e h = let bad : f m ∷ map f ms ≡ [] = e ∙ ap (map f) h in cc
 
-told-members : (g : Group) (ms : List Member) (o : Option Command) → map (kept_member g.protocol) ms ≡ map (kept_member g.protocol) g.members → TellsOf g o → TellsOf (record g { members = ms }) o
-told-members g ms None e h = h
-told-members g ms (Some (command.Assigned a)) e h = record { phase = h.phase; generation = h.generation; kind = h.kind; protocol = h.protocol; leader = h.leader; members = h.members ∙ sym e }
-told-members g ms (Some (command.Emptied c)) e h = record { phase = h.phase; generation = h.generation; kind = h.kind; members = nil_from_map (kept_member g.protocol) ms g.members e h.members }
+recorded-members : (g : Group) (ms : List Member) (r : GroupRecord) (roster : Option RosterParts) → map (kept_member g.protocol) ms ≡ map (kept_member g.protocol) g.members → IsRecordedAs r roster g → IsRecordedAs r roster (record g { members = ms })
+recorded-members g ms r (Some roster) e h = record { phase = h.phase; generation = h.generation; kind = h.kind; protocol = h.protocol; leader = h.leader; members = h.members ∙ sym e }
+recorded-members g ms r None e h = record { phase = h.phase; generation = h.generation; kind = h.kind; members = nil_from_map (kept_member g.protocol) ms g.members e h.members }
 
-holds-members : (p : Phase) (g : Group) (ms : List Member) (o : Option Command) → map (kept_member g.protocol) ms ≡ map (kept_member g.protocol) g.members → Holds p g o → Holds p (record g { members = ms }) o
+told-members : (g : Group) (ms : List Member) (o : Option GroupRecord) → map (kept_member g.protocol) ms ≡ map (kept_member g.protocol) g.members → TellsOf g o → TellsOf (record g { members = ms }) o
+told-members g ms None e h = record { phase = h.phase; generation = h.generation; members = nil_from_map (kept_member g.protocol) ms g.members e h.members }
+told-members g ms (Some r) e h = recorded-members g ms r r.roster e h
+
+holds-members : (p : Phase) (g : Group) (ms : List Member) (o : Option GroupRecord) → map (kept_member g.protocol) ms ≡ map (kept_member g.protocol) g.members → Holds p g o → Holds p (record g { members = ms }) o
 holds-members Stable g ms o e h = told-members g ms o e h
 holds-members Empty g ms o e h = told-members g ms o e h
 holds-members Preparing g ms o e h = h
 holds-members Completing g ms o e h = h
 
 -- the group with other last moments and calls
-pub whole-members : (events : List (Event × ℕ)) (g : Group) (ms : List Member) (o : Option Command) → map (λ m. m.protocols) ms ≡ map (λ m. m.protocols) g.members → map (kept_member g.protocol) ms ≡ map (kept_member g.protocol) g.members
+pub whole-members : (events : List (Event × ℕ)) (g : Group) (ms : List Member) (o : Option GroupRecord) → map (λ m. m.protocols) ms ≡ map (λ m. m.protocols) g.members → map (kept_member g.protocol) ms ≡ map (kept_member g.protocol) g.members
     → AllWaits (is_named_wait events g.id g.generation) ms → (is_preparing g.phase ≡ true → AllWaits no_sync ms) → Whole events g o → Whole events (record g { members = ms }) o
 whole-members events g ms o protocols kept named quiet h = record {
   common = common-map ms g.members protocols h.common;
@@ -180,19 +196,22 @@ whole-members events g ms o protocols kept named quiet h = record {
   quiet = quiet;
 }
 
-empty_told : (g : Group) (o : Option Command) → g.phase ≡ Empty → TellsOf g o → g.members ≡ []
-empty_told g None p h = absurd h
-empty_told g (Some (command.Assigned a)) p h = let bad : Stable ≡ Empty = sym h.phase ∙ p in cc
-empty_told g (Some (command.Emptied e)) p h = h.members
+empty_recorded : (g : Group) (r : GroupRecord) (roster : Option RosterParts) → g.phase ≡ Empty → IsRecordedAs r roster g → g.members ≡ []
+empty_recorded g r (Some roster) p h = let bad : Stable ≡ Empty = sym h.phase ∙ p in cc
+empty_recorded g r None p h = h.members
+
+empty_told : (g : Group) (o : Option GroupRecord) → g.phase ≡ Empty → TellsOf g o → g.members ≡ []
+empty_told g None p h = h.members
+empty_told g (Some r) p h = empty_recorded g r r.roster p h
 
 -- a group that is empty by its phase has no members
-pub empty_members : (events : List (Event × ℕ)) (g : Group) (o : Option Command) → Whole events g o → g.phase ≡ Empty → g.members ≡ []
+pub empty_members : (events : List (Event × ℕ)) (g : Group) (o : Option GroupRecord) → Whole events g o → g.phase ≡ Empty → g.members ≡ []
 empty_members events g o h p = let P : Phase → Type 0 = λ x. Holds x g o in empty_told g o p (subst P p h.holds)
 
-pub joining_from : (events : List (Event × ℕ)) (g : Group) (o : Option Command) → Whole events g o → g.phase ≡ Preparing → Joining g
-joining_from events g o h p = record { phase = p; kind = kind_holds g.phase g o h.holds; common = h.common; quiet = h.quiet (is_preparing_from g.phase p) }
+pub joining_from : (events : List (Event × ℕ)) (g : Group) (o : Option GroupRecord) → Whole events g o → g.phase ≡ Preparing → Joining g
+joining_from events g o h p = let P : Phase → Type 0 = λ x. Holds x g o in record { phase = p; kind = subst P p h.holds; common = h.common; quiet = h.quiet (is_preparing_from g.phase p) }
 
-whole_joining : (events : List (Event × ℕ)) (g : Group) (o : Option Command) → Joining g → Whole events g o
+whole_joining : (events : List (Event × ℕ)) (g : Group) (o : Option GroupRecord) → Joining g → Whole events g o
 whole_joining events g o j = let P : Phase → Type 0 = λ x. Holds x g o in record {
   common = j.common;
   holds = subst P (sym j.phase) j.kind;
@@ -200,27 +219,38 @@ whole_joining events g o j = let P : Phase → Type 0 = λ x. Holds x g o in rec
   quiet = λ _. j.quiet;
 }
 
-emptied_tells : (g : Group) (kept : Kept) (id : List ℕ) → g.id ≡ id → g.phase ≡ Empty → g.members ≡ [] → is_some g.kind ≡ true → TellsOf g (kept_after kept (emptied_command g) id)
+emptied_tells : (g : Group) (kept : Kept) (id : List ℕ) → g.id ≡ id → g.phase ≡ Empty → g.members ≡ [] → is_some g.kind ≡ true → IsCompleted g → TellsOf g (kept_after kept (emptied_command g) id)
 unfolding emptied_command
-emptied_tells g kept id named phase members kind = go g.kind refl kind
+emptied_tells g kept id named phase members kind completed =
+    let P : Option ℕ → Type 0 = λ n. TellsOf g (kept_after kept (option_to_list (option_and_then (λ generation. option_map (λ kind. command.Emptied (record { group = g.id; generation = generation; kind = kind })) g.kind) n)) id) in
+    subst P (sym completed) (go g.kind refl kind)
   where
     go : (k : Option (List ℕ)) → k ≡ g.kind → is_some k ≡ true → TellsOf g (kept_after kept (option_to_list (option_map (λ kind. command.Emptied (record { group = g.id; generation = g.generation; kind = kind })) k)) id)
     go None e h = absurd (false≢true h)
     go (Some k) e h =
-        let P : Option Command → Type 0 = λ o. TellsOf g o in
+        let P : Option GroupRecord → Type 0 = λ o. TellsOf g o in
         subst P (sym (kept_after-one kept (command.Emptied (record { group = g.id; generation = g.generation; kind = k })) id named)) (record { phase = phase; generation = refl; kind = e; members = members })
 
-pub assigned_tells : (g : Group) (kept : Kept) (id : List ℕ) → g.id ≡ id → g.phase ≡ Stable → is_some g.kind ≡ true → is_some g.protocol ≡ true → is_some g.leader ≡ true → TellsOf g (kept_after kept (assigned_command g) id)
+pub assigned_tells : (g : Group) (kept : Kept) (id : List ℕ) → g.id ≡ id → g.phase ≡ Stable → is_some g.kind ≡ true → is_some g.protocol ≡ true → is_some g.leader ≡ true → IsCompleted g → TellsOf g (kept_after kept (assigned_command g) id)
 unfolding assigned_command
-assigned_tells g kept id named phase kind protocol leader = go g.kind g.protocol g.leader refl refl refl kind protocol leader
+assigned_tells g kept id named phase kind protocol leader completed =
+    let P : Option ℕ → Type 0 = λ n. TellsOf g (kept_after kept (option_to_list (option_and_then (λ generation. option_and_then (λ kind. option_and_then (λ protocol. option_map (λ leader. command.Assigned (record { group = g.id; generation = generation; kind = kind; roster = kept_roster protocol leader g })) g.leader) g.protocol) g.kind) n)) id) in
+    subst P (sym completed) (go g.kind g.protocol g.leader refl refl refl kind protocol leader)
   where
-    go : (k p l : Option (List ℕ)) → k ≡ g.kind → p ≡ g.protocol → l ≡ g.leader → is_some k ≡ true → is_some p ≡ true → is_some l ≡ true → TellsOf g (kept_after kept (option_to_list (option_and_then (λ kind. option_and_then (λ protocol. option_map (λ leader. command.Assigned (record { group = g.id; generation = g.generation; kind = kind; protocol = protocol; leader = leader; members = map (kept_member g.protocol) g.members })) l) p) k)) id)
+    go : (k p l : Option (List ℕ)) → k ≡ g.kind → p ≡ g.protocol → l ≡ g.leader → is_some k ≡ true → is_some p ≡ true → is_some l ≡ true → TellsOf g (kept_after kept (option_to_list (option_and_then (λ kind. option_and_then (λ protocol. option_map (λ leader. command.Assigned (record { group = g.id; generation = g.generation; kind = kind; roster = kept_roster protocol leader g })) l) p) k)) id)
     go None p l ek ep el hk hp hl = absurd (false≢true hk)
     go (Some k) None l ek ep el hk hp hl = absurd (false≢true hp)
     go (Some k) (Some p) None ek ep el hk hp hl = absurd (false≢true hl)
     go (Some k) (Some p) (Some l) ek ep el hk hp hl =
-        let P : Option Command → Type 0 = λ o. TellsOf g o in
-        subst P (sym (kept_after-one kept (command.Assigned (record { group = g.id; generation = g.generation; kind = k; protocol = p; leader = l; members = map (kept_member g.protocol) g.members })) id named)) (record { phase = phase; generation = refl; kind = ek; protocol = ep; leader = el; members = refl })
+        let P : Option GroupRecord → Type 0 = λ o. TellsOf g o in
+        subst P (sym (kept_after-one kept (command.Assigned (record { group = g.id; generation = g.generation; kind = k; roster = kept_roster p l g })) id named)) (record { phase = phase; generation = refl; kind = ek; protocol = ep; leader = el; members = refl })
+
+-- the generation of a join phase that completes
+next_is_completed : (n : ℕ) → completed_generation (next_generation n) ≡ Some (next_generation n)
+next_is_completed n = elim (nat_lt n GENERATION_MAX) as (λ b. completed_generation (if b then n + 1 else 1) ≡ Some (if b then n + 1 else 1)) [ true ↦ is_completed (n + 1) (omega arith) | false ↦ refl ]
+  where
+    is_completed : (k : ℕ) → 1 ≤ k → completed_generation k ≡ Some k
+    is_completed k h = grind (arith, nat_tests)
 
 empty_is : (ms : List Member) → is_empty ms ≡ true → ms ≡ []
 empty_is [] e = refl
@@ -240,7 +270,7 @@ module _ (events : List (Event × ℕ)) (kept : Kept) (id : List ℕ) where
       let P : Kept → Type 0 = λ k. TellsOf g (k id) in
       record {
         common = j.common;
-        holds = subst P (sym (kept_after-append kept t.commands (emptied_command g))) (emptied_tells g (kept_after kept t.commands) id named refl (empty_is t.group.members empty) j.kind);
+        holds = subst P (sym (kept_after-append kept t.commands (emptied_command g))) (emptied_tells g (kept_after kept t.commands) id named refl (empty_is t.group.members empty) j.kind (next_is_completed t.group.generation));
         named = all-named events g.id g.generation t.group.members j.quiet;
         quiet = λ e. absurd (false≢true e);
       }
@@ -249,7 +279,7 @@ module _ (events : List (Event × ℕ)) (kept : Kept) (id : List ℕ) where
   unfolding told_to_joins next_round
   after-round now t filled j = record {
     common = common-map (after_answers Joins now t.group.members) t.group.members (keep-after_answers (λ m. m.protocols) lasting_protocols Joins now t.group.members) j.common;
-    holds = (j.kind, elected_is t.group.members j.common filled);
+    holds = (j.kind, elected_is t.group.members j.common filled, next_is_completed t.group.generation);
     named = all-named events (next_round t.group).id (next_round t.group).generation (after_answers Joins now t.group.members) (waits-after_answers no_sync (λ _. refl) Joins now t.group.members j.quiet);
     quiet = λ e. absurd (false≢true e);
   }
@@ -309,14 +339,14 @@ module _ (events : List (Event × ℕ)) (kept : Kept) (id : List ℕ) where
       (waits-after_answers (is_named_wait events t.group.id t.group.generation) (λ _. refl) Syncs now t.group.members h.named)
       (λ p. no_sync-after_answers now t.group.members) h
 
-  pub after-distributed : (now : ℕ) (entries : List SyncEntry) (t : Turn) → t.group.id ≡ id → is_some t.group.kind ≡ true → is_some t.group.protocol ≡ true → is_some t.group.leader ≡ true → HasCommon t.group.members → AllWaits (is_named_wait events t.group.id t.group.generation) t.group.members → After (distributed now entries t)
+  pub after-distributed : (now : ℕ) (entries : List SyncEntry) (t : Turn) → t.group.id ≡ id → is_some t.group.kind ≡ true → is_some t.group.protocol ≡ true → is_some t.group.leader ≡ true → IsCompleted t.group → HasCommon t.group.members → AllWaits (is_named_wait events t.group.id t.group.generation) t.group.members → After (distributed now entries t)
   unfolding distributed assigning
-  after-distributed now entries t named kind protocol leader common waits =
+  after-distributed now entries t named kind protocol leader completed common waits =
       let g : Group = assigning entries t.group in
       let P : Kept → Type 0 = λ k. TellsOf g (k id) in
       after-told_to_syncs now (record { group = g; replies = t.replies; commands = t.commands ++ assigned_command g }) (record {
         common = common-map (map (assigned entries) t.group.members) t.group.members (map-same (λ m. m.protocols) (assigned entries) (λ m. refl) t.group.members) common;
-        holds = subst P (sym (kept_after-append kept t.commands (assigned_command g))) (assigned_tells g (kept_after kept t.commands) id named refl kind protocol leader);
+        holds = subst P (sym (kept_after-append kept t.commands (assigned_command g))) (assigned_tells g (kept_after kept t.commands) id named refl kind protocol leader completed);
         named = waits-assigned (is_named_wait events t.group.id t.group.generation) entries t.group.members waits;
         quiet = λ e. absurd (false≢true e);
       })

@@ -5,13 +5,13 @@ use Rattle.std.proofs.lemmas.Bool.{and_from, or_left, or_right, false≢true}
 use Rattle.std.proofs.lemmas.Cmp.{nat_eq_equiv}
 use Rattle.std.proofs.lemmas.List.Folds.{list_any-append}
 use Rattle.std.specs.Prelude.{pos, unwrap_or, option_map}
-use Rattle.cg_group.specs.declared.member.Protocol.{Protocol}
+use Rattle.cg_group.specs.declared.protocol.Protocol.{Protocol}
 use Rattle.std.specs.Ordering.{int_eq}
-use Rattle.cg_group.specs.declared.command.AssignedMember.{AssignedMember}
-use Rattle.cg_group.specs.declared.command.Command.{Command}
-use Rattle.cg_group.specs.declared.command.Command.TheVariants.{Assigned, Emptied}
+use Rattle.cg_record.specs.declared.member.Member.{Member as KeptMember}
+use Rattle.cg_record.specs.declared.command.Command.{Command}
 use Rattle.cg_group.specs.declared.event.Event.{Event}
 use Rattle.cg_group.specs.declared.event.Event.TheVariants as event
+use Rattle.cg_fold.specs.declared.record.GroupRecord.{GroupRecord}
 use Rattle.cg_group.specs.declared.group.Group.{Group}
 use Rattle.cg_group.specs.declared.group.Phase.{Phase}
 use Rattle.cg_group.specs.declared.group.Phase.TheVariants.{Empty, Preparing, Completing, Stable}
@@ -20,23 +20,28 @@ use Rattle.cg_group.specs.declared.member.Waits.TheVariants.{Nothing, Join, Sync
 use Rattle.cg_group.specs.declared.request.SyncRequest.{SyncRequest}
 use Rattle.cg_group.specs.declared.ticket.Ticket.{Ticket}
 use Rattle.cg_group.specs.Joining.{new_group}
-use Rattle.cg_group.specs.Kept.{AreRecords, Ascending, ComesBefore, Each, Kept, effect, group_of, kept_after, nothing_kept}
-use Rattle.cg_group.specs.Laws.{AgreesIn, AreRequests, MachineAndCommandsAgree, after_all, commands_of, has_named, is_request, is_same_ticket, is_sync_of, kept_after_all}
+use Rattle.cg_group.specs.Kept.{Each, Kept, kept_in}
+use Rattle.cg_group.proofs.Kept.{kept-after, kept_after}
+use Rattle.cg_group.specs.Laws.{AgreesIn, AreRequests, IsRecordedAs, MachineAndCommandsAgree, after_all, commands_of, has_named, is_request, is_same_ticket, is_sync_of, state_after}
 use Rattle.cg_group.specs.Leaving.{gone_in}
-use Rattle.cg_group.specs.Machine.{Machine, beat, find_group, join, leave, met, step, sync}
+use Rattle.cg_group.specs.Machine.{Machine, beat, commit, deleting, find_group, join, leave, met, step, sync}
 use Rattle.cg_group.specs.Membership.{is_empty, is_named, is_same}
 use Rattle.cg_group.specs.Rebalance.{subscription_for}
-use Rattle.cg_group.specs.Reviving.{revive, revived, revived_member}
+use Rattle.cg_group.specs.Reviving.{revive, revived, revived_from, revived_member, revived_with}
+use Rattle.cg_fold.specs.Durable.{State}
+use Rattle.cg_fold.specs.Snapshot.{groups_in, in_order}
+use Rattle.cg_record.specs.Rosters.{RosterParts}
+use Rattle.cg_group.proofs.Revived.{held_revived, id_revived, in_order-revived}
 use Rattle.cg_group.specs.Syncing.{kept_member}
 use Rattle.cg_group.specs.Ticking.{ticked}
 use Rattle.cg_group.specs.Vote.{is_common}
 use Rattle.cg_group.proofs.Agreeing.{Holds, Whole, kind_holds, suits_consistent, suits_empty}
-use Rattle.cg_group.proofs.AgreeingTurns.{after-beat_taken, after-gone_in, after-join_known, after-join_new, after-leave_taken, after-sync_taken, after-ticked}
+use Rattle.cg_group.proofs.AgreeingTurns.{after-beat_taken, after-committed, after-gone_in, after-join_known, after-join_new, after-leave_taken, after-sync_taken, after-ticked}
 use Rattle.cg_group.proofs.Calling.{AllWaits, is_named_wait, no_sync}
-use Rattle.cg_group.proofs.Framed.{framed-beat_taken, framed-gone_in, framed-join_known, framed-join_new, framed-leave_taken, framed-sync_taken, framed-ticked}
+use Rattle.cg_group.proofs.Framed.{framed-beat_taken, framed-committed, framed-gone_in, framed-join_known, framed-join_new, framed-leave_taken, framed-sync_taken, framed-ticked}
 use Rattle.cg_group.proofs.KeptLists.{each-found, group_ids, id-found, kept_after-append, kept_after-none, differs_from_order, same_self}
-use Rattle.cg_group.proofs.KeptMachine.{Fits, Invariant, each-over, fits_framed, invariant-concluded, invariant-everywhere}
-use Rattle.cg_group.proofs.Requests.{fine-beat, fine-join, fine-leave, fine-sync}
+use Rattle.cg_group.proofs.KeptMachine.{Fits, Invariant, each-over, fits_framed, invariant-concluded, invariant-deleted, invariant-everywhere}
+use Rattle.cg_group.proofs.Requests.{fine-beat, fine-commit, fine-join, fine-leave, fine-sync}
 use Rattle.std.proofs.lemmas.Cmp.{nat_list_eq_equiv}
 use Rattle.std.specs.declared.cmp.Ordering.TheVariants.{Less}
 
@@ -52,7 +57,7 @@ named_more events e group generation id (Join t) h = refl
 named_more events e group generation id (Sync t) h =
     list_any-append (λ x. is_sync_of group generation id t x.0) events (e ∷ []) ∙ or_left (has_named events group generation id t) (list_any (λ x. is_sync_of group generation id t x.0) (e ∷ [])) h
 
-whole_more : (events : List (Event × ℕ)) (e : Event × ℕ) (g : Group) (o : Option Command) → Whole events g o → Whole (events ++ e ∷ []) g o
+whole_more : (events : List (Event × ℕ)) (e : Event × ℕ) (g : Group) (o : Option GroupRecord) → Whole events g o → Whole (events ++ e ∷ []) g o
 whole_more events e g o h = record {
   common = h.common;
   holds = h.holds;
@@ -97,6 +102,22 @@ quiet_in_new : (id : List ℕ) → AllWaits no_sync (new_group id).members
 unfolding new_group
 quiet_in_new id = tt
 
+-- a group that is not held has no record
+nothing : (o : Option GroupRecord) → (is_some o ≡ true → ⊥) → o ≡ None
+nothing None h = refl
+nothing (Some r) h = absurd (h refl)
+
+id_new : (id : List ℕ) → (new_group id).id ≡ id
+unfolding new_group
+id_new id = refl
+
+unkept : (kept : Kept) (groups : List Group) (id : List ℕ) → find_group id groups ≡ None → ((i : List ℕ) → is_some (kept i) ≡ true → is_some (find_group i groups) ≡ true) → kept (new_group id).id ≡ None
+unkept kept groups id none held = ap kept (id_new id) ∙ nothing (kept id) (λ e. false≢true (sym (ap is_some none) ∙ held id e))
+
+whole_new : (events : List (Event × ℕ)) (id : List ℕ) → Whole events (new_group id) None
+unfolding new_group is_common
+whole_new events id = record { common = ([], refl); holds = record { phase = refl; generation = refl; members = refl }; named = tt; quiet = λ e. absurd (false≢true e) }
+
 module _ (events : List (Event × ℕ)) (kept : Kept) where
   pub whole-met : (s : Machine) (e : Event) → is_request e ≡ true → WasMet events e → WholeMachine events s kept → WholeMachine events (met s e).after (kept_after kept (met s e).effects.commands)
   unfolding met
@@ -108,11 +129,11 @@ module _ (events : List (Event × ℕ)) (kept : Kept) where
       (λ id new g _ e _ fits.
       let h : Whole events g (kept g.id) = each-found (λ k. Whole events k (kept k.id)) id s.groups g e v.each in
       fits_framed (Whole events) kept g.id _ (framed-join_new s.last r new ticket g)
-      (after-join_new events kept s.last r new ticket g (suits_consistent r g asked fits) (λ _. kind_holds g.phase g (kept g.id) h.holds) h.quiet))
-      (λ id own g m _ e _ fits.
+      (after-join_new events kept s.last r new ticket g (suits_consistent r g asked fits) (λ filled. kind_holds g.phase g (kept g.id) filled h.holds) h.quiet))
+      (λ id own g m _ e found fits.
       let h : Whole events g (kept g.id) = each-found (λ k. Whole events k (kept k.id)) id s.groups g e v.each in
       fits_framed (Whole events) kept g.id _ (framed-join_known s.last r own ticket m g)
-      (after-join_known events kept s.last r own ticket m g (suits_consistent r g asked fits) h))) v
+      (after-join_known events kept s.last r own ticket m g found (suits_consistent r g asked fits) h))) v
   whole-met s (event.Sync ticket r) asked seen v =
       invariant-concluded (Whole events) s kept ticket (sync s.last r ticket s.groups)
       (fine-sync (Fits (Whole events) kept) s.last r ticket s.groups
@@ -128,6 +149,17 @@ module _ (events : List (Event × ℕ)) (kept : Kept) where
       invariant-concluded (Whole events) s kept ticket (leave s.last r ticket s.groups)
       (fine-leave (Fits (Whole events) kept) s.last r ticket s.groups
       (λ id own g m e found. fits_framed (Whole events) kept g.id _ (framed-leave_taken s.last own ticket m g) (after-leave_taken events kept s.last own ticket m g found (each-found (λ k. Whole events k (kept k.id)) id s.groups g e v.each)))) v
+  whole-met s (event.Commit ticket r) asked seen v =
+      invariant-concluded (Whole events) s kept ticket (commit s.last r ticket s.groups)
+      (fine-commit (Fits (Whole events) kept) s.last r ticket s.groups
+      (λ id none.
+      let gone : kept (new_group id).id ≡ None = unkept kept s.groups id none v.held in
+      let P : Option GroupRecord → Type 0 = λ o. Whole events (new_group id) o in
+      fits_framed (Whole events) kept (new_group id).id _ (framed-committed s.last r.entries ticket None (new_group id))
+      (after-committed events kept s.last r.entries ticket None (new_group id) (subst P (sym gone) (whole_new events id))))
+      (λ id g who e _. fits_framed (Whole events) kept g.id _ (framed-committed s.last r.entries ticket who g)
+      (after-committed events kept s.last r.entries ticket who g (each-found (λ k. Whole events k (kept k.id)) id s.groups g e v.each)))) v
+  whole-met s (event.Delete ticket id) asked seen v = invariant-deleted (Whole events) s kept ticket (deleting id s.groups) v
   whole-met s (event.Describe ticket id) asked seen v = let P : Kept → Type 0 = λ k. WholeMachine events s k in subst P (sym (kept_after-none kept)) v
   whole-met s (event.List ticket) asked seen v = let P : Kept → Type 0 = λ k. WholeMachine events s k in subst P (sym (kept_after-none kept)) v
   whole-met s (event.Gone session) asked seen v =
@@ -157,7 +189,7 @@ whole-after_all (e ∷ es) events kept s asked v =
 
 -- the machine that a loading begins with
 
-kept_revived : (now : ℕ) (protocol : List ℕ) (m : AssignedMember) → kept_member (Some protocol) (revived_member now protocol m) ≡ m
+kept_revived : (now : ℕ) (protocol : List ℕ) (m : KeptMember) → kept_member (Some protocol) (revived_member now protocol m) ≡ m
 unfolding revived_member subscription_for
 kept_revived now protocol m =
     let only : Protocol = record { name = protocol; subscription = m.subscription } in
@@ -167,94 +199,79 @@ kept_revived now protocol m =
       | false ↦ λ e. absurd (false≢true (sym e ∙ same_self protocol))
     ]) refl
 
-kept_back : (now : ℕ) (protocol : List ℕ) (ms : List AssignedMember) → ms ≡ map (kept_member (Some protocol)) (map (revived_member now protocol) ms)
+kept_back : (now : ℕ) (protocol : List ℕ) (ms : List KeptMember) → ms ≡ map (kept_member (Some protocol)) (map (revived_member now protocol) ms)
 kept_back now protocol [] = refl
 kept_back now protocol (m ∷ ms) = ap (λ x. x ∷ ms) (sym (kept_revived now protocol m)) ∙ ap (λ xs. kept_member (Some protocol) (revived_member now protocol m) ∷ xs) (kept_back now protocol ms)
 
-common_revived : (now : ℕ) (protocol : List ℕ) (ms : List AssignedMember) → is_common (map (revived_member now protocol) ms) protocol ≡ true
+common_revived : (now : ℕ) (protocol : List ℕ) (ms : List KeptMember) → is_common (map (revived_member now protocol) ms) protocol ≡ true
 unfolding is_common revived_member
 common_revived now protocol [] = refl
 common_revived now protocol (m ∷ ms) = and_from (is_same protocol protocol || false) _ (or_left (is_same protocol protocol) false (same_self protocol)) (common_revived now protocol ms)
 
-quiet_revived : (q : List ℕ → Waits → Bool) → ((id : List ℕ) → q id Nothing ≡ true) → (now : ℕ) (protocol : List ℕ) (ms : List AssignedMember) → AllWaits q (map (revived_member now protocol) ms)
+quiet_revived : (q : List ℕ → Waits → Bool) → ((id : List ℕ) → q id Nothing ≡ true) → (now : ℕ) (protocol : List ℕ) (ms : List KeptMember) → AllWaits q (map (revived_member now protocol) ms)
 unfolding revived_member
 quiet_revived q calm now protocol [] = tt
 quiet_revived q calm now protocol (m ∷ ms) = (calm m.id, quiet_revived q calm now protocol ms)
 
-whole_revived : (now : ℕ) (c : Command) → Whole [] (revived now c) (Some c)
-unfolding revived is_common
-whole_revived now (Assigned a) = record {
-  common = (a.protocol, common_revived now a.protocol a.members);
-  holds = record { phase = refl; generation = refl; kind = refl; protocol = refl; leader = refl; members = kept_back now a.protocol a.members };
-  named = quiet_revived (is_named_wait [] a.group a.generation) (λ _. refl) now a.protocol a.members;
+recorded_revived : (now : ℕ) (id : List ℕ) (r : GroupRecord) (roster : Option RosterParts) → IsRecordedAs r roster (revived_with now id r roster)
+unfolding revived_with
+recorded_revived now id r (Some roster) = record { phase = refl; generation = refl; kind = refl; protocol = refl; leader = refl; members = kept_back now roster.protocol roster.members }
+recorded_revived now id r None = record { phase = refl; generation = refl; kind = refl; members = refl }
+
+whole_with : (now : ℕ) (id : List ℕ) (r : GroupRecord) (roster : Option RosterParts) → roster ≡ r.roster → Whole [] (revived_with now id r roster) (Some r)
+unfolding revived_with is_common
+whole_with now id r (Some roster) e = let P : Option RosterParts → Type 0 = λ o. IsRecordedAs r o (revived_with now id r (Some roster)) in record {
+  common = (roster.protocol, common_revived now roster.protocol roster.members);
+  holds = subst P e (recorded_revived now id r (Some roster));
+  named = quiet_revived (is_named_wait [] id r.generation) (λ _. refl) now roster.protocol roster.members;
   quiet = λ e. absurd (false≢true e);
 }
-whole_revived now (Emptied e) = record {
+whole_with now id r None e = let P : Option RosterParts → Type 0 = λ o. IsRecordedAs r o (revived_with now id r None) in record {
   common = ([], refl);
-  holds = record { phase = refl; generation = refl; kind = refl; members = refl };
+  holds = subst P e (recorded_revived now id r None);
   named = tt;
   quiet = λ e. absurd (false≢true e);
 }
 
-id_revived : (now : ℕ) (c : Command) → (revived now c).id ≡ group_of c
+whole_from : (now : ℕ) (id : List ℕ) (o : Option GroupRecord) → Whole [] (revived_from now id o) o
+whole_from now id None = whole_new [] id
+whole_from now id (Some r) = whole_with now id r r.roster refl
+
+whole_revived : (now : ℕ) (state : State) (id : List ℕ) → Whole [] (revived now state id) (kept_in state id)
 unfolding revived
-id_revived now (Assigned a) = refl
-id_revived now (Emptied e) = refl
+whole_revived now state id = whole_from now id (kept_in state id)
 
-pub ids_revived : (now : ℕ) (cs : List Command) → group_ids (map (revived now) cs) ≡ map group_of cs
-ids_revived now [] = refl
-ids_revived now (c ∷ cs) = ap (λ x. x ∷ group_ids (map (revived now) cs)) (id_revived now c) ∙ ap (λ xs. group_of c ∷ xs) (ids_revived now cs)
+each_revived : (now : ℕ) (state : State) (names : List (List ℕ)) → Each (λ g. Whole [] g (kept_in state g.id)) (map (revived now state) names)
+each_revived now state [] = tt
+each_revived now state (x ∷ xs) =
+    let P : List ℕ → Type 0 = λ i. Whole [] (revived now state x) (kept_in state i) in
+    (subst P (sym (id_revived now state x)) (whole_revived now state x), each_revived now state xs)
 
-kept_before : (x : List ℕ) (kept : Kept) (cs : List Command) → ComesBefore x (map group_of cs) → kept_after kept cs x ≡ kept x
-unfolding kept_after
-kept_before x kept [] h = refl
-kept_before x kept (c ∷ cs) h =
-    kept_before x (effect kept c) cs h.1
-    ∙ ap (λ b. cond b (Some c) (kept x)) (nat_list_eq_equiv.symm (group_of c) x ∙ differs_from_order x (group_of c) Less h.0 refl)
-
-each_revived : (now : ℕ) (kept : Kept) (cs : List Command) → Ascending (map group_of cs) → Each (λ g. Whole [] g (kept_after kept cs g.id)) (map (revived now) cs)
-unfolding kept_after
-each_revived now kept [] a = tt
-each_revived now kept (c ∷ cs) a =
-    let own : kept_after (effect kept c) cs (revived now c).id ≡ Some c = ap (kept_after (effect kept c) cs) (id_revived now c) ∙ kept_before (group_of c) (effect kept c) cs a.0 ∙ ap (λ b. cond b (Some c) (kept (group_of c))) (same_self (group_of c)) in
-    let P : Option Command → Type 0 = λ o. Whole [] (revived now c) o in
-    (subst P (sym own) (whole_revived now c), each_revived now (effect kept c) cs a.1)
-
-held_revived : (now : ℕ) (id : List ℕ) (kept : Kept) (cs : List Command) → is_some (kept_after kept cs id) ≡ true → (is_some (kept id) || is_some (find_group id (map (revived now) cs))) ≡ true
-unfolding kept_after find_group
-held_revived now id kept [] h = or_left (is_some (kept id)) false h
-held_revived now id kept (c ∷ cs) h =
-    let P : List ℕ → Type 0 = λ i. (is_some (kept id) || is_some (cond (is_same i id) (Some (revived now c)) (find_group id (map (revived now) cs)))) ≡ true in
-    subst P (sym (id_revived now c))
-    ((elim (is_same (group_of c) id) as (λ b. (is_some (cond b (Some c) (kept id)) || is_some (find_group id (map (revived now) cs))) ≡ true → (is_some (kept id) || is_some (cond b (Some (revived now c)) (find_group id (map (revived now) cs)))) ≡ true) [
-      | true ↦ λ _. or_right (is_some (kept id)) true refl
-      | false ↦ λ k. k
-    ]) (held_revived now id (effect kept c) cs h))
-
-pub whole-revive : (records : List Command) (now : ℕ) → AreRecords records → WholeMachine [] (revive records now) (kept_after nothing_kept records)
+pub whole-revive : (state : State) (now : ℕ) → WholeMachine [] (revive state now) (kept_in state)
 unfolding revive
-whole-revive records now h = record {
-  ascending = let P : List (List ℕ) → Type 0 = λ xs. Ascending xs in subst P (sym (ids_revived now records)) h.ascending;
-  each = each_revived now nothing_kept records h.ascending;
-  held = λ id e. held_revived now id nothing_kept records e;
+whole-revive state now = record {
+  ascending = in_order-revived now state;
+  each = each_revived now state (in_order (groups_in state));
+  held = λ id e. held_revived now state id e;
 }
 
-agrees_in : (p : Phase) (g : Group) (o : Option Command) → Holds p g o → AgreesIn p g o
+agrees_in : (p : Phase) (g : Group) (o : Option GroupRecord) → Holds p g o → AgreesIn p g o
 agrees_in Stable g o h = h
 agrees_in Empty g o h = h
 agrees_in Preparing g o h = tt
 agrees_in Completing g o h = tt
 
-pub whole-all : (records : List Command) (now : ℕ) (events : List (Event × ℕ)) → AreRecords records → AreRequests events → WholeMachine events (after_all events (revive records now)) (kept_after_all records now events)
-whole-all records now events h asked =
-    let P : Kept → Type 0 = λ k. WholeMachine events (after_all events (revive records now)) k in
-    subst P (sym (kept_after-append nothing_kept records (commands_of events (revive records now))))
-    (whole-after_all events [] (kept_after nothing_kept records) (revive records now) asked (whole-revive records now h))
+pub whole-all : (state : State) (now : ℕ) (events : List (Event × ℕ)) → AreRequests events → WholeMachine events (after_all events (revive state now)) (kept_in (state_after state now events))
+whole-all state now events asked =
+    let P : Kept → Type 0 = λ k. WholeMachine events (after_all events (revive state now)) k in
+    subst P (sym (kept-after state (commands_of events (revive state now))))
+    (whole-after_all events [] (kept_in state) (revive state now) asked (whole-revive state now))
 
 pub machine_and_commands_agree : MachineAndCommandsAgree
-machine_and_commands_agree records now events h asked =
-    let v = whole-all records now events h asked in
+machine_and_commands_agree state now events asked =
+    let kept : Kept = kept_in (state_after state now events) in
+    let v = whole-all state now events asked in
     record {
       held = v.held;
-      told = each-over (λ g. Whole events g (kept_after_all records now events g.id)) (λ g. AgreesIn g.phase g (kept_after_all records now events g.id)) (λ g w. agrees_in g.phase g (kept_after_all records now events g.id) w.holds) (after_all events (revive records now)).groups v.each;
+      told = each-over (λ g. Whole events g (kept g.id)) (λ g. AgreesIn g.phase g (kept g.id)) (λ g w. agrees_in g.phase g (kept g.id) w.holds) (after_all events (revive state now)).groups v.each;
     }

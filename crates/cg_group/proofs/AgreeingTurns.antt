@@ -15,9 +15,15 @@ use Rattle.cg_group.specs.declared.request.JoinRequest.{JoinRequest}
 use Rattle.cg_group.specs.declared.request.SyncRequest.{SyncRequest}
 use Rattle.cg_group.specs.declared.ticket.Ticket.{Ticket}
 use Rattle.cg_group.specs.declared.turn.Turn.{Turn}
+use Rattle.cg_record.specs.declared.command.Command.TheVariants as command
+use Rattle.cg_fold.specs.declared.record.GroupRecord.{GroupRecord}
+use Rattle.cg_group.specs.declared.commit_entry.CommitEntry.{CommitEntry}
 use Rattle.cg_group.specs.Beating.{beat_taken}
+use Rattle.cg_group.specs.Commits.{kept_entry}
+use Rattle.cg_group.specs.Committing.{committed, hearing_committer, keeping_entries}
 use Rattle.cg_group.specs.Joining.{admitted, in_join_phase, is_current, join_again, join_current, join_known, join_new, new_member, updated, updating, waiting, waits_with}
-use Rattle.cg_group.specs.Kept.{Kept, kept_after}
+use Rattle.cg_group.specs.Kept.{Kept}
+use Rattle.cg_group.proofs.Kept.{kept_after}
 use Rattle.cg_group.specs.Laws.{has_named}
 use Rattle.cg_group.specs.Leaving.{after_removal, gone_in, leave_taken, left}
 use Rattle.cg_group.specs.Membership.{find_member, has_id, heard, hearing, is_empty, is_named, is_preparing, keeping, leads, with_member}
@@ -27,7 +33,7 @@ use Rattle.cg_group.specs.Ticking.{at_deadline, expired, is_due, is_overdue, tic
 use Rattle.cg_group.specs.Waiting.{after_answers, is_waiting}
 use Rattle.cg_group.proofs.Framed.{Framed, framed-in_join_phase, framed-waiting, framed-expired_of}
 use Rattle.cg_group.proofs.Keeping.{map-with_member, keep-after_answers}
-use Rattle.cg_group.proofs.KeptLists.{same_names}
+use Rattle.cg_group.proofs.KeptLists.{kept_after-one, same_names}
 use Rattle.cg_group.proofs.Calling.{AllWaits, each-filter, is_named_wait, no_sync, waits-after_answers, waits-append, waits-with_member}
 use Rattle.cg_group.proofs.Agreeing.{After, Holds, Joining, Suits, Whole, after-after_removal, after-completed, after-distributed, after-hearing, after-tried, common-append, common-filter, common-map, common-update, empty_members, joining-in_join_phase, joining-waiting, joining_from, kind_holds, lasting_kept, lasting_protocols, preparing_is, whole-members}
 
@@ -42,6 +48,15 @@ unfolding find_member
 nothing_found own [] m e n = cc
 nothing_found own (x ∷ xs) m e n = cc
 
+filled_found : (own : List ℕ) (ms : List Member) (m : Member) → find_member own ms ≡ Some m → is_empty ms ≡ false
+unfolding find_member
+filled_found own [] m e = cc
+filled_found own (x ∷ xs) m e = refl
+
+filled_passes : (p : Member → Bool) (ms : List Member) → list_any p ms ≡ true → is_empty ms ≡ false
+filled_passes p [] e = sym e
+filled_passes p (x ∷ xs) e = refl
+
 nothing_passes : (p : Member → Bool) (ms : List Member) → list_any p ms ≡ true → ms ≡ [] → ⊥
 nothing_passes p [] e n = cc
 nothing_passes p (x ∷ xs) e n = cc
@@ -49,6 +64,10 @@ nothing_passes p (x ∷ xs) e n = cc
 joining-keeping : (stays : Member → Bool) (g : Group) → Joining g → Joining (keeping stays g)
 unfolding keeping
 joining-keeping stays g j = record { phase = j.phase; kind = j.kind; common = common-filter stays g.members j.common; quiet = each-filter (λ m. no_sync m.id m.waits ≡ true) stays g.members j.quiet }
+
+id-hearing : (now : ℕ) (own : List ℕ) (g : Group) → (hearing now own g).id ≡ g.id
+unfolding hearing
+id-hearing now own g = refl
 
 id-keeping : (stays : Member → Bool) (g : Group) → (keeping stays g).id ≡ g.id
 unfolding keeping
@@ -67,24 +86,24 @@ module _ (events : List (Event × ℕ)) (kept : Kept) where
       after-tried events kept g.id now (in_join_phase now t) (framed-in_join_phase g.id now t (refl, tt)).0
       (joining-in_join_phase events kept g.id now t kind (common-append suits.name g.members m suits.common suits.offers) (λ p. waits-append no_sync g.members m (quiet p) refl))
 
-  after-join_again : (now : ℕ) (r : JoinRequest) (own : List ℕ) (ticket : Ticket) (g : Group) → Suits r g.members → Whole events g (kept g.id) → After events kept g.id (join_again now r own ticket g)
+  after-join_again : (now : ℕ) (r : JoinRequest) (own : List ℕ) (ticket : Ticket) (g : Group) → is_empty g.members ≡ false → Suits r g.members → Whole events g (kept g.id) → After events kept g.id (join_again now r own ticket g)
   unfolding join_again updating
-  after-join_again now r own ticket g suits h =
+  after-join_again now r own ticket g filled suits h =
       let t : Turn = turn_of (updating r own g) in
       let u : Turn = in_join_phase now t in
-      let j : Joining u.group = joining-in_join_phase events kept g.id now t (kind_holds g.phase g (kept g.id) h.holds) (suits.name, common-update suits.name own r g.members suits.common suits.offers) (λ p. waits-with_member no_sync own (updated r) (λ m _ e. e) g.members (h.quiet p)) in
+      let j : Joining u.group = joining-in_join_phase events kept g.id now t (kind_holds g.phase g (kept g.id) filled h.holds) (suits.name, common-update suits.name own r g.members suits.common suits.offers) (λ p. waits-with_member no_sync own (updated r) (λ m _ e. e) g.members (h.quiet p)) in
       after-tried events kept g.id now (waiting now own (Join ticket) u) (framed-waiting g.id now own (Join ticket) u (framed-in_join_phase g.id now t (refl, tt))).0 (joining-waiting events kept g.id now own ticket u j)
 
   after-join_current : (now : ℕ) (own : List ℕ) (ticket : Ticket) (m : Member) (g : Group) → Whole events g (kept g.id) → After events kept g.id (join_current now own ticket m g)
   unfolding join_current kept_after
   after-join_current now own ticket m g h = after-hearing events kept g.id now own g h
 
-  pub after-join_known : (now : ℕ) (r : JoinRequest) (own : List ℕ) (ticket : Ticket) (m : Member) (g : Group) → Suits r g.members → Whole events g (kept g.id) → After events kept g.id (join_known now r own ticket m g)
+  pub after-join_known : (now : ℕ) (r : JoinRequest) (own : List ℕ) (ticket : Ticket) (m : Member) (g : Group) → find_member own g.members ≡ Some m → Suits r g.members → Whole events g (kept g.id) → After events kept g.id (join_known now r own ticket m g)
   unfolding join_known
-  after-join_known now r own ticket m g suits h =
+  after-join_known now r own ticket m g found suits h =
       elim (is_current r m g g.phase) as (λ b. After events kept g.id (if b then join_current now own ticket m g else join_again now r own ticket g)) [
         | true ↦ after-join_current now own ticket m g h
-        | false ↦ after-join_again now r own ticket g suits h
+        | false ↦ after-join_again now r own ticket g (filled_found own g.members m found) suits h
       ]
 
   after-sync_waits : (now : ℕ) (r : SyncRequest) (own : List ℕ) (ticket : Ticket) (m : Member) (g : Group) → g.phase ≡ Completing → has_named events g.id g.generation own ticket ≡ true → Whole events g (kept g.id) → After events kept g.id (sync_waits now r own ticket m g)
@@ -100,7 +119,7 @@ module _ (events : List (Event × ℕ)) (kept : Kept) where
       let protocols : map (λ x. x.protocols) t.group.members ≡ map (λ x. x.protocols) g.members = map-with_member (λ x. x.protocols) own (waits_with now (Sync ticket)) (λ x. refl) first ∙ map-with_member (λ x. x.protocols) own (heard now) (λ x. refl) g.members in
       let stored : map (kept_member g.protocol) t.group.members ≡ map (kept_member g.protocol) g.members = map-with_member (kept_member g.protocol) own (waits_with now (Sync ticket)) (λ x. refl) first ∙ map-with_member (kept_member g.protocol) own (heard now) (λ x. refl) g.members in
       (elim (leads g m) as (λ b. leads g m ≡ b → After events kept g.id (if b then distributed now r.entries t else t)) [
-        | true ↦ λ e. after-distributed events kept g.id now r.entries t refl holds.0 holds.1 (some_named g.leader m.id e) (common-map t.group.members g.members protocols h.common) named
+        | true ↦ λ e. after-distributed events kept g.id now r.entries t refl holds.0 holds.1 (some_named g.leader m.id e) holds.2 (common-map t.group.members g.members protocols h.common) named
         | false ↦ λ e. whole-members events g t.group.members (kept g.id) protocols stored named (λ p. absurd (false≢true (sym (ap is_preparing phase) ∙ p))) h
       ]) refl
 
@@ -119,10 +138,19 @@ module _ (events : List (Event × ℕ)) (kept : Kept) where
   unfolding beat_taken kept_after
   after-beat_taken now own ticket g h = after-hearing events kept g.id now own g h
 
+  pub after-committed : (now : ℕ) (entries : List CommitEntry) (ticket : Ticket) (who : Option (List ℕ)) (g : Group) → Whole events g (kept g.id) → After events kept g.id (committed entries ticket (hearing_committer now who g))
+  unfolding keeping_entries
+  after-committed now entries ticket None g h =
+      let P : Option GroupRecord → Type 0 = λ o. Whole events g o in
+      subst P (sym (kept_after-one kept (command.Committed (record { group = g.id; entries = map kept_entry entries })) g.id refl)) h
+  after-committed now entries ticket (Some own) g h =
+      let P : Option GroupRecord → Type 0 = λ o. Whole events (hearing now own g) o in
+      subst P (sym (kept_after-one kept (command.Committed (record { group = (hearing now own g).id; entries = map kept_entry entries })) g.id (id-hearing now own g))) (after-hearing events kept g.id now own g h)
+
   pub after-leave_taken : (now : ℕ) (own : List ℕ) (ticket : Ticket) (m : Member) (g : Group) → find_member own g.members ≡ Some m → Whole events g (kept g.id) → After events kept g.id (leave_taken now own ticket m g)
   unfolding leave_taken left keeping
   after-leave_taken now own ticket m g found h =
-      after-after_removal events kept g.id now (left own ticket m g) refl (kind_holds g.phase g (kept g.id) h.holds) (common-filter (λ x. not (has_id own x)) g.members h.common)
+      after-after_removal events kept g.id now (left own ticket m g) refl (kind_holds g.phase g (kept g.id) (filled_found own g.members m found) h.holds) (common-filter (λ x. not (has_id own x)) g.members h.common)
       (λ p. each-filter (λ x. no_sync x.id x.waits ≡ true) (λ x. not (has_id own x)) g.members (h.quiet p))
       (λ p. nothing_found own g.members m found (empty_members events g (kept g.id) h p))
 
@@ -148,7 +176,7 @@ module _ (events : List (Event × ℕ)) (kept : Kept) where
   after-expired now g h =
       let stays : Member → Bool = λ m. not (is_overdue now m) in
       (elim (list_any (is_overdue now) g.members) as (λ b. list_any (is_overdue now) g.members ≡ b → After events kept g.id (if b then after_removal now (record (turn_of g) { group = keeping stays g }) else tried now (turn_of g))) [
-        | true ↦ λ e. after-after_removal events kept g.id now (record (turn_of g) { group = keeping stays g }) refl (kind_holds g.phase g (kept g.id) h.holds) (common-filter stays g.members h.common)
+        | true ↦ λ e. after-after_removal events kept g.id now (record (turn_of g) { group = keeping stays g }) refl (kind_holds g.phase g (kept g.id) (filled_passes (is_overdue now) g.members e) h.holds) (common-filter stays g.members h.common)
             (λ p. each-filter (λ x. no_sync x.id x.waits ≡ true) stays g.members (h.quiet p))
             (λ p. nothing_passes (is_overdue now) g.members e (empty_members events g (kept g.id) h p))
         | false ↦ λ e. after-tried_any now g h

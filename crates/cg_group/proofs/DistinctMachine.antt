@@ -1,27 +1,28 @@
 -- No two members of a group have one id or one instance: each event keeps it, and so does every list of events.
-use Rattle.std.proofs.Common.{◌≡◌, ℕ, true, List, [], ◌∷◌, ◌++◌, map, refl, ap, ◌∙◌, max}
-use Rattle.std.specs.List.{flat_map}
-use Rattle.std.specs.Option.{option_to_list}
-use Rattle.std.proofs.lemmas.Bool.{and_from}
-use Rattle.cg_group.specs.declared.command.AssignedMember.{AssignedMember}
-use Rattle.cg_group.specs.declared.command.Command.{Command}
-use Rattle.cg_group.specs.declared.command.Command.TheVariants.{Assigned, Emptied}
+use Rattle.std.proofs.Common.{◌≡◌, ℕ, List, [], ◌∷◌, map, refl, max, Option, Some, None}
+use Rattle.std.specs.Prelude.{IfSome}
+use Rattle.cg_record.specs.Rosters.{IsRoster, RosterParts}
+use Rattle.cg_fold.specs.declared.record.GroupRecord.{GroupRecord}
+use Rattle.cg_fold.specs.Durable.{State}
+use Rattle.cg_fold.specs.Snapshot.{groups_in, in_order}
 use Rattle.cg_group.specs.declared.event.Event.{Event}
 use Rattle.cg_group.specs.declared.event.Event.TheVariants as event
 use Rattle.cg_group.specs.declared.group.Group.{Group}
 use Rattle.cg_group.specs.declared.ticket.Ticket.{Ticket}
 use Rattle.cg_group.specs.declared.turn.Turn.{Turn}
 use Rattle.cg_group.specs.Joining.{new_group}
-use Rattle.cg_group.specs.Kept.{AreRecords, Each, IsRecord, are_distinct}
-use Rattle.cg_group.specs.Laws.{MembersStayDistinct, after_all, has_distinct_members, ids, instances}
+use Rattle.cg_group.specs.Kept.{AreRecords, Each, IsRecord, kept_in}
+use Rattle.cg_group.specs.Names.{are_distinct}
+use Rattle.cg_group.specs.Laws.{MembersStayDistinct, after_all}
 use Rattle.cg_group.specs.Leaving.{gone_in}
-use Rattle.cg_group.specs.Machine.{Machine, beat, concluded, everywhere, groups_after, join, leave, met, step, sync}
-use Rattle.cg_group.specs.Reviving.{revive, revived, revived_member}
+use Rattle.cg_group.specs.Machine.{Machine, beat, commit, concluded, deleted, deleting, everywhere, groups_after, join, leave, met, step, sync}
+use Rattle.cg_group.specs.Reviving.{revive, revived, revived_from, revived_with}
 use Rattle.cg_group.specs.Ticking.{ticked}
-use Rattle.cg_group.proofs.Distinct.{Distinct, distinct-beat_taken, distinct-gone_in, distinct-join_known, distinct-join_new, distinct-leave_taken, distinct-new_group, distinct-sync_taken, distinct-ticked, free-new_group}
+use Rattle.cg_group.proofs.Distinct.{Distinct, distinct-beat_taken, distinct-committed, distinct-gone_in, distinct-join_known, distinct-join_new, distinct-leave_taken, distinct-new_group, distinct-sync_taken, distinct-ticked, free-new_group}
 use Rattle.cg_group.proofs.KeptLists.{each-found, each-put}
-use Rattle.cg_group.proofs.KeptMachine.{each-over}
-use Rattle.cg_group.proofs.Requests.{Fine, fine-beat, fine-join, fine-leave, fine-sync}
+use Rattle.cg_group.proofs.Rostering.{distinct-revived_members}
+use Rattle.cg_group.proofs.Removing.{each-without}
+use Rattle.cg_group.proofs.Requests.{Fine, fine-beat, fine-commit, fine-join, fine-leave, fine-sync}
 use Rattle.std.proofs.Common.{Result, Ok, Err}
 use Rattle.cg_names.specs.declared.code.Code.{Code}
 
@@ -45,6 +46,11 @@ distinct-everywhere : (turn : Group → Turn) → ((g : Group) → Distinct g �
 unfolding everywhere
 distinct-everywhere turn keeps s h = distinct-groups_after turn keeps s.groups h
 
+distinct-deleted : (s : Machine) (ticket : Ticket) (o : Result (List ℕ) Code) → AllDistinct s.groups → AllDistinct (deleted s ticket o).after.groups
+unfolding deleted
+distinct-deleted s ticket (Ok id) h = each-without Distinct id s.groups h
+distinct-deleted s ticket (Err code) h = h
+
 distinct-met : (s : Machine) (e : Event) → AllDistinct s.groups → AllDistinct (met s e).after.groups
 unfolding met
 distinct-met s (event.Join ticket r fresh) h =
@@ -62,6 +68,12 @@ distinct-met s (event.Beat ticket r) h =
 distinct-met s (event.Leave ticket r) h =
     distinct-concluded s ticket (leave s.last r ticket s.groups)
     (fine-leave After s.last r ticket s.groups (λ id own g m e _. distinct-leave_taken s.last own ticket m g (each-found Distinct id s.groups g e h))) h
+distinct-met s (event.Commit ticket r) h =
+    distinct-concluded s ticket (commit s.last r ticket s.groups)
+    (fine-commit After s.last r ticket s.groups
+    (λ id _. distinct-committed s.last r.entries ticket None (new_group id) (distinct-new_group id))
+    (λ id g who e _. distinct-committed s.last r.entries ticket who g (each-found Distinct id s.groups g e h))) h
+distinct-met s (event.Delete ticket id) h = distinct-deleted s ticket (deleting id s.groups) h
 distinct-met s (event.Describe ticket id) h = h
 distinct-met s (event.List ticket) h = h
 distinct-met s (event.Gone session) h = distinct-everywhere (gone_in s.last session) (distinct-gone_in s.last session) s h
@@ -76,30 +88,26 @@ unfolding after_all
 distinct-after_all [] s h = h
 distinct-after_all (e ∷ es) s h = distinct-after_all es (step s e.0 e.1).after (distinct-step s e.0 e.1 h)
 
-ids-revived : (now : ℕ) (protocol : List ℕ) (ms : List AssignedMember) → ids (map (revived_member now protocol) ms) ≡ map (λ m. m.id) ms
-unfolding revived_member
-ids-revived now protocol [] = refl
-ids-revived now protocol (m ∷ ms) = ap (λ xs. m.id ∷ xs) (ids-revived now protocol ms)
+distinct_with : (now : ℕ) (id : List ℕ) (r : GroupRecord) (o : Option RosterParts) → IfSome o IsRoster → Distinct (revived_with now id r o)
+unfolding revived_with are_distinct
+distinct_with now id r (Some roster) h = distinct-revived_members now roster.protocol roster.members h.members.apart
+distinct_with now id r None h = (refl, refl)
 
-instances-revived : (now : ℕ) (protocol : List ℕ) (ms : List AssignedMember) → instances (map (revived_member now protocol) ms) ≡ flat_map (λ m. option_to_list m.instance) ms
-unfolding revived_member
-instances-revived now protocol [] = refl
-instances-revived now protocol (m ∷ ms) = ap (λ xs. option_to_list m.instance ++ xs) (instances-revived now protocol ms)
+distinct_from : (now : ℕ) (id : List ℕ) (o : Option GroupRecord) → IfSome o IsRecord → Distinct (revived_from now id o)
+distinct_from now id None h = distinct-new_group id
+distinct_from now id (Some r) h = distinct_with now id r r.roster h
 
-distinct-revived : (now : ℕ) (c : Command) → IsRecord c → Distinct (revived now c)
-unfolding revived are_distinct
-distinct-revived now (Assigned a) h = (ap are_distinct (ids-revived now a.protocol a.members) ∙ h.0, ap are_distinct (instances-revived now a.protocol a.members) ∙ h.1)
-distinct-revived now (Emptied e) h = (refl, refl)
+distinct-revived : (now : ℕ) (state : State) (id : List ℕ) → AreRecords state → Distinct (revived now state id)
+unfolding revived
+distinct-revived now state id h = distinct_from now id (kept_in state id) (h id)
 
-distinct-all_revived : (now : ℕ) (records : List Command) → Each IsRecord records → AllDistinct (map (revived now) records)
-distinct-all_revived now [] h = tt
-distinct-all_revived now (c ∷ cs) h = (distinct-revived now c h.0, distinct-all_revived now cs h.1)
+distinct-all_revived : (now : ℕ) (state : State) (names : List (List ℕ)) → AreRecords state → AllDistinct (map (revived now state) names)
+distinct-all_revived now state [] h = tt
+distinct-all_revived now state (x ∷ xs) h = (distinct-revived now state x h, distinct-all_revived now state xs h)
 
-distinct-revive : (records : List Command) (now : ℕ) → AreRecords records → AllDistinct (revive records now).groups
+distinct-revive : (state : State) (now : ℕ) → AreRecords state → AllDistinct (revive state now).groups
 unfolding revive
-distinct-revive records now h = distinct-all_revived now records h.each
+distinct-revive state now h = distinct-all_revived now state (in_order (groups_in state)) h
 
 pub members_stay_distinct : MembersStayDistinct
-members_stay_distinct records now events h =
-    each-over Distinct (λ g. has_distinct_members g ≡ true) (λ g d. and_from (are_distinct (ids g.members)) (are_distinct (instances g.members)) d.0 d.1)
-    (after_all events (revive records now)).groups (distinct-after_all events (revive records now) (distinct-revive records now h))
+members_stay_distinct state now events h = distinct-after_all events (revive state now) (distinct-revive state now h)

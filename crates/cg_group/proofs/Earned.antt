@@ -8,11 +8,12 @@ use Rattle.std.specs.declared.cmp.Ordering.TheVariants.{Less, Equal, Greater}
 use Rattle.std.proofs.lemmas.Bool.{and_from, false≢true, or_left, or_right}
 use Rattle.cg_names.specs.declared.code.Code.{Code}
 use Rattle.cg_group.specs.declared.calls.Calls.TheVariants.{Any, Syncs}
-use Rattle.cg_group.specs.declared.command.Command.{Command}
-use Rattle.cg_group.specs.declared.command.Command.TheVariants as command
-use Rattle.cg_group.specs.declared.command.AssignedMember.{AssignedMember}
+use Rattle.cg_record.specs.declared.command.Command.{Command}
+use Rattle.cg_record.specs.declared.member.Member.{Member as KeptMember}
+use Rattle.cg_record.specs.Rosters.{RosterParts}
 use Rattle.cg_group.specs.declared.event.Event.{Event}
 use Rattle.cg_group.specs.declared.event.Event.TheVariants as event
+use Rattle.cg_fold.specs.declared.record.GroupRecord.{GroupRecord}
 use Rattle.cg_group.specs.declared.group.Group.{Group}
 use Rattle.cg_group.specs.declared.group.Phase.{Phase}
 use Rattle.cg_group.specs.declared.group.Phase.TheVariants.{Empty, Preparing, Completing, Stable}
@@ -27,17 +28,20 @@ use Rattle.cg_group.specs.declared.request.SyncRequest.{SyncRequest}
 use Rattle.cg_group.specs.declared.ticket.Ticket.{Ticket}
 use Rattle.cg_group.specs.declared.turn.Turn.{Turn}
 use Rattle.cg_group.specs.Joining.{admitted, is_current, join_again, join_current, join_known, join_new, new_group, new_member, updating, waiting, waits_with}
-use Rattle.cg_group.specs.Kept.{Each, Kept, kept_after}
-use Rattle.cg_group.specs.Laws.{AssignmentsAreEarned, TellsOf, after_all, has_named, is_earned, is_earned_in, is_kept_for, kept_after_all}
+use Rattle.cg_group.specs.Kept.{Each, Kept, kept_in}
+use Rattle.cg_group.proofs.Kept.{kept-after, kept_after}
+use Rattle.cg_group.specs.Laws.{AssignmentsAreEarned, IsRecordedAs, TellsOf, after_all, has_named, is_earned, is_earned_in, is_in_roster, is_kept_for, state_after}
 use Rattle.cg_group.specs.Leaving.{after_removal, gone_in, leave_taken, left}
-use Rattle.cg_group.specs.Machine.{Machine, Outcome, beat, concluded, describe, everywhere, join, leave, met, step, sync, with_group}
+use Rattle.cg_group.specs.declared.commit_entry.CommitEntry.{CommitEntry}
+use Rattle.cg_group.specs.Committing.{committed, hearing_committer, keeping_entries}
+use Rattle.cg_group.specs.Machine.{Machine, Outcome, beat, commit, concluded, deleted, deleting, describe, everywhere, join, leave, met, step, sync, with_group}
 use Rattle.cg_group.specs.Membership.{find_member, has_id, heard, hearing, is_preparing, is_same, keeping, leads, with_member}
 use Rattle.cg_group.specs.Rebalance.{completed, joined_reply, next_round, tried, turn_of}
 use Rattle.cg_group.specs.Reviving.{revive}
 use Rattle.cg_group.specs.Syncing.{assigned_command, assigning, distributed, kept_member, sync_current, sync_taken, sync_waits, synced_reply, told_to_syncs}
 use Rattle.cg_group.specs.Ticking.{at_deadline, expired, is_due, ticked}
 use Rattle.cg_group.specs.Waiting.{after_answers, answers, called, is_waiting}
-use Rattle.cg_group.proofs.Agreeing.{Holds, Whole, assigned_tells, empty_members}
+use Rattle.cg_group.proofs.Agreeing.{Holds, IsCompleted, Whole, assigned_tells, empty_members}
 use Rattle.cg_group.proofs.AgreeingMachine.{WholeMachine, machine_more, sync_named, was_met_last, whole-all}
 use Rattle.cg_group.proofs.AgreeingTurns.{nothing_found, some_named}
 use Rattle.cg_group.proofs.Calling.{AllWaits, is_named_wait, waits-assigned, waits-with_member}
@@ -45,7 +49,7 @@ use Rattle.cg_group.proofs.Framed.{each-append, framed-sync_taken}
 use Rattle.cg_group.proofs.Keeping.{keep-after_answers, keep-hearing}
 use Rattle.cg_group.proofs.KeptLists.{each-found, id-found, kept_after-append, same_names, same_self}
 use Rattle.cg_group.proofs.KeptMachine.{each-over}
-use Rattle.cg_group.proofs.Requests.{Fine, fine-beat, fine-join, fine-leave, fine-sync}
+use Rattle.cg_group.proofs.Requests.{Fine, fine-beat, fine-commit, fine-join, fine-leave, fine-sync}
 use Rattle.cg_group.proofs.Telling.{Told, each-answers, expired_tried, told-beat_taken, told-completed, told-gone_in, told-in_join_phase, told-left, told-removal, told-tried, told-waiting}
 
 -- each element is found among what is made of all
@@ -87,15 +91,18 @@ id-member own (x ∷ xs) m e =
     ]) refl e
 
 -- what a record tells of a stable group, it keeps for each member
-kept_told : (g : Group) (o : Option Command) → g.phase ≡ Stable → TellsOf g o → Each (λ m. is_kept_for o m.id m.assignment ≡ true) g.members
-kept_told g None p h = absurd h
-kept_told g (Some (command.Emptied e)) p h = let bad : Empty ≡ Stable = sym h.phase ∙ p in cc
-kept_told g (Some (command.Assigned a)) p h =
-    let P : List AssignedMember → Type 0 = λ ks. Each (λ m. list_any (λ k. is_same k.id m.id && is_same k.assignment m.assignment) ks ≡ true) g.members in
+kept_recorded : (g : Group) (r : GroupRecord) (roster : Option RosterParts) → g.phase ≡ Stable → IsRecordedAs r roster g → Each (λ m. is_in_roster roster m.id m.assignment ≡ true) g.members
+kept_recorded g r None p h = let bad : Empty ≡ Stable = sym h.phase ∙ p in cc
+kept_recorded g r (Some roster) p h =
+    let P : List KeptMember → Type 0 = λ ks. Each (λ m. list_any (λ k. is_same k.id m.id && is_same k.assignment m.assignment) ks ≡ true) g.members in
     subst P (sym h.members) (each-in (kept_member g.protocol) (λ k m. is_same k.id m.id && is_same k.assignment m.assignment) (λ m. and_from (is_same m.id m.id) (is_same m.assignment m.assignment) (same_self m.id) (same_self m.assignment)) g.members)
 
+kept_told : (g : Group) (o : Option GroupRecord) → g.phase ≡ Stable → TellsOf g o → Each (λ m. is_kept_for o m.id m.assignment ≡ true) g.members
+kept_told g None p h = let bad : Empty ≡ Stable = sym h.phase ∙ p in cc
+kept_told g (Some r) p h = kept_recorded g r r.roster p h
+
 -- a reply to one of the members of a group, also where other calls were answered meanwhile
-earned_among : (events : List (Event × ℕ)) (group : List ℕ) (generation : ℕ) (o : Option Command) (ms ns : List Member) (own : List ℕ) (t : Ticket) (bytes : List ℕ)
+earned_among : (events : List (Event × ℕ)) (group : List ℕ) (generation : ℕ) (o : Option GroupRecord) (ms ns : List Member) (own : List ℕ) (t : Ticket) (bytes : List ℕ)
     → map (λ m. m.id) ns ≡ map (λ m. m.id) ms → list_any (λ i. is_same i own) (map (λ m. m.id) ms) ≡ true → has_named events group generation own t ≡ true → is_kept_for o own bytes ≡ true
     → list_any (λ m. has_named events group generation m.id t && is_kept_for o m.id bytes) ns ≡ true
 earned_among events group generation o ms ns own t bytes same in_it named kept =
@@ -103,12 +110,12 @@ earned_among events group generation o ms ns own t bytes same in_it named kept =
     sym (any-map good (λ (m : Member). m.id) ns) ∙ ap (list_any good) same ∙ any-same good own (map (λ m. m.id) ms) (and_from (has_named events group generation own t) (is_kept_for o own bytes) named kept) in_it
 
 -- every SYNC of these members that waits is answered
-record Waiting (events : List (Event × ℕ)) (group : List ℕ) (generation : ℕ) (o : Option Command) (all : List Member) (m : Member) : Type 0 where
+record Waiting (events : List (Event × ℕ)) (group : List ℕ) (generation : ℕ) (o : Option GroupRecord) (all : List Member) (m : Member) : Type 0 where
   named : is_named_wait events group generation m.id m.waits ≡ true
   kept : is_kept_for o m.id m.assignment ≡ true
   here : list_any (λ i. is_same i m.id) (map (λ x. x.id) all) ≡ true
 
-each-waiting : (events : List (Event × ℕ)) (group : List ℕ) (generation : ℕ) (o : Option Command) (all ms : List Member) → AllWaits (is_named_wait events group generation) ms → Each (λ m. is_kept_for o m.id m.assignment ≡ true) ms → Each (λ m. list_any (λ i. is_same i m.id) (map (λ x. x.id) all) ≡ true) ms → Each (Waiting events group generation o all) ms
+each-waiting : (events : List (Event × ℕ)) (group : List ℕ) (generation : ℕ) (o : Option GroupRecord) (all ms : List Member) → AllWaits (is_named_wait events group generation) ms → Each (λ m. is_kept_for o m.id m.assignment ≡ true) ms → Each (λ m. list_any (λ i. is_same i m.id) (map (λ x. x.id) all) ≡ true) ms → Each (Waiting events group generation o all) ms
 each-waiting events group generation o all [] a b c = tt
 each-waiting events group generation o all (m ∷ ms) a b c = (record { named = a.0; kept = b.0; here = c.0 }, each-waiting events group generation o all ms a.1 b.1 c.1)
 
@@ -117,7 +124,7 @@ sync_called events group generation id Nothing t e h = cc
 sync_called events group generation id (Join u) t e h = cc
 sync_called events group generation id (Sync u) t e h = let same : u ≡ t = cc in let P : Ticket → Type 0 = λ x. has_named events group generation id x ≡ true in subst P same h
 
-earned-answers : (events : List (Event × ℕ)) (g : Group) (o : Option Command) (now : ℕ) → AllWaits (is_named_wait events g.id g.generation) g.members → Each (λ m. is_kept_for o m.id m.assignment ≡ true) g.members
+earned-answers : (events : List (Event × ℕ)) (g : Group) (o : Option GroupRecord) (now : ℕ) → AllWaits (is_named_wait events g.id g.generation) g.members → Each (λ m. is_kept_for o m.id m.assignment ≡ true) g.members
     → Each (λ r. is_earned_in events (record g { members = after_answers Syncs now g.members }) o r ≡ true) (answers Syncs synced_reply g.members)
 earned-answers events g o now named kept =
     let after : Group = record g { members = after_answers Syncs now g.members } in
@@ -136,7 +143,7 @@ Silent (reply.Described d) = Unit {0}
 Silent (reply.Groups groups) = Unit {0}
 Silent (reply.Refused code) = Unit {0}
 
-silent_in : (events : List (Event × ℕ)) (g : Group) (o : Option Command) (t : Ticket) (r : Reply) → Silent r → is_earned_in events g o (t, r) ≡ true
+silent_in : (events : List (Event × ℕ)) (g : Group) (o : Option GroupRecord) (t : Ticket) (r : Reply) → Silent r → is_earned_in events g o (t, r) ≡ true
 silent_in events g o t (reply.Synced bytes) h = absurd h
 silent_in events g o t (reply.Joined j) h = refl
 silent_in events g o t reply.Done h = refl
@@ -162,17 +169,17 @@ module _ (events : List (Event × ℕ)) (kept : Kept) where
   unfolding told_to_syncs
   earned-told_to_syncs now id t told named own =
       let after : Group = record t.group { members = after_answers Syncs now t.group.members } in
-      let o : Option Command = kept_after kept t.commands id in
+      let o : Option GroupRecord = kept_after kept t.commands id in
       each-append (λ r. is_earned_in events after o r ≡ true) t.replies (answers Syncs synced_reply t.group.members)
       (each-over (λ r. Silent r.1) (λ r. is_earned_in events after o r ≡ true) (λ r h. silent_in events after o r.0 r.1 h) t.replies told)
       (earned-answers events t.group o now named own)
 
-  earned-distributed : (now : ℕ) (id : List ℕ) (entries : List SyncEntry) (t : Turn) → Told Silent t → t.group.id ≡ id → is_some t.group.kind ≡ true → is_some t.group.protocol ≡ true → is_some t.group.leader ≡ true → AllWaits (is_named_wait events t.group.id t.group.generation) t.group.members → EarnedBy id (distributed now entries t)
+  earned-distributed : (now : ℕ) (id : List ℕ) (entries : List SyncEntry) (t : Turn) → Told Silent t → t.group.id ≡ id → is_some t.group.kind ≡ true → is_some t.group.protocol ≡ true → is_some t.group.leader ≡ true → IsCompleted t.group → AllWaits (is_named_wait events t.group.id t.group.generation) t.group.members → EarnedBy id (distributed now entries t)
   unfolding distributed assigning
-  earned-distributed now id entries t told named kind protocol leader waits =
+  earned-distributed now id entries t told named kind protocol leader completed waits =
       let g : Group = assigning entries t.group in
-      let o : Option Command = kept_after kept (t.commands ++ assigned_command g) id in
-      let tells : TellsOf g o = let P : Kept → Type 0 = λ k. TellsOf g (k id) in subst P (sym (kept_after-append kept t.commands (assigned_command g))) (assigned_tells g (kept_after kept t.commands) id named refl kind protocol leader) in
+      let o : Option GroupRecord = kept_after kept (t.commands ++ assigned_command g) id in
+      let tells : TellsOf g o = let P : Kept → Type 0 = λ k. TellsOf g (k id) in subst P (sym (kept_after-append kept t.commands (assigned_command g))) (assigned_tells g (kept_after kept t.commands) id named refl kind protocol leader completed) in
       earned-told_to_syncs now id (record { group = g; replies = t.replies; commands = t.commands ++ assigned_command g }) told
       (waits-assigned (is_named_wait events t.group.id t.group.generation) entries t.group.members waits) (kept_told g o refl tells)
 
@@ -191,7 +198,7 @@ module _ (events : List (Event × ℕ)) (kept : Kept) where
       let at : (x : Member) → has_id own x ≡ true → q x.id (Sync ticket) ≡ true = λ x e. let Q : List ℕ → Type 0 = λ i. q i (Sync ticket) ≡ true in subst Q (sym (same_names x.id own e)) here in
       let named : AllWaits q t.group.members = waits-with_member q own (waits_with now (Sync ticket)) (λ x e _. at x e) first (waits-with_member q own (heard now) (λ x _ e. e) g.members h.named) in
       (elim (leads g m) as (λ b. leads g m ≡ b → EarnedBy g.id (if b then distributed now r.entries t else t)) [
-        | true ↦ λ e. earned-distributed now g.id r.entries t told refl holds.0 holds.1 (some_named g.leader m.id e) named
+        | true ↦ λ e. earned-distributed now g.id r.entries t told refl holds.0 holds.1 (some_named g.leader m.id e) holds.2 named
         | false ↦ λ e. each-over (λ x. Silent x.1) (λ x. is_earned_in events t.group (kept_after kept t.commands g.id) x ≡ true) (λ x s. silent_in events t.group (kept_after kept t.commands g.id) x.0 x.1 s) t.replies told
       ]) refl
 
@@ -307,6 +314,15 @@ unfolding describe
 silent-describe None groups = tt
 silent-describe (Some id) groups = tt
 
+silent-committed : (now : ℕ) (entries : List CommitEntry) (ticket : Ticket) (who : Option (List ℕ)) (g : Group) → Told Silent (committed entries ticket (hearing_committer now who g))
+unfolding keeping_entries
+silent-committed now entries ticket who g = (tt, tt)
+
+earned-deleted : (events : List (Event × ℕ)) (kept : Kept) (s : Machine) (ticket : Ticket) (o : Result (List ℕ) Code) → Earned events kept (deleted s ticket o)
+unfolding deleted
+earned-deleted events kept s ticket (Ok id) = (refl, tt)
+earned-deleted events kept s ticket (Err code) = (refl, tt)
+
 earned-met : (before : List (Event × ℕ)) (moment : ℕ) (kept : Kept) (s : Machine) (e : Event) → WholeMachine (before ++ (e, moment) ∷ []) s kept → Earned (before ++ (e, moment) ∷ []) kept (met s e)
 unfolding met everywhere
 earned-met before moment kept s (event.Sync ticket r) v =
@@ -331,6 +347,12 @@ earned-met before moment kept s (event.Beat ticket r) v =
 earned-met before moment kept s (event.Leave ticket r) v =
     silent-concluded (before ++ (event.Leave ticket r, moment) ∷ []) kept s ticket (leave s.last r ticket s.groups)
     (fine-leave (Told Silent) s.last r ticket s.groups (λ id own g m _ _. silent-leave_taken s.last own ticket m g))
+earned-met before moment kept s (event.Commit ticket r) v =
+    silent-concluded (before ++ (event.Commit ticket r, moment) ∷ []) kept s ticket (commit s.last r ticket s.groups)
+    (fine-commit (Told Silent) s.last r ticket s.groups
+    (λ id _. silent-committed s.last r.entries ticket None (new_group id))
+    (λ id g who _ _. silent-committed s.last r.entries ticket who g))
+earned-met before moment kept s (event.Delete ticket id) v = earned-deleted (before ++ (event.Delete ticket id, moment) ∷ []) kept s ticket (deleting id s.groups)
 earned-met before moment kept s (event.Describe ticket id) v = (silent_earned (before ++ (event.Describe ticket id, moment) ∷ []) s.groups (kept_after kept []) ticket (describe id s.groups) (silent-describe id s.groups), tt)
 earned-met before moment kept s (event.List ticket) v = (refl, tt)
 earned-met before moment kept s (event.Gone session) v =
@@ -342,7 +364,10 @@ earned-met before moment kept s event.Tick v =
 
 pub assignments_are_earned : AssignmentsAreEarned
 unfolding step
-assignments_are_earned records now events e m h asked =
-    let s : Machine = after_all events (revive records now) in
-    let kept : Kept = kept_after_all records now events in
-    earned-met events m kept (record s { last = max s.last m }) e (machine_more events (e, m) s kept (whole-all records now events h asked))
+assignments_are_earned state now events e m asked =
+    let s : Machine = after_all events (revive state now) in
+    let o : Outcome = step s e m in
+    let kept : Kept = kept_in (state_after state now events) in
+    let P : Kept → Type 0 = λ k. Each (λ r. is_earned (events ++ (e, m) ∷ []) o.after.groups k r ≡ true) o.effects.replies in
+    subst P (sym (kept-after (state_after state now events) o.effects.commands))
+    (earned-met events m kept (record s { last = max s.last m }) e (machine_more events (e, m) s kept (whole-all state now events asked)))

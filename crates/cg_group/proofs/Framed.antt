@@ -4,8 +4,8 @@ use Rattle.std.specs.Prelude.{if◌then◌else◌}
 use Rattle.std.specs.List.{list_any}
 use Rattle.std.specs.Option.{option_to_list, option_map, option_and_then}
 use Rattle.cg_group.specs.declared.calls.Calls.TheVariants.{Any}
-use Rattle.cg_group.specs.declared.command.Command.{Command}
-use Rattle.cg_group.specs.declared.command.Command.TheVariants as command
+use Rattle.cg_record.specs.declared.command.Command.{Command}
+use Rattle.cg_record.specs.declared.command.Command.TheVariants as command
 use Rattle.cg_group.specs.declared.group.Group.{Group}
 use Rattle.cg_group.specs.declared.group.Phase.{Phase}
 use Rattle.cg_group.specs.declared.group.Phase.TheVariants.{Empty, Preparing, Completing, Stable}
@@ -17,13 +17,16 @@ use Rattle.cg_group.specs.declared.request.SyncEntry.{SyncEntry}
 use Rattle.cg_group.specs.declared.request.SyncRequest.{SyncRequest}
 use Rattle.cg_group.specs.declared.ticket.Ticket.{Ticket}
 use Rattle.cg_group.specs.declared.turn.Turn.{Turn}
+use Rattle.cg_group.specs.declared.commit_entry.CommitEntry.{CommitEntry}
 use Rattle.cg_group.specs.Beating.{beat_taken}
+use Rattle.cg_group.specs.Committing.{committed, hearing_committer, keeping_entries}
 use Rattle.cg_group.specs.Joining.{admitted, in_join_phase, is_current, join_again, join_current, join_known, join_new, new_member, updating, waiting}
-use Rattle.cg_group.specs.Kept.{Each, group_of}
+use Rattle.cg_group.specs.Kept.{Each}
+use Rattle.cg_group.proofs.Kept.{group_of}
 use Rattle.cg_group.specs.Leaving.{after_removal, gone_in, has_joined, leave_taken, left}
 use Rattle.cg_group.specs.Membership.{hearing, is_empty, is_preparing, keeping, leads}
-use Rattle.cg_group.specs.Rebalance.{completed, emptied, emptied_command, is_ready, next_round, prepared, told_to_joins, tried, turn_of}
-use Rattle.cg_group.specs.Syncing.{assigned_command, assigning, distributed, kept_member, sync_current, sync_taken, sync_waits, told_to_syncs}
+use Rattle.cg_group.specs.Rebalance.{completed, completed_generation, emptied, emptied_command, is_ready, next_round, prepared, told_to_joins, tried, turn_of}
+use Rattle.cg_group.specs.Syncing.{assigned_command, assigning, distributed, kept_roster, sync_current, sync_taken, sync_waits, told_to_syncs}
 use Rattle.cg_group.specs.Ticking.{at_deadline, expired, is_due, is_overdue, ticked}
 use Rattle.cg_group.specs.Waiting.{is_waiting}
 
@@ -59,10 +62,12 @@ framed-next_round id t h = h
 one-emptied : (g : Group) → OfGroup g.id (emptied_command g)
 unfolding emptied_command
 one-emptied g =
-    elim g.kind as (λ k. OfGroup g.id (option_to_list (option_map (λ kind. command.Emptied (record { group = g.id; generation = g.generation; kind = kind })) k))) [
-      | None ↦ tt
-      | Some k ↦ (refl, tt)
-    ]
+    go (completed_generation g.generation) g.kind
+  where
+    go : (n : Option ℕ) (k : Option (List ℕ)) → OfGroup g.id (option_to_list (option_and_then (λ generation. option_map (λ kind. command.Emptied (record { group = g.id; generation = generation; kind = kind })) k) n))
+    go None k = tt
+    go (Some n) None = tt
+    go (Some n) (Some k) = (refl, tt)
 
 framed-emptied : (id : List ℕ) (t : Turn) → Framed id t → Framed id (emptied t)
 unfolding emptied
@@ -113,13 +118,14 @@ framed-join_known now r id ticket m g =
 
 one-assigned : (g : Group) → OfGroup g.id (assigned_command g)
 unfolding assigned_command
-one-assigned g = go g.kind g.protocol g.leader
+one-assigned g = go (completed_generation g.generation) g.kind g.protocol g.leader
   where
-    go : (k p l : Option (List ℕ)) → OfGroup g.id (option_to_list (option_and_then (λ kind. option_and_then (λ protocol. option_map (λ leader. command.Assigned (record { group = g.id; generation = g.generation; kind = kind; protocol = protocol; leader = leader; members = map (kept_member g.protocol) g.members })) l) p) k))
-    go None p l = tt
-    go (Some k) None l = tt
-    go (Some k) (Some p) None = tt
-    go (Some k) (Some p) (Some l) = (refl, tt)
+    go : (n : Option ℕ) (k p l : Option (List ℕ)) → OfGroup g.id (option_to_list (option_and_then (λ generation. option_and_then (λ kind. option_and_then (λ protocol. option_map (λ leader. command.Assigned (record { group = g.id; generation = generation; kind = kind; roster = kept_roster protocol leader g })) l) p) k) n))
+    go None k p l = tt
+    go (Some n) None p l = tt
+    go (Some n) (Some k) None l = tt
+    go (Some n) (Some k) (Some p) None = tt
+    go (Some n) (Some k) (Some p) (Some l) = (refl, tt)
 
 framed-told_to_syncs : (id : List ℕ) (now : ℕ) (t : Turn) → Framed id t → Framed id (told_to_syncs now t)
 unfolding told_to_syncs
@@ -158,6 +164,11 @@ framed-sync_taken now r id ticket m g Completing = framed-sync_waits now r id ti
 framed-sync_taken now r id ticket m g Stable = framed-sync_current now id ticket m g
 framed-sync_taken now r id ticket m g Empty = framed-sync_current now id ticket m g
 framed-sync_taken now r id ticket m g Preparing = framed-sync_current now id ticket m g
+
+pub framed-committed : (now : ℕ) (entries : List CommitEntry) (ticket : Ticket) (who : Option (List ℕ)) (g : Group) → Framed g.id (committed entries ticket (hearing_committer now who g))
+unfolding keeping_entries hearing
+framed-committed now entries ticket None g = (refl, (refl, tt))
+framed-committed now entries ticket (Some id) g = (refl, (refl, tt))
 
 pub framed-beat_taken : (now : ℕ) (id : List ℕ) (ticket : Ticket) (g : Group) → Framed g.id (beat_taken now id ticket g)
 unfolding beat_taken hearing

@@ -1,11 +1,11 @@
 -- Groups that stand by the bytes of their ids: a search finds them, and each event leaves them so.
-use Rattle.std.proofs.Common.{◌≡◌, ℕ, zero, suc, ◌+◌, ◌<◌, ◌≤◌, zero-le, Bool, true, false, not, cond, List, [], ◌∷◌, length, get_or, find, Option, Some, None, Result, Ok, Err, ok_or, refl, sym, ap, ◌∙◌, subst, arith}
+use Rattle.std.proofs.Common.{◌≡◌, ℕ, zero, suc, ◌+◌, ◌<◌, ◌≤◌, Bool, true, false, not, cond, List, [], ◌∷◌, length, get_or, find, Option, Some, None, Result, Ok, Err, ok_or, refl, sym, ap, ◌∙◌, subst, arith}
 use Rattle.std.specs.Prelude.{if◌then◌else◌}
-use Rattle.std.specs.List.{position, position_or_len}
+use Rattle.std.specs.List.{position, position_or_len, remove}
 use Rattle.std.specs.List.Sorted.{IsPartitionedBy}
+use Rattle.std.proofs.lemmas.Bool.{false≢true}
 use Rattle.std.proofs.lemmas.Bool.Decides.{nat_tests}
 use Rattle.std.proofs.lemmas.Cmp.{nat_list_cmp_total, nat_list_eq_equiv}
-use Rattle.std.proofs.lemmas.List.Sums.{prefix_len_is}
 use Rattle.std.proofs.lemmas.Map.Text.{is_eq-slice_cmp}
 use Rattle.std.specs.Cmp.Lexicographic.{slice_cmp}
 use Rattle.std.specs.Ordering.{nat_cmp, is_eq, is_gt, ordering_reverse}
@@ -20,39 +20,30 @@ use Rattle.cg_group.specs.declared.ticket.Ticket.{Ticket}
 use Rattle.cg_group.specs.declared.turn.Turn.{Turn}
 use Rattle.cg_group.specs.Kept.{Ascending, ComesBefore}
 use Rattle.cg_group.specs.Leaving.{gone_in}
-use Rattle.cg_group.specs.Machine.{InOrder, IsNamedAt, Machine, beat, concluded, everywhere, find_group, groups_after, join, leave, met, named_group, sync}
+use Rattle.cg_group.specs.Machine.{InOrder, IsNamedAt, Machine, beat, commit, concluded, deleted, deleting, everywhere, find_group, groups_after, join, leave, met, named_group, sync, without_group}
 use Rattle.cg_group.specs.Membership.{is_same}
 use Rattle.cg_group.specs.Ticking.{ticked}
 use Rattle.cg_group.proofs.Framed.{Framed, framed-gone_in, framed-ticked}
 use Rattle.cg_group.proofs.Groupings.{with_group_level}
 use Rattle.cg_group.proofs.KeptLists.{ascending-with_group, before-trans, differs_from_order, group_ids, same_names}
 use Rattle.cg_group.proofs.Places.{no_place_is, place_is}
+use Rattle.cg_group.proofs.Removing.{ascending-without}
 
 -- the id comes after the group's
 abbrev pub comes_after : List ℕ → Group → Bool
 comes_after x g = is_gt (slice_cmp nat_cmp x g.id)
-
--- a point before which the id comes after each group, and from which on after none
-pub place_from_point : (x : List ℕ) (gs : List Group) (n : ℕ) → n ≤ length gs
-    → ((k : ℕ) (d : Group) → 0 ≤ k → k < n → comes_after x (get_or gs k d) ≡ true) × ((k : ℕ) (d : Group) → n ≤ k → k < length gs → comes_after x (get_or gs k d) ≡ false)
-    → n ≡ position_or_len (λ g. not (is_gt (slice_cmp nat_cmp x g.id))) gs
-place_from_point x [] n within point = omega arith
-place_from_point x (g ∷ gs) n within point =
-    sym (prefix_len_is (λ g. not (not (is_gt (slice_cmp nat_cmp x g.id)))) (g ∷ gs) n g within
-    (λ k below. ap (λ b. not (not b)) (point.0 k g zero-le below))
-    (λ below. ap (λ b. not (not b)) (point.1 n g (omega arith) below)))
 
 greater_is : (o : Ordering) → is_gt o ≡ true → o ≡ Greater
 greater_is Less e = cc
 greater_is Equal e = cc
 greater_is Greater e = refl
 
-front_before : (x : List ℕ) (gs : List Group) (k : ℕ) (d : Group) → ComesBefore x (group_ids gs) → k < length gs → slice_cmp nat_cmp x (get_or gs k d).id ≡ Less
+pub front_before : (x : List ℕ) (gs : List Group) (k : ℕ) (d : Group) → ComesBefore x (group_ids gs) → k < length gs → slice_cmp nat_cmp x (get_or gs k d).id ≡ Less
 front_before x [] k d h lt = absurd (omega arith)
 front_before x (g ∷ gs) zero d h lt = h.0
 front_before x (g ∷ gs) (suc k) d h lt = front_before x gs k d h.1 (omega arith)
 
-less_greater : (x y : List ℕ) → slice_cmp nat_cmp x y ≡ Less → slice_cmp nat_cmp y x ≡ Greater
+pub less_greater : (x y : List ℕ) → slice_cmp nat_cmp x y ≡ Less → slice_cmp nat_cmp y x ≡ Greater
 less_greater x y e = nat_list_cmp_total.antisymm y x ∙ ap ordering_reverse e
 
 greater_less : (x y : List ℕ) → slice_cmp nat_cmp x y ≡ Greater → slice_cmp nat_cmp y x ≡ Less
@@ -104,6 +95,19 @@ find_past_place x (g ∷ gs) le =
       | Greater ↦ λ e le. ap (λ b. cond b (Some g) (find (λ k. is_same k.id x) gs)) (nat_list_eq_equiv.symm g.id x ∙ differs_from_order x g.id Greater e refl) ∙ find_past_place x gs (omega arith)
     ] refl le
 
+without_at : (x : List ℕ) (gs : List Group) (d : Group) → place x gs < length gs → is_eq (slice_cmp nat_cmp x (get_or gs (place x gs) d).id) ≡ true → without_group x gs ≡ remove gs (place x gs)
+unfolding without_group
+without_at x [] d lt level = absurd (omega arith)
+without_at x (g ∷ gs) d lt level =
+    elim (slice_cmp nat_cmp x g.id) as (λ o. slice_cmp nat_cmp x g.id ≡ o → cond (not (not (is_gt o))) (1 + place x gs) 0 < length (g ∷ gs) → is_eq (slice_cmp nat_cmp x (get_or (g ∷ gs) (cond (not (not (is_gt o))) (1 + place x gs) 0) d).id) ≡ true → (if is_same g.id x then gs else g ∷ without_group x gs) ≡ remove (g ∷ gs) (cond (not (not (is_gt o))) (1 + place x gs) 0)) [
+      | Less ↦ λ e lt level. absurd (false≢true (sym (ap is_eq e) ∙ level))
+      | Equal ↦ λ e lt level. ap (λ b. if b then gs else g ∷ without_group x gs) (nat_list_eq_equiv.symm g.id x ∙ sym (is_eq-slice_cmp x g.id) ∙ ap is_eq e)
+      | Greater ↦ λ e lt level.
+          let n : 1 + place x gs ≡ suc (place x gs) = omega arith in
+          let P : ℕ → Type 0 = λ k. is_eq (slice_cmp nat_cmp x (get_or (g ∷ gs) k d).id) ≡ true in
+          rw n (ap (λ b. if b then gs else g ∷ without_group x gs) (nat_list_eq_equiv.symm g.id x ∙ differs_from_order x g.id Greater e refl) ∙ ap (λ r. g ∷ r) (without_at x gs d (omega arith) (subst P n level)))
+    ] refl lt level
+
 -- the same, from what a search answered
 pub unnamed_past : (x : List ℕ) (gs : List Group) → position (λ g. not (is_gt (slice_cmp nat_cmp x g.id))) gs ≡ None → named_group (Some x) gs ≡ Err UnknownMemberId
 unnamed_past x gs at = ap (λ o. ok_or o UnknownMemberId) (find_past_place x gs (no_place_is (place x gs) (length gs) at))
@@ -118,12 +122,15 @@ pub unnamed_between : (x : List ℕ) (gs : List Group) (i : ℕ) (g : Group) →
 unnamed_between x gs i g h at here level =
     ap (λ o. ok_or o UnknownMemberId) (found_place x gs i g h at ∙ ap (found_at x) (sym here) ∙ ap (λ b. if b then Some g else None) level)
 
-same_at : (gs : List Group) (i : ℕ) (c d : Group) → i < length gs → get_or gs i c ≡ get_or gs i d
+pub same_at : (gs : List Group) (i : ℕ) (c d : Group) → i < length gs → get_or gs i c ≡ get_or gs i d
 same_at [] i c d lt = absurd (omega arith)
 same_at (g ∷ gs) zero c d lt = refl
 same_at (g ∷ gs) (suc i) c d lt = same_at gs i c d (omega arith)
 
-equal_is : (x y : List ℕ) → is_eq (slice_cmp nat_cmp x y) ≡ true → x ≡ y
+pub some_name : (x y : List ℕ) → Some x ≡ Some y → x ≡ y
+some_name x y e = cc
+
+pub equal_is : (x y : List ℕ) → is_eq (slice_cmp nat_cmp x y) ≡ true → x ≡ y
 equal_is x y e = same_names x y (sym (is_eq-slice_cmp x y) ∙ e)
 
 pub named_level : (x : List ℕ) (gs : List Group) (i : ℕ) (g : Group) → InOrder gs → position (λ g. not (is_gt (slice_cmp nat_cmp x g.id))) gs ≡ Some i → g ≡ get_or gs i g → is_eq (slice_cmp nat_cmp x g.id) ≡ true → IsNamedAt (Some x) gs i
@@ -138,6 +145,12 @@ named_level x gs i g h at here level =
           let P : List ℕ → Type 0 = λ y. position (λ k. not (is_gt (slice_cmp nat_cmp y k.id))) gs ≡ Some i in
           let Q : List ℕ → Type 0 = λ y. is_eq (slice_cmp nat_cmp y g.id) ≡ true in
           with_group_level new gs i g (subst P (sym own) at) here (subst Q (sym own) level);
+      gone = λ y same.
+          let R : List ℕ → Type 0 = λ z. without_group z gs ≡ remove gs i in
+          let L : ℕ → Type 0 = λ n. is_eq (slice_cmp nat_cmp x (get_or gs n g).id) ≡ true in
+          let T : ℕ → Type 0 = λ n. without_group x gs ≡ remove gs n in
+          let there : is_eq (slice_cmp nat_cmp x (get_or gs i g).id) ≡ true = ap (λ (k : Group). is_eq (slice_cmp nat_cmp x k.id)) (sym here) ∙ level in
+          subst R (some_name x y same) (subst T found.0 (without_at x gs g found.1 (subst L (sym found.0) there)));
     }
 
 -- each event leaves the groups in order
@@ -155,12 +168,19 @@ in_order-everywhere : (turn : Group → Turn) → ((g : Group) → Framed g.id (
 unfolding everywhere
 in_order-everywhere turn framed s h = let P : List (List ℕ) → Type 0 = λ xs. Ascending xs in subst P (sym (ids-groups_after turn framed s.groups)) h
 
+in_order-deleted : (s : Machine) (ticket : Ticket) (o : Result (List ℕ) Code) → InOrder s.groups → InOrder (deleted s ticket o).after.groups
+unfolding deleted
+in_order-deleted s ticket (Ok id) h = ascending-without id s.groups h
+in_order-deleted s ticket (Err code) h = h
+
 pub in_order-met : (s : Machine) (e : Event) → InOrder s.groups → InOrder (met s e).after.groups
 unfolding met
 in_order-met s (event.Join ticket r fresh) h = in_order-concluded s ticket (join s.last r fresh ticket s.groups) h
 in_order-met s (event.Sync ticket r) h = in_order-concluded s ticket (sync s.last r ticket s.groups) h
 in_order-met s (event.Beat ticket r) h = in_order-concluded s ticket (beat s.last r ticket s.groups) h
 in_order-met s (event.Leave ticket r) h = in_order-concluded s ticket (leave s.last r ticket s.groups) h
+in_order-met s (event.Commit ticket r) h = in_order-concluded s ticket (commit s.last r ticket s.groups) h
+in_order-met s (event.Delete ticket id) h = in_order-deleted s ticket (deleting id s.groups) h
 in_order-met s (event.Describe ticket id) h = h
 in_order-met s (event.List ticket) h = h
 in_order-met s (event.Gone session) h = in_order-everywhere (gone_in s.last session) (framed-gone_in s.last session) s h

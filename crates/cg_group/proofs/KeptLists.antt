@@ -8,9 +8,10 @@ use Rattle.std.specs.Cmp.Lexicographic.{slice_cmp}
 use Rattle.std.specs.Ordering.{nat_cmp, is_eq, match_ordering, ordering_reverse}
 use Rattle.std.specs.declared.cmp.Ordering.{Ordering}
 use Rattle.std.specs.declared.cmp.Ordering.TheVariants.{Less, Equal, Greater}
-use Rattle.cg_group.specs.declared.command.Command.{Command}
+use Rattle.cg_record.specs.declared.command.Command.{Command}
 use Rattle.cg_group.specs.declared.group.Group.{Group}
-use Rattle.cg_group.specs.Kept.{Kept, Each, ComesBefore, Ascending, effect, group_of, kept_after}
+use Rattle.cg_group.specs.Kept.{Each, ComesBefore, Ascending, Kept}
+use Rattle.cg_group.proofs.Kept.{effect, group_of, kept_after, left_by}
 use Rattle.cg_group.specs.Machine.{find_group, with_group}
 use Rattle.cg_group.specs.Membership.{is_same}
 use Rattle.cg_group.proofs.Framed.{OfGroup}
@@ -30,16 +31,16 @@ pub kept_after-other : (id other : List ℕ) (kept : Kept) (cs : List Command) �
 unfolding kept_after
 kept_after-other id other kept [] h d = refl
 kept_after-other id other kept (c ∷ cs) h d =
-    kept_after-other id other (effect kept c) cs h.1 d ∙ cond-false (is_same (group_of c) other) (Some c) (kept other) (ap (λ x. is_same x other) h.0 ∙ d)
+    kept_after-other id other (effect kept c) cs h.1 d ∙ cond-false (is_same (group_of c) other) (left_by c (kept other)) (kept other) (ap (λ x. is_same x other) h.0 ∙ d)
 
 pub kept_after-append : (kept : Kept) (cs ds : List Command) → kept_after kept (cs ++ ds) ≡ kept_after (kept_after kept cs) ds
 unfolding kept_after
 kept_after-append kept [] ds = refl
 kept_after-append kept (c ∷ cs) ds = kept_after-append (effect kept c) cs ds
 
-pub kept_after-one : (kept : Kept) (c : Command) (id : List ℕ) → group_of c ≡ id → kept_after kept (c ∷ []) id ≡ Some c
+pub kept_after-one : (kept : Kept) (c : Command) (id : List ℕ) → group_of c ≡ id → kept_after kept (c ∷ []) id ≡ left_by c (kept id)
 unfolding kept_after
-kept_after-one kept c id e = cond-true (is_same (group_of c) id) (Some c) (kept id) (ap (λ x. is_same x id) e ∙ same_self id)
+kept_after-one kept c id e = cond-true (is_same (group_of c) id) (left_by c (kept id)) (kept id) (ap (λ x. is_same x id) e ∙ same_self id)
 
 pub kept_after-none : (kept : Kept) → kept_after kept [] ≡ kept
 unfolding kept_after

@@ -1,17 +1,21 @@
 -- From what holds of each group and of its record, to the machine and what is kept.
-use Rattle.std.proofs.Common.{◌≡◌, ℕ, Bool, true, false, ◌||◌, List, [], ◌∷◌, ◌++◌, cond, is_some, refl, sym, ap, ◌∙◌, subst, Option, Some, Result, Ok, Err}
+use Rattle.std.proofs.Common.{◌≡◌, ℕ, Bool, true, false, ◌||◌, List, [], ◌∷◌, ◌++◌, cond, is_some, refl, sym, ap, ◌∙◌, subst, Option, Some, None, Result, Ok, Err}
 use Rattle.std.specs.List.{flat_map}
-use Rattle.std.proofs.lemmas.Bool.{or_left, or_right}
+use Rattle.std.proofs.lemmas.Bool.{or_left, or_right, false≢true}
 use Rattle.cg_names.specs.declared.code.Code.{Code}
-use Rattle.cg_group.specs.declared.command.Command.{Command}
+use Rattle.cg_record.specs.declared.command.Command.{Command}
+use Rattle.cg_fold.specs.declared.record.GroupRecord.{GroupRecord}
 use Rattle.cg_group.specs.declared.group.Group.{Group}
 use Rattle.cg_group.specs.declared.ticket.Ticket.{Ticket}
 use Rattle.cg_group.specs.declared.turn.Turn.{Turn}
-use Rattle.cg_group.specs.Kept.{Kept, Each, ComesBefore, Ascending, kept_after}
-use Rattle.cg_group.specs.Machine.{Machine, concluded, everywhere, find_group, groups_after, with_group}
+use Rattle.cg_group.specs.Kept.{Each, ComesBefore, Ascending, Kept}
+use Rattle.cg_group.proofs.Kept.{kept_after}
+use Rattle.cg_record.specs.declared.command.Command.TheVariants as command
+use Rattle.cg_group.specs.Machine.{Machine, concluded, deleted, everywhere, find_group, groups_after, with_group, without_group}
+use Rattle.cg_group.proofs.Removing.{ascending-without, each-without-over, found-without}
 use Rattle.cg_group.specs.Membership.{is_same}
 use Rattle.cg_group.proofs.Framed.{Framed, OfGroup}
-use Rattle.cg_group.proofs.KeptLists.{kept_after-append, kept_after-none, kept_after-other, differs_from_order, group_ids, ascending-with_group, each-after, each-with_group, found-with_group}
+use Rattle.cg_group.proofs.KeptLists.{kept_after-append, kept_after-none, kept_after-one, kept_after-other, differs_from_order, same_names, group_ids, ascending-with_group, each-after, each-with_group, found-with_group}
 use Rattle.cg_group.proofs.Requests.{Fine}
 use Rattle.std.proofs.lemmas.Cmp.{nat_list_eq_equiv}
 use Rattle.std.specs.declared.cmp.Ordering.TheVariants.{Less}
@@ -21,23 +25,23 @@ each-over P Q over [] h = tt
 each-over P Q over (x ∷ xs) h = (over x h.0, each-over P Q over xs h.1)
 
 -- the groups stand by their ids, each holds with its record, and each that has a record is held
-pub record Invariant (I : Group → Option Command → Type 0) (groups : List Group) (kept : Kept) : Type 0 where
+pub record Invariant (I : Group → Option GroupRecord → Type 0) (groups : List Group) (kept : Kept) : Type 0 where
   pub ascending : Ascending (group_ids groups)
   pub each : Each (λ g. I g (kept g.id)) groups
   pub held : (id : List ℕ) → is_some (kept id) ≡ true → is_some (find_group id groups) ≡ true
 
 -- a turn in a group, and what holds after it
-pub record Fits (I : Group → Option Command → Type 0) (kept : Kept) (t : Turn) : Type 0 where
+pub record Fits (I : Group → Option GroupRecord → Type 0) (kept : Kept) (t : Turn) : Type 0 where
   pub own : OfGroup t.group.id t.commands
   pub good : I t.group (kept_after kept t.commands t.group.id)
 
-pub fits_framed : (I : Group → Option Command → Type 0) (kept : Kept) (id : List ℕ) (t : Turn) → Framed id t → I t.group (kept_after kept t.commands id) → Fits I kept t
+pub fits_framed : (I : Group → Option GroupRecord → Type 0) (kept : Kept) (id : List ℕ) (t : Turn) → Framed id t → I t.group (kept_after kept t.commands id) → Fits I kept t
 fits_framed I kept id t f h =
     let P : List ℕ → Type 0 = λ i. OfGroup i t.commands in
     let Q : List ℕ → Type 0 = λ i. I t.group (kept_after kept t.commands i) in
     record { own = subst P (sym f.0) f.1; good = subst Q (sym f.0) h }
 
-module _ (I : Group → Option Command → Type 0) where
+module _ (I : Group → Option GroupRecord → Type 0) where
   taken_held : (groups : List Group) (kept : Kept) (t : Turn) (id : List ℕ) → OfGroup t.group.id t.commands → ((i : List ℕ) → is_some (kept i) ≡ true → is_some (find_group i groups) ≡ true) → is_some (kept_after kept t.commands id) ≡ true → (is_same t.group.id id || is_some (find_group id groups)) ≡ true
   taken_held groups kept t id own held e =
       (elim (is_same t.group.id id) as (λ b. is_same t.group.id id ≡ b → (b || is_some (find_group id groups)) ≡ true) [
@@ -49,7 +53,7 @@ module _ (I : Group → Option Command → Type 0) where
   invariant-taken groups kept t f v = record {
     ascending = ascending-with_group t.group groups v.ascending;
     each = each-with_group (λ g. I g (kept g.id)) (λ g. I g (kept_after kept t.commands g.id)) t.group groups f.good
-        (λ k d h. let P : Option Command → Type 0 = λ o. I k o in subst P (sym (kept_after-other t.group.id k.id kept t.commands f.own d)) h) v.ascending v.each;
+        (λ k d h. let P : Option GroupRecord → Type 0 = λ o. I k o in subst P (sym (kept_after-other t.group.id k.id kept t.commands f.own d)) h) v.ascending v.each;
     held = λ id e. found-with_group id t.group groups (taken_held groups kept t id f.own v.held e);
   }
 
@@ -77,9 +81,9 @@ module _ (I : Group → Option Command → Type 0) where
         let rest : List Command = flat_map (λ g. (turn g).commands) gs in
         let whole : kept_after kept ((turn g).commands ++ rest) ≡ kept_after first rest = kept_after-append kept (turn g).commands rest in
         let P : Kept → Type 0 = λ k. Each (λ g. I g (k g.id)) (groups_after turn (g ∷ gs)) in
-        let Q : Option Command → Type 0 = λ o. I (turn g).group o in
+        let Q : Option GroupRecord → Type 0 = λ o. I (turn g).group o in
         let own : kept_after first rest (turn g).group.id ≡ kept_after kept (turn g).commands g.id = ap (kept_after first rest) (framed g).0 ∙ kept-before g.id first gs a.0 in
-        let others : Each (λ k. I k (first k.id)) gs = each-after (λ k. I k (kept k.id)) (λ k. I k (first k.id)) g.id gs (λ k d i. let R : Option Command → Type 0 = λ o. I k o in subst R (sym (kept_after-other g.id k.id kept (turn g).commands (framed g).1 d)) i) a.0 h.1 in
+        let others : Each (λ k. I k (first k.id)) gs = each-after (λ k. I k (kept k.id)) (λ k. I k (first k.id)) g.id gs (λ k d i. let R : Option GroupRecord → Type 0 = λ o. I k o in subst R (sym (kept_after-other g.id k.id kept (turn g).commands (framed g).1 d)) i) a.0 h.1 in
         subst P (sym whole) (subst Q (sym own) (keeps g kept h.0), each-turns first gs a.1 others)
 
     found-turns : (id : List ℕ) (gs : List Group) → is_some (find_group id (groups_after turn gs)) ≡ is_some (find_group id gs)
@@ -112,3 +116,30 @@ module _ (I : Group → Option Command → Type 0) where
       each = each-turns kept s.groups v.ascending v.each;
       held = λ id e. found-turns id s.groups ∙ either (is_some (kept id)) (is_some (find_group id s.groups)) (held-turns id kept s.groups e) (v.held id);
     }
+
+-- a group is deleted: nothing is kept of it
+module _ (I : Group → Option GroupRecord → Type 0) where
+  kept-deleted : (kept : Kept) (id : List ℕ) → kept_after kept (command.Deleted (record { group = id }) ∷ []) id ≡ None
+  kept-deleted kept id = kept_after-one kept (command.Deleted (record { group = id })) id refl
+
+  kept-undeleted : (kept : Kept) (id other : List ℕ) → is_same id other ≡ false → kept_after kept (command.Deleted (record { group = id }) ∷ []) other ≡ kept other
+  kept-undeleted kept id other d = kept_after-other id other kept (command.Deleted (record { group = id }) ∷ []) (refl, tt) d
+
+  held-deleted : (s : Machine) (kept : Kept) (id x : List ℕ) → Invariant I s.groups kept → is_some (kept_after kept (command.Deleted (record { group = id }) ∷ []) x) ≡ true → is_some (find_group x (without_group id s.groups)) ≡ true
+  held-deleted s kept id x v e =
+      (elim (is_same id x) as (λ b. is_same id x ≡ b → is_some (find_group x (without_group id s.groups)) ≡ true) [
+        | true ↦ λ d.
+            let gone : kept_after kept (command.Deleted (record { group = id }) ∷ []) x ≡ None = ap (kept_after kept (command.Deleted (record { group = id }) ∷ [])) (sym (same_names id x d)) ∙ kept-deleted kept id in
+            absurd (false≢true (sym (ap is_some gone) ∙ e))
+        | false ↦ λ d. found-without id x s.groups d (v.held x (ap is_some (sym (kept-undeleted kept id x d)) ∙ e))
+      ]) refl
+
+  pub invariant-deleted : (s : Machine) (kept : Kept) (ticket : Ticket) (o : Result (List ℕ) Code) → Invariant I s.groups kept → Invariant I (deleted s ticket o).after.groups (kept_after kept (deleted s ticket o).effects.commands)
+  unfolding deleted
+  invariant-deleted s kept ticket (Err code) v = let P : Kept → Type 0 = λ k. Invariant I s.groups k in subst P (sym (kept_after-none kept)) v
+  invariant-deleted s kept ticket (Ok id) v = record {
+    ascending = ascending-without id s.groups v.ascending;
+    each = each-without-over (λ g. I g (kept g.id)) (λ g. I g (kept_after kept (command.Deleted (record { group = id }) ∷ []) g.id)) id s.groups
+        (λ k d h. let P : Option GroupRecord → Type 0 = λ o. I k o in subst P (sym (kept-undeleted kept id k.id d)) h) v.ascending v.each;
+    held = λ x e. held-deleted s kept id x v e;
+  }

@@ -3,11 +3,13 @@ use Rattle.std.proofs.Common.{◌≡◌, ℕ, Bool, true, false, not, List, is_s
 use Rattle.std.proofs.lemmas.Bool.{not-false}
 use Rattle.std.specs.Ordering.{int_eq}
 use Rattle.cg_names.specs.declared.code.Code.{Code}
-use Rattle.cg_names.specs.declared.code.Code.TheVariants.{CoordinatorNotAvailable, GroupMaxSizeReached, IllegalGeneration, InconsistentGroupProtocol, InvalidGroupId, InvalidSessionTimeout, RebalanceInProgress, UnknownMemberId}
-use Rattle.cg_group.specs.declared.bounds.TheConstants.{GROUPS_MAX, MEMBERS_MAX}
+use Rattle.cg_names.specs.declared.code.Code.TheVariants.{CoordinatorNotAvailable, GroupMaxSizeReached, IllegalGeneration, InconsistentGroupProtocol, InvalidGroupId, InvalidSessionTimeout, OffsetMetadataTooLarge, RebalanceInProgress, UnknownMemberId}
+use Rattle.cg_record.specs.declared.roster.TheConstants.{MEMBERS_MAX}
+use Rattle.cg_group.specs.declared.bounds.TheConstants.{GROUPS_MAX}
 use Rattle.cg_group.specs.declared.member.Member.{Member}
 use Rattle.cg_group.specs.declared.group.Group.{Group}
 use Rattle.cg_group.specs.declared.request.BeatRequest.{BeatRequest}
+use Rattle.cg_group.specs.declared.request.CommitRequest.{CommitRequest}
 use Rattle.cg_group.specs.declared.request.JoinRequest.{JoinRequest}
 use Rattle.cg_group.specs.declared.request.LeaveRequest.{LeaveRequest}
 use Rattle.cg_group.specs.declared.request.SyncRequest.{SyncRequest}
@@ -16,7 +18,9 @@ use Rattle.cg_group.specs.declared.turn.Turn.{Turn}
 use Rattle.cg_group.specs.Beating.{beat_held, beat_taken}
 use Rattle.cg_group.specs.Joining.{drawn, is_inconsistent, is_session_refused, join_drawn, join_held, join_known, join_new, join_unheld, new_group}
 use Rattle.cg_group.specs.Leaving.{leave_held, leave_taken}
-use Rattle.cg_group.specs.Machine.{find_group, join, join_in, named_group, sync, beat, leave}
+use Rattle.cg_group.specs.Commits.{is_too_large}
+use Rattle.cg_group.specs.Committing.{commit_held, commit_unheld, committed, committer, hearing_committer, is_negative}
+use Rattle.cg_group.specs.Machine.{commit, commit_in, find_group, join, join_in, named_group, sync, beat, leave}
 use Rattle.cg_group.specs.Membership.{find_member, is_preparing}
 use Rattle.cg_group.specs.Refusing.{◌>>=◌, refused_if}
 use Rattle.cg_group.specs.Syncing.{sync_held, sync_taken}
@@ -26,13 +30,17 @@ abbrev pub Fine : (Turn → Type 0) → Result Turn Code → Type 0
 Fine P (Ok t) = P t
 Fine P (Err code) = Unit {0}
 
-after_test : (P : Turn → Type 0) (b : Bool) (code : Code) (rest : Unit {0} → Result Turn Code) → (b ≡ false → Fine P (rest tt)) → Fine P (refused_if b code >>= rest)
+pub after_test : (P : Turn → Type 0) (b : Bool) (code : Code) (rest : Unit {0} → Result Turn Code) → (b ≡ false → Fine P (rest tt)) → Fine P (refused_if b code >>= rest)
 after_test P true code rest h = tt
 after_test P false code rest h = h refl
 
-after_given : {A : Type 0} (P : Turn → Type 0) (o : Option A) (code : Code) (rest : A → Result Turn Code) → ((x : A) → o ≡ Some x → Fine P (rest x)) → Fine P (ok_or o code >>= rest)
+pub after_given : {A : Type 0} (P : Turn → Type 0) (o : Option A) (code : Code) (rest : A → Result Turn Code) → ((x : A) → o ≡ Some x → Fine P (rest x)) → Fine P (ok_or o code >>= rest)
 after_given P None code rest h = tt
 after_given P (Some x) code rest h = h x refl
+
+pub after_checked : {A : Type 0} (P : Turn → Type 0) (o : Result A Code) (rest : A → Result Turn Code) → ((x : A) → o ≡ Ok x → Fine P (rest x)) → Fine P (o >>= rest)
+after_checked P (Ok x) rest h = h x refl
+after_checked P (Err code) rest h = tt
 
 module _ (P : Turn → Type 0) where
   fine-join_held : (now : ℕ) (r : JoinRequest) (fresh : List ℕ) (ticket : Ticket) (member : Option (List ℕ)) (g : Group)
@@ -121,3 +129,29 @@ module _ (P : Turn → Type 0) where
       let taken : List ℕ → Member → Result Turn Code = λ id m. Ok (leave_taken now id ticket m g) in
       after_given P r.member UnknownMemberId (λ id. ok_or (find_member id g.members) UnknownMemberId >>= taken id)
       (λ id _. after_given P (find_member id g.members) UnknownMemberId (taken id) (λ m found. k i id g m e found)))
+
+  fine-commit_in : (now : ℕ) (r : CommitRequest) (ticket : Ticket) (groups : List Group) (id : List ℕ) (o : Option Group)
+      → (o ≡ None → P (committed r.entries ticket (new_group id)))
+      → ((g : Group) (who : Option (List ℕ)) → o ≡ Some g → committer r.generation r.member g ≡ Ok who → P (committed r.entries ticket (hearing_committer now who g)))
+      → Fine P (commit_in now r ticket groups id o)
+  unfolding commit_held commit_unheld
+  fine-commit_in now r ticket groups id None made taken =
+      let kept : Unit {0} → Result Turn Code = λ _. Ok (committed r.entries ticket (new_group id)) in
+      let few : Unit {0} → Result Turn Code = λ _. refused_if (nat_le GROUPS_MAX (length groups)) CoordinatorNotAvailable >>= kept in
+      after_test P (not (is_negative r.generation)) IllegalGeneration (λ _. refused_if (is_too_large r.entries) OffsetMetadataTooLarge >>= few)
+      (λ _. after_test P (is_too_large r.entries) OffsetMetadataTooLarge few
+      (λ _. after_test P (nat_le GROUPS_MAX (length groups)) CoordinatorNotAvailable kept (λ _. made refl)))
+  fine-commit_in now r ticket groups id (Some g) made taken =
+      let kept : Option (List ℕ) → Unit {0} → Result Turn Code = λ who _. Ok (committed r.entries ticket (hearing_committer now who g)) in
+      after_checked P (committer r.generation r.member g) (λ who. refused_if (is_too_large r.entries) OffsetMetadataTooLarge >>= kept who)
+      (λ who from. after_test P (is_too_large r.entries) OffsetMetadataTooLarge (kept who) (λ _. taken g who refl from))
+
+  -- COMMIT: a group is made, or a member or nobody commits to one that is held
+  pub fine-commit : (now : ℕ) (r : CommitRequest) (ticket : Ticket) (groups : List Group)
+      → ((id : List ℕ) → find_group id groups ≡ None → P (committed r.entries ticket (new_group id)))
+      → ((id : List ℕ) (g : Group) (who : Option (List ℕ)) → find_group id groups ≡ Some g → committer r.generation r.member g ≡ Ok who → P (committed r.entries ticket (hearing_committer now who g)))
+      → Fine P (commit now r ticket groups)
+  unfolding commit
+  fine-commit now r ticket groups made taken =
+      after_given P r.group InvalidGroupId (λ id. commit_in now r ticket groups id (find_group id groups))
+      (λ id _. fine-commit_in now r ticket groups id (find_group id groups) (made id) (taken id))

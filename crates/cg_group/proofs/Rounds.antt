@@ -20,20 +20,22 @@ use Rattle.cg_group.specs.declared.request.SyncEntry.{SyncEntry}
 use Rattle.cg_group.specs.declared.ticket.Ticket.{Ticket}
 use Rattle.cg_group.specs.declared.turn.Turn.{Turn}
 use Rattle.cg_group.specs.Beating.{beat_taken}
-use Rattle.cg_group.specs.Joining.{admitted, is_current, join_again, join_current, join_known, join_new, new_member, updating, waiting}
+use Rattle.cg_group.specs.Joining.{admitted, is_current, join_again, join_current, join_known, join_new, new_group, new_member, updating, waiting}
 use Rattle.cg_group.specs.Kept.{Each}
 use Rattle.cg_group.specs.Laws.{IsOneRound, Names, RoundsAreOne, replies_by_group}
 use Rattle.cg_group.specs.Leaving.{after_removal, gone_in, leave_taken, left}
-use Rattle.cg_group.specs.Machine.{Machine, beat, concluded, describe, everywhere, join, leave, met, sync}
+use Rattle.cg_group.specs.declared.commit_entry.CommitEntry.{CommitEntry}
+use Rattle.cg_group.specs.Committing.{committed, hearing_committer, keeping_entries}
+use Rattle.cg_group.specs.Machine.{Machine, beat, commit, concluded, deleted, deleting, describe, everywhere, join, leave, met, sync}
 use Rattle.cg_group.specs.Membership.{hearing, is_empty, is_preparing, keeping, leads}
 use Rattle.cg_group.specs.Rebalance.{completed, emptied, is_ready, joined_reply, next_round, told_to_joins, tried, turn_of}
 use Rattle.cg_group.specs.Syncing.{distributed, sync_current, sync_taken, sync_waits, synced_reply, told_to_syncs}
 use Rattle.cg_group.specs.Ticking.{at_deadline, is_due, ticked}
 use Rattle.cg_group.specs.Waiting.{is_waiting}
-use Rattle.cg_group.proofs.Distinct.{flat_map-map}
+use Rattle.cg_group.proofs.Together.{flat_map-map}
 use Rattle.cg_group.proofs.Framed.{each-append}
 use Rattle.cg_group.proofs.KeptMachine.{each-over}
-use Rattle.cg_group.proofs.Requests.{Fine, fine-beat, fine-join, fine-leave, fine-sync}
+use Rattle.cg_group.proofs.Requests.{Fine, fine-beat, fine-commit, fine-join, fine-leave, fine-sync}
 use Rattle.cg_group.proofs.Telling.{Told, each-answers, each-any, expired_tried, told-beat_taken, told-completed, told-gone_in, told-in_join_phase, told-left, told-removal, told-tried, told-waiting}
 
 -- no join reply
@@ -189,6 +191,15 @@ unfolding describe
 round-describe None groups = tt
 round-describe (Some id) groups = tt
 
+round-committed : (now : ℕ) (entries : List CommitEntry) (ticket : Ticket) (who : Option (List ℕ)) (g : Group) → InRound (committed entries ticket (hearing_committer now who g))
+unfolding keeping_entries
+round-committed now entries ticket who g = no_round ((ticket, reply.Done) ∷ []) (tt, tt)
+
+round-deleted : (s : Machine) (ticket : Ticket) (o : Result (List ℕ) Code) → IsOneRound (deleted s ticket o).effects.replies
+unfolding deleted
+round-deleted s ticket (Ok id) = no_round ((ticket, reply.Done) ∷ []) (tt, tt)
+round-deleted s ticket (Err code) = no_round ((ticket, reply.Refused code) ∷ []) (tt, tt)
+
 whole-one : (replies : List (Ticket × Reply)) → replies ≡ flat_map (λ rs. rs) (replies ∷ [])
 whole-one replies = sym (append-nil replies)
 
@@ -232,6 +243,16 @@ rounds_are_one s (event.Leave ticket r) = record {
     tt,
   );
 }
+rounds_are_one s (event.Commit ticket r) = record {
+  whole = whole-one _;
+  rounds = (
+    round-concluded s ticket (commit s.last r ticket s.groups) (fine-commit InRound s.last r ticket s.groups
+        (λ id _. round-committed s.last r.entries ticket None (new_group id))
+        (λ id g who _ _. round-committed s.last r.entries ticket who g)),
+    tt,
+  );
+}
+rounds_are_one s (event.Delete ticket id) = record { whole = whole-one _; rounds = (round-deleted s ticket (deleting id s.groups), tt) }
 rounds_are_one s (event.Describe ticket id) = record { whole = refl; rounds = (no_round ((ticket, describe id s.groups) ∷ []) (round-describe id s.groups, tt), tt) }
 rounds_are_one s (event.List ticket) = record { whole = refl; rounds = (no_round _ (tt, tt), tt) }
 rounds_are_one s (event.Gone session) = record {

@@ -4,7 +4,9 @@ use Rattle.std.specs.List.{list_any}
 use Rattle.uuid.specs.Text.{hyphenated_text, lower}
 use Rattle.cg_names.specs.declared.code.Code.{Code}
 use Rattle.cg_names.specs.declared.code.Code.TheVariants.{CoordinatorNotAvailable, InconsistentGroupProtocol, UnknownMemberId, RebalanceInProgress, GroupMaxSizeReached}
-use Rattle.cg_group.specs.declared.bounds.TheConstants.{GROUPS_MAX, MEMBERS_MAX, SESSION_MS_MIN, SESSION_MS_MAX}
+use Rattle.cg_record.specs.declared.millis.TheConstants.{SESSION_MS_MIN, SESSION_MS_MAX}
+use Rattle.cg_record.specs.declared.roster.TheConstants.{MEMBERS_MAX}
+use Rattle.cg_group.specs.declared.bounds.TheConstants.{GROUPS_MAX}
 use Rattle.cg_group.specs.declared.calls.Calls.TheVariants.{Any}
 use Rattle.cg_group.specs.declared.group.Group.{Group}
 use Rattle.cg_group.specs.declared.group.Phase.{Phase}
@@ -36,8 +38,8 @@ new_member now r id ticket = record {
   id = id;
   instance = None;
   client = r.client;
-  session_ms = r.session_ms;
-  rebalance_ms = r.rebalance_ms;
+  session = r.session_ms;
+  rebalance = r.rebalance;
   protocols = r.protocols;
   assignment = [];
   heard = now;
@@ -62,7 +64,7 @@ join_new now r id ticket g = tried now (in_join_phase now (turn_of (admitted (ne
 
 -- a member with the time-outs and protocols of this JOIN; its client stays
 abbrev pub updated : JoinRequest → Member → Member
-updated r m = record m { session_ms = r.session_ms; rebalance_ms = r.rebalance_ms; protocols = r.protocols }
+updated r m = record m { session = r.session_ms; rebalance = r.rebalance; protocols = r.protocols }
 
 -- the group with that member updated
 unfoldable pub updating : JoinRequest → List ℕ → Group → Group

@@ -1,12 +1,12 @@
 -- The laws of the machine, over every list of events from every state that a loading begins with.
-use Rattle.std.specs.Prelude.{◌≡◌, ℕ, Bool, true, false, pos, ◌&&◌, ◌==◌, List, [], ◌∷◌, ◌++◌, map, Option, Some, None, is_some}
+use Rattle.std.specs.Prelude.{◌≡◌, ◌⊎◌, ℕ, Bool, true, false, pos, ◌&&◌, ◌==◌, List, [], ◌∷◌, ◌++◌, map, Option, Some, None, is_some}
 use Rattle.std.specs.List.{list_any, flat_map}
 use Rattle.std.specs.Option.{option_to_list}
 use Rattle.std.specs.Ordering.{int_eq}
-use Rattle.cg_group.specs.declared.command.Assigned.{Assigned}
-use Rattle.cg_group.specs.declared.command.Command.{Command}
-use Rattle.cg_group.specs.declared.command.Command.TheVariants as command
-use Rattle.cg_group.specs.declared.command.Emptied.{Emptied}
+use Rattle.cg_record.specs.declared.command.Command.{Command}
+use Rattle.cg_record.specs.Rosters.{RosterParts}
+use Rattle.cg_fold.specs.declared.record.GroupRecord.{GroupRecord}
+use Rattle.cg_fold.specs.Durable.{State, after}
 use Rattle.cg_group.specs.declared.event.Event.{Event}
 use Rattle.cg_group.specs.declared.event.Event.TheVariants as event
 use Rattle.cg_group.specs.declared.group.Group.{Group}
@@ -14,12 +14,15 @@ use Rattle.cg_group.specs.declared.group.Phase.{Phase}
 use Rattle.cg_group.specs.declared.group.Phase.TheVariants.{Empty, Preparing, Completing, Stable}
 use Rattle.cg_group.specs.declared.member.Member.{Member}
 use Rattle.cg_group.specs.declared.reply.Reply.{Reply}
+use Rattle.cg_group.specs.declared.request.CommitRequest.{CommitRequest}
 use Rattle.cg_group.specs.declared.reply.Reply.TheVariants as reply
 use Rattle.cg_group.specs.declared.ticket.Ticket.{Ticket}
-use Rattle.cg_group.specs.Kept.{Kept, AreRecords, Each, are_distinct, kept_after, nothing_kept}
+use Rattle.cg_group.specs.Committing.{is_negative}
+use Rattle.cg_group.specs.Kept.{AreRecords, Each, Kept, kept_in}
 use Rattle.cg_group.specs.Leaving.{gone_in}
+use Rattle.cg_group.specs.Members.{AreDistinct}
 use Rattle.cg_group.specs.Machine.{Machine, Outcome, find_group, met, step}
-use Rattle.cg_group.specs.Membership.{is_named, is_same}
+use Rattle.cg_group.specs.Membership.{find_member, is_named, is_same}
 use Rattle.cg_group.specs.Reviving.{revive}
 use Rattle.cg_group.specs.Syncing.{kept_member}
 use Rattle.cg_group.specs.Ticking.{ticked}
@@ -40,6 +43,8 @@ is_request (event.Join ticket r fresh) = list_any (λ p. true) r.protocols
 is_request (event.Sync ticket r) = true
 is_request (event.Beat ticket r) = true
 is_request (event.Leave ticket r) = true
+is_request (event.Commit ticket r) = true
+is_request (event.Delete ticket id) = true
 is_request (event.Describe ticket id) = true
 is_request (event.List ticket) = true
 is_request (event.Gone session) = true
@@ -50,21 +55,10 @@ AreRequests events = Each (λ e. is_request e.0 ≡ true) events
 
 -- No two members of a group have one id or one instance.
 
--- the ids of the members, in joining order
-abbrev pub ids : List Member → List (List ℕ)
-ids members = map (λ m. m.id) members
-
--- the instances of those that have one
-abbrev pub instances : List Member → List (List ℕ)
-instances members = flat_map (λ m. option_to_list m.instance) members
-
-abbrev pub has_distinct_members : Group → Bool
-has_distinct_members g = are_distinct (ids g.members) && are_distinct (instances g.members)
-
 abbrev pub MembersStayDistinct : Type 0
 MembersStayDistinct =
-    (records : List Command) (now : ℕ) (events : List (Event × ℕ)) → AreRecords records
-    → Each (λ g. has_distinct_members g ≡ true) (after_all events (revive records now)).groups
+    (state : State) (now : ℕ) (events : List (Event × ℕ)) → AreRecords state
+    → Each (λ g. AreDistinct g.members) (after_all events (revive state now)).groups
 
 -- All join replies that one completing makes name one leader, protocol and generation.
 
@@ -76,6 +70,8 @@ replies_by_group s (event.Join ticket r fresh) = (met s (event.Join ticket r fre
 replies_by_group s (event.Sync ticket r) = (met s (event.Sync ticket r)).effects.replies ∷ []
 replies_by_group s (event.Beat ticket r) = (met s (event.Beat ticket r)).effects.replies ∷ []
 replies_by_group s (event.Leave ticket r) = (met s (event.Leave ticket r)).effects.replies ∷ []
+replies_by_group s (event.Commit ticket r) = (met s (event.Commit ticket r)).effects.replies ∷ []
+replies_by_group s (event.Delete ticket id) = (met s (event.Delete ticket id)).effects.replies ∷ []
 replies_by_group s (event.Describe ticket id) = (met s (event.Describe ticket id)).effects.replies ∷ []
 replies_by_group s (event.List ticket) = (met s (event.List ticket)).effects.replies ∷ []
 
@@ -106,29 +102,39 @@ RoundsAreOne = (s : Machine) (e : Event) → IsInRounds s e
 -- Machine and commands agree.
 
 -- the record of a stable group
-pub record IsAssignedAs (a : Assigned) (g : Group) : Type 0 where
+pub record IsAssignedAs (r : GroupRecord) (roster : RosterParts) (g : Group) : Type 0 where
   pub phase : g.phase ≡ Stable
-  pub generation : a.generation ≡ g.generation
-  pub kind : Some a.kind ≡ g.kind
-  pub protocol : Some a.protocol ≡ g.protocol
-  pub leader : Some a.leader ≡ g.leader
-  pub members : a.members ≡ map (kept_member g.protocol) g.members
+  pub generation : r.generation ≡ g.generation
+  pub kind : Some r.kind ≡ g.kind
+  pub protocol : Some roster.protocol ≡ g.protocol
+  pub leader : Some roster.leader ≡ g.leader
+  pub members : roster.members ≡ map (kept_member g.protocol) g.members
 
 -- the record of a group without members
-pub record IsEmptiedAs (e : Emptied) (g : Group) : Type 0 where
+pub record IsEmptiedAs (r : GroupRecord) (g : Group) : Type 0 where
   pub phase : g.phase ≡ Empty
-  pub generation : e.generation ≡ g.generation
-  pub kind : Some e.kind ≡ g.kind
+  pub generation : r.generation ≡ g.generation
+  pub kind : Some r.kind ≡ g.kind
   pub members : g.members ≡ []
 
--- the record is there, and has all of the group
-abbrev pub TellsOf : Group → Option Command → Type 0
-TellsOf g None = ⊥
-TellsOf g (Some (command.Assigned a)) = IsAssignedAs a g
-TellsOf g (Some (command.Emptied e)) = IsEmptiedAs e g
+-- a group of which no join phase has completed, and which has no members: there is no record of it
+pub record IsUnrecorded (g : Group) : Type 0 where
+  pub phase : g.phase ≡ Empty
+  pub generation : g.generation ≡ 0
+  pub members : g.members ≡ []
+
+-- the record by its roster has all of the group
+abbrev pub IsRecordedAs : GroupRecord → Option RosterParts → Group → Type 0
+IsRecordedAs r (Some roster) g = IsAssignedAs r roster g
+IsRecordedAs r None g = IsEmptiedAs r g
+
+-- what is kept of the group has all of it
+abbrev pub TellsOf : Group → Option GroupRecord → Type 0
+TellsOf g None = IsUnrecorded g
+TellsOf g (Some r) = IsRecordedAs r r.roster g
 
 -- a stable or empty group is what its record tells; nothing is said of one in the join phase
-abbrev pub AgreesIn : Phase → Group → Option Command → Type 0
+abbrev pub AgreesIn : Phase → Group → Option GroupRecord → Type 0
 AgreesIn Stable g kept = TellsOf g kept
 AgreesIn Empty g kept = TellsOf g kept
 AgreesIn Preparing g kept = Unit {0}
@@ -138,14 +144,14 @@ pub record Agrees (s : Machine) (kept : Kept) : Type 0 where
   pub held : (id : List ℕ) → is_some (kept id) ≡ true → is_some (find_group id s.groups) ≡ true
   pub told : Each (λ g. AgreesIn g.phase g (kept g.id)) s.groups
 
--- what is kept after these events, from these records on
-abbrev pub kept_after_all : List Command → ℕ → List (Event × ℕ) → Kept
-kept_after_all records now events = kept_after nothing_kept (records ++ commands_of events (revive records now))
+-- the durable state after these events
+abbrev pub state_after : State → ℕ → List (Event × ℕ) → State
+state_after state now events = after state (commands_of events (revive state now))
 
 abbrev pub MachineAndCommandsAgree : Type 0
 MachineAndCommandsAgree =
-    (records : List Command) (now : ℕ) (events : List (Event × ℕ)) → AreRecords records → AreRequests events
-    → Agrees (after_all events (revive records now)) (kept_after_all records now events)
+    (state : State) (now : ℕ) (events : List (Event × ℕ)) → AreRequests events
+    → Agrees (after_all events (revive state now)) (kept_in (state_after state now events))
 
 -- A SYNCED reply goes to a member that named the group's generation, and gives the bytes that are kept for it.
 
@@ -159,6 +165,8 @@ is_sync_of group generation member t (event.Sync ticket r) =
 is_sync_of group generation member t (event.Join ticket r fresh) = false
 is_sync_of group generation member t (event.Beat ticket r) = false
 is_sync_of group generation member t (event.Leave ticket r) = false
+is_sync_of group generation member t (event.Commit ticket r) = false
+is_sync_of group generation member t (event.Delete ticket id) = false
 is_sync_of group generation member t (event.Describe ticket id) = false
 is_sync_of group generation member t (event.List ticket) = false
 is_sync_of group generation member t (event.Gone session) = false
@@ -168,14 +176,18 @@ is_sync_of group generation member t event.Tick = false
 abbrev pub has_named : List (Event × ℕ) → List ℕ → ℕ → List ℕ → Ticket → Bool
 has_named events group generation member t = list_any (λ e. is_sync_of group generation member t e.0) events
 
+-- these bytes are a member's in the roster
+abbrev pub is_in_roster : Option RosterParts → List ℕ → List ℕ → Bool
+is_in_roster None member bytes = false
+is_in_roster (Some roster) member bytes = list_any (λ m. is_same m.id member && is_same m.assignment bytes) roster.members
+
 -- these bytes are kept for the member with this id
-abbrev pub is_kept_for : Option Command → List ℕ → List ℕ → Bool
+abbrev pub is_kept_for : Option GroupRecord → List ℕ → List ℕ → Bool
 is_kept_for None member bytes = false
-is_kept_for (Some (command.Assigned a)) member bytes = list_any (λ m. is_same m.id member && is_same m.assignment bytes) a.members
-is_kept_for (Some (command.Emptied e)) member bytes = false
+is_kept_for (Some r) member bytes = is_in_roster r.roster member bytes
 
 -- a SYNCED reply is to a SYNC of a member of the group, which named its generation, and has what is kept for that member
-abbrev pub is_earned_in : List (Event × ℕ) → Group → Option Command → Ticket × Reply → Bool
+abbrev pub is_earned_in : List (Event × ℕ) → Group → Option GroupRecord → Ticket × Reply → Bool
 is_earned_in events g kept (t, reply.Synced bytes) =
     list_any (λ m. has_named events g.id g.generation m.id t && is_kept_for kept m.id bytes) g.members
 is_earned_in events g kept (t, reply.Joined j) = true
@@ -196,6 +208,35 @@ is_earned events groups kept (t, reply.Refused code) = true
 -- each reply of one more event, by what was met with it, and what is held and kept at its end
 abbrev pub AssignmentsAreEarned : Type 0
 AssignmentsAreEarned =
-    (records : List Command) (now : ℕ) (events : List (Event × ℕ)) (e : Event) (m : ℕ) → AreRecords records → AreRequests events
-    → let o : Outcome = step (after_all events (revive records now)) e m in
-    Each (λ r. is_earned (events ++ (e, m) ∷ []) o.after.groups (kept_after (kept_after_all records now events) o.effects.commands) r ≡ true) o.effects.replies
+    (state : State) (now : ℕ) (events : List (Event × ℕ)) (e : Event) (m : ℕ) → AreRequests events
+    → let o : Outcome = step (after_all events (revive state now)) e m in
+    Each (λ r. is_earned (events ++ (e, m) ∷ []) o.after.groups (kept_in (after (state_after state now events) o.effects.commands)) r ≡ true) o.effects.replies
+
+-- A taken commit has a negative generation and a group without members, or comes from a member, with the group's generation, in
+-- PreparingRebalance or Stable.
+
+-- the members of a group that may not be held
+abbrev pub members_of : Option Group → List Member
+members_of None = []
+members_of (Some g) = g.members
+
+-- a commit of nobody: a group that is not held has no members either
+pub record IsOfNobody (r : CommitRequest) (held : Option Group) : Type 0 where
+  pub negative : is_negative r.generation ≡ true
+  pub bare : members_of held ≡ []
+
+-- a commit of a member
+pub record IsOfMember (r : CommitRequest) (held : Option Group) : Type 0 where
+  pub group : Group
+  pub group_is : held ≡ Some group
+  pub id : List ℕ
+  pub given : r.member ≡ Some id
+  pub member : is_some (find_member id group.members) ≡ true
+  pub generation : int_eq r.generation (pos group.generation) ≡ true
+  pub phase : (group.phase ≡ Preparing) ⊎ (group.phase ≡ Stable)
+
+abbrev pub CommitsAreLawful : Type 0
+CommitsAreLawful =
+    (state : State) (now : ℕ) (events : List (Event × ℕ)) (ticket : Ticket) (r : CommitRequest) (m : ℕ) (group : List ℕ) → AreRequests events → r.group ≡ Some group
+    → let s : Machine = after_all events (revive state now) in
+    ((step s (event.Commit ticket r) m).effects.commands ≡ [] → ⊥) → IsOfNobody r (find_group group s.groups) ⊎ IsOfMember r (find_group group s.groups)

@@ -1,29 +1,32 @@
 -- The machine: which groups are held, and what an event makes of them. The moment of an event is its own or the last one, whichever is later.
-use Rattle.std.specs.Prelude.{◌≡◌, ◌<◌, get_or, set, ℕ, max, List, [], ◌∷◌, map, length, Option, Some, None, Result, Ok, Err, option_map, ok_or, find}
-use Rattle.std.specs.List.{flat_map}
+use Rattle.std.specs.Prelude.{◌≡◌, ◌<◌, get_or, set, not, if◌then◌else◌, ℕ, max, List, [], ◌∷◌, map, length, Option, Some, None, Result, Ok, Err, option_map, ok_or, find}
+use Rattle.std.specs.List.{flat_map, remove}
 use Rattle.std.specs.Ordering.{nat_cmp, match_ordering}
 use Rattle.std.specs.Cmp.Lexicographic.{slice_cmp}
 use Rattle.cg_names.specs.declared.code.Code.{Code}
-use Rattle.cg_names.specs.declared.code.Code.TheVariants.{InvalidGroupId, UnknownMemberId, InvalidSessionTimeout}
+use Rattle.cg_names.specs.declared.code.Code.TheVariants.{GroupIdNotFound, InvalidGroupId, InvalidSessionTimeout, NonEmptyGroup, UnknownMemberId}
+use Rattle.cg_record.specs.declared.command.Command.TheVariants as command
 use Rattle.cg_group.specs.declared.effects.Effects.{Effects}
 use Rattle.cg_group.specs.declared.event.Event.{Event}
-use Rattle.cg_group.specs.declared.event.Event.TheVariants.{Join, Sync, Beat, Leave, Describe, Gone, Tick}
+use Rattle.cg_group.specs.declared.event.Event.TheVariants.{Join, Sync, Beat, Leave, Commit, Delete, Describe, Gone, Tick}
 use Rattle.cg_group.specs.declared.event.Event.TheVariants as event
 use Rattle.cg_group.specs.declared.group.Group.{Group}
 use Rattle.cg_group.specs.declared.reply.Reply.{Reply}
 use Rattle.cg_group.specs.declared.reply.Reply.TheVariants as reply
 use Rattle.cg_group.specs.declared.request.BeatRequest.{BeatRequest}
+use Rattle.cg_group.specs.declared.request.CommitRequest.{CommitRequest}
 use Rattle.cg_group.specs.declared.request.JoinRequest.{JoinRequest}
 use Rattle.cg_group.specs.declared.request.LeaveRequest.{LeaveRequest}
 use Rattle.cg_group.specs.declared.request.SyncRequest.{SyncRequest}
 use Rattle.cg_group.specs.declared.ticket.Ticket.{Ticket}
 use Rattle.cg_group.specs.declared.turn.Turn.{Turn}
 use Rattle.cg_group.specs.Beating.{beat_held}
+use Rattle.cg_group.specs.Committing.{commit_held, commit_unheld}
 use Rattle.cg_group.specs.Describing.{description, listing}
 use Rattle.cg_group.specs.Joining.{is_session_refused, join_held, join_unheld}
 use Rattle.cg_group.specs.Leaving.{gone_in, leave_held}
 use Rattle.cg_group.specs.Kept.{Ascending}
-use Rattle.cg_group.specs.Membership.{is_same}
+use Rattle.cg_group.specs.Membership.{is_empty, is_same}
 use Rattle.cg_group.specs.Refusing.{◌>>=◌, refused_if}
 use Rattle.cg_group.specs.Syncing.{sync_held}
 use Rattle.cg_group.specs.Ticking.{ticked}
@@ -59,6 +62,11 @@ unfoldable pub with_group : Group → List Group → List Group
 with_group g [] = g ∷ []
 with_group g (h ∷ hs) = match_ordering (slice_cmp nat_cmp g.id h.id) (g ∷ h ∷ hs) (g ∷ hs) (h ∷ with_group g hs)
 
+-- the groups without this one
+unfoldable pub without_group : List ℕ → List Group → List Group
+without_group id [] = []
+without_group id (h ∷ hs) = if is_same h.id id then hs else h ∷ without_group id hs
+
 -- one reply, and nothing else
 abbrev pub reply_alone : Ticket → Reply → Effects
 reply_alone ticket reply = record { commands = []; replies = (ticket, reply) ∷ [] }
@@ -80,11 +88,12 @@ named_group id groups = do
   i ← ok_or id InvalidGroupId
   ok_or (find_group i groups) UnknownMemberId
 
--- the group that a request names stands at this place: there it is found, and there a group with its id goes
+-- the group that a request names stands at this place: there it is found, there a group with its id goes, and there it is taken away
 pub record IsNamedAt (id : Option (List ℕ)) (groups : List Group) (i : ℕ) : Type 0 where
   pub within : i < length groups
   pub found : (d : Group) → named_group id groups ≡ Ok (get_or groups i d)
   pub put : (d : Group) (g : Group) → g.id ≡ (get_or groups i d).id → with_group g groups ≡ set groups i g
+  pub gone : (x : List ℕ) → id ≡ Some x → without_group x groups ≡ remove groups i
 
 -- JOIN, in its group
 abbrev pub join_in : ℕ → JoinRequest → List ℕ → Ticket → List Group → List ℕ → Option Group → Result Turn Code
@@ -116,6 +125,37 @@ leave now r ticket groups = do
   g ← named_group r.group groups
   leave_held now r ticket g
 
+-- COMMIT, in its group
+abbrev pub commit_in : ℕ → CommitRequest → Ticket → List Group → List ℕ → Option Group → Result Turn Code
+commit_in now r ticket groups id None = commit_unheld r.generation r.entries ticket (length groups) id
+commit_in now r ticket groups id (Some g) = commit_held now r.generation r.member r.entries ticket g
+
+-- COMMIT
+unfoldable pub commit : ℕ → CommitRequest → Ticket → List Group → Result Turn Code
+commit now r ticket groups = do
+  id ← ok_or r.group InvalidGroupId
+  commit_in now r ticket groups id (find_group id groups)
+
+-- DELETE: the group that it takes away is held, and has no members
+unfoldable pub deleting : Option (List ℕ) → List Group → Result (List ℕ) Code
+deleting id groups = do
+  i ← ok_or id InvalidGroupId
+  g ← ok_or (find_group i groups) GroupIdNotFound
+  _ ← refused_if (not (is_empty g.members)) NonEmptyGroup
+  Ok i
+
+-- the command that takes a group away, and its reply
+abbrev pub deleted_alone : Ticket → List ℕ → Effects
+deleted_alone ticket id = record { commands = command.Deleted (record { group = id }) ∷ []; replies = (ticket, reply.Done) ∷ [] }
+
+-- what a DELETE does
+unfoldable pub deleted : Machine → Ticket → Result (List ℕ) Code → Outcome
+deleted s ticket (Err code) = replying s ticket (reply.Refused code)
+deleted s ticket (Ok id) = record {
+  after = record s { groups = without_group id s.groups };
+  effects = deleted_alone ticket id;
+}
+
 -- DESCRIBE; a group that is not held is dead
 unfoldable pub describe : Option (List ℕ) → List Group → Reply
 describe None groups = reply.Refused InvalidGroupId
@@ -139,6 +179,8 @@ met s (Join ticket r fresh) = concluded s ticket (join s.last r fresh ticket s.g
 met s (Sync ticket r) = concluded s ticket (sync s.last r ticket s.groups)
 met s (Beat ticket r) = concluded s ticket (beat s.last r ticket s.groups)
 met s (Leave ticket r) = concluded s ticket (leave s.last r ticket s.groups)
+met s (Commit ticket r) = concluded s ticket (commit s.last r ticket s.groups)
+met s (Delete ticket id) = deleted s ticket (deleting id s.groups)
 met s (Describe ticket id) = replying s ticket (describe id s.groups)
 met s (event.List ticket) = replying s ticket (reply.Groups (map listing s.groups))
 met s (Gone session) = everywhere (gone_in s.last session) s

@@ -6,21 +6,23 @@ use Rattle.cg_group.specs.declared.group.Group.{Group}
 use Rattle.cg_group.specs.declared.group.Phase.{Phase}
 use Rattle.cg_group.specs.declared.group.Phase.TheVariants.{Empty, Preparing, Completing, Stable}
 use Rattle.cg_group.specs.declared.member.Member.{Member}
-use Rattle.cg_group.specs.declared.member.Protocol.{Protocol}
-
--- two names, or two opaque fields, have the same bytes
-abbrev pub is_same : List ℕ → List ℕ → Bool
-is_same = pointwise nat_eq
-
--- the name that is there is this one
-abbrev pub is_named : Option (List ℕ) → List ℕ → Bool
-is_named None name = false
-is_named (Some given) name = is_same given name
+use Rattle.cg_group.specs.declared.protocol.Protocol.{Protocol}
+pub use Rattle.cg_group.specs.Names.{is_same, is_named}
 
 -- the member with this id
 abbrev pub has_id : List ℕ → Member → Bool
 has_id id m = is_same m.id id
 
+-- the member has this instance, where one is given
+abbrev pub has_instance : Option (List ℕ) → Member → Bool
+has_instance None m = false
+has_instance (Some instance) m = is_named m.instance instance
+
+-- the member with this instance
+unfoldable pub find_instance : Option (List ℕ) → List Member → Option Member
+find_instance instance members = find (has_instance instance) members
+
+-- the member with this id
 unfoldable pub find_member : List ℕ → List Member → Option Member
 find_member id members = find (has_id id) members
 
@@ -40,6 +42,14 @@ hearing now id g = record g { members = with_member id (heard now) g.members }
 -- the member leads the group
 abbrev pub leads : Group → Member → Bool
 leads g m = is_named g.leader m.id
+
+-- a member has this id
+abbrev pub has_member : List ℕ → List Member → Bool
+has_member id members = list_any (λ m. is_same id m.id) members
+
+-- one of the members leads
+abbrev pub is_led : Group → Bool
+is_led g = list_any (leads g) g.members
 
 -- the leader, where it is still a member
 abbrev pub leader_among : List Member → Option (List ℕ) → Option (List ℕ)

@@ -1,15 +1,15 @@
 -- The join phase: how it begins, when it completes, and what its members are told (KIP-62; protocol guide, "JoinGroup").
-use Rattle.std.specs.Prelude.{ℕ, Bool, ◌&&◌, List, [], ◌++◌, map, Option, None, option_map, option_to_list, unwrap_or, find, if◌then◌else◌}
+use Rattle.std.specs.Prelude.{ℕ, Bool, ◌&&◌, nat_le, List, [], ◌++◌, map, Option, Some, None, option_map, option_and_then, option_to_list, unwrap_or, find, if◌then◌else◌}
 use Rattle.std.specs.List.{list_any, list_all}
 use Rattle.cg_names.specs.Generations.{next_generation}
 use Rattle.cg_names.specs.declared.code.Code.TheVariants.{RebalanceInProgress}
 use Rattle.cg_group.specs.declared.calls.Calls.TheVariants.{Joins, Syncs}
-use Rattle.cg_group.specs.declared.command.Command.{Command}
-use Rattle.cg_group.specs.declared.command.Command.TheVariants as command
+use Rattle.cg_record.specs.declared.command.Command.{Command}
+use Rattle.cg_record.specs.declared.command.Command.TheVariants as command
 use Rattle.cg_group.specs.declared.group.Group.{Group}
 use Rattle.cg_group.specs.declared.group.Phase.TheVariants.{Empty, Preparing, Completing}
 use Rattle.cg_group.specs.declared.member.Member.{Member}
-use Rattle.cg_group.specs.declared.member.Protocol.{Protocol}
+use Rattle.cg_group.specs.declared.protocol.Protocol.{Protocol}
 use Rattle.cg_group.specs.declared.reply.JoinedMember.{JoinedMember}
 use Rattle.cg_group.specs.declared.reply.Reply.{Reply}
 use Rattle.cg_group.specs.declared.reply.Reply.TheVariants as reply
@@ -68,9 +68,14 @@ next_round g = record g {
   leader = next_leader g;
 }
 
+-- the generation, where a join phase has completed it
+abbrev pub completed_generation : ℕ → Option ℕ
+completed_generation generation = if nat_le 1 generation then Some generation else None
+
 -- that a generation has no members; a group that never had a member has no type, and makes no such command
 unfoldable pub emptied_command : Group → List Command
-emptied_command g = option_to_list (option_map (λ kind. command.Emptied (record { group = g.id; generation = g.generation; kind = kind })) g.kind)
+emptied_command g =
+    option_to_list (option_and_then (λ generation. option_map (λ kind. command.Emptied (record { group = g.id; generation = generation; kind = kind })) g.kind) (completed_generation g.generation))
 
 -- Complete, without members
 unfoldable pub emptied : Turn → Turn

@@ -4,9 +4,10 @@ use Rattle.std.specs.Ordering.{int_eq}
 use Rattle.cg_names.specs.declared.code.Code.{Code}
 use Rattle.cg_names.specs.declared.code.Code.TheVariants.{IllegalGeneration, UnknownMemberId, RebalanceInProgress}
 use Rattle.cg_group.specs.declared.calls.Calls.TheVariants.{Syncs}
-use Rattle.cg_group.specs.declared.command.AssignedMember.{AssignedMember}
-use Rattle.cg_group.specs.declared.command.Command.{Command}
-use Rattle.cg_group.specs.declared.command.Command.TheVariants as command
+use Rattle.cg_record.specs.declared.command.Command.{Command}
+use Rattle.cg_record.specs.declared.command.Command.TheVariants as command
+use Rattle.cg_record.specs.declared.member.Member.{Member as KeptMember}
+use Rattle.cg_record.specs.Rosters.{RosterParts, roster_of}
 use Rattle.cg_group.specs.declared.group.Group.{Group}
 use Rattle.cg_group.specs.declared.group.Phase.{Phase}
 use Rattle.cg_group.specs.declared.group.Phase.TheVariants.{Empty, Preparing, Completing, Stable}
@@ -20,7 +21,7 @@ use Rattle.cg_group.specs.declared.ticket.Ticket.{Ticket}
 use Rattle.cg_group.specs.declared.turn.Turn.{Turn}
 use Rattle.cg_group.specs.Joining.{waiting}
 use Rattle.cg_group.specs.Membership.{find_member, hearing, is_preparing, is_same, leads}
-use Rattle.cg_group.specs.Rebalance.{subscription_for, turn_of}
+use Rattle.cg_group.specs.Rebalance.{completed_generation, subscription_for, turn_of}
 use Rattle.cg_group.specs.Refusing.{◌>>=◌, refused_if}
 use Rattle.cg_group.specs.Waiting.{after_answers, answers}
 
@@ -37,28 +38,30 @@ unfoldable pub assigning : List SyncEntry → Group → Group
 assigning entries g = record g { phase = Stable; members = map (assigned entries) g.members }
 
 -- a member, as the command keeps it
-abbrev pub kept_member : Option (List ℕ) → Member → AssignedMember
+abbrev pub kept_member : Option (List ℕ) → Member → KeptMember
 kept_member protocol m = record {
   id = m.id;
   instance = m.instance;
   client = m.client;
-  session_ms = m.session_ms;
-  rebalance_ms = m.rebalance_ms;
+  session = m.session;
+  rebalance = m.rebalance;
   subscription = subscription_for protocol m.protocols;
   assignment = m.assignment;
 }
 
--- that a generation has its assignments; it has a type, a protocol and a leader then
+-- what the members of the group joined in
+abbrev pub kept_roster : List ℕ → List ℕ → Group → RosterParts
+kept_roster protocol leader g = roster_of protocol leader (map (kept_member g.protocol) g.members)
+
+-- that a generation has its assignments; it has a number, a type, a protocol and a leader then
 unfoldable pub assigned_command : Group → List Command
 assigned_command g =
-    option_to_list (option_and_then (λ kind. option_and_then (λ protocol. option_map (λ leader. command.Assigned (record {
+    option_to_list (option_and_then (λ generation. option_and_then (λ kind. option_and_then (λ protocol. option_map (λ leader. command.Assigned (record {
       group = g.id;
-      generation = g.generation;
+      generation = generation;
       kind = kind;
-      protocol = protocol;
-      leader = leader;
-      members = map (kept_member g.protocol) g.members;
-    })) g.leader) g.protocol) g.kind)
+      roster = kept_roster protocol leader g;
+    })) g.leader) g.protocol) g.kind) (completed_generation g.generation))
 
 -- what a SYNC of the member is answered
 abbrev pub synced_reply : Member → Reply

@@ -12,7 +12,7 @@ use Rattle.cg_group.specs.Waiting.{is_waiting}
 
 -- a member that waits for nothing was not heard for its session time-out
 abbrev pub is_overdue : ℕ → Member → Bool
-is_overdue now m = not (is_waiting Any m) && nat_le (m.heard + m.session_ms) now
+is_overdue now m = not (is_waiting Any m) && nat_le (m.heard + m.session) now
 
 -- overdue members are removed
 unfoldable pub expired : ℕ → Turn → Turn
@@ -23,7 +23,7 @@ expired now t =
 
 -- the greatest rebalance time-out of the members
 unfoldable pub greatest_rebalance : List Member → ℕ
-greatest_rebalance members = fold max 0 (map (λ m. m.rebalance_ms) members)
+greatest_rebalance members = fold max 0 (map (λ m. m.rebalance) members)
 
 -- the members had their time to join again
 abbrev pub is_due : ℕ → Group → Bool

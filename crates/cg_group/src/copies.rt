@@ -2,8 +2,7 @@
 ghost use Rattle.std.specs.Prelude.{◌≡◌, IfOk};
 
 use crate::group::Group;
-use crate::listed::Listed;
-use crate::member::{Member, Protocol};
+use crate::member::Member;
 use crate::members::Members;
 use cg_names::Name;
 use std::alloc::{AllocError, Global};
@@ -23,38 +22,20 @@ pub fn copied_name<const MAX: usize, const SORT: u8>(
     }
 }
 
-fn copied_protocol(protocol: &Protocol) -> Result<Protocol, AllocError>
-    ensures { IfOk result (λ copy. copy ≡ protocol.now) }
-{
-    let name = protocol.name.clone()?;
-    let subscription = protocol.subscription.clone()?;
-    Ok(Protocol { name, subscription })
-}
-
-fn copied_protocols(alloc: Global, protocols: &[Protocol]) -> Result<Listed<Protocol>, AllocError>
-    ensures { IfOk result (λ copies. copies ≡ protocols.now) }
-{
-    let mut copies = Listed::new(alloc);
-    for protocol in protocols {
-        copies.push(copied_protocol(protocol)?)?;
-    }
-    Ok(copies)
-}
-
-fn copied_member(alloc: Global, member: &Member) -> Result<Member, AllocError>
+fn copied_member(member: &Member) -> Result<Member, AllocError>
     ensures { IfOk result (λ copy. copy ≡ member.now) }
 {
     let id = member.id.clone()?;
     let instance = copied_name(&member.instance)?;
     let client = member.client.clone()?;
-    let protocols = copied_protocols(alloc, member.protocols.as_slice())?;
+    let protocols = member.protocols.clone()?;
     let assignment = member.assignment.clone()?;
     Ok(Member {
         id,
         instance,
         client,
-        session_ms: member.session_ms,
-        rebalance_ms: member.rebalance_ms,
+        session: member.session,
+        rebalance: member.rebalance,
         protocols,
         assignment,
         heard: member.heard,
@@ -62,14 +43,21 @@ fn copied_member(alloc: Global, member: &Member) -> Result<Member, AllocError>
     })
 }
 
-fn copied_members(alloc: Global, members: &[Member]) -> Result<Members, AllocError>
-    ensures { IfOk result (λ copies. copies ≡ members.now) }
+fn copied_items(alloc: Global, members: &[Member]) -> Result<Vec<Member>, AllocError>
+    ensures { IfOk result (λ copies. copies.items ≡ members.now) }
 {
-    let mut copies = Members::new(alloc);
+    let mut copies = Vec::with_capacity(alloc, members.len())?;
     for member in members {
-        copies.push(copied_member(alloc, member)?)?;
+        copies.push(copied_member(member)?)?;
     }
     Ok(copies)
+}
+
+fn copied_members(alloc: Global, members: &Members) -> Result<Members, AllocError>
+    ensures { IfOk result (λ copies. copies ≡ members.now) }
+{
+    let items = copied_items(alloc, members.as_slice())?;
+    Ok(Members::from_vec(items))
 }
 
 /// The group, with its members. Costs its whole size.
@@ -80,7 +68,7 @@ pub fn copied_group(alloc: Global, group: &Group) -> Result<Group, AllocError>
     let kind = copied_name(&group.kind)?;
     let protocol = copied_name(&group.protocol)?;
     let leader = copied_name(&group.leader)?;
-    let members = copied_members(alloc, group.members.as_slice())?;
+    let members = copied_members(alloc, &group.members)?;
     Ok(Group {
         id,
         phase: group.phase,

@@ -3,14 +3,15 @@ ghost use Rattle.std.specs.Prelude.{◌≡◌, [], IfOk, map, if◌then◌else�
 ghost use Rattle.cg_group.specs.Describing.{is_stable, shown_protocol, shown_member, description, listing};
 ghost use Rattle.cg_group.specs.Rebalance.{subscription_for};
 
-use crate::blob::{Assignment, Subscription};
 use crate::copies::copied_name;
 use crate::group::{Group, Phase};
+use crate::held::Held;
 use crate::listed::Listed;
 use crate::member::Member;
 use crate::rebalance::subscription_for;
 use crate::reply::{Described, DescribedMember, Listing};
 use cg_names::ProtocolName;
+use cg_record::{Assignment, Subscription};
 use std::alloc::{AllocError, Global};
 
 fn shown_subscription(
@@ -117,12 +118,12 @@ fn listing(group: &Group) -> Result<Listing, AllocError>
 }
 
 /// The groups in a list.
-pub fn listings(alloc: Global, groups: &[Group]) -> Result<Listed<Listing>, AllocError>
+pub fn listings(alloc: Global, groups: &Held) -> Result<Listed<Listing>, AllocError>
     ensures { IfOk result (λ ls. ls ≡ map listing groups.now) }
 {
     let mut list = Listed::new(alloc);
-    for group in groups {
-        list.push(listing(group)?)?;
+    for place in 0..groups.len() {
+        list.push(listing(groups.at(place))?)?;
     }
     Ok(list)
 }

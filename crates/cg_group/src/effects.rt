@@ -1,7 +1,7 @@
-use crate::command::Command;
 use crate::listed::Listed;
 use crate::reply::Reply;
 use crate::ticket::Ticket;
+use cg_record::Command;
 
 /// What an event made, each in its order.
 #[derive(Debug, Drop)]

@@ -1,4 +1,4 @@
-use crate::request::{BeatRequest, JoinRequest, LeaveRequest, SyncRequest};
+use crate::request::{BeatRequest, CommitRequest, JoinRequest, LeaveRequest, SyncRequest};
 use crate::ticket::Ticket;
 use cg_names::GroupId;
 use uuid::Uuid;
@@ -11,6 +11,9 @@ pub enum Event {
     Sync(Ticket, SyncRequest),
     Beat(Ticket, BeatRequest),
     Leave(Ticket, LeaveRequest),
+    Commit(Ticket, CommitRequest),
+    /// The end of a group without members.
+    Delete(Ticket, Option<GroupId>),
     /// A question for one group.
     Describe(Ticket, Option<GroupId>),
     /// A question for all groups.

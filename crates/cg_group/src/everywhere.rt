@@ -1,23 +1,33 @@
-//! What an event does in each group that is held.
-ghost use Rattle.std.specs.Prelude.{◌≡◌, [], ◌∷◌, ◌++◌, IfOk, OnOk};
+//! What an event does in each group that is held. A group that it does not touch stays where it is, without a copy.
+ghost use Rattle.std.specs.Prelude.{◌≡◌, ◌<◌, ◌+◌, IfOk, OnOk, length};
+ghost use Rattle.cg_group.specs.Changes.{AreWithin, HaveTurned, changed};
 ghost use Rattle.cg_group.specs.Machine.{groups_after, effects_of};
 
+use crate::changes::{Change, Changes};
 use crate::effects::Effects;
 use crate::group::Group;
-use crate::leaving::gone_in;
+use crate::held::Held;
+use crate::leaving::{gone_in, gone_touches};
 use crate::listed::Listed;
-use crate::ticking::ticked;
+use crate::ticking::{tick_touches, ticked};
 use crate::turn::Turn;
 use cg_names::Moment;
 use std::alloc::{AllocError, Global};
 
 /// What one event does in each group.
 pub trait Turning {
+    ghost use Rattle.std.specs.Bool.{OnFalse};
+    ghost use Rattle.cg_group.specs.Rebalance.{turn_of};
     ghost use Rattle.cg_group.specs.declared.group.Group.{Group};
     ghost use Rattle.cg_group.specs.declared.turn.Turn.{Turn};
 
     ghost turns: { Self → Group → Turn };
 
+    /// Whether the event touches the group. Takes no memory.
+    fn touches(&self, group: &Group) -> bool
+        ensures { OnFalse result (turns self.now group.now ≡ turn_of group.now) };
+
+    /// The turn of a group. Costs its whole size.
     fn turn(&self, alloc: Global, group: &Group) -> Result<Turn, AllocError>
         ensures { IfOk result (λ t. t ≡ turns self.now group.now) };
 }
@@ -30,6 +40,11 @@ impl Turning for Ticking {
     ghost use Rattle.cg_group.specs.Ticking.{ticked};
 
     ghost turns = { λ t g. ticked t.0 g };
+
+    #[tactic(auto, using(crate::proofs::Untouched::calm_ticked))]
+    fn touches(&self, group: &Group) -> bool {
+        tick_touches(self.0, group)
+    }
 
     fn turn(&self, alloc: Global, group: &Group) -> Result<Turn, AllocError> {
         ticked(alloc, self.0, group)
@@ -48,52 +63,63 @@ impl Turning for Going {
 
     ghost turns = { λ t g. gone_in t.now t.session g };
 
+    #[tactic(auto, using(crate::proofs::Untouched::calm_gone_in))]
+    fn touches(&self, group: &Group) -> bool {
+        gone_touches(self.session, group)
+    }
+
     fn turn(&self, alloc: Global, group: &Group) -> Result<Turn, AllocError> {
         gone_in(alloc, self.now, self.session, group)
     }
 }
 
-// One group takes its turn.
-fn turn_one<T: Turning>(
+/// The group at this place takes its turn, where the event touches it.
+#[tactic(auto, using(crate::proofs::Changed::turned_untouched))]
+pub fn turn_at<T: Turning>(
     alloc: Global,
     turning: &T,
-    group: &Group,
-    after: &mut Vec<Group>,
-    effects: &mut Effects,
+    groups: &Held,
+    place: usize,
+    done: &mut Changes,
 ) -> Result<(), AllocError>
-    ensures groups { OnOk result (after.new.items ≡ after.old.items ++ (T.turns turning.now group.now).group ∷ []) }
-    ensures commands { OnOk result
-        (effects.new.commands ≡ effects.old.commands ++ (T.turns turning.now group.now).commands) }
-    ensures replies { OnOk result
-        (effects.new.replies ≡ effects.old.replies ++ (T.turns turning.now group.now).replies) }
+    requires within { place < length groups.now }
+    requires before { HaveTurned (T.turns turning.now) groups.now place done.old }
+    ensures { OnOk result (HaveTurned (T.turns turning.now) groups.now (place + 1) done.new) }
 {
+    let group = groups.at(place);
+    if !turning.touches(group) {
+        return Ok(());
+    }
     let Turn {
         group,
         replies,
         commands,
     } = turning.turn(alloc, group)?;
-    after.push(group)?;
-    effects.commands.append(commands)?;
-    effects.replies.append(replies)?;
+    done.groups.push(Change { place, group })?;
+    done.effects.commands.append(commands)?;
+    done.effects.replies.append(replies)?;
     Ok(())
 }
 
-/// Each group takes its turn.
+/// Each group that the event touches takes its turn: what that changes, and what it makes. Nothing is changed yet.
 pub fn everywhere<T: Turning>(
     alloc: Global,
     turning: &T,
-    groups: &[Group],
-) -> Result<(Vec<Group>, Effects), AllocError>
-    ensures groups { IfOk result (λ r. r.0.items ≡ groups_after (T.turns turning.now) groups.now) }
-    ensures effects { IfOk result (λ r. r.1 ≡ effects_of (T.turns turning.now) groups.now) }
+    groups: &Held,
+) -> Result<Changes, AllocError>
+    ensures within { IfOk result (λ c. AreWithin (length groups.now) c.groups.items) }
+    ensures groups { IfOk result (λ c. changed c.groups.items groups.now ≡ groups_after (T.turns turning.now) groups.now) }
+    ensures effects { IfOk result (λ c. c.effects ≡ effects_of (T.turns turning.now) groups.now) }
 {
-    let mut after = Vec::new(alloc);
-    let mut effects = Effects {
-        commands: Listed::new(alloc),
-        replies: Listed::new(alloc),
+    let mut done = Changes {
+        groups: Vec::new(alloc),
+        effects: Effects {
+            commands: Listed::new(alloc),
+            replies: Listed::new(alloc),
+        },
     };
-    for group in groups {
-        turn_one(alloc, turning, group, &mut after, &mut effects)?;
+    for place in 0..groups.len() {
+        turn_at(alloc, turning, groups, place, &mut done)?;
     }
-    Ok((after, effects))
+    Ok(done)
 }

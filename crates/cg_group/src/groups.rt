@@ -1,29 +1,34 @@
 //! The groups that are held, and the step of the machine.
-ghost use Rattle.std.specs.Prelude.{◌≡◌, IfOk, OnErr, length, map, slice_get};
-ghost use Rattle.cg_group.specs.Kept.{Ascending, Ascending-prop, group_of};
+ghost use Rattle.std.specs.Prelude.{◌≡◌, IfOk, IfErr, OnErr, length, map, slice_get};
+ghost use Rattle.cg_group.specs.Kept.{Ascending-prop};
+ghost use Rattle.cg_group.specs.Sessions.{AreKnown, AreKnown-prop, is_home};
 ghost use Rattle.cg_group.specs.Waiting.{waiting_calls};
 ghost use Rattle.cg_group.specs.Machine.{InOrder, step};
 ghost use Rattle.cg_group.specs.Reviving.{revive};
 
-use crate::calls::Calls;
-use crate::command::Command;
 use crate::effects::Effects;
 use crate::event::Event;
-use crate::group::Group;
+use crate::held::Held;
 use crate::meeting::met;
 use crate::reviving::revived_all;
+use crate::sessions::{Homes, closed, expect_call, forget};
 use crate::ticket::Ticket;
+use cg_fold::Durable;
 use cg_names::Moment;
 use std::alloc::{AllocError, Global};
+use std::collections::BTreeMap;
 use std::marker::Model;
 
 /// The groups that a coordinator holds, and the moment of the last event.
 /// Contracts see the groups by the bytes of their ids.
 #[derive(Debug, Drop)]
 pub struct Groups {
-    held: Vec<Group>,
+    held: Held,
     last: Moment,
-    ghost in_order: { InOrder held.items } by { Ascending-prop (map (λ g. g.id) held.items) },
+    /// Where the calls of each session wait.
+    homes: Homes,
+    ghost in_order: { InOrder held } by { Ascending-prop (map (λ g. g.id) held) },
+    ghost known: { AreKnown (is_home homes) held } by { AreKnown-prop (is_home homes) held },
 }
 
 impl Model for Groups {
@@ -31,18 +36,28 @@ impl Model for Groups {
 
     ghost Value = { Machine };
 
-    ghost view = { λ g. record { groups = g.held.items; last = g.last } };
+    ghost view = { λ g. record { groups = g.held; last = g.last } };
 }
 
 impl Groups {
-    /// The groups of the records that were kept, by the bytes of their groups' ids.
+    /// The groups after a loading at this moment: those that have a record or an offset. Want of memory gives the state back.
     #[tactic(auto, unfolding(crate::specs::Reviving::revive))]
-    pub fn revive(alloc: Global, records: &[Command], now: Moment) -> Result<Self, AllocError>
-        requires { Ascending (map group_of records.now) }
-        ensures { IfOk result (λ groups. groups ≡ revive records.now now) }
+    pub fn revive(
+        alloc: Global,
+        durable: Durable,
+        now: Moment,
+    ) -> Result<Self, (AllocError, Durable)>
+        ensures ok { IfOk result (λ groups. groups ≡ revive durable now) }
+        ensures err { IfErr result (λ back. back.1 ≡ durable) }
     {
-        let held = revived_all(alloc, now, records)?;
-        Ok(Groups { held, last: now })
+        match revived_all(alloc, now, &durable) {
+            Ok(held) => Ok(Groups {
+                held,
+                last: now,
+                homes: BTreeMap::new(alloc),
+            }),
+            Err(wanting) => Err((wanting, durable)),
+        }
     }
 
     /// The number of groups that are held.
@@ -53,15 +68,10 @@ impl Groups {
     }
 
     /// The i-th call that waits, counted from 0, by the bytes of the groups' ids and in joining order. Takes no memory.
-    #[tactic(auto, unfolding(crate::specs::Waiting::waiting_calls))]
     pub fn parked(&self, i: u64) -> Option<Ticket>
         ensures { result ≡ slice_get (waiting_calls self.now.groups) i }
     {
-        self.held
-            .iter()
-            .flat_map(|g| g.members.as_slice().iter())
-            .filter_map(|m| Calls::Any.called(m.waits))
-            .nth(i as usize)
+        self.held.parked(i)
     }
 
     /// Meets an event. An earlier moment counts as the last one.
@@ -71,7 +81,10 @@ impl Groups {
         ensures err { OnErr result (self.new ≡ self.old) }
     {
         let now = self.last.max(now);
-        let effects = met(now, &mut self.held, event)?;
+        expect_call(self.held.allocator(), &mut self.homes, &event)?;
+        let gone = closed(&event);
+        let effects = met(now, &mut self.held, &self.homes, event)?;
+        forget(&mut self.homes, gone);
         self.last = now;
         Ok(effects)
     }

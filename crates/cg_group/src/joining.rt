@@ -1,14 +1,17 @@
 //! JOIN: who may, and what it does.
-ghost use Rattle.std.specs.Prelude.{◌≡◌, None, Some, IfOk};
+ghost use Rattle.std.specs.Prelude.{◌≡◌, ◌<◌, None, Some, false, is_some, length, IfOk};
+ghost use Rattle.cg_names.specs.Grammar.{IsName};
+ghost use Rattle.cg_names.specs.declared.name.TheConstants.{MEMBER_ID_BYTES_MAX};
+ghost use Rattle.cg_record.specs.declared.roster.TheConstants.{MEMBERS_MAX};
 ghost use Rattle.std.specs.List.{list_any};
-ghost use Rattle.cg_group.specs.Membership.{is_named};
+ghost use Rattle.cg_group.specs.Membership.{is_named, find_member, find_instance};
 ghost use Rattle.cg_group.specs.Vote.{is_common};
-ghost use Rattle.cg_group.specs.Joining.{drawn, new_group, new_member, admitted, in_join_phase, join_new, updating, waiting, join_again, join_current, is_current, join_known, is_session_refused, is_inconsistent, join_drawn, join_held, join_unheld};
+ghost use Rattle.cg_group.specs.Joining.{drawn, new_group, new_member, admitted, in_join_phase, join_new, updating, waiting, join_again, join_current, is_current, join_known, is_inconsistent, join_drawn, join_held, join_unheld};
 
 use crate::answers::{Refusing, answer_one};
-use crate::blob::Assignment;
-use crate::bounds::{GROUPS_MAX, MEMBERS_MAX, SESSION_MS_MAX, SESSION_MS_MIN};
+use crate::bounds::GROUPS_MAX;
 use crate::calls::Calls;
+use crate::checked::CheckedJoin;
 use crate::copies::copied_group;
 use crate::group::{Group, Phase};
 use crate::listed::Listed;
@@ -19,26 +22,49 @@ use crate::request::JoinRequest;
 use crate::ticket::Ticket;
 use crate::turn::Turn;
 use crate::vote::is_common;
-use cg_names::{ClientId, Code, Generation, GroupId, MemberId, Moment, ProtocolName};
+use cg_names::{ClientId, Code, Generation, GroupId, MemberId, Moment, NameFault, ProtocolName};
+use cg_record::{Assignment, MEMBERS_MAX};
 use std::alloc::{AllocError, Global};
 use uuid::Uuid;
 
-// The id of a new member.
+// The member id that these bytes spell.
+fn member_id(alloc: Global, bytes: &[u8]) -> Result<MemberId, AllocError>
+    requires { IsName MEMBER_ID_BYTES_MAX bytes.now }
+    ensures { IfOk result (λ id. id ≡ bytes.now) }
+{
+    match MemberId::from_bytes(alloc, bytes) {
+        Ok(id) => Ok(id),
+        Err(NameFault::Memory) => Err(AllocError),
+        Err(NameFault::Empty | NameFault::TooLong | NameFault::BadByte | NameFault::Reserved) =>
+            unreachable!(),
+    }
+}
+
+// The bytes of the id of a new member.
 #[tactic(auto, unfolding(crate::specs::Joining::drawn))]
-fn drawn(alloc: Global, client: &ClientId, fresh: Uuid) -> Result<MemberId, AllocError>
-    ensures { IfOk result (λ id. id ≡ drawn client.now fresh) }
+fn drawn_bytes(alloc: Global, client: &[u8], fresh: Uuid) -> Result<Vec<u8>, AllocError>
+    ensures { IfOk result (λ bytes. bytes.items ≡ drawn client.now fresh) }
 {
     let mut buffer = Uuid::encode_buffer();
     let text = fresh.hyphenated().encode_lower(&mut buffer);
-    let mut bytes = Vec::from_slice(alloc, client.as_bytes())?;
+    let mut bytes = Vec::from_slice(alloc, client)?;
     bytes.push(b'-')?;
     bytes.extend_from_slice(text.as_bytes())?;
-    MemberId::from_bytes(alloc, bytes.as_slice()).map_err(|_| AllocError)
+    Ok(bytes)
 }
 
-// A group that is not held yet.
+// The id of a new member.
+fn drawn(alloc: Global, client: &ClientId, fresh: Uuid) -> Result<MemberId, AllocError>
+    ensures { IfOk result (λ id. id ≡ drawn client.now fresh) }
+{
+    let bytes = drawn_bytes(alloc, client.as_bytes(), fresh)?;
+    let id = member_id(alloc, bytes.as_slice())?;
+    Ok(id)
+}
+
+/// A group that is not held yet. Takes no memory.
 #[tactic(auto, unfolding(crate::specs::Joining::new_group))]
-fn new_group(alloc: Global, id: GroupId) -> Group
+pub fn new_group(alloc: Global, id: GroupId) -> Group
     ensures { result ≡ new_group id }
 {
     Group {
@@ -58,30 +84,34 @@ fn new_group(alloc: Global, id: GroupId) -> Group
 fn new_member(
     alloc: Global,
     now: Moment,
-    r: JoinRequest,
+    r: CheckedJoin,
     id: MemberId,
     ticket: Ticket,
 ) -> (Member, ProtocolName)
     ensures member { result.0 ≡ new_member now r id ticket }
     ensures kind { result.1 ≡ r.kind }
 {
+    let CheckedJoin { request, session } = r;
     let member = Member {
         id,
         instance: None,
-        client: r.client,
-        session_ms: r.session_ms,
-        rebalance_ms: r.rebalance_ms,
-        protocols: r.protocols,
+        client: request.client,
+        session,
+        rebalance: request.rebalance,
+        protocols: request.protocols,
         assignment: Assignment::empty(alloc),
         heard: now,
         waits: Waits::Join(ticket),
     };
-    (member, r.kind)
+    (member, request.kind)
 }
 
 // Puts the member last; in a group without members it leads, and its type is the group's.
 #[tactic(auto, unfolding(crate::specs::Joining::admitted))]
 fn admitted(member: Member, kind: ProtocolName, mut group: Group) -> Result<Group, AllocError>
+    requires room { length group.members < MEMBERS_MAX }
+    requires own_id { is_some (find_member member.id group.members) ≡ false }
+    requires own_instance { is_some (find_instance member.instance group.members) ≡ false }
     ensures { IfOk result (λ g. g ≡ admitted member kind group) }
 {
     if group.members.len() == 0 {
@@ -102,15 +132,17 @@ fn in_join_phase(now: Moment, turn: Turn) -> Result<Turn, AllocError>
     }
 }
 
-#[tactic(auto, unfolding(crate::specs::Joining::join_new))]
+#[tactic(auto, unfolding(crate::specs::Joining::join_new, crate::specs::Joining::new_member), using(crate::proofs::Together::no_instance_found))]
 fn join_new(
     alloc: Global,
     now: Moment,
-    r: JoinRequest,
+    r: CheckedJoin,
     id: MemberId,
     ticket: Ticket,
     group: Group,
 ) -> Result<Turn, AllocError>
+    requires room { length group.members < MEMBERS_MAX }
+    requires own_id { is_some (find_member id group.members) ≡ false }
     ensures { IfOk result (λ t. t ≡ join_new now r id ticket group) }
 {
     let (member, kind) = new_member(alloc, now, r, id, ticket);
@@ -120,7 +152,7 @@ fn join_new(
 }
 
 #[tactic(auto, unfolding(crate::specs::Joining::updating))]
-fn updating(r: JoinRequest, id: &MemberId, mut group: Group) -> Group
+fn updating(r: CheckedJoin, id: &MemberId, mut group: Group) -> Group
     ensures { result ≡ updating r id.now group }
 {
     group.members.update(id, r);
@@ -153,7 +185,7 @@ pub fn waiting(now: Moment, id: &MemberId, waits: Waits, turn: Turn) -> Result<T
 fn join_again(
     alloc: Global,
     now: Moment,
-    r: JoinRequest,
+    r: CheckedJoin,
     id: &MemberId,
     ticket: Ticket,
     group: Group,
@@ -201,7 +233,7 @@ fn is_current(r: &JoinRequest, member: &Member, group: &Group) -> bool
 fn join_known(
     alloc: Global,
     now: Moment,
-    r: JoinRequest,
+    r: CheckedJoin,
     id: &MemberId,
     ticket: Ticket,
     member: &Member,
@@ -209,18 +241,11 @@ fn join_known(
 ) -> Result<Turn, AllocError>
     ensures { IfOk result (λ t. t ≡ join_known now r id.now ticket member.now group.now) }
 {
-    if is_current(&r, member, group) {
+    if is_current(&r.request, member, group) {
         join_current(alloc, now, id, ticket, member, group)
     } else {
         join_again(alloc, now, r, id, ticket, copied_group(alloc, group)?)
     }
-}
-
-/// Whether the session time-out is one that the coordinator does not take.
-pub fn is_session_refused(r: &JoinRequest) -> bool
-    ensures { result ≡ is_session_refused r.now }
-{
-    r.session_ms < SESSION_MS_MIN || SESSION_MS_MAX < r.session_ms
 }
 
 fn has_kind(group: &Group, kind: &ProtocolName) -> bool
@@ -253,11 +278,12 @@ fn is_inconsistent(r: &JoinRequest, group: &Group) -> bool
 fn join_drawn(
     alloc: Global,
     now: Moment,
-    r: JoinRequest,
+    r: CheckedJoin,
     id: MemberId,
     ticket: Ticket,
     group: &Group,
 ) -> Result<Result<Turn, Code>, AllocError>
+    requires { length group.now.members < MEMBERS_MAX }
     ensures { IfOk result (λ o. o ≡ join_drawn now r id ticket group.now) }
 {
     if group.members.has(&id) {
@@ -271,7 +297,7 @@ fn join_drawn(
 fn join_stranger(
     alloc: Global,
     now: Moment,
-    r: JoinRequest,
+    r: CheckedJoin,
     fresh: Uuid,
     ticket: Ticket,
     group: &Group,
@@ -281,10 +307,10 @@ fn join_stranger(
     if MEMBERS_MAX <= group.members.len() {
         return Ok(Err(Code::GroupMaxSizeReached));
     }
-    if is_inconsistent(&r, group) {
+    if is_inconsistent(&r.request, group) {
         return Ok(Err(Code::InconsistentGroupProtocol));
     }
-    let id = drawn(alloc, &r.client, fresh)?;
+    let id = drawn(alloc, &r.request.client, fresh)?;
     let outcome = join_drawn(alloc, now, r, id, ticket, group)?;
     Ok(outcome)
 }
@@ -293,7 +319,7 @@ fn join_stranger(
 fn join_member(
     alloc: Global,
     now: Moment,
-    r: JoinRequest,
+    r: CheckedJoin,
     fresh: Uuid,
     ticket: Ticket,
     id: &MemberId,
@@ -304,7 +330,7 @@ fn join_member(
     let Some(member) = group.members.find(id) else {
         return Ok(Err(Code::UnknownMemberId));
     };
-    if is_inconsistent(&r, group) {
+    if is_inconsistent(&r.request, group) {
         return Ok(Err(Code::InconsistentGroupProtocol));
     }
     let turn = join_known(alloc, now, r, id, ticket, member, group)?;
@@ -316,14 +342,14 @@ fn join_member(
 pub fn join_held(
     alloc: Global,
     now: Moment,
-    r: JoinRequest,
+    r: CheckedJoin,
     fresh: Uuid,
     ticket: Ticket,
     group: &Group,
 ) -> Result<Result<Turn, Code>, AllocError>
     ensures { IfOk result (λ o. o ≡ join_held now r fresh ticket r.member group.now) }
 {
-    match &r.member {
+    match &r.request.member {
         None => join_stranger(alloc, now, r, fresh, ticket, group),
         Some(id) => {
             let id = id.clone()?;
@@ -333,11 +359,11 @@ pub fn join_held(
 }
 
 /// JOIN in a group that is not held, beside so many that are.
-#[tactic(auto, unfolding(crate::specs::Joining::join_unheld))]
+#[tactic(auto, unfolding(crate::specs::Joining::join_unheld, crate::specs::Joining::new_group, crate::specs::Membership::find_member))]
 pub fn join_unheld(
     alloc: Global,
     now: Moment,
-    r: JoinRequest,
+    r: CheckedJoin,
     fresh: Uuid,
     ticket: Ticket,
     held: usize,
@@ -345,13 +371,13 @@ pub fn join_unheld(
 ) -> Result<Result<Turn, Code>, AllocError>
     ensures { IfOk result (λ o. o ≡ join_unheld now r fresh ticket held id) }
 {
-    if r.member.is_some() {
+    if r.request.member.is_some() {
         return Ok(Err(Code::UnknownMemberId));
     }
     if GROUPS_MAX <= held {
         return Ok(Err(Code::CoordinatorNotAvailable));
     }
-    let member = drawn(alloc, &r.client, fresh)?;
+    let member = drawn(alloc, &r.request.client, fresh)?;
     let turn = join_new(alloc, now, r, member, ticket, new_group(alloc, id))?;
     Ok(Ok(turn))
 }

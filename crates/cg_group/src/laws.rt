@@ -1,6 +1,6 @@
 //! Laws of the machine, over every list of events from every state that a loading begins with.
 //! They speak of definitions alone, so the bodies are empty; by the contracts of `revive` and `step` they hold of `Groups`.
-ghost use Rattle.cg_group.specs.Laws.{MembersStayDistinct, RoundsAreOne, AssignmentsAreEarned, MachineAndCommandsAgree};
+ghost use Rattle.cg_group.specs.Laws.{MembersStayDistinct, RoundsAreOne, CommitsAreLawful, AssignmentsAreEarned, MachineAndCommandsAgree};
 
 /// No two members of a group have one id or one instance.
 pub fn members_stay_distinct()
@@ -10,6 +10,12 @@ pub fn members_stay_distinct()
 /// The join replies that one completing makes name one leader, protocol and generation.
 pub fn rounds_are_one()
     ensures { RoundsAreOne }
+{}
+
+/// A taken commit has a negative generation and a group without members, or comes from a member that named the group's generation,
+/// while the group joins again or is stable.
+pub fn commits_are_lawful()
+    ensures { CommitsAreLawful }
 {}
 
 /// A SYNCED reply goes to a member that named the generation of its group, and gives the bytes that the commands keep for it.

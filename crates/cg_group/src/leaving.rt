@@ -1,11 +1,12 @@
 //! LEAVE, and sessions that are closed.
 ghost use Rattle.std.specs.Prelude.{◌≡◌, not, IfOk};
 ghost use Rattle.cg_group.specs.Leaving.{after_removal, left, leave_taken, leave_held, gone_in};
+ghost use Rattle.cg_group.specs.Touching.{gone_touches};
 ghost use Rattle.cg_group.specs.Membership.{has_id, is_named, keeping, leader_among};
 ghost use Rattle.std.specs.List.{list_any};
 
 use crate::answers::{Refusing, answer_all, answer_one};
-use crate::calls::Calls;
+use crate::calls::{Calls, is_waiting};
 use crate::copies::copied_group;
 use crate::group::{Group, Phase};
 use crate::listed::Listed;
@@ -112,6 +113,18 @@ pub fn leave_held(
     };
     let turn = leave_taken(alloc, now, id, ticket, member, group)?;
     Ok(Ok(turn))
+}
+
+/// Whether a call of the session waits in the group: one pass over its members. Takes no memory.
+pub fn gone_touches(session: u64, group: &Group) -> bool
+    ensures { result ≡ gone_touches session group.now }
+{
+    let which = Calls::OfSession(session);
+    group
+        .members
+        .as_slice()
+        .iter()
+        .any(|m| is_waiting(which, m))
 }
 
 /// A closed session, in one group.

@@ -1,14 +1,18 @@
 //! The group machine: what a coordinator answers to its clients, and which commands it makes, as one pure step from event to event.
 //! Its rules are the definitions of `specs/`, in the order of the protocol guide; the code is their plain body.
-//! Stands on the names of `cg_names`; a drawn member id ends in a `uuid`.
+//! Stands on the commands of `cg_record` and the durable state of `cg_fold`; a drawn member id ends in a `uuid`.
 #![tactic(auto)]
 
 mod answers;
+mod assignments;
 mod beating;
-mod blob;
 mod bounds;
 mod calls;
-mod command;
+mod changes;
+mod checked;
+mod commit_entry;
+mod commits;
+mod committing;
 mod copies;
 mod describing;
 mod effects;
@@ -16,6 +20,8 @@ mod event;
 mod everywhere;
 mod group;
 mod groups;
+mod held;
+mod homes;
 mod in_place;
 mod joining;
 mod laws;
@@ -25,10 +31,13 @@ mod meeting;
 mod member;
 mod members;
 mod placing;
+mod protocol;
+mod protocols;
 mod rebalance;
 mod reply;
 mod request;
 mod reviving;
+mod sessions;
 mod syncing;
 #[cfg(test)]
 mod tests;
@@ -37,20 +46,23 @@ mod ticking;
 mod turn;
 mod vote;
 
-pub use blob::{Assignment, Blob, Subscription};
-pub use bounds::{GROUPS_MAX, MEMBERS_MAX, SESSION_MS_MAX, SESSION_MS_MIN};
-pub use command::{Assigned, AssignedMember, Command, Emptied};
+pub use bounds::GROUPS_MAX;
+pub use commit_entry::CommitEntry;
+pub use commits::Commits;
 pub use effects::Effects;
 pub use event::Event;
 pub use group::{Group, Phase};
 pub use groups::Groups;
 pub use laws::{
-    assignments_are_earned, machine_and_commands_agree, members_stay_distinct, rounds_are_one,
+    assignments_are_earned, commits_are_lawful, machine_and_commands_agree, members_stay_distinct,
+    rounds_are_one,
 };
 pub use listed::Listed;
-pub use member::{Member, Protocol, Waits};
+pub use member::{Member, Waits};
 pub use members::Members;
+pub use protocol::{PROTOCOLS_MAX, Protocol};
+pub use protocols::Protocols;
 pub use reply::{Described, DescribedMember, Joined, JoinedMember, Listing, Reply};
-pub use request::{BeatRequest, JoinRequest, LeaveRequest, SyncEntry, SyncRequest};
+pub use request::{BeatRequest, CommitRequest, JoinRequest, LeaveRequest, SyncEntry, SyncRequest};
 pub use ticket::Ticket;
 pub use turn::Turn;

@@ -32,6 +32,13 @@ impl<T> Listed<T> {
         Listed { items }
     }
 
+    /// The values as a `Vec`, without a copy.
+    pub fn into_vec(self) -> Vec<T>
+        ensures { result.items ≡ self }
+    {
+        self.items
+    }
+
     /// The values in their order.
     pub fn as_slice(&self) -> &[T]
         ensures { result.now ≡ self.now }

@@ -1,14 +1,7 @@
-use crate::blob::{Assignment, Subscription};
-use crate::listed::Listed;
+use crate::protocols::Protocols;
 use crate::ticket::Ticket;
-use cg_names::{ClientId, InstanceId, MemberId, Moment, ProtocolName};
-
-/// An assignment protocol that a member offers, with what it wants in that protocol's words.
-#[derive(Debug, Drop, PartialEq, Eq)]
-pub struct Protocol {
-    pub name: ProtocolName,
-    pub subscription: Subscription,
-}
+use cg_names::{ClientId, InstanceId, MemberId, Moment};
+use cg_record::{Assignment, RebalanceTimeout, SessionTimeout};
 
 /// What a member waits for: a member has at most one call that waits.
 #[derive(Clone, Copy, Debug)]
@@ -28,12 +21,12 @@ pub struct Member {
     /// Its own name for itself, where it has one (KIP-345).
     pub instance: Option<InstanceId>,
     pub client: ClientId,
-    /// The session time-out, in milliseconds.
-    pub session_ms: u32,
-    /// The rebalance time-out, in milliseconds.
-    pub rebalance_ms: u32,
+    /// How long it may go unheard (KIP-62).
+    pub session: SessionTimeout,
+    /// How long a rebalance waits for it (KIP-62).
+    pub rebalance: RebalanceTimeout,
     /// The protocols that it offers, the one that it likes best first.
-    pub protocols: Listed<Protocol>,
+    pub protocols: Protocols,
     pub assignment: Assignment,
     /// The moment at which it was last heard.
     pub heard: Moment,

@@ -1,21 +1,26 @@
-ghost use Rattle.std.specs.Prelude.{◌≡◌, [], ◌∷◌, ◌++◌, length, List, not, OnOk, OnErr, IfOk, filter, map, is_some};
+ghost use Rattle.std.specs.Prelude.{◌≡◌, ◌<◌, [], ◌∷◌, ◌++◌, false, length, List, not, OnOk, OnErr, IfOk, filter, map, is_some};
 ghost use Rattle.std.specs.Option.{option_copied};
 ghost use Rattle.std.specs.List.{position, list_any, list_all};
-ghost use Rattle.cg_group.specs.Membership.{has_id, find_member, with_member, heard};
+ghost use Rattle.cg_record.specs.declared.roster.TheConstants.{MEMBERS_MAX};
+ghost use Rattle.cg_group.specs.Members.{AreMembers};
+ghost use Rattle.cg_group.specs.Membership.{has_id, find_member, find_instance, with_member, heard};
 ghost use Rattle.cg_group.specs.Waiting.{after_answer, after_answers, is_waiting};
 ghost use Rattle.cg_group.specs.Joining.{updated, waits_with};
+ghost use Rattle.cg_group.specs.Assignments.{IsIndex};
 ghost use Rattle.cg_group.specs.Syncing.{assigned};
+ghost use Rattle.cg_group.specs.declared.request.SyncEntry.{SyncEntry};
 ghost use Rattle.cg_group.specs.Ticking.{is_overdue};
 
+use crate::assignments::{Index, indexed, noted};
 use crate::calls::{Calls, is_waiting};
+use crate::checked::CheckedJoin;
 use crate::member::{Member, Waits};
-use crate::request::{JoinRequest, SyncEntry};
-use crate::syncing::assignment_for;
+use crate::request::SyncEntry;
 use cg_names::{MemberId, Moment};
 use std::alloc::{AllocError, Global};
 use std::marker::Model;
 
-/// The members of a group in joining order. Contracts see the list.
+/// The members of a group in joining order: at most `MEMBERS_MAX`, no two of one id or one instance. Contracts see the list.
 #[derive(Debug, Drop)]
 pub struct Members {
     items: Vec<Member>,
@@ -23,11 +28,14 @@ pub struct Members {
 
 impl Model for Members {
     ghost use Rattle.std.specs.Prelude.{List};
+    ghost use Rattle.cg_group.specs.Members.{AreMembers};
     ghost use Rattle.cg_group.specs.declared.member.Member.{Member};
 
     ghost Value = { List Member };
 
     ghost view = { λ m. m.items.items };
+
+    ghost invariant = { λ m. AreMembers m.items.items };
 }
 
 // Where the member with this id stands.
@@ -46,7 +54,7 @@ fn has_id(member: &Member, id: &MemberId) -> bool
 fn is_overdue(member: &Member, now: Moment) -> bool
     ensures { result ≡ is_overdue now member.now }
 {
-    !is_waiting(Calls::Any, member) && now.is_past(member.heard, member.session_ms)
+    !is_waiting(Calls::Any, member) && now.is_past(member.heard, member.session.get())
 }
 
 fn answer_one(member: &mut Member, which: Calls, now: Moment)
@@ -58,7 +66,7 @@ fn answer_one(member: &mut Member, which: Calls, now: Moment)
     }
 }
 
-fn wait_one(member: &mut Member, waits: Waits, now: Moment)
+fn begin_to_wait(member: &mut Member, waits: Waits, now: Moment)
     ensures { member.new ≡ waits_with now waits member.old }
 {
     if is_waiting(Calls::Any, member) {
@@ -67,18 +75,47 @@ fn wait_one(member: &mut Member, waits: Waits, now: Moment)
     member.waits = waits;
 }
 
-fn update_one(member: &mut Member, request: JoinRequest)
-    ensures { member.new ≡ updated request member.old }
+fn take_over(member: &mut Member, join: CheckedJoin)
+    ensures { member.new ≡ updated join member.old }
 {
-    member.session_ms = request.session_ms;
-    member.rebalance_ms = request.rebalance_ms;
+    let CheckedJoin { request, session } = join;
+    member.session = session;
+    member.rebalance = request.rebalance;
     member.protocols = request.protocols;
 }
 
-fn assign_one(alloc: Global, entries: &[SyncEntry], member: &mut Member) -> Result<(), AllocError>
-    ensures { OnOk result (member.new ≡ assigned entries.now member.old) }
+#[tactic(auto, using(crate::proofs::Places::placing))]
+fn hear_one(members: &mut Vec<Member>, id: &MemberId, now: Moment)
+    ensures { members.new.items ≡ with_member id.now (heard now) members.old.items }
 {
-    let assignment = assignment_for(alloc, entries, &member.id)?;
+    if let Some(place) = place_of(id, members.as_slice()) {
+        members[place].heard = now;
+    }
+}
+
+#[tactic(auto, using(crate::proofs::Places::placing))]
+fn wait_one(members: &mut Vec<Member>, id: &MemberId, waits: Waits, now: Moment)
+    ensures { members.new.items ≡ with_member id.now (waits_with now waits) members.old.items }
+{
+    if let Some(place) = place_of(id, members.as_slice()) {
+        begin_to_wait(&mut members[place], waits, now);
+    }
+}
+
+#[tactic(auto, using(crate::proofs::Places::placing))]
+fn update_one(members: &mut Vec<Member>, id: &MemberId, join: CheckedJoin)
+    ensures { members.new.items ≡ with_member id.now (updated join) members.old.items }
+{
+    if let Some(place) = place_of(id, members.as_slice()) {
+        take_over(&mut members[place], join);
+    }
+}
+
+#[tactic(auto, unfolding(crate::specs::Syncing::assignment_for))]
+fn assign_one(alloc: Global, index: &Index, member: &mut Member) -> Result<(), AllocError>
+    ensures { (entries : List SyncEntry) → IsIndex entries index.now → OnOk result (member.new ≡ assigned entries member.old) }
+{
+    let assignment = noted(alloc, index, &member.id)?;
     member.assignment = assignment;
     Ok(())
 }
@@ -90,8 +127,9 @@ fn assign_each(
 ) -> Result<(), AllocError>
     ensures { OnOk result (members.new ≡ map (assigned entries.now) members.old) }
 {
+    let index = indexed(alloc, entries)?;
     for member in members.iter_mut() {
-        assign_one(alloc, entries, member)?;
+        assign_one(alloc, &index, member)?;
     }
     Ok(())
 }
@@ -104,8 +142,44 @@ fn answer_each(members: &mut [Member], which: Calls, now: Moment)
     }
 }
 
+fn answer_in(members: &mut Vec<Member>, which: Calls, now: Moment)
+    ensures { members.new.items ≡ map (after_answer which now) members.old.items }
+{
+    answer_each(members.as_mut_slice(), which, now);
+}
+
+fn assign_in(
+    alloc: Global,
+    entries: &[SyncEntry],
+    mut members: Vec<Member>,
+) -> Result<Vec<Member>, AllocError>
+    ensures { IfOk result (λ after. after.items ≡ map (assigned entries.now) members.items) }
+{
+    assign_each(alloc, entries, members.as_mut_slice())?;
+    Ok(members)
+}
+
+fn keep_others(members: &mut Vec<Member>, id: &MemberId)
+    ensures { members.new.items ≡ filter (λ m. not (has_id id.now m)) members.old.items }
+{
+    members.retain(|m| !has_id(m, id));
+}
+
+fn keep_timely(members: &mut Vec<Member>, now: Moment)
+    ensures { members.new.items ≡ filter (λ m. not (is_overdue now m)) members.old.items }
+{
+    members.retain(|m| !is_overdue(m, now));
+}
+
+fn keep_waiting(members: &mut Vec<Member>)
+    ensures { members.new.items ≡ filter (is_waiting Calls.Any) members.old.items }
+{
+    members.retain(|m| is_waiting(Calls::Any, m));
+}
+
 impl Members {
     /// No members. Takes no memory.
+    #[tactic(auto, using(crate::proofs::Together::none_together))]
     pub fn new(alloc: Global) -> Self
         ensures { result ≡ [] }
     {
@@ -114,9 +188,18 @@ impl Members {
         }
     }
 
+    /// These members.
+    pub fn from_vec(items: Vec<Member>) -> Self
+        requires { AreMembers items.items }
+        ensures { result ≡ items.items }
+    {
+        Members { items }
+    }
+
     /// The members in joining order.
     pub fn as_slice(&self) -> &[Member]
-        ensures { result.now ≡ self.now }
+        ensures value { result.now ≡ self.now }
+        ensures lawful { AreMembers self.now }
     {
         self.items.as_slice()
     }
@@ -145,7 +228,11 @@ impl Members {
     }
 
     /// Puts a member last.
+    #[tactic(auto, using(crate::proofs::Together::after_push))]
     pub fn push(&mut self, member: Member) -> Result<(), AllocError>
+        requires room { length self.old < MEMBERS_MAX }
+        requires own_id { is_some (find_member member.id self.old) ≡ false }
+        requires own_instance { is_some (find_instance member.instance self.old) ≡ false }
         ensures ok { OnOk result (self.new ≡ self.old ++ member ∷ []) }
         ensures err { OnErr result (self.new ≡ self.old) }
     {
@@ -154,48 +241,43 @@ impl Members {
     }
 
     /// The member with this id was heard now.
-    #[tactic(auto, using(crate::proofs::Places::placing))]
+    #[tactic(auto, using(crate::proofs::Together::after_hearing))]
     pub fn hear(&mut self, id: &MemberId, now: Moment)
         ensures { self.new ≡ with_member id.now (heard now) self.old }
     {
-        if let Some(place) = place_of(id, self.items.as_slice()) {
-            self.items[place].heard = now;
-        }
+        hear_one(&mut self.items, id, now);
     }
 
     /// The member with this id waits with a call.
-    #[tactic(auto, using(crate::proofs::Places::placing))]
+    #[tactic(auto, using(crate::proofs::Together::after_waiting))]
     pub fn wait(&mut self, id: &MemberId, waits: Waits, now: Moment)
         ensures { self.new ≡ with_member id.now (waits_with now waits) self.old }
     {
-        if let Some(place) = place_of(id, self.items.as_slice()) {
-            wait_one(&mut self.items[place], waits, now);
-        }
+        wait_one(&mut self.items, id, waits, now);
     }
 
     /// The member with this id takes the time-outs and protocols of a JOIN.
-    #[tactic(auto, using(crate::proofs::Places::placing))]
-    pub fn update(&mut self, id: &MemberId, request: JoinRequest)
-        ensures { self.new ≡ with_member id.now (updated request) self.old }
+    #[tactic(auto, using(crate::proofs::Together::after_update))]
+    pub fn update(&mut self, id: &MemberId, join: CheckedJoin)
+        ensures { self.new ≡ with_member id.now (updated join) self.old }
     {
-        if let Some(place) = place_of(id, self.items.as_slice()) {
-            update_one(&mut self.items[place], request);
-        }
+        update_one(&mut self.items, id, join);
     }
 
     /// Each of these calls was answered now.
-    #[tactic(auto, unfolding(crate::specs::Waiting::after_answers))]
+    #[tactic(auto, unfolding(crate::specs::Waiting::after_answers), using(crate::proofs::Together::after_all_answers))]
     pub fn answer(&mut self, which: Calls, now: Moment)
         ensures { self.new ≡ after_answers which now self.old }
     {
-        answer_each(self.items.as_mut_slice(), which, now);
+        answer_in(&mut self.items, which, now);
     }
 
     /// Removes the member with this id.
+    #[tactic(auto, using(crate::proofs::Together::after_removing))]
     pub fn remove(&mut self, id: &MemberId)
         ensures { self.new ≡ filter (λ m. not (has_id id.now m)) self.old }
     {
-        self.items.retain(|m| !has_id(m, id));
+        keep_others(&mut self.items, id);
     }
 
     /// Whether a member is overdue.
@@ -206,17 +288,19 @@ impl Members {
     }
 
     /// Removes the members that are overdue.
+    #[tactic(auto, using(crate::proofs::Together::after_removing))]
     pub fn remove_overdue(&mut self, now: Moment)
         ensures { self.new ≡ filter (λ m. not (is_overdue now m)) self.old }
     {
-        self.items.retain(|m| !is_overdue(m, now));
+        keep_timely(&mut self.items, now);
     }
 
     /// Removes the members that do not wait.
+    #[tactic(auto, using(crate::proofs::Together::after_removing))]
     pub fn remove_idle(&mut self)
         ensures { self.new ≡ filter (is_waiting Calls.Any) self.old }
     {
-        self.items.retain(|m| is_waiting(Calls::Any, m));
+        keep_waiting(&mut self.items);
     }
 
     /// Whether each member waits with one of these calls.
@@ -227,10 +311,11 @@ impl Members {
     }
 
     /// Gives each member what the leader's entries have for it.
-    pub fn assign(&mut self, alloc: Global, entries: &[SyncEntry]) -> Result<(), AllocError>
-        ensures { OnOk result (self.new ≡ map (assigned entries.now) self.old) }
+    #[tactic(auto, using(crate::proofs::Together::after_assigning))]
+    pub fn assigned(self, alloc: Global, entries: &[SyncEntry]) -> Result<Self, AllocError>
+        ensures { IfOk result (λ members. members ≡ map (assigned entries.now) self) }
     {
-        assign_each(alloc, entries, self.items.as_mut_slice())?;
-        Ok(())
+        let items = assign_in(alloc, entries, self.items)?;
+        Ok(Members { items })
     }
 }

@@ -6,17 +6,17 @@ ghost use Rattle.cg_group.specs.Membership.{is_named, is_preparing, leads};
 ghost use Rattle.cg_group.specs.Waiting.{is_waiting};
 
 use crate::answers::{Refusing, Telling, answer_all};
-use crate::blob::Subscription;
 use crate::calls::{Calls, is_waiting};
-use crate::command::{Command, Emptied};
 use crate::copies::copied_name;
 use crate::group::{Group, Phase};
 use crate::listed::Listed;
-use crate::member::{Member, Protocol};
+use crate::member::Member;
+use crate::protocol::Protocol;
 use crate::reply::{Joined, JoinedMember, Reply};
 use crate::turn::Turn;
 use crate::vote::elected;
 use cg_names::{Code, MemberId, Moment, ProtocolName};
+use cg_record::{Command, CompletedGeneration, Emptied, Subscription};
 use std::alloc::{AllocError, Global};
 
 /// Whether the group's members are joining again.
@@ -241,15 +241,19 @@ fn in_next_round(alloc: Global, turn: Turn) -> Result<Turn, AllocError>
 fn push_emptied(group: &Group, commands: &mut Listed<Command>) -> Result<(), AllocError>
     ensures { OnOk result (commands.new ≡ commands.old ++ emptied_command group.now) }
 {
-    if let Some(kind) = &group.kind {
-        let kind = kind.clone()?;
-        let id = group.id.clone()?;
-        commands.push(Command::Emptied(Emptied {
-            group: id,
-            generation: group.generation,
-            kind,
-        }))?;
-    }
+    let Some(generation) = CompletedGeneration::new(group.generation.get()) else {
+        return Ok(());
+    };
+    let Some(kind) = &group.kind else {
+        return Ok(());
+    };
+    let kind = kind.clone()?;
+    let id = group.id.clone()?;
+    commands.push(Command::Emptied(Emptied {
+        group: id,
+        generation,
+        kind,
+    }))?;
     Ok(())
 }
 
@@ -315,8 +319,9 @@ pub fn completed(alloc: Global, now: Moment, turn: Turn) -> Result<Turn, AllocEr
     Ok(turn)
 }
 
+/// Whether the join phase can complete: no member is left that it waits for.
 #[tactic(auto, unfolding(crate::specs::Rebalance::is_ready))]
-fn is_ready(group: &Group) -> bool
+pub fn is_ready(group: &Group) -> bool
     ensures { result ≡ is_ready group.now }
 {
     is_preparing(group.phase) && group.members.all_wait(Calls::Joins)

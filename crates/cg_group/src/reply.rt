@@ -1,7 +1,7 @@
-use crate::blob::{Assignment, Subscription};
 use crate::group::Phase;
 use crate::listed::Listed;
 use cg_names::{ClientId, Code, Generation, GroupId, InstanceId, MemberId, ProtocolName};
+use cg_record::{Assignment, Subscription};
 
 /// A member, as the leader of its group is told of it.
 #[derive(Debug, Drop)]
@@ -64,7 +64,7 @@ pub enum Reply {
     Joined(Joined),
     /// To a SYNC: the assignment of the member.
     Synced(Assignment),
-    /// To a BEAT or a LEAVE.
+    /// To a BEAT, a LEAVE, a COMMIT or a DELETE.
     Done,
     /// To a DESCRIBE; a group that is not held is dead.
     Described(Option<Described>),

@@ -1,7 +1,8 @@
-use crate::blob::Assignment;
+use crate::commits::Commits;
 use crate::listed::Listed;
-use crate::member::Protocol;
+use crate::protocols::Protocols;
 use cg_names::{ClientId, GroupId, MemberId, ProtocolName};
+use cg_record::{Assignment, RebalanceTimeout};
 
 /// JOIN (JoinGroup request).
 #[derive(Debug, Drop)]
@@ -12,11 +13,11 @@ pub struct JoinRequest {
     pub client: ClientId,
     /// The session time-out, in milliseconds.
     pub session_ms: u32,
-    /// The rebalance time-out, in milliseconds.
-    pub rebalance_ms: u32,
+    /// The rebalance time-out.
+    pub rebalance: RebalanceTimeout,
     pub kind: ProtocolName,
-    /// One to four protocols with different names, the one that is liked best first.
-    pub protocols: Listed<Protocol>,
+    /// The protocols that the member offers, the one that it likes best first.
+    pub protocols: Protocols,
 }
 
 /// What the leader assigned to one member.
@@ -49,4 +50,14 @@ pub struct BeatRequest {
 pub struct LeaveRequest {
     pub group: Option<GroupId>,
     pub member: Option<MemberId>,
+}
+
+/// COMMIT (OffsetCommit request).
+#[derive(Debug, Drop)]
+pub struct CommitRequest {
+    pub group: Option<GroupId>,
+    /// Negative from who is no member.
+    pub generation: i32,
+    pub member: Option<MemberId>,
+    pub entries: Commits,
 }

@@ -1,11 +1,10 @@
 //! SYNC: the leader hands the assignments in, and each member gets its own.
-ghost use Rattle.std.specs.Prelude.{◌≡◌, ◌++◌, IfOk, OnOk, map};
-ghost use Rattle.cg_group.specs.Syncing.{assignment_for, assigning, kept_member, assigned_command, synced_reply, told_to_syncs, distributed, sync_waits, sync_current, sync_taken, sync_held};
+ghost use Rattle.std.specs.Prelude.{◌≡◌, ◌++◌, true, Some, IfOk, OnOk, map};
+ghost use Rattle.cg_group.specs.Membership.{find_member, has_member, is_led};
+ghost use Rattle.cg_group.specs.Syncing.{assigning, kept_member, kept_roster, assigned_command, synced_reply, told_to_syncs, distributed, sync_waits, sync_current, sync_taken, sync_held};
 
 use crate::answers::{Telling, answer_all};
-use crate::blob::Assignment;
 use crate::calls::Calls;
-use crate::command::{Assigned, AssignedMember, Command};
 use crate::copies::{copied_group, copied_name};
 use crate::group::{Group, Phase};
 use crate::joining::waiting;
@@ -17,40 +16,41 @@ use crate::request::{SyncEntry, SyncRequest};
 use crate::ticket::Ticket;
 use crate::turn::Turn;
 use cg_names::{Code, MemberId, Moment, ProtocolName};
+use cg_record::{Assigned, Assignment, Command, CompletedGeneration, Member as KeptMember, Roster};
 use std::alloc::{AllocError, Global};
 
-/// The bytes that the entries have for the member, or none.
-#[tactic(auto, unfolding(crate::specs::Syncing::assignment_for))]
-pub fn assignment_for(
-    alloc: Global,
-    entries: &[SyncEntry],
-    id: &MemberId,
-) -> Result<Assignment, AllocError>
-    ensures { IfOk result (λ bytes. bytes ≡ assignment_for entries.now id.now) }
-{
-    match entries.iter().find(|e| e.member == *id) {
-        None => Ok(Assignment::empty(alloc)),
-        Some(entry) => {
-            let bytes = entry.assignment.clone()?;
-            Ok(bytes)
-        }
-    }
-}
-
 #[tactic(auto, unfolding(crate::specs::Syncing::assigning))]
-fn assigning(alloc: Global, entries: &[SyncEntry], mut group: Group) -> Result<Group, AllocError>
+fn assigning(alloc: Global, entries: &[SyncEntry], group: Group) -> Result<Group, AllocError>
     ensures { IfOk result (λ g. g ≡ assigning entries.now group) }
 {
-    group.members.assign(alloc, entries)?;
-    group.phase = Phase::Stable;
-    Ok(group)
+    let Group {
+        id,
+        generation,
+        kind,
+        protocol,
+        leader,
+        members,
+        started,
+        ..
+    } = group;
+    let members = members.assigned(alloc, entries)?;
+    Ok(Group {
+        id,
+        phase: Phase::Stable,
+        generation,
+        kind,
+        protocol,
+        leader,
+        members,
+        started,
+    })
 }
 
 fn kept_member(
     alloc: Global,
     protocol: &Option<ProtocolName>,
     member: &Member,
-) -> Result<AssignedMember, AllocError>
+) -> Result<KeptMember, AllocError>
     ensures { IfOk result (λ m. m ≡ kept_member protocol.now member.now) }
 {
     let id = member.id.clone()?;
@@ -58,12 +58,12 @@ fn kept_member(
     let client = member.client.clone()?;
     let subscription = subscription_for(alloc, protocol, member.protocols.as_slice())?;
     let assignment = member.assignment.clone()?;
-    Ok(AssignedMember {
+    Ok(KeptMember {
         id,
         instance,
         client,
-        session_ms: member.session_ms,
-        rebalance_ms: member.rebalance_ms,
+        session: member.session,
+        rebalance: member.rebalance,
         subscription,
         assignment,
     })
@@ -73,14 +73,31 @@ fn kept_members(
     alloc: Global,
     protocol: &Option<ProtocolName>,
     members: &[Member],
-) -> Result<Listed<AssignedMember>, AllocError>
-    ensures { IfOk result (λ ms. ms ≡ map (kept_member protocol.now) members.now) }
+) -> Result<Vec<KeptMember>, AllocError>
+    ensures { IfOk result (λ ms. ms.items ≡ map (kept_member protocol.now) members.now) }
 {
-    let mut kept = Listed::new(alloc);
+    let mut kept = Vec::with_capacity(alloc, members.len())?;
     for member in members {
         kept.push(kept_member(alloc, protocol, member)?)?;
     }
     Ok(kept)
+}
+
+// What the members of the group joined in, by this protocol and under this leader.
+#[tactic(auto, using(crate::proofs::Rostering::kept_roster_is))]
+fn kept_roster(
+    alloc: Global,
+    protocol: &ProtocolName,
+    leader: &MemberId,
+    group: &Group,
+) -> Result<Roster, AllocError>
+    requires { has_member leader.now group.now.members ≡ true }
+    ensures { IfOk result (λ roster. roster ≡ kept_roster protocol.now leader.now group.now) }
+{
+    let protocol = protocol.clone()?;
+    let leader = leader.clone()?;
+    let members = kept_members(alloc, &group.protocol, group.members.as_slice())?;
+    Ok(Roster::from_lawful(protocol, leader, members))
 }
 
 // Puts the command last, that the generation has its assignments.
@@ -90,8 +107,12 @@ fn push_assigned(
     group: &Group,
     commands: &mut Listed<Command>,
 ) -> Result<(), AllocError>
+    requires { is_led group.now ≡ true }
     ensures { OnOk result (commands.new ≡ commands.old ++ assigned_command group.now) }
 {
+    let Some(generation) = CompletedGeneration::new(group.generation.get()) else {
+        return Ok(());
+    };
     let Some(kind) = &group.kind else {
         return Ok(());
     };
@@ -103,16 +124,12 @@ fn push_assigned(
     };
     let id = group.id.clone()?;
     let kind = kind.clone()?;
-    let protocol = protocol.clone()?;
-    let leader = leader.clone()?;
-    let members = kept_members(alloc, &group.protocol, group.members.as_slice())?;
+    let roster = kept_roster(alloc, protocol, leader, group)?;
     commands.push(Command::Assigned(Assigned {
         group: id,
-        generation: group.generation,
+        generation,
         kind,
-        protocol,
-        leader,
-        members,
+        roster,
     }))
 }
 
@@ -155,13 +172,14 @@ fn told_to_syncs(now: Moment, turn: Turn) -> Result<Turn, AllocError>
     })
 }
 
-#[tactic(auto, unfolding(crate::specs::Syncing::distributed))]
+#[tactic(auto, unfolding(crate::specs::Syncing::distributed), using(crate::proofs::Leading::led_assigning))]
 fn distributed(
     alloc: Global,
     now: Moment,
     entries: &[SyncEntry],
     turn: Turn,
 ) -> Result<Turn, AllocError>
+    requires { is_led turn.group ≡ true }
     ensures { IfOk result (λ t. t ≡ distributed now entries.now turn) }
 {
     let Turn {
@@ -181,7 +199,7 @@ fn distributed(
     )
 }
 
-#[tactic(auto, unfolding(crate::specs::Syncing::sync_waits, crate::specs::Membership::hearing))]
+#[tactic(auto, unfolding(crate::specs::Syncing::sync_waits, crate::specs::Membership::hearing), using(crate::proofs::Leading::led_waiting))]
 fn sync_waits(
     alloc: Global,
     now: Moment,
@@ -191,6 +209,7 @@ fn sync_waits(
     member: &Member,
     group: &Group,
 ) -> Result<Turn, AllocError>
+    requires { find_member id.now group.now.members ≡ Some member.now }
     ensures { IfOk result (λ t. t ≡ sync_waits now r.now id.now ticket member.now group.now) }
 {
     let mut turn = turn_of(alloc, copied_group(alloc, group)?);
@@ -231,6 +250,7 @@ fn sync_taken(
     member: &Member,
     group: &Group,
 ) -> Result<Turn, AllocError>
+    requires { find_member id.now group.now.members ≡ Some member.now }
     ensures { IfOk result (λ t. t ≡ sync_taken now r.now id.now ticket member.now group.now group.now.phase) }
 {
     match group.phase {

@@ -1,12 +1,13 @@
 //! Time-outs: sessions that expire, and the deadline of the join phase.
 ghost use Rattle.std.specs.Prelude.{◌≡◌, IfOk};
 ghost use Rattle.cg_group.specs.Ticking.{expired, greatest_rebalance, is_due, at_deadline, ticked};
+ghost use Rattle.cg_group.specs.Touching.{tick_touches};
 
 use crate::copies::copied_group;
 use crate::group::Group;
 use crate::leaving::{after_removal, checked_leader};
 use crate::member::Member;
-use crate::rebalance::{completed, is_preparing, tried, turn_of};
+use crate::rebalance::{completed, is_preparing, is_ready, tried, turn_of};
 use crate::turn::Turn;
 use cg_names::Moment;
 use std::alloc::{AllocError, Global};
@@ -42,7 +43,7 @@ fn greatest_rebalance(members: &[Member]) -> u32
 {
     let mut greatest = 0;
     for member in members {
-        greatest = member.rebalance_ms.max(greatest);
+        greatest = member.rebalance.get().max(greatest);
     }
     greatest
 }
@@ -77,6 +78,13 @@ fn at_deadline(alloc: Global, now: Moment, turn: Turn) -> Result<Turn, AllocErro
             commands,
         },
     )
+}
+
+/// Whether a Tick touches the group: one pass over its members. Takes no memory.
+pub fn tick_touches(now: Moment, group: &Group) -> bool
+    ensures { result ≡ tick_touches now group.now }
+{
+    group.members.has_overdue(now) || is_ready(group) || is_due(now, group)
 }
 
 /// A Tick, in one group.

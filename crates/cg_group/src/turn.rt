@@ -1,8 +1,8 @@
-use crate::command::Command;
 use crate::group::Group;
 use crate::listed::Listed;
 use crate::reply::Reply;
 use crate::ticket::Ticket;
+use cg_record::Command;
 
 /// What an event has done so far in one group: the group as it is now, and the replies and commands in their order.
 #[derive(Debug, Drop)]

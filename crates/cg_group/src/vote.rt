@@ -6,7 +6,8 @@ ghost use Rattle.cg_group.specs.Vote.{is_among, offers, is_common, candidates, b
 ghost use Rattle.cg_group.specs.Membership.{is_named};
 
 use crate::listed::Listed;
-use crate::member::{Member, Protocol};
+use crate::member::Member;
+use crate::protocol::Protocol;
 use cg_names::ProtocolName;
 use std::alloc::{AllocError, Global};
 use std::cmp::Ordering;

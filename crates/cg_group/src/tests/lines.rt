@@ -19,6 +19,39 @@ pub struct Joiner<'a> {
     pub protocols: &'a [(&'a str, u8)],
 }
 
+/// The words of a COMMIT. Each partition is one of topic `t`, with offset 7 and that many bytes of metadata.
+#[derive(Clone, Copy)]
+pub struct Committer<'a> {
+    pub generation: i32,
+    pub member: &'a str,
+    pub partitions: &'a [(u32, usize)],
+}
+
+pub const M1: &str = "c1-00000000-0000-0000-0000-000000000001";
+
+pub const M2: &str = "c2-00000000-0000-0000-0000-000000000002";
+
+pub const C1: Joiner<'static> = Joiner {
+    member: "-",
+    client: "c1",
+    session_ms: 10_000,
+    rebalance_ms: 20_000,
+    kind: "consumer",
+    protocols: &[("range", 1)],
+};
+
+pub const C2: Joiner<'static> = Joiner {
+    member: "-",
+    client: "c2",
+    session_ms: 10_000,
+    rebalance_ms: 20_000,
+    kind: "consumer",
+    protocols: &[("range", 2)],
+};
+
+pub const JOINED_1: &str =
+    "s1 JOINED 1 consumer range c1-00000000-0000-0000-0000-000000000001 c1-00000000-0000-0000-0000-000000000001 c1-00000000-0000-0000-0000-000000000001:-:x01|";
+
 fn name_of<const MAX: usize, const SORT: u8>(
     alloc: Global,
     word: &str,
@@ -30,26 +63,27 @@ fn name_of<const MAX: usize, const SORT: u8>(
     Ok(Some(name))
 }
 
-fn blob(alloc: Global, byte: u8) -> Result<Subscription, Fail> {
+fn subscription(alloc: Global, byte: u8) -> Result<Subscription, Fail> {
     let bytes = if byte == 0 {
         Vec::new(alloc)
     } else {
         vec![in alloc; byte]?
     };
-    let blob = Subscription::from_vec(bytes).map_err(|_| "too long")?;
-    Ok(blob)
+    let subscription = Subscription::from_vec(bytes).map_err(|_| "too long")?;
+    Ok(subscription)
 }
 
-fn protocols(alloc: Global, words: &[(&str, u8)]) -> Result<Listed<Protocol>, Fail> {
-    let mut list = Listed::new(alloc);
+fn protocols(alloc: Global, words: &[(&str, u8)]) -> Result<Protocols, Fail> {
+    let mut list = Vec::new(alloc);
     for (name, byte) in words {
         let protocol = Protocol {
             name: Name::parse(alloc, name)?,
-            subscription: blob(alloc, *byte)?,
+            subscription: subscription(alloc, *byte)?,
         };
         list.push(protocol)?;
     }
-    Ok(list)
+    let protocols = Protocols::from_vec(list).map_err(|_| "too many, or twice")?;
+    Ok(protocols)
 }
 
 fn join_request(alloc: Global, group: &str, j: Joiner) -> Result<JoinRequest, Fail> {
@@ -58,7 +92,7 @@ fn join_request(alloc: Global, group: &str, j: Joiner) -> Result<JoinRequest, Fa
         member: name_of(alloc, j.member)?,
         client: Name::parse(alloc, j.client)?,
         session_ms: j.session_ms,
-        rebalance_ms: j.rebalance_ms,
+        rebalance: RebalanceTimeout::new(j.rebalance_ms).ok_or("too long")?,
         kind: Name::parse(alloc, j.kind)?,
         protocols: protocols(alloc, j.protocols)?,
     })
@@ -77,16 +111,48 @@ fn entries(alloc: Global, words: &[(&str, u8)]) -> Result<Listed<SyncEntry>, Fai
     Ok(list)
 }
 
+/// What a COMMIT says of one partition of a topic.
+pub fn commit_entry(
+    alloc: Global,
+    topic: &str,
+    partition: u32,
+    metadata_len: usize,
+) -> Result<CommitEntry, Fail> {
+    let metadata = vec![in alloc; 7; metadata_len]?;
+    Ok(CommitEntry {
+        topic: Name::parse(alloc, topic)?,
+        partition: Partition::new(partition).ok_or("no partition")?,
+        offset: Offset::new(7).ok_or("no offset")?,
+        metadata: Listed::from_vec(metadata),
+    })
+}
+
+fn commits(alloc: Global, partitions: &[(u32, usize)]) -> Result<Commits, Fail> {
+    let mut list = Vec::new(alloc);
+    for (partition, metadata_len) in partitions {
+        let entry = commit_entry(alloc, "t", *partition, *metadata_len)?;
+        list.push(entry)?;
+    }
+    let commits = Commits::from_vec(list).map_err(|_| "none, too many, or twice")?;
+    Ok(commits)
+}
+
 fn ticket(session: u64) -> Ticket {
     Ticket { session, number: 0 }
 }
 
 impl Scene {
     pub fn new(alloc: Global) -> Result<Scene, Fail> {
-        Ok(Scene {
-            groups: Groups::revive(alloc, &[], Moment::from_millis(0))?,
-            drawn: 0,
-        })
+        let scene = Scene::after(alloc, Durable::new(alloc))?;
+        Ok(scene)
+    }
+
+    /// What a loading of this state begins with.
+    pub fn after(alloc: Global, durable: Durable) -> Result<Scene, Fail> {
+        let groups = Groups::revive(alloc, durable, Moment::from_millis(0)).map_err(
+            |_| "no memory",
+        )?;
+        Ok(Scene { groups, drawn: 0 })
     }
 
     fn meet(&mut self, alloc: Global, event: Event, now: u64) -> Result<String, Fail> {
@@ -155,6 +221,34 @@ impl Scene {
             member: name_of(alloc, member)?,
         };
         self.meet(alloc, Event::Leave(ticket(session), r), now)
+    }
+
+    pub fn commit(
+        &mut self,
+        alloc: Global,
+        now: u64,
+        session: u64,
+        group: &str,
+        c: Committer,
+    ) -> Result<String, Fail> {
+        let r = CommitRequest {
+            group: name_of(alloc, group)?,
+            generation: c.generation,
+            member: name_of(alloc, c.member)?,
+            entries: commits(alloc, c.partitions)?,
+        };
+        self.meet(alloc, Event::Commit(ticket(session), r), now)
+    }
+
+    pub fn delete(
+        &mut self,
+        alloc: Global,
+        now: u64,
+        session: u64,
+        group: &str,
+    ) -> Result<String, Fail> {
+        let id = name_of(alloc, group)?;
+        self.meet(alloc, Event::Delete(ticket(session), id), now)
     }
 
     pub fn describe(&mut self, alloc: Global, now: u64, session: u64) -> Result<String, Fail> {
@@ -261,15 +355,25 @@ fn write_reply(out: &mut String, reply: &Reply) -> Result<(), Fail> {
     Ok(())
 }
 
+// An entry, with the number of its bytes of metadata.
+fn write_entry(out: &mut String, e: &Entry) -> Result<(), Fail> {
+    let topic = e.topic.as_str();
+    let partition = e.partition.get();
+    let offset = e.offset.get();
+    let metadata_len = e.metadata.as_bytes().len();
+    write!(out, " {topic}:{partition}:{offset}:{metadata_len}")?;
+    Ok(())
+}
+
 fn write_command(out: &mut String, command: &Command) -> Result<(), Fail> {
     match command {
         Command::Assigned(a) => {
             let group = a.group.as_str();
             let generation = a.generation.get();
             let kind = a.kind.as_str();
-            let protocol = a.protocol.as_str();
-            let leader = a.leader.as_str();
-            let members = a.members.len();
+            let protocol = a.roster.protocol().as_str();
+            let leader = a.roster.leader().as_str();
+            let members = a.roster.members().len();
             write!(
                 out,
                 "Assigned {group} {generation} {kind} {protocol} {leader} {members}|"
@@ -280,6 +384,19 @@ fn write_command(out: &mut String, command: &Command) -> Result<(), Fail> {
             let generation = e.generation.get();
             let kind = e.kind.as_str();
             write!(out, "Emptied {group} {generation} {kind}|")?;
+        }
+        Command::Replaced(_) => write!(out, "Replaced|")?,
+        Command::Committed(c) => {
+            let group = c.group.as_str();
+            write!(out, "Committed {group}")?;
+            for e in c.entries.as_slice() {
+                write_entry(out, e)?;
+            }
+            write!(out, "|")?;
+        }
+        Command::Deleted(d) => {
+            let group = d.group.as_str();
+            write!(out, "Deleted {group}|")?;
         }
     }
     Ok(())

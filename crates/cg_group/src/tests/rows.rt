@@ -1,30 +1,5 @@
-use super::lines::{Joiner, Scene};
+use super::lines::{C1, C2, JOINED_1, Joiner, M1, M2, Scene};
 use super::*;
-
-const M1: &str = "c1-00000000-0000-0000-0000-000000000001";
-
-const M2: &str = "c2-00000000-0000-0000-0000-000000000002";
-
-const C1: Joiner<'static> = Joiner {
-    member: "-",
-    client: "c1",
-    session_ms: 10_000,
-    rebalance_ms: 20_000,
-    kind: "consumer",
-    protocols: &[("range", 1)],
-};
-
-const C2: Joiner<'static> = Joiner {
-    member: "-",
-    client: "c2",
-    session_ms: 10_000,
-    rebalance_ms: 20_000,
-    kind: "consumer",
-    protocols: &[("range", 2)],
-};
-
-const JOINED_1: &str =
-    "s1 JOINED 1 consumer range c1-00000000-0000-0000-0000-000000000001 c1-00000000-0000-0000-0000-000000000001 c1-00000000-0000-0000-0000-000000000001:-:x01|";
 
 #[test]
 fn two_members_join_and_sync(rt: HostRuntime) -> Result<(), Fail> {
@@ -200,11 +175,36 @@ fn the_generation_after_the_last_is_one(rt: HostRuntime) -> Result<(), Fail> {
     let alloc = rt.alloc();
     let emptied = Command::Emptied(Emptied {
         group: Name::parse(alloc, "g")?,
-        generation: Generation::new(GENERATION_MAX).ok_or("no last generation")?,
+        generation: CompletedGeneration::new(GENERATION_MAX).ok_or("no last generation")?,
         kind: Name::parse(alloc, "consumer")?,
     });
-    let groups = Groups::revive(alloc, &[emptied], Moment::from_millis(0))?;
-    let mut s = Scene { groups, drawn: 0 };
+    let mut durable = Durable::new(alloc);
+    durable.apply(&emptied)?;
+    let mut s = Scene::after(alloc, durable)?;
+    assert_eq!(rt; s.join(alloc, 0, 1, "g", C1)?.as_str(), JOINED_1);
+    Ok(())
+}
+
+#[test]
+fn a_group_of_offsets_alone_is_empty(rt: HostRuntime) -> Result<(), Fail> {
+    let alloc = rt.alloc();
+    let entry = Entry {
+        topic: Name::parse(alloc, "orders")?,
+        partition: Partition::new(0).ok_or("no partition")?,
+        offset: Offset::new(42).ok_or("no offset")?,
+        metadata: Metadata::from_vec(Vec::new(alloc)).map_err(|_| "too long")?,
+    };
+    let mut entries = Vec::new(alloc);
+    entries.push(entry)?;
+    let committed = Command::Committed(Committed {
+        group: Name::parse(alloc, "g")?,
+        entries: Entries::from_vec(entries).map_err(|_| "no entries")?,
+    });
+    let mut durable = Durable::new(alloc);
+    durable.apply(&committed)?;
+    let mut s = Scene::after(alloc, durable)?;
+    assert_eq!(rt; s.groups.held(), 1);
+    assert_eq!(rt; s.describe(alloc, 0, 1)?.as_str(), "s1 GROUP Empty 0 - -|");
     assert_eq!(rt; s.join(alloc, 0, 1, "g", C1)?.as_str(), JOINED_1);
     Ok(())
 }
@@ -259,5 +259,49 @@ fn calls_wait_by_group_and_joining_order(rt: HostRuntime) -> Result<(), Fail> {
     }
     assert!(rt; s.groups.parked(3).is_none());
     assert_eq!(rt; s.groups.held(), 2);
+    Ok(())
+}
+
+#[test]
+fn a_closed_session_is_answered_in_each_group(rt: HostRuntime) -> Result<(), Fail> {
+    let alloc = rt.alloc();
+    let mut s = Scene::new(alloc)?;
+    for (session, group, client) in [
+        (1, "b", "c1"),
+        (1, "a", "c2"),
+        (1, "c", "c3"),
+        (2, "b", "c4"),
+        (2, "a", "c5"),
+        (3, "c", "c6"),
+    ] {
+        let j = Joiner { client, ..C1 };
+        let _said = s.join(alloc, 0, session, group, j)?;
+    }
+    assert_eq!(rt; s.gone(alloc, 0, 2)?.as_str(), "s2 ERR 15|s2 ERR 15|");
+    let call = s.groups.parked(0).ok_or("none waits")?;
+    assert_eq!(rt; call.session, 3);
+    assert!(rt; s.groups.parked(1).is_none());
+    assert_eq!(rt; s.gone(alloc, 0, 2)?.as_str(), "");
+    assert_eq!(rt; s.gone(alloc, 0, 3)?.as_str(), "s3 ERR 15|");
+    Ok(())
+}
+
+#[test]
+fn a_session_that_names_many_groups_is_answered(rt: HostRuntime) -> Result<(), Fail> {
+    let alloc = rt.alloc();
+    let mut s = Scene::new(alloc)?;
+    assert_eq!(rt; s.join(alloc, 0, 1, "g", C1)?.as_str(), JOINED_1);
+    for n in 0..100u64 {
+        let mut id = String::new(alloc);
+        write!(&mut id, "x{n}")?;
+        let j = Joiner {
+            session_ms: 1,
+            ..C2
+        };
+        assert_eq!(rt; s.join(alloc, 0, 2, id.as_str(), j)?.as_str(), "s2 ERR 26|");
+    }
+    assert_eq!(rt; s.join(alloc, 0, 2, "g", C2)?.as_str(), "");
+    assert_eq!(rt; s.gone(alloc, 0, 2)?.as_str(), "s2 ERR 15|");
+    assert!(rt; s.groups.parked(0).is_none());
     Ok(())
 }

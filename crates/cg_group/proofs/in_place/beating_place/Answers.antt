@@ -7,4 +7,4 @@ returns-in-Err c = λ now ticket. beat_unnamed now c.args.r.now ticket c.args.gr
 
 pub returns-in-Err-beating_member : goal.returns-in-Err-beating_member
 returns-in-Err-beating_member c =
-    λ now ticket. beat_refused now c.args.r.now ticket c.args.groups.now c.index-groups-place.result c.in-Err-beating_member.code (c.in-Ok.ensures.found c.index-groups-place.result ∙ ap (λ g. Ok g) (sym c.index-groups-place.is)) (c.in-Err-beating_member.ensures now ticket)
+    λ now ticket. beat_refused now c.args.r.now ticket c.args.groups.now c.at.result.now c.in-Err-beating_member.code (c.in-Ok.ensures.found c.at.result.now ∙ ap (λ g. Ok g) (sym c.at.ensures)) (c.in-Err-beating_member.ensures now ticket)

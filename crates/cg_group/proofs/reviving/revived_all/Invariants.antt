@@ -1,6 +1,7 @@
 use Rattle.std.proofs.Common.{◌≡◌, map, take}
 use Rattle.cg_group.specs.Reviving.{revived}
+use Rattle.cg_fold.specs.Snapshot.{groups_in, in_order}
 use Rattle.cg_group.proofs.reviving.revived_all.Given as goal
 
-abbrev pub invariant-loop-kept : goal.invariant-loop-kept
-invariant-loop-kept l = l.groups.items ≡ map (revived l.now) (take l.kept-index l.records)
+abbrev pub invariant-loop-id : goal.invariant-loop-id
+invariant-loop-id l = l.groups ≡ map (revived l.now l.durable) (take l.id-index l.id-items)

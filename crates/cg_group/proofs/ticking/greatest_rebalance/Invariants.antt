@@ -3,4 +3,4 @@ use Rattle.std.specs.Prelude.{max}
 use Rattle.cg_group.proofs.ticking.greatest_rebalance.Given as goal
 
 abbrev pub invariant-loop-member : goal.invariant-loop-member
-invariant-loop-member l = l.greatest ≡ fold max 0 (map (λ m. m.rebalance_ms) (take l.member-index l.members))
+invariant-loop-member l = l.greatest ≡ fold max 0 (map (λ m. m.rebalance) (take l.member-index l.members))

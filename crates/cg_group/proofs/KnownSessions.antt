@@ -1,0 +1,398 @@
+-- A call that waits after an event waited before, or came with the event: each stage keeps it.
+use Rattle.std.proofs.Common.{◌≡◌, ℕ, Bool, true, false, not, List, [], ◌∷◌, map, refl, sym, ap, ◌∙◌, subst, suc, zero, ◌<◌, length, get_or, arith, Option, Some, None, Result, Ok, Err}
+use Rattle.std.specs.Prelude.{◌==◌, if◌then◌else◌, is_some}
+use Rattle.std.specs.List.{list_any}
+use Rattle.cg_names.specs.declared.code.Code.{Code}
+use Rattle.cg_group.specs.declared.calls.Calls.TheVariants.{Any, Joins, OfSession, Syncs}
+use Rattle.cg_group.specs.declared.event.Event.{Event}
+use Rattle.cg_group.specs.declared.event.Event.TheVariants as event
+use Rattle.cg_group.specs.declared.group.Group.{Group}
+use Rattle.cg_group.specs.declared.group.Phase.{Phase}
+use Rattle.cg_group.specs.declared.group.Phase.TheVariants.{Empty, Preparing, Completing, Stable}
+use Rattle.cg_group.specs.declared.member.Member.{Member}
+use Rattle.cg_group.specs.declared.member.Waits.{Waits}
+use Rattle.cg_group.specs.declared.member.Waits.TheVariants.{Nothing, Join, Sync}
+use Rattle.cg_group.specs.declared.request.JoinRequest.{JoinRequest}
+use Rattle.cg_group.specs.declared.request.SyncEntry.{SyncEntry}
+use Rattle.cg_group.specs.declared.request.SyncRequest.{SyncRequest}
+use Rattle.cg_group.specs.declared.ticket.Ticket.{Ticket}
+use Rattle.cg_group.specs.declared.turn.Turn.{Turn}
+use Rattle.cg_group.specs.Beating.{beat_taken}
+use Rattle.cg_group.specs.Joining.{admitted, in_join_phase, is_current, join_again, join_current, join_known, join_new, new_group, new_member, updated, updating, waiting, waits_with}
+use Rattle.cg_group.specs.Kept.{Each, kept_in}
+use Rattle.cg_group.specs.Leaving.{after_removal, gone_in, has_joined, leave_taken, left}
+use Rattle.cg_group.specs.declared.commit_entry.CommitEntry.{CommitEntry}
+use Rattle.cg_group.specs.Committing.{committed, hearing_committer, keeping_entries}
+use Rattle.cg_group.specs.Machine.{Machine, beat, commit, concluded, deleted, deleting, everywhere, find_group, groups_after, join, leave, met, sync}
+use Rattle.cg_group.specs.Membership.{has_id, heard, hearing, is_empty, is_preparing, keeping, leads}
+use Rattle.cg_group.specs.Reviving.{revived, revived_from, revived_member, revived_with}
+use Rattle.cg_record.specs.declared.member.Member.{Member as KeptMember}
+use Rattle.cg_record.specs.Rosters.{RosterParts}
+use Rattle.cg_fold.specs.declared.record.GroupRecord.{GroupRecord}
+use Rattle.cg_fold.specs.Durable.{State}
+use Rattle.cg_group.specs.Rebalance.{completed, emptied, is_ready, next_round, prepared, told_to_joins, tried, turn_of}
+use Rattle.cg_group.specs.Sessions.{AreKnown, Known, Owns, closed, is_known}
+use Rattle.cg_group.specs.Syncing.{assigning, distributed, sync_current, sync_taken, sync_waits, told_to_syncs}
+use Rattle.cg_group.specs.Ticking.{at_deadline, expired, is_due, is_overdue, ticked}
+use Rattle.cg_group.specs.Waiting.{after_answers, answered, called, is_waiting}
+use Rattle.std.proofs.lemmas.Bool.{eqb-false, eqb-true, or_from}
+use Rattle.cg_group.proofs.Untouched.{calm_gone_in}
+use Rattle.cg_group.proofs.Framed.{Framed, framed-beat_taken, framed-committed, framed-gone_in, framed-join_known, framed-join_new, framed-leave_taken, framed-sync_taken, framed-ticked}
+use Rattle.cg_group.proofs.Calling.{each-filter, waits-after_answers, waits-append, waits-assigned, waits-with_member}
+use Rattle.cg_group.proofs.KeptLists.{each-found, each-put, id-found, same_names}
+use Rattle.cg_group.proofs.Removing.{each-without}
+use Rattle.cg_group.proofs.Requests.{Fine, fine-beat, fine-commit, fine-join, fine-leave, fine-sync}
+
+module _ (sessions : ℕ → Bool) where
+  abbrev allowed : List ℕ → Waits → Bool
+  allowed id w = is_known sessions w
+
+  abbrev K : Turn → Type 0
+  K t = Known sessions t.group
+
+  known-prepared : (now : ℕ) (t : Turn) → K t → K (prepared now t)
+  unfolding prepared
+  known-prepared now t h = waits-after_answers allowed (λ id. refl) Syncs now t.group.members h
+
+  known-in_join_phase : (now : ℕ) (t : Turn) → K t → K (in_join_phase now t)
+  known-in_join_phase now t h = elim (is_preparing t.group.phase) as (λ b. K (if b then t else prepared now t)) [ true ↦ h | false ↦ known-prepared now t h ]
+
+  known-next_round : (g : Group) → Known sessions g → Known sessions (next_round g)
+  unfolding next_round
+  known-next_round g h = h
+
+  known-told_to_joins : (now : ℕ) (t : Turn) → K t → K (told_to_joins now t)
+  unfolding told_to_joins
+  known-told_to_joins now t h = waits-after_answers allowed (λ id. refl) Joins now t.group.members h
+
+  known-emptied : (t : Turn) → K t → K (emptied t)
+  unfolding emptied
+  known-emptied t h = h
+
+  known-completed : (now : ℕ) (t : Turn) → K t → K (completed now t)
+  unfolding completed
+  known-completed now t h =
+      elim (is_empty t.group.members) as (λ b. K (if b then emptied t else told_to_joins now (record t { group = next_round t.group }))) [
+        | true ↦ known-emptied t h
+        | false ↦ known-told_to_joins now (record t { group = next_round t.group }) (known-next_round t.group h)
+      ]
+
+  known-tried : (now : ℕ) (t : Turn) → K t → K (tried now t)
+  unfolding tried
+  known-tried now t h = elim (is_ready t.group) as (λ b. K (if b then completed now t else t)) [ true ↦ known-completed now t h | false ↦ h ]
+
+  known-waiting : (now : ℕ) (id : List ℕ) (w : Waits) (t : Turn) → is_known sessions w ≡ true → K t → K (waiting now id w t)
+  unfolding waiting
+  known-waiting now id w t own h = waits-with_member allowed id (waits_with now w) (λ m e k. own) t.group.members h
+
+  known-admitted : (m : Member) (kind : List ℕ) (g : Group) → is_known sessions m.waits ≡ true → Known sessions g → Known sessions (admitted m kind g)
+  unfolding admitted
+  known-admitted m kind g own h = waits-append allowed g.members m h own
+
+  known-new_member : (now : ℕ) (r : JoinRequest) (id : List ℕ) (ticket : Ticket) → sessions ticket.session ≡ true → is_known sessions (new_member now r id ticket).waits ≡ true
+  unfolding new_member
+  known-new_member now r id ticket own = own
+
+  known-updating : (r : JoinRequest) (id : List ℕ) (g : Group) → Known sessions g → Known sessions (updating r id g)
+  unfolding updating
+  known-updating r id g h = waits-with_member allowed id (updated r) (λ m e k. k) g.members h
+
+  known-hearing : (now : ℕ) (id : List ℕ) (g : Group) → Known sessions g → Known sessions (hearing now id g)
+  unfolding hearing
+  known-hearing now id g h = waits-with_member allowed id (heard now) (λ m e k. k) g.members h
+
+  known-keeping : (stays : Member → Bool) (g : Group) → Known sessions g → Known sessions (keeping stays g)
+  unfolding keeping
+  known-keeping stays g h = each-filter (λ (m : Member). is_known sessions m.waits ≡ true) stays g.members h
+
+  known-join_new : (now : ℕ) (r : JoinRequest) (id : List ℕ) (ticket : Ticket) (g : Group) → sessions ticket.session ≡ true → Known sessions g → K (join_new now r id ticket g)
+  unfolding join_new
+  known-join_new now r id ticket g own h =
+      known-tried now _ (known-in_join_phase now _ (known-admitted (new_member now r id ticket) r.kind g (known-new_member now r id ticket own) h))
+
+  known-new_group : (id : List ℕ) → Known sessions (new_group id)
+  unfolding new_group
+  known-new_group id = tt
+
+  known-join_again : (now : ℕ) (r : JoinRequest) (id : List ℕ) (ticket : Ticket) (g : Group) → sessions ticket.session ≡ true → Known sessions g → K (join_again now r id ticket g)
+  unfolding join_again
+  known-join_again now r id ticket g own h =
+      known-tried now _ (known-waiting now id (Join ticket) _ own (known-in_join_phase now (turn_of (updating r id g)) (known-updating r id g h)))
+
+  known-join_current : (now : ℕ) (id : List ℕ) (ticket : Ticket) (m : Member) (g : Group) → Known sessions g → K (join_current now id ticket m g)
+  unfolding join_current
+  known-join_current now id ticket m g h = known-hearing now id g h
+
+  known-join_known : (now : ℕ) (r : JoinRequest) (id : List ℕ) (ticket : Ticket) (m : Member) (g : Group) → sessions ticket.session ≡ true → Known sessions g → K (join_known now r id ticket m g)
+  unfolding join_known
+  known-join_known now r id ticket m g own h =
+      elim (is_current r m g g.phase) as (λ b. K (if b then join_current now id ticket m g else join_again now r id ticket g)) [
+        | true ↦ known-join_current now id ticket m g h
+        | false ↦ known-join_again now r id ticket g own h
+      ]
+
+  known-assigning : (entries : List SyncEntry) (g : Group) → Known sessions g → Known sessions (assigning entries g)
+  unfolding assigning
+  known-assigning entries g h = waits-assigned allowed entries g.members h
+
+  known-told_to_syncs : (now : ℕ) (t : Turn) → K t → K (told_to_syncs now t)
+  unfolding told_to_syncs
+  known-told_to_syncs now t h = waits-after_answers allowed (λ id. refl) Syncs now t.group.members h
+
+  known-distributed : (now : ℕ) (entries : List SyncEntry) (t : Turn) → K t → K (distributed now entries t)
+  unfolding distributed
+  known-distributed now entries t h = known-told_to_syncs now _ (known-assigning entries t.group h)
+
+  known-sync_waits : (now : ℕ) (r : SyncRequest) (id : List ℕ) (ticket : Ticket) (m : Member) (g : Group) → sessions ticket.session ≡ true → Known sessions g → K (sync_waits now r id ticket m g)
+  unfolding sync_waits
+  known-sync_waits now r id ticket m g own h =
+      let t : Turn = waiting now id (Sync ticket) (turn_of (hearing now id g)) in
+      let u : K t = known-waiting now id (Sync ticket) (turn_of (hearing now id g)) own (known-hearing now id g h) in
+      elim (leads g m) as (λ b. K (if b then distributed now r.entries t else t)) [ true ↦ known-distributed now r.entries t u | false ↦ u ]
+
+  known-sync_current : (now : ℕ) (id : List ℕ) (ticket : Ticket) (m : Member) (g : Group) → Known sessions g → K (sync_current now id ticket m g)
+  unfolding sync_current
+  known-sync_current now id ticket m g h = known-hearing now id g h
+
+  known-sync_taken : (now : ℕ) (r : SyncRequest) (id : List ℕ) (ticket : Ticket) (m : Member) (g : Group) (phase : Phase) → sessions ticket.session ≡ true → Known sessions g → K (sync_taken now r id ticket m g phase)
+  unfolding sync_taken
+  known-sync_taken now r id ticket m g Completing own h = known-sync_waits now r id ticket m g own h
+  known-sync_taken now r id ticket m g Stable own h = known-sync_current now id ticket m g h
+  known-sync_taken now r id ticket m g Empty own h = known-sync_current now id ticket m g h
+  known-sync_taken now r id ticket m g Preparing own h = known-sync_current now id ticket m g h
+
+  known-beat_taken : (now : ℕ) (id : List ℕ) (ticket : Ticket) (g : Group) → Known sessions g → K (beat_taken now id ticket g)
+  unfolding beat_taken
+  known-beat_taken now id ticket g h = known-hearing now id g h
+
+  known-after_removal : (now : ℕ) (t : Turn) → K t → K (after_removal now t)
+  unfolding after_removal
+  known-after_removal now t h =
+      known-tried now _ (elim (has_joined t.group.phase) as (λ b. K (if b then prepared now t else t)) [ true ↦ known-prepared now t h | false ↦ h ])
+
+  known-left : (id : List ℕ) (ticket : Ticket) (m : Member) (g : Group) → Known sessions g → K (left id ticket m g)
+  unfolding left
+  known-left id ticket m g h = known-keeping (λ other. not (has_id id other)) g h
+
+  known-leave_taken : (now : ℕ) (id : List ℕ) (ticket : Ticket) (m : Member) (g : Group) → Known sessions g → K (leave_taken now id ticket m g)
+  unfolding leave_taken
+  known-leave_taken now id ticket m g h = known-after_removal now (left id ticket m g) (known-left id ticket m g h)
+
+  known-gone_in : (now session : ℕ) (g : Group) → Known sessions g → K (gone_in now session g)
+  unfolding gone_in
+  known-gone_in now session g h = waits-after_answers allowed (λ id. refl) (OfSession session) now g.members h
+
+  known-expired : (now : ℕ) (t : Turn) → K t → K (expired now t)
+  unfolding expired
+  known-expired now t h =
+      elim (list_any (is_overdue now) t.group.members) as (λ b. K (if b then after_removal now (record t { group = keeping (λ m. not (is_overdue now m)) t.group }) else tried now t)) [
+        | true ↦ known-after_removal now (record t { group = keeping (λ m. not (is_overdue now m)) t.group }) (known-keeping (λ m. not (is_overdue now m)) t.group h)
+        | false ↦ known-tried now t h
+      ]
+
+  known-at_deadline : (now : ℕ) (t : Turn) → K t → K (at_deadline now t)
+  unfolding at_deadline
+  known-at_deadline now t h =
+      elim (is_due now t.group) as (λ b. K (if b then completed now (record t { group = keeping (is_waiting Any) t.group }) else t)) [
+        | true ↦ known-completed now (record t { group = keeping (is_waiting Any) t.group }) (known-keeping (is_waiting Any) t.group h)
+        | false ↦ h
+      ]
+
+  known-ticked : (now : ℕ) (g : Group) → Known sessions g → K (ticked now g)
+  unfolding ticked
+  known-ticked now g h = known-at_deadline now (expired now (turn_of g)) (known-expired now (turn_of g) h)
+
+  known-committed : (now : ℕ) (entries : List CommitEntry) (ticket : Ticket) (who : Option (List ℕ)) (g : Group) → Known sessions g → K (committed entries ticket (hearing_committer now who g))
+  unfolding keeping_entries
+  known-committed now entries ticket None g h = h
+  known-committed now entries ticket (Some id) g h = known-hearing now id g h
+
+found_named : (id : List ℕ) (groups : List Group) (g : Group) → find_group id groups ≡ Some g → g.id ≡ id
+found_named id groups g e = same_names g.id id (id-found id groups g e)
+
+-- what holds of the group that takes its turn holds of the one that it leaves
+module _ (homes : ℕ → List ℕ → Bool) where
+  abbrev at : List ℕ → ℕ → Bool
+  at id session = homes session id
+
+  abbrev Home : Group → Type 0
+  Home g = Known (at g.id) g
+
+  abbrev Stays : Turn → Type 0
+  Stays t = Home t.group
+
+  stays : (id : List ℕ) (t : Turn) → Framed id t → Known (at id) t.group → Stays t
+  stays id t framed h = let P : List ℕ → Type 0 = λ x. Known (at x) t.group in subst P (sym framed.0) h
+
+  its_own : (session : ℕ) (o : Option (List ℕ)) (id x : List ℕ) → ((y : List ℕ) → o ≡ Some y → homes session y ≡ true) → o ≡ Some x → id ≡ x → homes session id ≡ true
+  its_own session o id x own named same = ap (homes session) same ∙ own x named
+
+  id-new_group : (id : List ℕ) → (new_group id).id ≡ id
+  unfolding new_group
+  id-new_group id = refl
+
+  known-concluded : (s : Machine) (ticket : Ticket) (o : Result Turn Code) → Fine Stays o → AreKnown homes s.groups → AreKnown homes (concluded s ticket o).after.groups
+  unfolding concluded
+  known-concluded s ticket (Ok t) d h = each-put Home t.group s.groups d h
+  known-concluded s ticket (Err code) d h = h
+
+  known-groups_after : (turn : Group → Turn) → ((g : Group) → Home g → Stays (turn g)) → (groups : List Group) → AreKnown homes groups → AreKnown homes (groups_after turn groups)
+  known-groups_after turn keeps [] h = tt
+  known-groups_after turn keeps (g ∷ gs) h = (keeps g h.0, known-groups_after turn keeps gs h.1)
+
+  known-everywhere : (turn : Group → Turn) → ((g : Group) → Home g → Stays (turn g)) → (s : Machine) → AreKnown homes s.groups → AreKnown homes (everywhere turn s).after.groups
+  unfolding everywhere
+  known-everywhere turn keeps s h = known-groups_after turn keeps s.groups h
+
+  known-deleted : (s : Machine) (ticket : Ticket) (o : Result (List ℕ) Code) → AreKnown homes s.groups → AreKnown homes (deleted s ticket o).after.groups
+  unfolding deleted
+  known-deleted s ticket (Ok id) h = each-without Home id s.groups h
+  known-deleted s ticket (Err code) h = h
+
+  pub known-met : (s : Machine) (e : Event) → Owns homes e → AreKnown homes s.groups → AreKnown homes (met s e).after.groups
+  unfolding met
+  known-met s (event.Join ticket r fresh) own h =
+      known-concluded s ticket (join s.last r fresh ticket s.groups)
+      (fine-join Stays s.last r fresh ticket s.groups
+      (λ id new named _.
+      let g : Group = new_group id in
+      stays g.id (join_new s.last r new ticket g) (framed-join_new s.last r new ticket g) (known-join_new (at g.id) s.last r new ticket g (its_own ticket.session r.group g.id id own named (id-new_group id)) (known-new_group (at g.id) id)))
+      (λ id new g named e _ _.
+      stays g.id (join_new s.last r new ticket g) (framed-join_new s.last r new ticket g) (known-join_new (at g.id) s.last r new ticket g (its_own ticket.session r.group g.id id own named (found_named id s.groups g e)) (each-found Home id s.groups g e h)))
+      (λ id own_id g m named e _ _.
+      stays g.id (join_known s.last r own_id ticket m g) (framed-join_known s.last r own_id ticket m g) (known-join_known (at g.id) s.last r own_id ticket m g (its_own ticket.session r.group g.id id own named (found_named id s.groups g e)) (each-found Home id s.groups g e h)))) h
+  known-met s (event.Sync ticket r) own h =
+      known-concluded s ticket (sync s.last r ticket s.groups)
+      (fine-sync Stays s.last r ticket s.groups
+      (λ id own_id g m named e _ _ _ _.
+      stays g.id (sync_taken s.last r own_id ticket m g g.phase) (framed-sync_taken s.last r own_id ticket m g g.phase) (known-sync_taken (at g.id) s.last r own_id ticket m g g.phase (its_own ticket.session r.group g.id id own named (found_named id s.groups g e)) (each-found Home id s.groups g e h)))) h
+  known-met s (event.Beat ticket r) own h =
+      known-concluded s ticket (beat s.last r ticket s.groups)
+      (fine-beat Stays s.last r ticket s.groups (λ id own_id g e. stays g.id (beat_taken s.last own_id ticket g) (framed-beat_taken s.last own_id ticket g) (known-beat_taken (at g.id) s.last own_id ticket g (each-found Home id s.groups g e h)))) h
+  known-met s (event.Leave ticket r) own h =
+      known-concluded s ticket (leave s.last r ticket s.groups)
+      (fine-leave Stays s.last r ticket s.groups (λ id own_id g m e _. stays g.id (leave_taken s.last own_id ticket m g) (framed-leave_taken s.last own_id ticket m g) (known-leave_taken (at g.id) s.last own_id ticket m g (each-found Home id s.groups g e h)))) h
+  known-met s (event.Commit ticket r) own h =
+      known-concluded s ticket (commit s.last r ticket s.groups)
+      (fine-commit Stays s.last r ticket s.groups
+      (λ id _. let g : Group = new_group id in stays g.id (committed r.entries ticket g) (framed-committed s.last r.entries ticket None g) (known-committed (at g.id) s.last r.entries ticket None g (known-new_group (at g.id) id)))
+      (λ id g who e _. stays g.id (committed r.entries ticket (hearing_committer s.last who g)) (framed-committed s.last r.entries ticket who g) (known-committed (at g.id) s.last r.entries ticket who g (each-found Home id s.groups g e h)))) h
+  known-met s (event.Delete ticket id) own h = known-deleted s ticket (deleting id s.groups) h
+  known-met s (event.Describe ticket id) own h = h
+  known-met s (event.List ticket) own h = h
+  known-met s (event.Gone session) own h = known-everywhere (gone_in s.last session) (λ g k. stays g.id (gone_in s.last session g) (framed-gone_in s.last session g) (known-gone_in (at g.id) s.last session g k)) s h
+  known-met s event.Tick own h = known-everywhere (ticked s.last) (λ g k. stays g.id (ticked s.last g) (framed-ticked s.last g) (known-ticked (at g.id) s.last g k)) s h
+
+-- more sessions
+module _ (sessions more : ℕ → Bool) (kept : (q : ℕ) → sessions q ≡ true → more q ≡ true) where
+  more_waits : (w : Waits) → is_known sessions w ≡ true → is_known more w ≡ true
+  more_waits Nothing h = refl
+  more_waits (Join t) h = kept t.session h
+  more_waits (Sync t) h = kept t.session h
+
+  more_members : (ms : List Member) → Each (λ (m : Member). is_known sessions m.waits ≡ true) ms → Each (λ (m : Member). is_known more m.waits ≡ true) ms
+  more_members [] h = tt
+  more_members (m ∷ ms) h = (more_waits m.waits h.0, more_members ms h.1)
+
+pub known-more : (homes more : ℕ → List ℕ → Bool) → ((q : ℕ) (id : List ℕ) → homes q id ≡ true → more q id ≡ true) → (groups : List Group) → AreKnown homes groups → AreKnown more groups
+known-more homes more kept [] h = tt
+known-more homes more kept (g ∷ gs) h = (more_members (at homes g.id) (at more g.id) (λ q k. kept q g.id k) g.members h.0, known-more homes more kept gs h.1)
+
+-- a closed session has no calls left
+module _ (sessions fewer : ℕ → Bool) (now session : ℕ) (kept : (q : ℕ) → (Some session ≡ Some q → ⊥) → sessions q ≡ true → fewer q ≡ true) where
+  left_waits : (m : Member) (w : Waits) → is_known sessions w ≡ true
+      → is_known fewer (if is_some (called (OfSession session) w) then answered now m else record m { waits = w }).waits ≡ true
+  left_waits m Nothing h = refl
+  left_waits m (Join t) h =
+      (elim (t.session == session) as (λ b. (t.session == session) ≡ b → is_known fewer (if is_some (if b then Some t else None) then answered now m else record m { waits = Join t }).waits ≡ true) [
+        | true ↦ λ e. refl
+        | false ↦ λ e. kept t.session (λ same. eqb-false t.session session e (cc)) h
+      ]) refl
+  left_waits m (Sync t) h =
+      (elim (t.session == session) as (λ b. (t.session == session) ≡ b → is_known fewer (if is_some (if b then Some t else None) then answered now m else record m { waits = Sync t }).waits ≡ true) [
+        | true ↦ λ e. refl
+        | false ↦ λ e. kept t.session (λ same. eqb-false t.session session e (cc)) h
+      ]) refl
+
+  left_members : (ms : List Member) → Each (λ (m : Member). is_known sessions m.waits ≡ true) ms → Each (λ (m : Member). is_known fewer m.waits ≡ true) (after_answers (OfSession session) now ms)
+  unfolding after_answers
+  left_members [] h = tt
+  left_members (m ∷ ms) h = (left_waits m m.waits h.0, left_members ms h.1)
+
+  left_group : (g : Group) → Known sessions g → Known fewer (gone_in now session g).group
+  unfolding gone_in
+  left_group g h = left_members g.members h
+
+pub known-left_all : (homes fewer : ℕ → List ℕ → Bool) (now session : ℕ) → ((q : ℕ) (id : List ℕ) → (Some session ≡ Some q → ⊥) → homes q id ≡ true → fewer q id ≡ true) → (groups : List Group) → AreKnown homes groups → AreKnown fewer (groups_after (gone_in now session) groups)
+known-left_all homes fewer now session kept [] h = tt
+known-left_all homes fewer now session kept (g ∷ gs) h =
+    (stays fewer g.id (gone_in now session g) (framed-gone_in now session g) (left_group (at homes g.id) (at fewer g.id) now session (λ q apart k. kept q g.id apart k) g h.0), known-left_all homes fewer now session kept gs h.1)
+
+same_after : (homes fewer : ℕ → List ℕ → Bool) (o : Option ℕ) → o ≡ None → ((q : ℕ) (id : List ℕ) → (o ≡ Some q → ⊥) → homes q id ≡ true → fewer q id ≡ true) → (q : ℕ) (id : List ℕ) → homes q id ≡ true → fewer q id ≡ true
+same_after homes fewer o none kept q id h = kept q id (λ e. cc) h
+
+-- what is known after an event, where the session that it closed is forgotten
+pub known-step : (homes fewer : ℕ → List ℕ → Bool) (s : Machine) (e : Event) → ((q : ℕ) (id : List ℕ) → (closed e ≡ Some q → ⊥) → homes q id ≡ true → fewer q id ≡ true) → Owns homes e → AreKnown homes s.groups → AreKnown fewer (met s e).after.groups
+unfolding met everywhere
+known-step homes fewer s (event.Gone session) kept own h = known-left_all homes fewer s.last session kept s.groups h
+known-step homes fewer s (event.Join ticket r fresh) kept own h = known-more homes fewer (same_after homes fewer None refl kept) _ (known-met homes s (event.Join ticket r fresh) own h)
+known-step homes fewer s (event.Sync ticket r) kept own h = known-more homes fewer (same_after homes fewer None refl kept) _ (known-met homes s (event.Sync ticket r) own h)
+known-step homes fewer s (event.Beat ticket r) kept own h = known-more homes fewer (same_after homes fewer None refl kept) _ (known-met homes s (event.Beat ticket r) own h)
+known-step homes fewer s (event.Leave ticket r) kept own h = known-more homes fewer (same_after homes fewer None refl kept) _ (known-met homes s (event.Leave ticket r) own h)
+known-step homes fewer s (event.Commit ticket r) kept own h = known-more homes fewer (same_after homes fewer None refl kept) _ (known-met homes s (event.Commit ticket r) own h)
+known-step homes fewer s (event.Delete ticket id) kept own h = known-more homes fewer (same_after homes fewer None refl kept) _ (known-met homes s (event.Delete ticket id) own h)
+known-step homes fewer s (event.Describe ticket id) kept own h = known-more homes fewer (same_after homes fewer None refl kept) _ h
+known-step homes fewer s (event.List ticket) kept own h = known-more homes fewer (same_after homes fewer None refl kept) _ h
+known-step homes fewer s event.Tick kept own h = known-more homes fewer (same_after homes fewer None refl kept) _ (known-met homes s event.Tick own h)
+
+-- no call waits on a session that is none of these
+module _ (sessions : ℕ → Bool) (session : ℕ) (idle : sessions session ≡ false) where
+  idle_waits : (w : Waits) → is_known sessions w ≡ true → is_some (called (OfSession session) w) ≡ false
+  idle_waits Nothing h = refl
+  idle_waits (Join t) h =
+      (elim (t.session == session) as (λ b. (t.session == session) ≡ b → is_some (if b then Some t else None) ≡ false) [
+        | true ↦ λ e. let same : t.session ≡ session = eqb-true t.session session e in cc
+        | false ↦ λ e. refl
+      ]) refl
+  idle_waits (Sync t) h =
+      (elim (t.session == session) as (λ b. (t.session == session) ≡ b → is_some (if b then Some t else None) ≡ false) [
+        | true ↦ λ e. let same : t.session ≡ session = eqb-true t.session session e in cc
+        | false ↦ λ e. refl
+      ]) refl
+
+  idle_members : (ms : List Member) → Each (λ (m : Member). is_known sessions m.waits ≡ true) ms → list_any (is_waiting (OfSession session)) ms ≡ false
+  idle_members [] h = refl
+  idle_members (m ∷ ms) h = or_from (is_waiting (OfSession session) m) (list_any (is_waiting (OfSession session)) ms) (idle_waits m.waits h.0) (idle_members ms h.1)
+
+  idle_group : (now : ℕ) (g : Group) → Known sessions g → gone_in now session g ≡ turn_of g
+  idle_group now g h = calm_gone_in now session g (idle_members g.members h)
+
+-- a group that is no home of the session is not touched where it is closed
+pub known-apart : (homes : ℕ → List ℕ → Bool) (now session : ℕ) (groups : List Group) (k : ℕ) (d : Group) → k < length groups → homes session (get_or groups k d).id ≡ false → AreKnown homes groups → gone_in now session (get_or groups k d) ≡ turn_of (get_or groups k d)
+known-apart homes now session [] k d lt apart h = absurd (omega arith)
+known-apart homes now session (g ∷ gs) zero d lt apart h = idle_group (at homes g.id) session apart now g h.0
+known-apart homes now session (g ∷ gs) (suc k) d lt apart h = known-apart homes now session gs k d (omega arith) apart h.1
+
+-- after a loading no call waits
+module _ (sessions : ℕ → Bool) (now : ℕ) where
+  known-revived_members : (protocol : List ℕ) (ms : List KeptMember) → Each (λ (m : Member). is_known sessions m.waits ≡ true) (map (revived_member now protocol) ms)
+  unfolding revived_member
+  known-revived_members protocol [] = tt
+  known-revived_members protocol (m ∷ ms) = (refl, known-revived_members protocol ms)
+
+  known_with : (id : List ℕ) (r : GroupRecord) (o : Option RosterParts) → Known sessions (revived_with now id r o)
+  unfolding revived_with
+  known_with id r (Some roster) = known-revived_members roster.protocol roster.members
+  known_with id r None = tt
+
+  known_from : (id : List ℕ) (o : Option GroupRecord) → Known sessions (revived_from now id o)
+  known_from id None = known-new_group sessions id
+  known_from id (Some r) = known_with id r r.roster
+
+  known-revived_one : (state : State) (id : List ℕ) → Known sessions (revived now state id)
+  unfolding revived
+  known-revived_one state id = known_from id (kept_in state id)
+
+pub known-revived : (homes : ℕ → List ℕ → Bool) (now : ℕ) (state : State) (names : List (List ℕ)) → AreKnown homes (map (revived now state) names)
+known-revived homes now state [] = tt
+known-revived homes now state (x ∷ xs) = (known-revived_one (at homes (revived now state x).id) now state x, known-revived homes now state xs)
