@@ -1,0 +1,7 @@
+pub mod Spelled
+pub mod Whole
+pub mod Reading
+pub mod Loaded
+pub mod Kept
+pub mod Measured
+pub mod Standing

@@ -1,0 +1,67 @@
+-- The pair that an image carries: how many commands its frames spell, and the state that these make.
+use Rattle.std.specs.Prelude.{◌≡◌, ◌⊎◌, ℕ, ◌+◌, ◌≤◌, List, map, length, sum_by}
+use Rattle.std.specs.List.{flat_map, AllByRecursion}
+use Rattle.cg_disk.specs.Disk.{History, Image, IsImage, present}
+use Rattle.cg_frame.specs.Frames.{HasFrames, IsClosed}
+use Rattle.cg_frame.specs.Outcomes.{KeepsFramesTo}
+use Rattle.cg_frame.specs.declared.segment.Segment.{Segment}
+use Rattle.cg_frame.specs.declared.segment.TheConstants.{SEGMENT_SECTORS}
+use Rattle.cg_fold.specs.Durable.{State, after, folded}
+use Rattle.cg_record.specs.declared.command.Command.{Command}
+use Rattle.cg_record.specs.Lawful.{AreCommands}
+use Rattle.cg_record.specs.Spelling.{spelling}
+use Rattle.cg_store.specs.declared.segment.TheConstants.{COMMAND_NUMBER_MAX, FIRST_SEGMENT_SECTOR}
+
+-- the segment that has the frames
+abbrev pub first_segment : Segment
+first_segment = record { first = FIRST_SEGMENT_SECTOR; sectors = SEGMENT_SECTORS }
+
+-- the frame of a batch: how many commands it has, and the text of these
+abbrev pub frame_of : List Command → ℕ × List ℕ
+frame_of commands = (length commands, spelling commands)
+
+-- the commands of batches, in their order
+abbrev pub joined : List (List Command) → List Command
+joined batches = flat_map (λ (commands : List Command). commands) batches
+
+-- how many commands frames count
+abbrev pub counted : List (ℕ × List ℕ) → ℕ
+counted frames = sum_by (λ (frame : ℕ × List ℕ). frame.0) frames
+
+-- frames that each spell as many commands as they count: n together, which make the state
+pub record Spell (frames : List (ℕ × List ℕ)) (n : ℕ) (state : State) : Type 0 where
+  pub batches : List (List Command)
+  pub frames_are : frames ≡ map frame_of batches
+  pub lawful : AllByRecursion AreCommands batches
+  pub number : n ≡ length (joined batches)
+  pub state_is : state ≡ folded (joined batches)
+
+-- an image has these frames, and their commands can be numbered
+pub record IsWhole (image : Image) (frames : List (ℕ × List ℕ)) : Type 0 where
+  pub has : HasFrames image first_segment frames
+  pub in_range : counted frames ≤ COMMAND_NUMBER_MAX
+
+-- an image carries the number of its commands and the state that they make
+pub record Carries (image : Image) (n : ℕ) (state : State) : Type 0 where
+  pub frames : List (ℕ × List ℕ)
+  pub whole : IsWhole image frames
+  pub spelled : Spell frames n state
+
+-- whatever a crash leaves carries the pair
+abbrev pub AllCarry : History → ℕ → State → Type 0
+AllCarry history n state = (image : Image) → IsImage (present history) image → Carries image n state
+
+-- an image carries the pair, or the one with these commands too
+abbrev pub CarriesBeforeOrAfter : ℕ → State → List Command → Image → Type 0
+CarriesBeforeOrAfter n state commands image = Carries image n state ⊎ Carries image (n + length commands) (after state commands)
+
+-- whatever a crash leaves carries the pair, in frames up to a closed gate at `end`
+pub record Keeps (history : History) (end n : ℕ) (state : State) : Type 0 where
+  pub frames : List (ℕ × List ℕ)
+  pub kept : KeepsFramesTo (present history) first_segment frames end
+  pub in_range : counted frames ≤ COMMAND_NUMBER_MAX
+  pub spelled : Spell frames n state
+
+-- whatever a crash leaves has a closed gate at `end`
+abbrev pub IsFree : History → ℕ → Type 0
+IsFree history end = (image : Image) → IsImage (present history) image → IsClosed image (FIRST_SEGMENT_SECTOR + end)

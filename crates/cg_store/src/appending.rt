@@ -1,0 +1,156 @@
+//! Appending batches.
+ghost use Rattle.std.specs.Prelude.{◌≡◌, ◌≢◌, ℕ, ◌+◌, ◌≤◌, ◌<◌, true, false, length, Option, IfOk, IfErr, OnOk, IsErrOf, MatchResult, None};
+ghost use Rattle.std.specs.Option.{MatchOption};
+ghost use Rattle.cg_disk.specs.Disk.{Counts, LeavesOnly};
+ghost use Rattle.cg_frame.specs.Frames.{next_gate};
+ghost use Rattle.cg_frame.specs.Outcomes.{is_device_failure};
+ghost use Rattle.cg_frame.specs.declared.segment.TheConstants.{SEGMENT_SECTORS};
+ghost use Rattle.cg_fold.specs.Durable.{State, after};
+ghost use Rattle.cg_record.specs.Spelling.{spelling};
+ghost use Rattle.cg_store.specs.Batches.{Fits, has_room};
+ghost use Rattle.cg_store.specs.Carried.{AllCarry, CarriesBeforeOrAfter, IsFree, Keeps};
+ghost use Rattle.cg_store.specs.Faults.{IsToldOf, failed_append, failed_put, is_append_failure};
+ghost use Rattle.cg_store.specs.declared.segment.TheConstants.{COMMAND_NUMBER_MAX, FIRST_SEGMENT_SECTOR};
+
+use crate::batch::{Batch, text_bytes};
+use crate::fault::StoreFault;
+use crate::receipt::Receipt;
+use crate::segment::{COMMAND_NUMBER_MAX, segment};
+use crate::store::Store;
+use cg_disk::SectorDisk;
+use cg_frame::{FrameFault, fits};
+use cg_record::Command;
+use std::alloc::Global;
+
+// Appends the frame of a batch, and answers the position of the gate behind it.
+fn append_frame<D: SectorDisk>(
+    alloc: Global,
+    disk: &mut D,
+    end: u64,
+    commands: &[Command],
+) -> Result<u64, FrameFault>
+    requires some { 1 ≤ length commands.now }
+    requires on_disk { FIRST_SEGMENT_SECTOR + SEGMENT_SECTORS ≤ D.size disk.old }
+    requires gate { D.is_honest disk.old ≡ true → IsFree (D.history disk.old) end }
+
+    ensures ok { D.is_honest disk.old ≡ true → (n : ℕ) (state : State) → Keeps (D.history disk.old) end n state → n + length commands.now ≤ COMMAND_NUMBER_MAX
+        → IfOk result (λ next. Keeps (D.history disk.new) next (n + length commands.now) (after state commands.now)) }
+    ensures images { D.is_honest disk.old ≡ true → (n : ℕ) (state : State) → Keeps (D.history disk.old) end n state → n + length commands.now ≤ COMMAND_NUMBER_MAX
+        → LeavesOnly (D.history disk.old) (D.history disk.new) (CarriesBeforeOrAfter n state commands.now) }
+    ensures gate { D.is_honest disk.old ≡ true → IfOk result (λ next. IsFree (D.history disk.new) next) }
+    ensures next { IfOk result (λ next. next ≡ next_gate end (length (spelling commands.now))) }
+    ensures inside { IfOk result (λ next. next < SEGMENT_SECTORS) }
+    ensures no_room { IsErrOf result FrameFault.NoRoom → SEGMENT_SECTORS ≤ next_gate end (length (spelling commands.now)) }
+    ensures memory_leaves { IsErrOf result FrameFault.Memory → disk.new ≡ disk.old }
+    ensures device { Counts (D.failures disk.old) (D.failures disk.new) (is_device_failure result) }
+    ensures same_size { D.size disk.new ≡ D.size disk.old }
+    ensures same_honesty { D.is_honest disk.new ≡ D.is_honest disk.old }
+{
+    let payload = cg_record::write(alloc, commands)?;
+    let count = commands.len() as u64;
+    let next = cg_frame::append(alloc, disk, segment(), end, count, &payload)?;
+    Ok(next)
+}
+
+impl<D: SectorDisk> Store<D> {
+    ghost use Rattle.cg_store.specs.Receipts.{batch_of};
+    ghost use Rattle.cg_store.specs.Store.{IsUnchanged, StandsAt, disk_of, end_of, front_of, has_failed, refusal};
+
+    // Whether the frame of a batch fits, and its commands can be numbered.
+    fn has_room_for(&self, batch: &Batch) -> bool
+        ensures { result ≡ has_room (end_of self.now) (front_of self.now) batch.now.commands }
+    {
+        let commands = batch.commands.as_slice();
+        commands.len() as u64 <= COMMAND_NUMBER_MAX - self.front
+            && fits(segment(), self.end, text_bytes(commands))
+    }
+
+    // Why a batch is refused without a call of the disk and without memory, if it is.
+    #[tactic(auto, unfolding(crate::specs::Batches::refusal_of))]
+    fn refusal(&self, batch: &Batch) -> Option<StoreFault>
+        ensures value { result ≡ refusal self.now batch.now }
+        ensures clear { MatchOption result
+            (Fits (has_failed self.now) (end_of self.now) (front_of self.now) batch.now.commands)
+            (λ fault. is_append_failure fault ≡ false) }
+    {
+        if self.has_failed {
+            return Some(StoreFault::Failed);
+        }
+        if batch.first != self.front + 1 {
+            return Some(StoreFault::OutOfOrder);
+        }
+        if !self.has_room_for(batch) {
+            return Some(StoreFault::Full);
+        }
+        None
+    }
+
+    // Appends a batch, which the caller keeps.
+    fn put(&mut self, alloc: Global, batch: &Batch) -> Result<(), StoreFault>
+        ensures ok { (n : ℕ) (state : State) → StandsAt D.is_honest D.history self.old n state
+            → OnOk result (StandsAt D.is_honest D.history self.new (n + length batch.now.commands) (after state batch.now.commands)) }
+        ensures images { (n : ℕ) (state : State) → StandsAt D.is_honest D.history self.old n state
+            → LeavesOnly (D.history (disk_of self.old)) (D.history (disk_of self.new)) (CarriesBeforeOrAfter n state batch.now.commands) }
+        ensures number { OnOk result (front_of self.new ≡ front_of self.old + length batch.now.commands) }
+        ensures end { OnOk result (end_of self.new ≡ next_gate (end_of self.old) (length (spelling batch.now.commands))) }
+        ensures serves { OnOk result (has_failed self.new ≡ has_failed self.old) }
+        ensures same_number { IfErr result (λ fault. front_of self.new ≡ front_of self.old) }
+        ensures told { MatchResult result
+            (λ _. refusal self.old batch.now ≡ None)
+            (λ fault. IsToldOf (refusal self.old batch.now) fault) }
+        ensures unchanged { IfErr result (λ fault. fault ≢ StoreFault.Device → IsUnchanged self.old self.new) }
+        ensures failed { IsErrOf result StoreFault.Device → has_failed self.new ≡ true }
+        ensures device { Counts (D.failures (disk_of self.old)) (D.failures (disk_of self.new)) (failed_put result) }
+        ensures same_size { D.size (disk_of self.new) ≡ D.size (disk_of self.old) }
+        ensures same_honesty { D.is_honest (disk_of self.new) ≡ D.is_honest (disk_of self.old) }
+    {
+        if let Some(fault) = self.refusal(batch) {
+            return Err(fault);
+        }
+        let commands = batch.commands.as_slice();
+        match append_frame(alloc, &mut self.disk, self.end, commands) {
+            Ok(next) => {
+                self.end = next;
+                self.front += commands.len() as u64;
+                Ok(())
+            }
+            Err(FrameFault::Memory) => Err(StoreFault::Memory),
+            Err(FrameFault::Device) => {
+                self.has_failed = true;
+                Err(StoreFault::Device)
+            }
+            Err(FrameFault::NoRoom) => unreachable!(),
+        }
+    }
+
+    /// Appends a batch in one frame, in four calls of the disk. Each image since it began carries the pair before it or the one
+    /// after it; once it is `Ok` each crash leaves the batch, and the receipt has it. Each refusal gives the batch back.
+    /// After `Device` every call but `front` and `into_disk` answers `Failed`.
+    pub fn append(&mut self, alloc: Global, batch: Batch) -> Result<Receipt, (StoreFault, Batch)>
+        ensures ok { (n : ℕ) (state : State) → StandsAt D.is_honest D.history self.old n state
+            → OnOk result (StandsAt D.is_honest D.history self.new (n + length batch.commands) (after state batch.commands)) }
+        ensures images { (n : ℕ) (state : State) → StandsAt D.is_honest D.history self.old n state
+            → LeavesOnly (D.history (disk_of self.old)) (D.history (disk_of self.new)) (CarriesBeforeOrAfter n state batch.commands) }
+        ensures after { (n : ℕ) (state : State) → StandsAt D.is_honest D.history self.old n state
+            → OnOk result (AllCarry (D.history (disk_of self.new)) (n + length batch.commands) (after state batch.commands)) }
+        ensures batch { MatchResult result (λ receipt. batch_of receipt ≡ batch) (λ refused. refused.1 ≡ batch) }
+        ensures number { OnOk result (front_of self.new ≡ front_of self.old + length batch.commands) }
+        ensures end { OnOk result (end_of self.new ≡ next_gate (end_of self.old) (length (spelling batch.commands))) }
+        ensures serves { OnOk result (has_failed self.new ≡ has_failed self.old) }
+        ensures same_number { IfErr result (λ refused. front_of self.new ≡ front_of self.old) }
+        // Which refusal is told, and when.
+        ensures told { MatchResult result
+            (λ _. refusal self.old batch ≡ None)
+            (λ refused. IsToldOf (refusal self.old batch) refused.0) }
+        ensures unchanged { IfErr result (λ refused. refused.0 ≢ StoreFault.Device → IsUnchanged self.old self.new) }
+        ensures failed { IfErr result (λ refused. refused.0 ≡ StoreFault.Device → has_failed self.new ≡ true) }
+        ensures device { Counts (D.failures (disk_of self.old)) (D.failures (disk_of self.new)) (failed_append result) }
+        ensures same_size { D.size (disk_of self.new) ≡ D.size (disk_of self.old) }
+        ensures same_honesty { D.is_honest (disk_of self.new) ≡ D.is_honest (disk_of self.old) }
+    {
+        match self.put(alloc, &batch) {
+            Ok(()) => Ok(Receipt::new(batch)),
+            Err(fault) => Err((fault, batch)),
+        }
+    }
+}

@@ -1,0 +1,57 @@
+//! Opening a store.
+ghost use Rattle.std.specs.Prelude.{◌≡◌, ◌⊎◌, ℕ, ◌+◌, ◌≤◌, true, false, IfOk, IfErr, MatchResult};
+ghost use Rattle.cg_disk.specs.Disk.{Counts, Stays, present};
+ghost use Rattle.cg_frame.specs.declared.segment.TheConstants.{SEGMENT_SECTORS};
+ghost use Rattle.cg_fold.specs.Durable.{State};
+ghost use Rattle.cg_store.specs.Carried.{AllCarry, Carries};
+ghost use Rattle.cg_store.specs.Faults.{Tells, failed_opening};
+ghost use Rattle.cg_store.specs.declared.segment.TheConstants.{FIRST_SEGMENT_SECTOR};
+
+use crate::fault::OpenFault;
+use crate::loading::{self, Loading};
+use crate::store::Store;
+use cg_disk::SectorDisk;
+use cg_fold::Durable;
+use std::alloc::Global;
+
+impl<D: SectorDisk> Store<D> {
+    ghost use Rattle.cg_store.specs.Store.{StandsAt, disk_after, disk_of, front_of, has_failed};
+
+    /// Opens the store of a disk: the store, how many commands it has and what they make. It begins with a sync and writes nothing;
+    /// it reads each frame once, and then tells damage of frames before damage of records.
+    pub fn open(alloc: Global, disk: D) -> Result<(Self, u64, Durable), (OpenFault, D)>
+        requires { FIRST_SEGMENT_SECTOR + SEGMENT_SECTORS ≤ D.size disk }
+        // What the content carries is what is opened; want of memory and failures of the disk aside.
+        ensures carried { D.is_honest disk ≡ true → (n : ℕ) (state : State) → Carries (present (D.history disk)).content n state
+            → MatchResult result
+            (λ opened. (opened.1 ≡ n) × (opened.2 ≡ state))
+            (λ refused. (refused.0 ≡ OpenFault.Memory) ⊎ (refused.0 ≡ OpenFault.Device)) }
+        ensures stands { D.is_honest disk ≡ true → IfOk result (λ opened. StandsAt D.is_honest D.history opened.0 opened.1 opened.2) }
+        ensures images { D.is_honest disk ≡ true → IfOk result (λ opened. AllCarry (D.history (disk_of opened.0)) opened.1 opened.2) }
+        ensures tells { D.is_honest disk ≡ true → IfErr result (λ refused. Tells (present (D.history disk)).content refused.0) }
+        ensures serves { IfOk result (λ opened. (has_failed opened.0 ≡ false) × (front_of opened.0 ≡ opened.1)) }
+        ensures content { D.is_honest disk ≡ true → Stays (D.history disk) (D.history (disk_after result)) }
+        ensures device { Counts (D.failures disk) (D.failures (disk_after result)) (failed_opening result) }
+        ensures same_size { D.size (disk_after result) ≡ D.size disk }
+        ensures same_honesty { D.is_honest (disk_after result) ≡ D.is_honest disk }
+    {
+        let mut disk = disk;
+        let loading = match loading::load(alloc, &mut disk) {
+            Ok(loading) => loading,
+            Err(fault) => return Err((fault, disk)),
+        };
+        let Loading {
+            end,
+            count,
+            durable,
+            ..
+        } = loading;
+        let store = Store {
+            disk,
+            end,
+            front: count,
+            has_failed: false,
+        };
+        Ok((store, count, durable))
+    }
+}

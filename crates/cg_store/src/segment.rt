@@ -1,0 +1,41 @@
+//! Where the frames of a store stand.
+ghost use Rattle.std.specs.Prelude.{◌≡◌, ◌+◌, ◌≤◌, true, OnOk, is_err};
+ghost use Rattle.cg_disk.specs.Disk.{Counts};
+ghost use Rattle.cg_fold.specs.Durable.{empty};
+ghost use Rattle.cg_frame.specs.declared.segment.TheConstants.{SEGMENT_SECTORS};
+ghost use Rattle.cg_store.specs.Carried.{AllCarry, first_segment};
+ghost use Rattle.cg_store.specs.declared.segment.TheConstants.{FIRST_SEGMENT_SECTOR};
+
+use cg_disk::{DiskFault, SectorDisk};
+use cg_frame::{SEGMENT_SECTORS, Segment, close_gate};
+
+/// The first sector of the first segment: two root slots of a gate and a body stand before it.
+pub const FIRST_SEGMENT_SECTOR: u64 = 4;
+
+/// The sectors of a disk with one segment.
+pub const DISK_SECTORS: u64 = FIRST_SEGMENT_SECTOR + SEGMENT_SECTORS;
+
+/// The greatest number of a command.
+pub const COMMAND_NUMBER_MAX: u64 = 9_223_372_036_854_775_807;
+
+pub(crate) fn segment() -> Segment
+    ensures { result ≡ first_segment }
+{
+    Segment {
+        first: FIRST_SEGMENT_SECTOR,
+        sectors: SEGMENT_SECTORS,
+    }
+}
+
+/// Begins a first life on a disk: it writes and syncs one sector, takes no memory, and then the disk has no commands.
+/// What a crash during it leaves may carry nothing.
+pub fn format<D: SectorDisk>(disk: &mut D) -> Result<(), DiskFault>
+    requires { FIRST_SEGMENT_SECTOR + SEGMENT_SECTORS ≤ D.size disk.old }
+    ensures ok { D.is_honest disk.old ≡ true → OnOk result (AllCarry (D.history disk.new) 0 empty) }
+    ensures device { Counts (D.failures disk.old) (D.failures disk.new) (is_err result) }
+    ensures same_size { D.size disk.new ≡ D.size disk.old }
+    ensures same_honesty { D.is_honest disk.new ≡ D.is_honest disk.old }
+{
+    close_gate(disk, segment(), 0)?;
+    Ok(())
+}
