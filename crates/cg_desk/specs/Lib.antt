@@ -1,0 +1,5 @@
+pub mod Held
+pub mod Permits
+pub mod Outgoings
+pub mod Refusals
+pub mod Tokens
