@@ -1,12 +1,14 @@
 //! Stable groups of equally many members, and events for them.
 ghost use Rattle.std.specs.Prelude.{◌≡◌, IfOk, vec_len};
 
-use anyhow::{Result, bail};
+use anyhow::{Context, Result, bail};
+use cg_fold::Durable;
 use cg_group::{
-    BeatRequest, Effects, Event, Groups, JoinRequest, Listed, Protocol, Reply, Subscription,
-    SyncRequest, Ticket,
+    BeatRequest, Effects, Event, Groups, JoinRequest, Listed, Protocol, Protocols, Reply,
+    SyncEntry, SyncRequest, Ticket,
 };
 use cg_names::{GroupId, MemberId, Moment, Name};
+use cg_record::{Assignment, RebalanceTimeout, Subscription};
 use std::alloc::Global;
 use uuid::Uuid;
 
@@ -18,13 +20,29 @@ fn now() -> Moment {
     Moment::from_millis(0)
 }
 
-/// The sort of an event that a member of a stable group sends.
+/// A session on which no call waits.
+const IDLE_SESSION: u64 = 2;
+
+/// The sort of an event that leaves the groups stable.
 #[derive(Clone, Copy)]
 pub enum Sort {
     Beat,
     Sync,
     /// A JOIN with the list of protocols that the member has.
     Join,
+    /// A session is closed on which no call waits.
+    Gone,
+    /// A Tick at which nothing is due.
+    Tick,
+}
+
+/// The sort of an event that wants a group of its own.
+#[derive(Clone, Copy)]
+pub enum Once {
+    /// A JOIN that makes a group.
+    Making,
+    /// The SYNC of a leader, with an assignment for each member.
+    Leading,
 }
 
 /// Groups that are held, with a member of each that does not lead.
@@ -32,6 +50,7 @@ pub enum Sort {
 pub struct Scene {
     alloc: Global,
     groups: Groups,
+    members: u64,
     drawn: u64,
     followers: Vec<(GroupId, MemberId)>,
 }
@@ -47,19 +66,19 @@ fn join_request(
     member: Option<MemberId>,
     client: &str,
 ) -> Result<JoinRequest> {
-    let mut protocols = Listed::new(alloc);
-    protocols.push(Protocol {
+    let protocol = Protocol {
         name: name(alloc, "range")?,
         subscription: Subscription::empty(alloc),
-    })?;
+    };
+    let rebalance = RebalanceTimeout::new(20_000).context("a rebalance time-out")?;
     Ok(JoinRequest {
         group: Some(group),
         member,
         client: name(alloc, client)?,
         session_ms: 10_000,
-        rebalance_ms: 20_000,
+        rebalance,
         kind: name(alloc, "consumer")?,
-        protocols,
+        protocols: Protocols::only(alloc, protocol)?,
     })
 }
 
@@ -74,18 +93,39 @@ fn last_joined(effects: &Effects) -> Result<MemberId> {
     }
 }
 
+// An assignment for each member that a leader was told of.
+fn assignments(alloc: Global, joined: &Effects) -> Result<Listed<SyncEntry>> {
+    let mut entries = Listed::new(alloc);
+    for (_, reply) in joined.replies.as_slice() {
+        if let Reply::Joined(joined) = reply {
+            for member in joined.members.as_slice() {
+                entries.push(SyncEntry {
+                    member: member.id.clone()?,
+                    assignment: Assignment::from_bytes(alloc, b"partition 0")?,
+                })?;
+            }
+        }
+    }
+    Ok(entries)
+}
+
 impl Scene {
     /// So many stable groups, each of so many members: at least two.
-    pub fn new(alloc: Global, groups: u64, members: u64) -> Result<Scene> {
+    pub fn new(alloc: Global, count: u64, members: u64) -> Result<Scene> {
+        let groups = Groups::revive(alloc, Durable::new(alloc), now()).map_err(|(
+            wanting,
+            _,
+        )| wanting)?;
         let mut scene = Scene {
             alloc,
-            groups: Groups::revive(alloc, &[], now())?,
+            groups,
+            members,
             drawn: 0,
             followers: Vec::new(alloc),
         };
-        for number in 0..groups {
+        for number in 0..count {
             let id = format!(in alloc; "group-{number:04}")?;
-            scene.found(&id, members)?;
+            scene.found(&id)?;
         }
         Ok(scene)
     }
@@ -104,28 +144,35 @@ impl Scene {
         self.meet(Event::Join(ticket(), request, fresh))
     }
 
-    // The first member joins, then the others, then the first one again; its SYNC makes the group stable.
-    fn found(&mut self, id: &str, members: u64) -> Result<()> {
+    // The first member joins, then the others, then the first one again: what its leader is and what was answered last.
+    // The SYNC of the leader is waited for.
+    fn gather(&mut self, id: &str) -> Result<(MemberId, Effects)> {
         let leader = last_joined(&self.join(id, None, 0)?)?;
-        for client in 1..members {
+        for client in 1..self.members {
             self.join(id, None, client)?;
         }
-        let again = self.join(id, Some(leader.clone()?), 0)?;
-        let follower = last_joined(&again)?;
-        let sync = self.sync(name(self.alloc, id)?, leader);
+        let joined = self.join(id, Some(leader.clone()?), 0)?;
+        Ok((leader, joined))
+    }
+
+    // A group that its leader's SYNC has made stable.
+    fn found(&mut self, id: &str) -> Result<()> {
+        let (leader, joined) = self.gather(id)?;
+        let follower = last_joined(&joined)?;
+        let sync = self.sync(name(self.alloc, id)?, leader, Listed::new(self.alloc));
         self.meet(sync)?;
         self.followers.push((name(self.alloc, id)?, follower))?;
         Ok(())
     }
 
-    fn sync(&self, group: GroupId, member: MemberId) -> Event {
+    fn sync(&self, group: GroupId, member: MemberId, entries: Listed<SyncEntry>) -> Event {
         Event::Sync(
             ticket(),
             SyncRequest {
                 group: Some(group),
                 generation: GENERATION,
                 member: Some(member),
-                entries: Listed::new(self.alloc),
+                entries,
             },
         )
     }
@@ -140,11 +187,13 @@ impl Scene {
                     member: Some(member),
                 },
             )),
-            Sort::Sync => Ok(self.sync(group, member)),
+            Sort::Sync => Ok(self.sync(group, member, Listed::new(self.alloc))),
             Sort::Join => {
                 let request = join_request(self.alloc, group, Some(member), "client-1")?;
                 Ok(Event::Join(ticket(), request, Uuid::from_u128(0)))
             }
+            Sort::Gone => Ok(Event::Gone(IDLE_SESSION)),
+            Sort::Tick => Ok(Event::Tick),
         }
     }
 
@@ -159,6 +208,39 @@ impl Scene {
             };
             let event = self.event(sort, group.clone()?, member.clone()?)?;
             events.push(event)?;
+        }
+        Ok(events)
+    }
+
+    // The n-th of so many events of a sort, each of which wants a group of its own.
+    fn event_once(&mut self, sort: Once, n: usize, count: usize) -> Result<Event> {
+        let number = n
+            .saturating_mul(self.followers.len())
+            .checked_div(count)
+            .unwrap_or(0);
+        let id = format!(in self.alloc; "group-{number:04}-once-{n}")?;
+        match sort {
+            Once::Making => {
+                let request = join_request(self.alloc, name(self.alloc, &id)?, None, "client-0")?;
+                Ok(Event::Join(ticket(), request, Uuid::from_u128(0)))
+            }
+            Once::Leading => {
+                let (leader, joined) = self.gather(&id)?;
+                let entries = assignments(self.alloc, &joined)?;
+                Ok(self.sync(name(self.alloc, &id)?, leader, entries))
+            }
+        }
+    }
+
+    /// So many events of a sort, each of which wants a group of its own: the ids of these groups stand evenly among those of the
+    /// groups that are held.
+    pub fn events_once(&mut self, sort: Once, count: usize) -> Result<Vec<Event>>
+        ensures { IfOk result (λ events. vec_len events ≡ count) }
+    {
+        let mut events = Vec::new(self.alloc);
+        for n in 0..count {
+            let once = self.event_once(sort, n, count)?;
+            events.push(once)?;
         }
         Ok(events)
     }
