@@ -10,7 +10,6 @@ use Rattle.cg_record.specs.Rosters.{RosterParts}
 use Rattle.std.proofs.lemmas.Bool.{and_parts, and_from, or_parts, or_left, or_right, not-false, false≢true}
 use Rattle.std.proofs.lemmas.List.Folds.{list_all-append, list_all-map}
 use Rattle.cg_group.specs.declared.calls.Calls.TheVariants.{Joins, Syncs}
-use Rattle.cg_record.specs.declared.command.Command.{Command}
 use Rattle.cg_record.specs.declared.command.Command.TheVariants as command
 use Rattle.cg_group.specs.declared.event.Event.{Event}
 use Rattle.cg_fold.specs.declared.record.GroupRecord.{GroupRecord}
@@ -29,9 +28,11 @@ use Rattle.cg_group.specs.Kept.{Kept}
 use Rattle.cg_group.proofs.Kept.{kept_after}
 use Rattle.cg_group.specs.Laws.{IsRecordedAs, TellsOf}
 use Rattle.cg_group.specs.Leaving.{after_removal, has_joined}
-use Rattle.cg_group.specs.Membership.{has_id, heard, hearing, is_empty, is_named, is_preparing, is_same, with_member}
+use Rattle.cg_group.specs.Membership.{has_id, has_instance, heard, hearing, is_empty, is_named, is_preparing, is_same, with_member}
 use Rattle.cg_group.specs.Rebalance.{completed, completed_generation, emptied, emptied_command, is_ready, next_round, prepared, told_to_joins, tried}
+use Rattle.cg_group.specs.Replacing.{seated, seating}
 use Rattle.cg_group.specs.Syncing.{assigned, assigned_command, assigning, distributed, kept_member, kept_roster, told_to_syncs}
+use Rattle.cg_group.specs.Ticking.{can_complete, ended}
 use Rattle.cg_group.specs.Vote.{is_common, offers}
 use Rattle.cg_group.specs.Waiting.{after_answers}
 use Rattle.cg_group.proofs.Elections.{HasCommon, elected_is}
@@ -114,6 +115,17 @@ common-update name id r (m ∷ ms) h e =
     elim (has_id id m) as (λ b. list_all (offers name) (if b then updated r m ∷ ms else m ∷ with_member id (updated r) ms) ≡ true) [
       | true ↦ and_from (offers name (updated r m)) (list_all (offers name) ms) e parts.1
       | false ↦ and_from (offers name m) (list_all (offers name) (with_member id (updated r) ms)) parts.0 (common-update name id r ms parts.1 e)
+    ]
+
+pub common-seated : (name : List ℕ) (new : Member) (ms : List Member) → is_common ms name ≡ true → offers name new ≡ true → is_common (seating new ms) name ≡ true
+unfolding is_common seating
+common-seated name new [] h e = refl
+common-seated name new (m ∷ ms) h e =
+    let parts = and_parts (offers name m) (list_all (offers name) ms) h in
+    let rest = common-seated name new ms parts.1 e in
+    elim (has_instance new.instance m) as (λ b. list_all (offers name) ((if b then new else m) ∷ map (seated new) ms) ≡ true) [
+      | true ↦ and_from (offers name new) (list_all (offers name) (map (seated new) ms)) e rest
+      | false ↦ and_from (offers name m) (list_all (offers name) (map (seated new) ms)) parts.0 rest
     ]
 
 -- one of the protocols passes the test
@@ -295,6 +307,14 @@ module _ (events : List (Event × ℕ)) (kept : Kept) (id : List ℕ) where
   pub after-tried : (now : ℕ) (t : Turn) → t.group.id ≡ id → Joining t.group → After (tried now t)
   unfolding tried
   after-tried now t named j = elim (is_ready t.group) as (λ b. After (if b then completed now t else t)) [ true ↦ after-completed now t named j | false ↦ whole_joining events t.group (kept_after kept t.commands id) j ]
+
+  pub after-ended : (now : ℕ) (t : Turn) → t.group.id ≡ id → Joining t.group → After (ended now t)
+  unfolding ended
+  after-ended now t named j =
+      elim (can_complete t.group.members) as (λ b. After (if b then completed now t else record t { group = record t.group { started = now } })) [
+        | true ↦ after-completed now t named j
+        | false ↦ whole_joining events (record t.group { started = now }) (kept_after kept t.commands id) (record { phase = j.phase; kind = j.kind; common = j.common; quiet = j.quiet })
+      ]
 
   joining-prepared : (now : ℕ) (t : Turn) → is_some t.group.kind ≡ true → HasCommon t.group.members → Joining (prepared now t).group
   unfolding prepared

@@ -7,6 +7,7 @@ use Rattle.std.proofs.lemmas.List.Folds.{list_any-append}
 use Rattle.std.specs.Prelude.{pos, unwrap_or, option_map}
 use Rattle.cg_group.specs.declared.protocol.Protocol.{Protocol}
 use Rattle.std.specs.Ordering.{int_eq}
+use Rattle.std.specs.FinMap as finmap
 use Rattle.cg_record.specs.declared.member.Member.{Member as KeptMember}
 use Rattle.cg_record.specs.declared.command.Command.{Command}
 use Rattle.cg_group.specs.declared.event.Event.{Event}
@@ -36,14 +37,14 @@ use Rattle.cg_group.specs.Syncing.{kept_member}
 use Rattle.cg_group.specs.Ticking.{ticked}
 use Rattle.cg_group.specs.Vote.{is_common}
 use Rattle.cg_group.proofs.Agreeing.{Holds, Whole, kind_holds, suits_consistent, suits_empty}
-use Rattle.cg_group.proofs.AgreeingTurns.{after-beat_taken, after-committed, after-gone_in, after-join_known, after-join_new, after-leave_taken, after-sync_taken, after-ticked}
+use Rattle.cg_group.proofs.AgreeingTurns.{after-beat_taken, after-committed, after-gone_in, after-join_known, after-join_new, after-join_replacing, after-leave_taken, after-sync_taken, after-ticked}
 use Rattle.cg_group.proofs.Calling.{AllWaits, is_named_wait, no_sync}
-use Rattle.cg_group.proofs.Framed.{framed-beat_taken, framed-committed, framed-gone_in, framed-join_known, framed-join_new, framed-leave_taken, framed-sync_taken, framed-ticked}
-use Rattle.cg_group.proofs.KeptLists.{each-found, group_ids, id-found, kept_after-append, kept_after-none, differs_from_order, same_self}
+use Rattle.cg_group.proofs.Framed.{framed-beat_taken, framed-committed, framed-gone_in, framed-join_known, framed-join_new, framed-join_replacing, framed-leave_taken, framed-sync_taken, framed-ticked}
+use Rattle.cg_group.proofs.KeptLists.{each-found, id-found, kept_after-append, kept_after-none, same_self}
+use Rattle.cg_group.proofs.Covering.{covered-after_all, covered-revive, offsets-after_all, offsets-revive}
 use Rattle.cg_group.proofs.KeptMachine.{Fits, Invariant, each-over, fits_framed, invariant-concluded, invariant-deleted, invariant-everywhere}
 use Rattle.cg_group.proofs.Requests.{fine-beat, fine-commit, fine-join, fine-leave, fine-sync}
 use Rattle.std.proofs.lemmas.Cmp.{nat_list_eq_equiv}
-use Rattle.std.specs.declared.cmp.Ordering.TheVariants.{Less}
 
 -- the machine, with what is kept, after these events
 abbrev pub WholeMachine : List (Event × ℕ) → Machine → Kept → Type 0
@@ -126,10 +127,14 @@ module _ (events : List (Event × ℕ)) (kept : Kept) where
       (fine-join (Fits (Whole events) kept) s.last r fresh ticket s.groups
       (λ id new _ _. fits_framed (Whole events) kept (new_group id).id _ (framed-join_new s.last r new ticket (new_group id))
       (after-join_new events kept s.last r new ticket (new_group id) (suits_empty r (new_group id).members asked (none_in_new id)) (λ e. absurd (false≢true (sym e ∙ none_in_new id))) (λ _. quiet_in_new id)))
-      (λ id new g _ e _ fits.
+      (λ id new g _ e _ _ fits.
       let h : Whole events g (kept g.id) = each-found (λ k. Whole events k (kept k.id)) id s.groups g e v.each in
       fits_framed (Whole events) kept g.id _ (framed-join_new s.last r new ticket g)
       (after-join_new events kept s.last r new ticket g (suits_consistent r g asked fits) (λ filled. kind_holds g.phase g (kept g.id) filled h.holds) h.quiet))
+      (λ id new g old _ e free found fits.
+      let h : Whole events g (kept g.id) = each-found (λ k. Whole events k (kept k.id)) id s.groups g e v.each in
+      fits_framed (Whole events) kept g.id _ (framed-join_replacing s.last r new ticket old g)
+      (after-join_replacing events kept s.last r new ticket old g free found (suits_consistent r g asked fits) h))
       (λ id own g m _ e found fits.
       let h : Whole events g (kept g.id) = each-found (λ k. Whole events k (kept k.id)) id s.groups g e v.each in
       fits_framed (Whole events) kept g.id _ (framed-join_known s.last r own ticket m g)
@@ -148,7 +153,7 @@ module _ (events : List (Event × ℕ)) (kept : Kept) where
   whole-met s (event.Leave ticket r) asked seen v =
       invariant-concluded (Whole events) s kept ticket (leave s.last r ticket s.groups)
       (fine-leave (Fits (Whole events) kept) s.last r ticket s.groups
-      (λ id own g m e found. fits_framed (Whole events) kept g.id _ (framed-leave_taken s.last own ticket m g) (after-leave_taken events kept s.last own ticket m g found (each-found (λ k. Whole events k (kept k.id)) id s.groups g e v.each)))) v
+      (λ id g m e filled. fits_framed (Whole events) kept g.id _ (framed-leave_taken s.last m.id ticket m g) (after-leave_taken events kept s.last m.id ticket m g filled (each-found (λ k. Whole events k (kept k.id)) id s.groups g e v.each)))) v
   whole-met s (event.Commit ticket r) asked seen v =
       invariant-concluded (Whole events) s kept ticket (commit s.last r ticket s.groups)
       (fine-commit (Fits (Whole events) kept) s.last r ticket s.groups
@@ -159,6 +164,7 @@ module _ (events : List (Event × ℕ)) (kept : Kept) where
       (after-committed events kept s.last r.entries ticket None (new_group id) (subst P (sym gone) (whole_new events id))))
       (λ id g who e _. fits_framed (Whole events) kept g.id _ (framed-committed s.last r.entries ticket who g)
       (after-committed events kept s.last r.entries ticket who g (each-found (λ k. Whole events k (kept k.id)) id s.groups g e v.each)))) v
+  whole-met s (event.Fetch ticket r) asked seen v = let P : Kept → Type 0 = λ k. WholeMachine events s k in subst P (sym (kept_after-none kept)) v
   whole-met s (event.Delete ticket id) asked seen v = invariant-deleted (Whole events) s kept ticket (deleting id s.groups) v
   whole-met s (event.Describe ticket id) asked seen v = let P : Kept → Type 0 = λ k. WholeMachine events s k in subst P (sym (kept_after-none kept)) v
   whole-met s (event.List ticket) asked seen v = let P : Kept → Type 0 = λ k. WholeMachine events s k in subst P (sym (kept_after-none kept)) v
@@ -271,7 +277,10 @@ pub machine_and_commands_agree : MachineAndCommandsAgree
 machine_and_commands_agree state now events asked =
     let kept : Kept = kept_in (state_after state now events) in
     let v = whole-all state now events asked in
+    let same = offsets-after_all events (revive state now) state (offsets-revive state now) in
     record {
+      offsets = same;
       held = v.held;
+      read = λ key e. covered-after_all events (revive state now) (covered-revive state now) key (ap (λ o. is_some (finmap.get o key)) same ∙ e);
       told = each-over (λ g. Whole events g (kept g.id)) (λ g. AgreesIn g.phase g (kept g.id)) (λ g w. agrees_in g.phase g (kept g.id) w.holds) (after_all events (revive state now)).groups v.each;
     }

@@ -1,41 +1,48 @@
 -- A group and its record: each event that is taken keeps what holds of both.
-use Rattle.std.proofs.Common.{◌≡◌, ℕ, Bool, true, false, not, List, [], ◌∷◌, map, is_some, refl, sym, ap, ◌∙◌, subst, Option, Some, None}
+use Rattle.std.proofs.Common.{◌≡◌, ℕ, Bool, true, false, not, ◌&&◌, List, [], ◌∷◌, ◌++◌, map, is_some, refl, sym, ap, ◌∙◌, subst, Option, Some, None}
 use Rattle.std.specs.Prelude.{if◌then◌else◌}
 use Rattle.std.specs.List.{list_any, list_all}
+use Rattle.std.specs.Option.{option_map}
 use Rattle.std.proofs.lemmas.Bool.{and_parts, false≢true}
-use Rattle.cg_group.specs.declared.calls.Calls.TheVariants.{Joins, Any, OfSession}
+use Rattle.cg_group.specs.declared.calls.Calls.TheVariants.{Joins, OfSession}
 use Rattle.cg_group.specs.declared.event.Event.{Event}
 use Rattle.cg_group.specs.declared.group.Group.{Group}
 use Rattle.cg_group.specs.declared.group.Phase.{Phase}
 use Rattle.cg_group.specs.declared.group.Phase.TheVariants.{Empty, Preparing, Completing, Stable}
 use Rattle.cg_group.specs.declared.member.Member.{Member}
 use Rattle.cg_group.specs.declared.member.Waits.{Waits}
-use Rattle.cg_group.specs.declared.member.Waits.TheVariants.{Join, Sync}
+use Rattle.cg_group.specs.declared.member.Waits.TheVariants.{Join, Nothing, Sync}
 use Rattle.cg_group.specs.declared.request.JoinRequest.{JoinRequest}
 use Rattle.cg_group.specs.declared.request.SyncRequest.{SyncRequest}
 use Rattle.cg_group.specs.declared.ticket.Ticket.{Ticket}
 use Rattle.cg_group.specs.declared.turn.Turn.{Turn}
+use Rattle.cg_record.specs.declared.command.Command.{Command}
 use Rattle.cg_record.specs.declared.command.Command.TheVariants as command
+use Rattle.cg_record.specs.Rosters.{may_replace}
+use Rattle.cg_fold.specs.Record.{replaced_record}
 use Rattle.cg_fold.specs.declared.record.GroupRecord.{GroupRecord}
 use Rattle.cg_group.specs.declared.commit_entry.CommitEntry.{CommitEntry}
 use Rattle.cg_group.specs.Beating.{beat_taken}
 use Rattle.cg_group.specs.Commits.{kept_entry}
 use Rattle.cg_group.specs.Committing.{committed, hearing_committer, keeping_entries}
-use Rattle.cg_group.specs.Joining.{admitted, in_join_phase, is_current, join_again, join_current, join_known, join_new, new_member, updated, updating, waiting, waits_with}
+use Rattle.cg_group.specs.Joining.{admitted, in_join_phase, is_current, join_again, join_current, join_known, join_new, new_member, rejoined, updated, updating, waiting, waits_with}
 use Rattle.cg_group.specs.Kept.{Kept}
 use Rattle.cg_group.proofs.Kept.{kept_after}
 use Rattle.cg_group.specs.Laws.{has_named}
 use Rattle.cg_group.specs.Leaving.{after_removal, gone_in, leave_taken, left}
-use Rattle.cg_group.specs.Membership.{find_member, has_id, heard, hearing, is_empty, is_named, is_preparing, keeping, leads, with_member}
+use Rattle.cg_group.specs.Membership.{find_instance, find_member, has_id, heard, hearing, is_empty, is_named, is_preparing, is_stable, keeping, leads, with_member}
 use Rattle.cg_group.specs.Rebalance.{completed, is_ready, tried, turn_of}
+use Rattle.cg_group.specs.Replacing.{join_replacing, keeps_generation, replaced, replaced_command, replaced_in_place, replacing, seating, successor}
 use Rattle.cg_group.specs.Syncing.{distributed, kept_member, sync_current, sync_taken, sync_waits}
-use Rattle.cg_group.specs.Ticking.{at_deadline, expired, is_due, is_overdue, ticked}
+use Rattle.cg_group.specs.Ticking.{at_deadline, ended, expired, is_due, is_overdue, outstays, ticked}
 use Rattle.cg_group.specs.Waiting.{after_answers, is_waiting}
+use Rattle.cg_group.proofs.Elections.{HasCommon}
 use Rattle.cg_group.proofs.Framed.{Framed, framed-in_join_phase, framed-waiting, framed-expired_of}
 use Rattle.cg_group.proofs.Keeping.{map-with_member, keep-after_answers}
 use Rattle.cg_group.proofs.KeptLists.{kept_after-one, same_names}
-use Rattle.cg_group.proofs.Calling.{AllWaits, each-filter, is_named_wait, no_sync, waits-after_answers, waits-append, waits-with_member}
-use Rattle.cg_group.proofs.Agreeing.{After, Holds, Joining, Suits, Whole, after-after_removal, after-completed, after-distributed, after-hearing, after-tried, common-append, common-filter, common-map, common-update, empty_members, joining-in_join_phase, joining-waiting, joining_from, kind_holds, lasting_kept, lasting_protocols, preparing_is, whole-members}
+use Rattle.cg_group.proofs.Calling.{AllWaits, each-filter, is_named_wait, no_sync, waits-after_answers, waits-append, waits-seated, waits-with_member}
+use Rattle.cg_group.proofs.Succeeding.{successor_may, told-replacing}
+use Rattle.cg_group.proofs.Agreeing.{After, Holds, Joining, Suits, Whole, after-after_removal, after-completed, after-distributed, after-ended, after-hearing, after-tried, common-append, common-filter, common-map, common-seated, common-update, empty_members, joining-in_join_phase, joining-waiting, joining_from, kind_holds, lasting_kept, lasting_protocols, preparing_is, whole-members}
 
 -- an event
 
@@ -52,6 +59,11 @@ filled_found : (own : List ℕ) (ms : List Member) (m : Member) → find_member 
 unfolding find_member
 filled_found own [] m e = cc
 filled_found own (x ∷ xs) m e = refl
+
+filled_by : (instance : Option (List ℕ)) (ms : List Member) (m : Member) → find_instance instance ms ≡ Some m → is_empty ms ≡ false
+unfolding find_instance
+filled_by instance [] m e = cc
+filled_by instance (x ∷ xs) m e = refl
 
 filled_passes : (p : Member → Bool) (ms : List Member) → list_any p ms ≡ true → is_empty ms ≡ false
 filled_passes p [] e = sym e
@@ -80,19 +92,62 @@ module _ (events : List (Event × ℕ)) (kept : Kept) where
   pub after-join_new : (now : ℕ) (r : JoinRequest) (new : List ℕ) (ticket : Ticket) (g : Group) → Suits r g.members → (is_empty g.members ≡ false → is_some g.kind ≡ true) → (is_preparing g.phase ≡ true → AllWaits no_sync g.members) → After events kept g.id (join_new now r new ticket g)
   unfolding join_new admitted new_member
   after-join_new now r new ticket g suits kinds quiet =
-      let m : Member = new_member now r new ticket in
+      let m : Member = new_member now r new [] (Join ticket) in
       let t : Turn = turn_of (admitted m r.kind g) in
       let kind : is_some t.group.kind ≡ true = (elim (is_empty g.members) as (λ b. is_empty g.members ≡ b → is_some (if b then Some r.kind else g.kind) ≡ true) [ true ↦ λ _. refl | false ↦ kinds ]) refl in
       after-tried events kept g.id now (in_join_phase now t) (framed-in_join_phase g.id now t (refl, tt)).0
       (joining-in_join_phase events kept g.id now t kind (common-append suits.name g.members m suits.common suits.offers) (λ p. waits-append no_sync g.members m (quiet p) refl))
 
+  after-rejoined : (id : List ℕ) (now : ℕ) (own : List ℕ) (ticket : Ticket) (t : Turn) → Framed id t → is_some t.group.kind ≡ true → HasCommon t.group.members → (is_preparing t.group.phase ≡ true → AllWaits no_sync t.group.members) → After events kept id (rejoined now own ticket t)
+  unfolding rejoined
+  after-rejoined id now own ticket t framed kind common quiet =
+      let u : Turn = in_join_phase now t in
+      let j : Joining u.group = joining-in_join_phase events kept id now t kind common quiet in
+      after-tried events kept id now (waiting now own (Join ticket) u) (framed-waiting id now own (Join ticket) u (framed-in_join_phase id now t framed)).0 (joining-waiting events kept id now own ticket u j)
+
   after-join_again : (now : ℕ) (r : JoinRequest) (own : List ℕ) (ticket : Ticket) (g : Group) → is_empty g.members ≡ false → Suits r g.members → Whole events g (kept g.id) → After events kept g.id (join_again now r own ticket g)
   unfolding join_again updating
   after-join_again now r own ticket g filled suits h =
-      let t : Turn = turn_of (updating r own g) in
-      let u : Turn = in_join_phase now t in
-      let j : Joining u.group = joining-in_join_phase events kept g.id now t (kind_holds g.phase g (kept g.id) filled h.holds) (suits.name, common-update suits.name own r g.members suits.common suits.offers) (λ p. waits-with_member no_sync own (updated r) (λ m _ e. e) g.members (h.quiet p)) in
-      after-tried events kept g.id now (waiting now own (Join ticket) u) (framed-waiting g.id now own (Join ticket) u (framed-in_join_phase g.id now t (refl, tt))).0 (joining-waiting events kept g.id now own ticket u j)
+      after-rejoined g.id now own ticket (turn_of (updating r own g)) (refl, tt) (kind_holds g.phase g (kept g.id) filled h.holds) (suits.name, common-update suits.name own r g.members suits.common suits.offers) (λ p. waits-with_member no_sync own (updated r) (λ m _ e. e) g.members (h.quiet p))
+
+  after-replaced_in_place : (ticket : Ticket) (new : Member) (g : Group) (t : Turn) → t.commands ≡ [] → t.group ≡ replacing new g → new.waits ≡ Nothing → g.phase ≡ Stable → HasCommon (seating new g.members) → may_replace (kept_member g.protocol new) (map (kept_member g.protocol) g.members) ≡ true → Whole events g (kept g.id) → After events kept g.id (replaced_in_place ticket (kept_member g.protocol new) g t)
+  unfolding replaced_in_place replacing seating
+  after-replaced_in_place ticket new g t bare group waits phase common may h =
+      let c : Command = replaced_command (kept_member g.protocol new) g in
+      let calm : is_named_wait events g.id g.generation new.id new.waits ≡ true = let Q : Waits → Type 0 = λ w. is_named_wait events g.id g.generation new.id w ≡ true in subst Q (sym waits) refl in
+      let P : Phase → Type 0 = λ x. Holds x g (kept g.id) in
+      let H : Phase → Type 0 = λ x. Holds x (replacing new g) (option_map (replaced_record (kept_member g.protocol new)) (kept g.id)) in
+      let whole : Whole events (replacing new g) (option_map (replaced_record (kept_member g.protocol new)) (kept g.id)) = record {
+        common = common;
+        holds = subst H (sym phase) (told-replacing new g (kept g.id) phase may (subst P phase h.holds));
+        named = waits-seated (is_named_wait events g.id g.generation) new g.members calm h.named;
+        quiet = λ p. absurd (false≢true (sym (ap is_preparing phase) ∙ p));
+      } in
+      let Q : Option GroupRecord → Type 0 = λ o. Whole events (replacing new g) o in
+      let R : Group → Type 0 = λ k. Whole events k (kept_after kept (c ∷ []) g.id) in
+      let S : List Command → Type 0 = λ cs. Whole events t.group (kept_after kept (cs ++ c ∷ []) g.id) in
+      subst S (sym bare) (subst R (sym group) (subst Q (sym (kept_after-one kept c g.id refl)) whole))
+
+  stable_phase : (p : Phase) (b : Bool) → (is_stable p && b) ≡ true → p ≡ Stable
+  stable_phase Stable b e = refl
+  stable_phase Empty b e = cc
+  stable_phase Preparing b e = cc
+  stable_phase Completing b e = cc
+
+  kept_phase : (g : Group) → keeps_generation g ≡ true → g.phase ≡ Stable
+  unfolding keeps_generation
+  kept_phase g e = stable_phase g.phase _ e
+
+  pub after-join_replacing : (now : ℕ) (r : JoinRequest) (id : List ℕ) (ticket : Ticket) (old : Member) (g : Group) → is_some (find_member id g.members) ≡ false → find_instance r.instance g.members ≡ Some old → Suits r g.members → Whole events g (kept g.id) → After events kept g.id (join_replacing now r id ticket old g)
+  unfolding join_replacing replaced replacing seating new_member
+  after-join_replacing now r id ticket old g own found suits h =
+      let new : Member = successor now r id old in
+      let t : Turn = replaced new old g in
+      let common : HasCommon (seating new g.members) = (suits.name, common-seated suits.name new g.members suits.common suits.offers) in
+      (elim (keeps_generation t.group) as (λ b. keeps_generation t.group ≡ b → After events kept g.id (if b then replaced_in_place ticket (kept_member g.protocol new) g t else rejoined now id ticket t)) [
+        | true ↦ λ e. after-replaced_in_place ticket new g t refl refl refl (kept_phase t.group e) common (successor_may now r id old g own found) h
+        | false ↦ λ e. after-rejoined g.id now id ticket t (refl, tt) (kind_holds g.phase g (kept g.id) (filled_by r.instance g.members old found) h.holds) common (λ p. waits-seated no_sync new g.members refl (h.quiet p))
+      ]) refl
 
   after-join_current : (now : ℕ) (own : List ℕ) (ticket : Ticket) (m : Member) (g : Group) → Whole events g (kept g.id) → After events kept g.id (join_current now own ticket m g)
   unfolding join_current kept_after
@@ -147,12 +202,12 @@ module _ (events : List (Event × ℕ)) (kept : Kept) where
       let P : Option GroupRecord → Type 0 = λ o. Whole events (hearing now own g) o in
       subst P (sym (kept_after-one kept (command.Committed (record { group = (hearing now own g).id; entries = map kept_entry entries })) g.id (id-hearing now own g))) (after-hearing events kept g.id now own g h)
 
-  pub after-leave_taken : (now : ℕ) (own : List ℕ) (ticket : Ticket) (m : Member) (g : Group) → find_member own g.members ≡ Some m → Whole events g (kept g.id) → After events kept g.id (leave_taken now own ticket m g)
+  pub after-leave_taken : (now : ℕ) (own : List ℕ) (ticket : Ticket) (m : Member) (g : Group) → is_empty g.members ≡ false → Whole events g (kept g.id) → After events kept g.id (leave_taken now own ticket m g)
   unfolding leave_taken left keeping
-  after-leave_taken now own ticket m g found h =
-      after-after_removal events kept g.id now (left own ticket m g) refl (kind_holds g.phase g (kept g.id) (filled_found own g.members m found) h.holds) (common-filter (λ x. not (has_id own x)) g.members h.common)
+  after-leave_taken now own ticket m g filled h =
+      after-after_removal events kept g.id now (left own ticket m g) refl (kind_holds g.phase g (kept g.id) filled h.holds) (common-filter (λ x. not (has_id own x)) g.members h.common)
       (λ p. each-filter (λ x. no_sync x.id x.waits ≡ true) (λ x. not (has_id own x)) g.members (h.quiet p))
-      (λ p. nothing_found own g.members m found (empty_members events g (kept g.id) h p))
+      (λ p. false≢true (sym filled ∙ ap is_empty (empty_members events g (kept g.id) h p)))
 
   pub after-gone_in : (now session : ℕ) (g : Group) → Whole events g (kept g.id) → After events kept g.id (gone_in now session g)
   unfolding gone_in kept_after
@@ -185,9 +240,9 @@ module _ (events : List (Event × ℕ)) (kept : Kept) where
   after-at_deadline : (now : ℕ) (id : List ℕ) (t : Turn) → Framed id t → After events kept id t → After events kept id (at_deadline now t)
   unfolding at_deadline
   after-at_deadline now id t f h =
-      (elim (is_due now t.group) as (λ b. is_due now t.group ≡ b → After events kept id (if b then completed now (record t { group = keeping (is_waiting Any) t.group }) else t)) [
-        | true ↦ λ e. after-completed events kept id now (record t { group = keeping (is_waiting Any) t.group }) (id-keeping (is_waiting Any) t.group ∙ f.0)
-            (joining-keeping (is_waiting Any) t.group (joining_from events t.group (kept_after kept t.commands id) h (preparing_is t.group.phase (is_preparing_due now t.group e))))
+      (elim (is_due now t.group) as (λ b. is_due now t.group ≡ b → After events kept id (if b then ended now (record t { group = keeping outstays t.group }) else t)) [
+        | true ↦ λ e. after-ended events kept id now (record t { group = keeping outstays t.group }) (id-keeping outstays t.group ∙ f.0)
+            (joining-keeping outstays t.group (joining_from events t.group (kept_after kept t.commands id) h (preparing_is t.group.phase (is_preparing_due now t.group e))))
         | false ↦ λ e. h
       ]) refl
 

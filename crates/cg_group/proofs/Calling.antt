@@ -10,7 +10,8 @@ use Rattle.cg_group.specs.declared.member.Waits.TheVariants.{Nothing, Join, Sync
 use Rattle.cg_group.specs.declared.request.SyncEntry.{SyncEntry}
 use Rattle.cg_group.specs.Kept.{Each}
 use Rattle.cg_group.specs.Laws.{has_named}
-use Rattle.cg_group.specs.Membership.{has_id, with_member}
+use Rattle.cg_group.specs.Membership.{has_id, has_instance, with_member}
+use Rattle.cg_group.specs.Replacing.{seated}
 use Rattle.cg_group.specs.Syncing.{assigned}
 use Rattle.cg_group.specs.Waiting.{after_answer, after_answers, answered, called, is_waiting}
 
@@ -79,6 +80,11 @@ module _ (q : List ℕ → Waits → Bool) where
   pub waits-assigned : (entries : List SyncEntry) (ms : List Member) → AllWaits q ms → AllWaits q (map (assigned entries) ms)
   waits-assigned entries [] h = tt
   waits-assigned entries (m ∷ ms) h = (h.0, waits-assigned entries ms h.1)
+
+  pub waits-seated : (new : Member) (ms : List Member) → q new.id new.waits ≡ true → AllWaits q ms → AllWaits q (map (seated new) ms)
+  waits-seated new [] own h = tt
+  waits-seated new (m ∷ ms) own h =
+      (elim (has_instance new.instance m) as (λ b. q (if b then new else m).id (if b then new else m).waits ≡ true) [ true ↦ own | false ↦ h.0 ], waits-seated new ms own h.1)
 
   pub waits-append : (ms : List Member) (m : Member) → AllWaits q ms → q m.id m.waits ≡ true → AllWaits q (ms ++ m ∷ [])
   waits-append [] m h e = (e, tt)

@@ -1,10 +1,10 @@
 -- No two members of a group have one id or one instance: each stage of an event keeps it.
-use Rattle.std.proofs.Common.{◌≡◌, ℕ, Bool, true, false, not, ◌||◌, List, [], ◌∷◌, ◌++◌, map, filter, find, cond, is_some, refl, sym, ap, ◌∙◌, subst, Option, Some, None}
+use Rattle.std.proofs.Common.{◌≡◌, ℕ, Bool, true, false, not, List, [], is_some, refl, ap, ◌∙◌, Option, Some, None}
 use Rattle.std.specs.Prelude.{if◌then◌else◌}
-use Rattle.std.specs.List.{list_any, flat_map}
+use Rattle.std.specs.List.{list_any}
 use Rattle.std.specs.Option.{option_to_list}
-use Rattle.std.proofs.lemmas.Bool.{and_parts, and_from, or_parts, or_from}
-use Rattle.cg_group.specs.declared.calls.Calls.TheVariants.{Any, OfSession}
+use Rattle.cg_record.specs.declared.member.Member.{Member as KeptMember}
+use Rattle.cg_group.specs.declared.calls.Calls.TheVariants.{OfSession, Any}
 use Rattle.cg_group.specs.declared.member.Member.{Member}
 use Rattle.cg_group.specs.declared.member.Waits.TheVariants.{Join, Sync}
 use Rattle.cg_group.specs.declared.group.Group.{Group}
@@ -18,17 +18,19 @@ use Rattle.cg_group.specs.declared.turn.Turn.{Turn}
 use Rattle.cg_group.specs.declared.commit_entry.CommitEntry.{CommitEntry}
 use Rattle.cg_group.specs.Beating.{beat_taken}
 use Rattle.cg_group.specs.Committing.{committed, hearing_committer, keeping_entries}
-use Rattle.cg_group.specs.Joining.{admitted, in_join_phase, is_current, join_again, join_current, join_known, join_new, new_group, new_member, updating, updated, waiting}
+use Rattle.cg_group.specs.Joining.{admitted, in_join_phase, is_current, join_again, join_current, join_known, join_new, new_group, new_member, rejoined, updating, updated, waiting}
 use Rattle.cg_group.specs.Names.{are_distinct}
 use Rattle.cg_group.specs.Members.{AreDistinct}
 use Rattle.cg_group.specs.Leaving.{after_removal, gone_in, leave_taken, left}
 use Rattle.cg_group.specs.Membership.{has_id, find_member, find_instance, hearing, keeping, leads}
 use Rattle.cg_group.specs.Rebalance.{turn_of, completed, tried}
-use Rattle.cg_group.specs.Syncing.{assigned, assigning, distributed, sync_current, sync_taken, sync_waits}
-use Rattle.cg_group.specs.Ticking.{at_deadline, expired, is_due, is_overdue, ticked}
-use Rattle.cg_group.specs.Waiting.{is_waiting}
-use Rattle.cg_group.proofs.Keeping.{IsLasting, map-same, map-with_member, keep-after_answers, keep-hearing, keep-waiting, keep-in_join_phase, keep-told_to_syncs, keep-completed, keep-tried, keep-after_removal}
+use Rattle.cg_group.specs.Syncing.{assigned, assigning, distributed, kept_member, sync_current, sync_taken, sync_waits}
+use Rattle.cg_group.specs.Ticking.{at_deadline, can_complete, ended, expired, is_due, is_overdue, outstays, ticked}
+use Rattle.cg_group.specs.Replacing.{join_replacing, keeps_generation, replaced, replaced_in_place, replacing, successor}
+use Rattle.cg_group.proofs.Keeping.{map-same, map-with_member, keep-after_answers, keep-hearing, keep-waiting, keep-in_join_phase, keep-told_to_syncs, keep-completed, keep-tried, keep-after_removal}
+use Rattle.cg_group.proofs.Seats.{distinct-seating}
 use Rattle.cg_group.proofs.Together.{distinct-filter, distinct-filter_instances, distinct-members-push, distinct-names, lasting_id, lasting_instance, no_instance_found}
+use Rattle.cg_group.specs.Waiting.{is_waiting}
 
 -- the members of the group are distinct
 abbrev pub Distinct : Group → Type 0
@@ -61,10 +63,10 @@ distinct-updating : (r : JoinRequest) (id : List ℕ) (g : Group) → Distinct g
 unfolding updating
 distinct-updating r id g h = distinct-names _ _ (map-with_member (λ m. m.id) id (updated r) (λ m. refl) g.members) (map-with_member (λ m. option_to_list m.instance) id (updated r) (λ m. refl) g.members) h
 
-pub distinct-join_new : (now : ℕ) (r : JoinRequest) (id : List ℕ) (ticket : Ticket) (g : Group) → Distinct g → is_some (find_member id g.members) ≡ false → Distinct (join_new now r id ticket g).group
+pub distinct-join_new : (now : ℕ) (r : JoinRequest) (id : List ℕ) (ticket : Ticket) (g : Group) → Distinct g → is_some (find_member id g.members) ≡ false → is_some (find_instance r.instance g.members) ≡ false → Distinct (join_new now r id ticket g).group
 unfolding join_new new_member
-distinct-join_new now r id ticket g h own =
-    distinct-tried now _ (distinct-in_join_phase now _ (distinct-admitted (new_member now r id ticket) r.kind g own (no_instance_found g.members) h))
+distinct-join_new now r id ticket g h own apart =
+    distinct-tried now _ (distinct-in_join_phase now _ (distinct-admitted (new_member now r id [] (Join ticket)) r.kind g own apart h))
 
 pub distinct-new_group : (id : List ℕ) → Distinct (new_group id)
 unfolding new_group are_distinct
@@ -74,12 +76,47 @@ pub free-new_group : (id new : List ℕ) → is_some (find_member new (new_group
 unfolding new_group find_member
 free-new_group id new = refl
 
+pub apart-new_group : (id : List ℕ) (instance : Option (List ℕ)) → is_some (find_instance instance (new_group id).members) ≡ false
+unfolding new_group find_instance
+apart-new_group id instance = refl
+
+distinct-rejoined : (now : ℕ) (id : List ℕ) (ticket : Ticket) (t : Turn) → Distinct t.group → Distinct (rejoined now id ticket t).group
+unfolding rejoined
+distinct-rejoined now id ticket t h =
+    let u : Turn = in_join_phase now t in
+    let v : Distinct (waiting now id (Join ticket) u).group = distinct-names _ _ (keep-waiting (λ m. m.id) lasting_id now id (Join ticket) u) (keep-waiting (λ m. option_to_list m.instance) lasting_instance now id (Join ticket) u) (distinct-in_join_phase now t h) in
+    distinct-tried now (waiting now id (Join ticket) u) v
+
+distinct-replacing : (new : Member) (g : Group) → is_some (find_member new.id g.members) ≡ false → Distinct g → Distinct (replacing new g)
+unfolding replacing
+distinct-replacing new g own h = distinct-seating new g.members own h
+
+distinct-replaced : (new old : Member) (g : Group) → is_some (find_member new.id g.members) ≡ false → Distinct g → Distinct (replaced new old g).group
+unfolding replaced
+distinct-replaced new old g own h = distinct-replacing new g own h
+
+distinct-replaced_in_place : (ticket : Ticket) (new : KeptMember) (g : Group) (t : Turn) → Distinct t.group → Distinct (replaced_in_place ticket new g t).group
+unfolding replaced_in_place
+distinct-replaced_in_place ticket new g t h = h
+
+id_successor : (now : ℕ) (r : JoinRequest) (id : List ℕ) (old : Member) → (successor now r id old).id ≡ id
+unfolding new_member
+id_successor now r id old = refl
+
+pub distinct-join_replacing : (now : ℕ) (r : JoinRequest) (id : List ℕ) (ticket : Ticket) (old : Member) (g : Group) → Distinct g → is_some (find_member id g.members) ≡ false → Distinct (join_replacing now r id ticket old g).group
+unfolding join_replacing
+distinct-join_replacing now r id ticket old g h own =
+    let new : Member = successor now r id old in
+    let t : Turn = replaced new old g in
+    let u : Distinct t.group = distinct-replaced new old g (ap (λ i. is_some (find_member i g.members)) (id_successor now r id old) ∙ own) h in
+    elim (keeps_generation t.group) as (λ b. Distinct (if b then replaced_in_place ticket (kept_member g.protocol new) g t else rejoined now id ticket t).group) [
+      | true ↦ distinct-replaced_in_place ticket (kept_member g.protocol new) g t u
+      | false ↦ distinct-rejoined now id ticket t u
+    ]
+
 distinct-join_again : (now : ℕ) (r : JoinRequest) (id : List ℕ) (ticket : Ticket) (g : Group) → Distinct g → Distinct (join_again now r id ticket g).group
 unfolding join_again
-distinct-join_again now r id ticket g h =
-    let t : Turn = in_join_phase now (turn_of (updating r id g)) in
-    let u : Distinct (waiting now id (Join ticket) t).group = distinct-names _ _ (keep-waiting (λ m. m.id) lasting_id now id (Join ticket) t) (keep-waiting (λ m. option_to_list m.instance) lasting_instance now id (Join ticket) t) (distinct-in_join_phase now (turn_of (updating r id g)) (distinct-updating r id g h)) in
-    distinct-tried now (waiting now id (Join ticket) t) u
+distinct-join_again now r id ticket g h = distinct-rejoined now id ticket (turn_of (updating r id g)) (distinct-updating r id g h)
 
 distinct-join_current : (now : ℕ) (id : List ℕ) (ticket : Ticket) (m : Member) (g : Group) → Distinct g → Distinct (join_current now id ticket m g).group
 unfolding join_current
@@ -151,11 +188,19 @@ distinct-expired now t h =
       | false ↦ distinct-tried now t h
     ]
 
+distinct-ended : (now : ℕ) (t : Turn) → Distinct t.group → Distinct (ended now t).group
+unfolding ended
+distinct-ended now t h =
+    elim (can_complete t.group.members) as (λ b. Distinct (if b then completed now t else record t { group = record t.group { started = now } }).group) [
+      | true ↦ distinct-completed now t h
+      | false ↦ h
+    ]
+
 distinct-at_deadline : (now : ℕ) (t : Turn) → Distinct t.group → Distinct (at_deadline now t).group
 unfolding at_deadline
 distinct-at_deadline now t h =
-    elim (is_due now t.group) as (λ b. Distinct (if b then completed now (record t { group = keeping (is_waiting Any) t.group }) else t).group) [
-      | true ↦ distinct-completed now (record t { group = keeping (is_waiting Any) t.group }) (distinct-keeping (is_waiting Any) t.group h)
+    elim (is_due now t.group) as (λ b. Distinct (if b then ended now (record t { group = keeping outstays t.group }) else t).group) [
+      | true ↦ distinct-ended now (record t { group = keeping outstays t.group }) (distinct-keeping outstays t.group h)
       | false ↦ h
     ]
 

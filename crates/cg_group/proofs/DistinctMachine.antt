@@ -1,5 +1,5 @@
 -- No two members of a group have one id or one instance: each event keeps it, and so does every list of events.
-use Rattle.std.proofs.Common.{◌≡◌, ℕ, List, [], ◌∷◌, map, refl, max, Option, Some, None}
+use Rattle.std.proofs.Common.{ℕ, List, [], ◌∷◌, map, refl, max, Option, Some, None}
 use Rattle.std.specs.Prelude.{IfSome}
 use Rattle.cg_record.specs.Rosters.{IsRoster, RosterParts}
 use Rattle.cg_fold.specs.declared.record.GroupRecord.{GroupRecord}
@@ -18,7 +18,7 @@ use Rattle.cg_group.specs.Leaving.{gone_in}
 use Rattle.cg_group.specs.Machine.{Machine, beat, commit, concluded, deleted, deleting, everywhere, groups_after, join, leave, met, step, sync}
 use Rattle.cg_group.specs.Reviving.{revive, revived, revived_from, revived_with}
 use Rattle.cg_group.specs.Ticking.{ticked}
-use Rattle.cg_group.proofs.Distinct.{Distinct, distinct-beat_taken, distinct-committed, distinct-gone_in, distinct-join_known, distinct-join_new, distinct-leave_taken, distinct-new_group, distinct-sync_taken, distinct-ticked, free-new_group}
+use Rattle.cg_group.proofs.Distinct.{Distinct, apart-new_group, distinct-beat_taken, distinct-committed, distinct-gone_in, distinct-join_known, distinct-join_new, distinct-join_replacing, distinct-leave_taken, distinct-new_group, distinct-sync_taken, distinct-ticked, free-new_group}
 use Rattle.cg_group.proofs.KeptLists.{each-found, each-put}
 use Rattle.cg_group.proofs.Rostering.{distinct-revived_members}
 use Rattle.cg_group.proofs.Removing.{each-without}
@@ -56,8 +56,9 @@ unfolding met
 distinct-met s (event.Join ticket r fresh) h =
     distinct-concluded s ticket (join s.last r fresh ticket s.groups)
     (fine-join After s.last r fresh ticket s.groups
-    (λ id new _ _. distinct-join_new s.last r new ticket (new_group id) (distinct-new_group id) (free-new_group id new))
-    (λ id new g _ e free _. distinct-join_new s.last r new ticket g (each-found Distinct id s.groups g e h) free)
+    (λ id new _ _. distinct-join_new s.last r new ticket (new_group id) (distinct-new_group id) (free-new_group id new) (apart-new_group id r.instance))
+    (λ id new g _ e free apart _. distinct-join_new s.last r new ticket g (each-found Distinct id s.groups g e h) free apart)
+    (λ id new g old _ e free _ _. distinct-join_replacing s.last r new ticket old g (each-found Distinct id s.groups g e h) free)
     (λ id own g m _ e _ _. distinct-join_known s.last r own ticket m g (each-found Distinct id s.groups g e h))) h
 distinct-met s (event.Sync ticket r) h =
     distinct-concluded s ticket (sync s.last r ticket s.groups)
@@ -67,12 +68,13 @@ distinct-met s (event.Beat ticket r) h =
     (fine-beat After s.last r ticket s.groups (λ id own g e. distinct-beat_taken s.last own ticket g (each-found Distinct id s.groups g e h))) h
 distinct-met s (event.Leave ticket r) h =
     distinct-concluded s ticket (leave s.last r ticket s.groups)
-    (fine-leave After s.last r ticket s.groups (λ id own g m e _. distinct-leave_taken s.last own ticket m g (each-found Distinct id s.groups g e h))) h
+    (fine-leave After s.last r ticket s.groups (λ id g m e _. distinct-leave_taken s.last m.id ticket m g (each-found Distinct id s.groups g e h))) h
 distinct-met s (event.Commit ticket r) h =
     distinct-concluded s ticket (commit s.last r ticket s.groups)
     (fine-commit After s.last r ticket s.groups
     (λ id _. distinct-committed s.last r.entries ticket None (new_group id) (distinct-new_group id))
     (λ id g who e _. distinct-committed s.last r.entries ticket who g (each-found Distinct id s.groups g e h))) h
+distinct-met s (event.Fetch ticket r) h = h
 distinct-met s (event.Delete ticket id) h = distinct-deleted s ticket (deleting id s.groups) h
 distinct-met s (event.Describe ticket id) h = h
 distinct-met s (event.List ticket) h = h

@@ -7,13 +7,13 @@ use Rattle.std.specs.Ordering.{match_ordering, nat_cmp}
 use Rattle.std.specs.declared.cmp.Ordering.TheVariants.{Less, Equal, Greater}
 use Rattle.std.proofs.lemmas.Bool.{and_from, false≢true, or_left, or_right}
 use Rattle.cg_names.specs.declared.code.Code.{Code}
-use Rattle.cg_group.specs.declared.calls.Calls.TheVariants.{Any, Syncs}
-use Rattle.cg_record.specs.declared.command.Command.{Command}
+use Rattle.cg_group.specs.declared.calls.Calls.TheVariants.{Syncs, Any}
 use Rattle.cg_record.specs.declared.member.Member.{Member as KeptMember}
 use Rattle.cg_record.specs.Rosters.{RosterParts}
 use Rattle.cg_group.specs.declared.event.Event.{Event}
 use Rattle.cg_group.specs.declared.event.Event.TheVariants as event
 use Rattle.cg_fold.specs.declared.record.GroupRecord.{GroupRecord}
+use Rattle.cg_fold.specs.Durable.{State, after}
 use Rattle.cg_group.specs.declared.group.Group.{Group}
 use Rattle.cg_group.specs.declared.group.Phase.{Phase}
 use Rattle.cg_group.specs.declared.group.Phase.TheVariants.{Empty, Preparing, Completing, Stable}
@@ -27,20 +27,24 @@ use Rattle.cg_group.specs.declared.request.SyncEntry.{SyncEntry}
 use Rattle.cg_group.specs.declared.request.SyncRequest.{SyncRequest}
 use Rattle.cg_group.specs.declared.ticket.Ticket.{Ticket}
 use Rattle.cg_group.specs.declared.turn.Turn.{Turn}
-use Rattle.cg_group.specs.Joining.{admitted, is_current, join_again, join_current, join_known, join_new, new_group, new_member, updating, waiting, waits_with}
+use Rattle.cg_group.specs.Joining.{admitted, is_current, join_again, join_current, join_known, join_new, new_group, new_member, rejoined, updating, waiting, waits_with}
 use Rattle.cg_group.specs.Kept.{Each, Kept, kept_in}
 use Rattle.cg_group.proofs.Kept.{kept-after, kept_after}
-use Rattle.cg_group.specs.Laws.{AssignmentsAreEarned, IsRecordedAs, TellsOf, after_all, has_named, is_earned, is_earned_in, is_in_roster, is_kept_for, state_after}
+use Rattle.cg_group.specs.Laws.{AreRequests, IsRecordedAs, TellsOf, after_all, has_named, is_earned, is_earned_in, is_in_roster, is_kept_for, state_after}
+use Rattle.cg_group.specs.declared.topic_partition.TopicPartition.{TopicPartition}
+use Rattle.cg_group.specs.Fetching.{fetched}
+use Rattle.cg_group.specs.Offsets.{OffsetMap}
 use Rattle.cg_group.specs.Leaving.{after_removal, gone_in, leave_taken, left}
 use Rattle.cg_group.specs.declared.commit_entry.CommitEntry.{CommitEntry}
 use Rattle.cg_group.specs.Committing.{committed, hearing_committer, keeping_entries}
 use Rattle.cg_group.specs.Machine.{Machine, Outcome, beat, commit, concluded, deleted, deleting, describe, everywhere, join, leave, met, step, sync, with_group}
 use Rattle.cg_group.specs.Membership.{find_member, has_id, heard, hearing, is_preparing, is_same, keeping, leads, with_member}
 use Rattle.cg_group.specs.Rebalance.{completed, joined_reply, next_round, tried, turn_of}
+use Rattle.cg_group.specs.Replacing.{join_replacing, keeps_generation, replaced, replaced_in_place, replaced_reply, successor}
 use Rattle.cg_group.specs.Reviving.{revive}
 use Rattle.cg_group.specs.Syncing.{assigned_command, assigning, distributed, kept_member, sync_current, sync_taken, sync_waits, synced_reply, told_to_syncs}
-use Rattle.cg_group.specs.Ticking.{at_deadline, expired, is_due, ticked}
-use Rattle.cg_group.specs.Waiting.{after_answers, answers, called, is_waiting}
+use Rattle.cg_group.specs.Ticking.{at_deadline, can_complete, ended, expired, is_due, outstays, ticked}
+use Rattle.cg_group.specs.Waiting.{after_answers, answers, called}
 use Rattle.cg_group.proofs.Agreeing.{Holds, IsCompleted, Whole, assigned_tells, empty_members}
 use Rattle.cg_group.proofs.AgreeingMachine.{WholeMachine, machine_more, sync_named, was_met_last, whole-all}
 use Rattle.cg_group.proofs.AgreeingTurns.{nothing_found, some_named}
@@ -50,7 +54,7 @@ use Rattle.cg_group.proofs.Keeping.{keep-after_answers, keep-hearing}
 use Rattle.cg_group.proofs.KeptLists.{each-found, id-found, kept_after-append, same_names, same_self}
 use Rattle.cg_group.proofs.KeptMachine.{each-over}
 use Rattle.cg_group.proofs.Requests.{Fine, fine-beat, fine-commit, fine-join, fine-leave, fine-sync}
-use Rattle.cg_group.proofs.Telling.{Told, each-answers, expired_tried, told-beat_taken, told-completed, told-gone_in, told-in_join_phase, told-left, told-removal, told-tried, told-waiting}
+use Rattle.cg_group.proofs.Telling.{Told, each-answers, expired_tried, told-beat_taken, told-completed, told-gone_in, told-in_join_phase, told-left, told-rejoined, told-removal, told-replaced, told-tried, told-waiting}
 
 -- each element is found among what is made of all
 each-in : {A B : Type 0} (f : A → B) (q : B → A → Bool) → ((x : A) → q (f x) x ≡ true) → (xs : List A) → Each (λ x. list_any (λ y. q y x) (map f xs) ≡ true) xs
@@ -139,6 +143,7 @@ abbrev Silent : Reply → Type 0
 Silent (reply.Synced bytes) = ⊥
 Silent (reply.Joined j) = Unit {0}
 Silent reply.Done = Unit {0}
+Silent (reply.Fetched partitions) = Unit {0}
 Silent (reply.Described d) = Unit {0}
 Silent (reply.Groups groups) = Unit {0}
 Silent (reply.Refused code) = Unit {0}
@@ -147,6 +152,7 @@ silent_in : (events : List (Event × ℕ)) (g : Group) (o : Option GroupRecord) 
 silent_in events g o t (reply.Synced bytes) h = absurd h
 silent_in events g o t (reply.Joined j) h = refl
 silent_in events g o t reply.Done h = refl
+silent_in events g o t (reply.Fetched partitions) h = refl
 silent_in events g o t (reply.Described d) h = refl
 silent_in events g o t (reply.Groups groups) h = refl
 silent_in events g o t (reply.Refused code) h = refl
@@ -155,6 +161,7 @@ silent_earned : (events : List (Event × ℕ)) (groups : List Group) (kept : Kep
 silent_earned events groups kept t (reply.Synced bytes) h = absurd h
 silent_earned events groups kept t (reply.Joined j) h = refl
 silent_earned events groups kept t reply.Done h = refl
+silent_earned events groups kept t (reply.Fetched partitions) h = refl
 silent_earned events groups kept t (reply.Described d) h = refl
 silent_earned events groups kept t (reply.Groups listings) h = refl
 silent_earned events groups kept t (reply.Refused code) h = refl
@@ -229,11 +236,26 @@ silent-tried now t h = told-tried Silent (λ _. tt) now t (silent_joined (next_r
 
 silent-join_new : (now : ℕ) (r : JoinRequest) (new : List ℕ) (ticket : Ticket) (g : Group) → Told Silent (join_new now r new ticket g)
 unfolding join_new
-silent-join_new now r new ticket g = silent-tried now _ (told-in_join_phase Silent (λ _. tt) now (turn_of (admitted (new_member now r new ticket) r.kind g)) tt)
+silent-join_new now r new ticket g = silent-tried now _ (told-in_join_phase Silent (λ _. tt) now (turn_of (admitted (new_member now r new [] (Join ticket)) r.kind g)) tt)
+
+silent-rejoined : (now : ℕ) (own : List ℕ) (ticket : Ticket) (t : Turn) → Told Silent t → Told Silent (rejoined now own ticket t)
+unfolding rejoined
+silent-rejoined now own ticket t h = silent-tried now _ (told-rejoined Silent (λ _. tt) now own ticket t h)
 
 silent-join_again : (now : ℕ) (r : JoinRequest) (own : List ℕ) (ticket : Ticket) (g : Group) → Told Silent (join_again now r own ticket g)
 unfolding join_again
-silent-join_again now r own ticket g = silent-tried now _ (told-waiting Silent (λ _. tt) now own (Join ticket) _ (told-in_join_phase Silent (λ _. tt) now (turn_of (updating r own g)) tt))
+silent-join_again now r own ticket g = silent-rejoined now own ticket (turn_of (updating r own g)) tt
+
+silent-join_replacing : (now : ℕ) (r : JoinRequest) (id : List ℕ) (ticket : Ticket) (old : Member) (g : Group) → Told Silent (join_replacing now r id ticket old g)
+unfolding join_replacing replaced_in_place
+silent-join_replacing now r id ticket old g =
+    let new : Member = successor now r id old in
+    let t : Turn = replaced new old g in
+    let h : Told Silent t = told-replaced Silent (λ _. tt) new old g in
+    elim (keeps_generation t.group) as (λ b. Told Silent (if b then replaced_in_place ticket (kept_member g.protocol new) g t else rejoined now id ticket t)) [
+      | true ↦ each-append (λ r. Silent r.1) t.replies ((ticket, replaced_reply new.id g) ∷ []) h (tt, tt)
+      | false ↦ silent-rejoined now id ticket t h
+    ]
 
 silent-join_current : (now : ℕ) (own : List ℕ) (ticket : Ticket) (m : Member) (g : Group) → Told Silent (join_current now own ticket m g)
 unfolding join_current
@@ -251,11 +273,15 @@ silent-leave_taken : (now : ℕ) (own : List ℕ) (ticket : Ticket) (m : Member)
 unfolding leave_taken after_removal
 silent-leave_taken now own ticket m g = silent-tried now _ (told-removal Silent (λ _. tt) now (left own ticket m g) (told-left Silent (λ _. tt) tt own ticket m g))
 
+silent-ended : (now : ℕ) (t : Turn) → Told Silent t → Told Silent (ended now t)
+unfolding ended
+silent-ended now t h =
+    elim (can_complete t.group.members) as (λ b. Told Silent (if b then completed now t else record t { group = record t.group { started = now } })) [ true ↦ told-completed Silent (λ _. tt) now t (silent_joined (next_round t.group)) h | false ↦ h ]
+
 silent-at_deadline : (now : ℕ) (t : Turn) → Told Silent t → Told Silent (at_deadline now t)
 unfolding at_deadline
 silent-at_deadline now t h =
-    let fewer : Turn = record t { group = keeping (is_waiting Any) t.group } in
-    elim (is_due now t.group) as (λ b. Told Silent (if b then completed now fewer else t)) [ true ↦ told-completed Silent (λ _. tt) now fewer (silent_joined (next_round fewer.group)) h | false ↦ h ]
+    elim (is_due now t.group) as (λ b. Told Silent (if b then ended now (record t { group = keeping outstays t.group }) else t)) [ true ↦ silent-ended now (record t { group = keeping outstays t.group }) h | false ↦ h ]
 
 silent-ticked : (now : ℕ) (g : Group) → Told Silent (ticked now g)
 unfolding ticked
@@ -280,6 +306,7 @@ earned_here : (events : List (Event × ℕ)) (g : Group) (groups : List Group) (
 earned_here events g groups kept t (reply.Synced bytes) h = any-with_group (λ x. is_earned_in events x (kept x.id) (t, reply.Synced bytes)) g groups h
 earned_here events g groups kept t (reply.Joined j) h = refl
 earned_here events g groups kept t reply.Done h = refl
+earned_here events g groups kept t (reply.Fetched partitions) h = refl
 earned_here events g groups kept t (reply.Described d) h = refl
 earned_here events g groups kept t (reply.Groups listings) h = refl
 earned_here events g groups kept t (reply.Refused code) h = refl
@@ -308,6 +335,10 @@ earned-concluded events kept s ticket (Err code) h = (refl, tt)
 silent-groups : (turn : Group → Turn) → ((g : Group) → Told Silent (turn g)) → (gs : List Group) → Each (λ r. Silent r.1) (flat_map (λ g. (turn g).replies) gs)
 silent-groups turn k [] = tt
 silent-groups turn k (g ∷ gs) = each-append (λ r. Silent r.1) (turn g).replies (flat_map (λ g. (turn g).replies) gs) (k g) (silent-groups turn k gs)
+
+silent-fetched : (offsets : OffsetMap) (group : Option (List ℕ)) (partitions : List TopicPartition) → Silent (fetched offsets group partitions)
+silent-fetched offsets None partitions = tt
+silent-fetched offsets (Some group) partitions = tt
 
 silent-describe : (id : Option (List ℕ)) (groups : List Group) → Silent (describe id groups)
 unfolding describe
@@ -339,19 +370,21 @@ earned-met before moment kept s (event.Join ticket r fresh) v =
     silent-concluded (before ++ (event.Join ticket r fresh, moment) ∷ []) kept s ticket (join s.last r fresh ticket s.groups)
     (fine-join (Told Silent) s.last r fresh ticket s.groups
     (λ id new _ _. silent-join_new s.last r new ticket (new_group id))
-    (λ id new g _ _ _ _. silent-join_new s.last r new ticket g)
+    (λ id new g _ _ _ _ _. silent-join_new s.last r new ticket g)
+    (λ id new g old _ _ _ _ _. silent-join_replacing s.last r new ticket old g)
     (λ id own g m _ _ _ _. silent-join_known s.last r own ticket m g))
 earned-met before moment kept s (event.Beat ticket r) v =
     silent-concluded (before ++ (event.Beat ticket r, moment) ∷ []) kept s ticket (beat s.last r ticket s.groups)
     (fine-beat (Told Silent) s.last r ticket s.groups (λ id own g _. told-beat_taken Silent (λ _. tt) tt s.last own ticket g))
 earned-met before moment kept s (event.Leave ticket r) v =
     silent-concluded (before ++ (event.Leave ticket r, moment) ∷ []) kept s ticket (leave s.last r ticket s.groups)
-    (fine-leave (Told Silent) s.last r ticket s.groups (λ id own g m _ _. silent-leave_taken s.last own ticket m g))
+    (fine-leave (Told Silent) s.last r ticket s.groups (λ id g m _ _. silent-leave_taken s.last m.id ticket m g))
 earned-met before moment kept s (event.Commit ticket r) v =
     silent-concluded (before ++ (event.Commit ticket r, moment) ∷ []) kept s ticket (commit s.last r ticket s.groups)
     (fine-commit (Told Silent) s.last r ticket s.groups
     (λ id _. silent-committed s.last r.entries ticket None (new_group id))
     (λ id g who _ _. silent-committed s.last r.entries ticket who g))
+earned-met before moment kept s (event.Fetch ticket r) v = (silent_earned (before ++ (event.Fetch ticket r, moment) ∷ []) s.groups (kept_after kept []) ticket (fetched s.offsets r.group r.partitions) (silent-fetched s.offsets r.group r.partitions), tt)
 earned-met before moment kept s (event.Delete ticket id) v = earned-deleted (before ++ (event.Delete ticket id, moment) ∷ []) kept s ticket (deleting id s.groups)
 earned-met before moment kept s (event.Describe ticket id) v = (silent_earned (before ++ (event.Describe ticket id, moment) ∷ []) s.groups (kept_after kept []) ticket (describe id s.groups) (silent-describe id s.groups), tt)
 earned-met before moment kept s (event.List ticket) v = (refl, tt)
@@ -362,9 +395,12 @@ earned-met before moment kept s event.Tick v =
     let o : Outcome = everywhere (ticked s.last) s in
     silent_all (before ++ (event.Tick, moment) ∷ []) o.after.groups (kept_after kept o.effects.commands) o.effects.replies (silent-groups (ticked s.last) (λ g. silent-ticked s.last g) s.groups)
 
-pub assignments_are_earned : AssignmentsAreEarned
+-- each reply of one more event is earned
+pub replies_are_earned : (state : State) (now : ℕ) (events : List (Event × ℕ)) (e : Event) (m : ℕ) → AreRequests events
+    → let o : Outcome = step (after_all events (revive state now)) e m in
+    Each (λ r. is_earned (events ++ (e, m) ∷ []) o.after.groups (kept_in (after (state_after state now events) o.effects.commands)) r ≡ true) o.effects.replies
 unfolding step
-assignments_are_earned state now events e m asked =
+replies_are_earned state now events e m asked =
     let s : Machine = after_all events (revive state now) in
     let o : Outcome = step s e m in
     let kept : Kept = kept_in (state_after state now events) in

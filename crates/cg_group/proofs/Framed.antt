@@ -1,17 +1,17 @@
 -- A turn stays in its group: the group keeps its id, and its commands speak of it.
-use Rattle.std.proofs.Common.{◌≡◌, ℕ, Bool, true, false, not, List, [], ◌∷◌, ◌++◌, map, refl, ◌∙◌, subst, Option, Some, None}
+use Rattle.std.proofs.Common.{◌≡◌, ℕ, Bool, true, false, not, List, [], ◌∷◌, ◌++◌, refl, ◌∙◌, subst, Option, Some, None}
 use Rattle.std.specs.Prelude.{if◌then◌else◌}
 use Rattle.std.specs.List.{list_any}
 use Rattle.std.specs.Option.{option_to_list, option_map, option_and_then}
-use Rattle.cg_group.specs.declared.calls.Calls.TheVariants.{Any}
 use Rattle.cg_record.specs.declared.command.Command.{Command}
 use Rattle.cg_record.specs.declared.command.Command.TheVariants as command
+use Rattle.cg_record.specs.declared.member.Member.{Member as KeptMember}
 use Rattle.cg_group.specs.declared.group.Group.{Group}
 use Rattle.cg_group.specs.declared.group.Phase.{Phase}
 use Rattle.cg_group.specs.declared.group.Phase.TheVariants.{Empty, Preparing, Completing, Stable}
 use Rattle.cg_group.specs.declared.member.Member.{Member}
 use Rattle.cg_group.specs.declared.member.Waits.{Waits}
-use Rattle.cg_group.specs.declared.member.Waits.TheVariants.{Sync}
+use Rattle.cg_group.specs.declared.member.Waits.TheVariants.{Join, Sync}
 use Rattle.cg_group.specs.declared.request.JoinRequest.{JoinRequest}
 use Rattle.cg_group.specs.declared.request.SyncEntry.{SyncEntry}
 use Rattle.cg_group.specs.declared.request.SyncRequest.{SyncRequest}
@@ -20,15 +20,15 @@ use Rattle.cg_group.specs.declared.turn.Turn.{Turn}
 use Rattle.cg_group.specs.declared.commit_entry.CommitEntry.{CommitEntry}
 use Rattle.cg_group.specs.Beating.{beat_taken}
 use Rattle.cg_group.specs.Committing.{committed, hearing_committer, keeping_entries}
-use Rattle.cg_group.specs.Joining.{admitted, in_join_phase, is_current, join_again, join_current, join_known, join_new, new_member, updating, waiting}
+use Rattle.cg_group.specs.Joining.{admitted, in_join_phase, is_current, join_again, join_current, join_known, join_new, new_member, rejoined, updating, waiting}
 use Rattle.cg_group.specs.Kept.{Each}
 use Rattle.cg_group.proofs.Kept.{group_of}
 use Rattle.cg_group.specs.Leaving.{after_removal, gone_in, has_joined, leave_taken, left}
 use Rattle.cg_group.specs.Membership.{hearing, is_empty, is_preparing, keeping, leads}
 use Rattle.cg_group.specs.Rebalance.{completed, completed_generation, emptied, emptied_command, is_ready, next_round, prepared, told_to_joins, tried, turn_of}
-use Rattle.cg_group.specs.Syncing.{assigned_command, assigning, distributed, kept_roster, sync_current, sync_taken, sync_waits, told_to_syncs}
-use Rattle.cg_group.specs.Ticking.{at_deadline, expired, is_due, is_overdue, ticked}
-use Rattle.cg_group.specs.Waiting.{is_waiting}
+use Rattle.cg_group.specs.Syncing.{assigned_command, assigning, distributed, kept_member, kept_roster, sync_current, sync_taken, sync_waits, told_to_syncs}
+use Rattle.cg_group.specs.Ticking.{at_deadline, can_complete, ended, expired, is_due, is_overdue, outstays, ticked}
+use Rattle.cg_group.specs.Replacing.{join_replacing, keeps_generation, replaced, replaced_command, replaced_in_place, replacing, successor}
 
 pub each-append : {X : Type 0} (P : X → Type 0) (xs ys : List X) → Each P xs → Each P ys → Each P (xs ++ ys)
 each-append P [] ys h k = k
@@ -98,11 +98,33 @@ framed-updating r own g = (refl, tt)
 
 pub framed-join_new : (now : ℕ) (r : JoinRequest) (id : List ℕ) (ticket : Ticket) (g : Group) → Framed g.id (join_new now r id ticket g)
 unfolding join_new
-framed-join_new now r id ticket g = framed-tried g.id now _ (framed-in_join_phase g.id now _ (framed-admitted (new_member now r id ticket) r.kind g))
+framed-join_new now r id ticket g = framed-tried g.id now _ (framed-in_join_phase g.id now _ (framed-admitted (new_member now r id [] (Join ticket)) r.kind g))
+
+framed-rejoined : (id : List ℕ) (now : ℕ) (own : List ℕ) (ticket : Ticket) (t : Turn) → Framed id t → Framed id (rejoined now own ticket t)
+unfolding rejoined
+framed-rejoined id now own ticket t h = framed-tried id now _ (framed-waiting id now own _ _ (framed-in_join_phase id now t h))
 
 framed-join_again : (now : ℕ) (r : JoinRequest) (id : List ℕ) (ticket : Ticket) (g : Group) → Framed g.id (join_again now r id ticket g)
 unfolding join_again
-framed-join_again now r id ticket g = framed-tried g.id now _ (framed-waiting g.id now id _ _ (framed-in_join_phase g.id now _ (framed-updating r id g)))
+framed-join_again now r id ticket g = framed-rejoined g.id now id ticket _ (framed-updating r id g)
+
+framed-replaced : (new old : Member) (g : Group) → Framed g.id (replaced new old g)
+unfolding replaced replacing
+framed-replaced new old g = (refl, tt)
+
+framed-replaced_in_place : (ticket : Ticket) (new : KeptMember) (g : Group) (t : Turn) → Framed g.id t → Framed g.id (replaced_in_place ticket new g t)
+unfolding replaced_in_place
+framed-replaced_in_place ticket new g t h = (h.0, each-append (λ c. group_of c ≡ g.id) t.commands (replaced_command new g ∷ []) h.1 (refl, tt))
+
+pub framed-join_replacing : (now : ℕ) (r : JoinRequest) (id : List ℕ) (ticket : Ticket) (old : Member) (g : Group) → Framed g.id (join_replacing now r id ticket old g)
+unfolding join_replacing
+framed-join_replacing now r id ticket old g =
+    let new : Member = successor now r id old in
+    let t : Turn = replaced new old g in
+    elim (keeps_generation t.group) as (λ b. Framed g.id (if b then replaced_in_place ticket (kept_member g.protocol new) g t else rejoined now id ticket t)) [
+      | true ↦ framed-replaced_in_place ticket (kept_member g.protocol new) g t (framed-replaced new old g)
+      | false ↦ framed-rejoined g.id now id ticket t (framed-replaced new old g)
+    ]
 
 framed-join_current : (now : ℕ) (id : List ℕ) (ticket : Ticket) (m : Member) (g : Group) → Framed g.id (join_current now id ticket m g)
 unfolding join_current hearing
@@ -203,11 +225,19 @@ framed-expired id now t h =
       | false ↦ framed-tried id now t h
     ]
 
+framed-ended : (id : List ℕ) (now : ℕ) (t : Turn) → Framed id t → Framed id (ended now t)
+unfolding ended
+framed-ended id now t h =
+    elim (can_complete t.group.members) as (λ b. Framed id (if b then completed now t else record t { group = record t.group { started = now } })) [
+      | true ↦ framed-completed id now t h
+      | false ↦ h
+    ]
+
 framed-at_deadline : (id : List ℕ) (now : ℕ) (t : Turn) → Framed id t → Framed id (at_deadline now t)
 unfolding at_deadline
 framed-at_deadline id now t h =
-    elim (is_due now t.group) as (λ b. Framed id (if b then completed now (record t { group = keeping (is_waiting Any) t.group }) else t)) [
-      | true ↦ framed-completed id now _ (framed-keeping id (is_waiting Any) t h)
+    elim (is_due now t.group) as (λ b. Framed id (if b then ended now (record t { group = keeping outstays t.group }) else t)) [
+      | true ↦ framed-ended id now _ (framed-keeping id outstays t h)
       | false ↦ h
     ]
 

@@ -1,6 +1,5 @@
 -- What a request comes to that is taken in its group's place, or refused.
-use Rattle.std.proofs.Common.{◌≡◌, ℕ, ◌<◌, arith, true, false, List, [], ◌∷◌, length, map, get_or, Option, Some, None, Result, Ok, Err, ok_or, refl, sym, ap, ◌∙◌}
-use Rattle.std.proofs.Math.ListN.{set}
+use Rattle.std.proofs.Common.{◌≡◌, ℕ, true, false, List, map, Option, Some, None, Result, Ok, Err, ok_or, refl, sym, ap, ◌∙◌}
 use Rattle.cg_names.specs.declared.code.Code.{Code}
 use Rattle.cg_names.specs.declared.code.Code.TheVariants.{InvalidGroupId, OffsetMetadataTooLarge, UnknownMemberId}
 use Rattle.cg_record.specs.declared.entry.Entry.{Entry}
@@ -9,17 +8,19 @@ use Rattle.cg_group.specs.declared.group.Group.{Group}
 use Rattle.cg_group.specs.declared.request.BeatRequest.{BeatRequest}
 use Rattle.cg_group.specs.declared.request.CommitRequest.{CommitRequest}
 use Rattle.cg_group.specs.declared.request.SyncRequest.{SyncRequest}
+use Rattle.cg_group.specs.declared.reply.Reply.{Reply}
 use Rattle.cg_group.specs.declared.reply.Reply.TheVariants as reply
 use Rattle.cg_group.specs.declared.ticket.Ticket.{Ticket}
 use Rattle.cg_group.specs.declared.turn.Turn.{Turn}
 use Rattle.cg_group.specs.Beating.{beat_held, beat_reply, beat_taken}
 use Rattle.cg_group.specs.Commits.{is_too_large, kept_entry}
 use Rattle.cg_group.specs.Committing.{commit_effects, commit_held, committed, committer, hearing_committer, keeping_entries}
-use Rattle.cg_group.specs.InPlace.{IsBeatAt, IsCurrent, IsSyncAt}
-use Rattle.cg_group.specs.Machine.{IsNamedAt, at_moment, beat, commit, commit_in, concluded, find_group, named_group, outcome, reply_alone, sync}
+use Rattle.cg_group.specs.InPlace.{IsBeatIn, IsCurrent, IsNamed, IsSyncIn}
+use Rattle.cg_group.specs.Machine.{at_moment, beat, commit, commit_in, concluded, find_group, named_group, outcome, reply_alone, sync, with_group}
 use Rattle.cg_group.specs.Membership.{hearing}
 use Rattle.cg_group.specs.Refusing.{◌>>=◌, refused_if}
 use Rattle.cg_group.specs.Syncing.{sync_current, sync_held}
+use Rattle.cg_group.proofs.InOrder.{found_named}
 
 id-hearing : (now : ℕ) (id : List ℕ) (g : Group) → (hearing now id g).id ≡ g.id
 unfolding hearing
@@ -37,70 +38,71 @@ pub concluded_refused : (now : ℕ) (groups : List Group) (ticket : Ticket) (o :
 unfolding concluded
 concluded_refused now groups ticket o code e is made = ap (concluded (at_moment now groups) ticket) is ∙ ap (outcome now groups) (sym made)
 
-pub beat_in_place : (now : ℕ) (r : BeatRequest) (ticket : Ticket) (groups after : List Group) (i : ℕ) (id : List ℕ) (d : Group) (e : Effects) → IsBeatAt r groups i id → after ≡ set groups i (hearing now id (get_or groups i d)) → e ≡ reply_alone ticket (beat_reply (get_or groups i d)) → concluded (at_moment now groups) ticket (beat now r ticket groups) ≡ outcome now after e
+-- the group that a request names
+pub named_is : (o : Option (List ℕ)) (groups : List Group) (own : List ℕ) (g : Group) → IsNamed o groups own g → named_group o groups ≡ Ok g
+named_is o groups own g at = ap (λ o. named_group o groups) at.named ∙ ap (λ o. ok_or o UnknownMemberId) at.found
+
+pub beat_in_place : (now : ℕ) (r : BeatRequest) (ticket : Ticket) (groups after : List Group) (own id : List ℕ) (answer : Reply) (e : Effects) → IsBeatIn r groups own id answer
+    → ((g : Group) → find_group own groups ≡ Some g → after ≡ with_group (hearing now id g) groups) → e ≡ reply_alone ticket answer → concluded (at_moment now groups) ticket (beat now r ticket groups) ≡ outcome now after e
 unfolding concluded beat beat_taken
-beat_in_place now r ticket groups after i id d e at put made =
-    let g : Group = get_or groups i d in
-    ap (concluded (at_moment now groups) ticket) (ap (λ o. o >>= λ g. beat_held now r ticket g) (at.named.found d) ∙ at.taken now ticket d)
-    ∙ ap (λ gs. outcome now gs (reply_alone ticket (beat_reply g))) (at.named.put d (hearing now id g) (id-hearing now id g) ∙ sym put)
+beat_in_place now r ticket groups after own id answer e at put made =
+    let g : Group = at.group in
+    ap (concluded (at_moment now groups) ticket) (ap (λ o. o >>= λ g. beat_held now r ticket g) (named_is r.group groups own g at.named) ∙ at.taken now ticket)
+    ∙ ap (λ gs. outcome now gs (reply_alone ticket (beat_reply g))) (sym (put g at.named.found))
+    ∙ ap (λ a. outcome now after (reply_alone ticket a)) (sym at.answered)
     ∙ ap (outcome now after) (sym made)
 
-pub sync_in_place : (now : ℕ) (r : SyncRequest) (ticket : Ticket) (groups after : List Group) (i : ℕ) (id bytes : List ℕ) (d : Group) (e : Effects) → IsSyncAt r groups i id bytes → after ≡ set groups i (hearing now id (get_or groups i d)) → e ≡ reply_alone ticket (reply.Synced bytes) → concluded (at_moment now groups) ticket (sync now r ticket groups) ≡ outcome now after e
+pub sync_in_place : (now : ℕ) (r : SyncRequest) (ticket : Ticket) (groups after : List Group) (own id bytes : List ℕ) (e : Effects) → IsSyncIn r groups own id bytes
+    → ((g : Group) → find_group own groups ≡ Some g → after ≡ with_group (hearing now id g) groups) → e ≡ reply_alone ticket (reply.Synced bytes) → concluded (at_moment now groups) ticket (sync now r ticket groups) ≡ outcome now after e
 unfolding concluded sync sync_current
-sync_in_place now r ticket groups after i id bytes d e at put made =
-    let g : Group = get_or groups i d in
-    let current : IsCurrent r g id bytes = at.current d in
-    ap (concluded (at_moment now groups) ticket) (ap (λ o. o >>= λ g. sync_held now r ticket g) (at.named.found d) ∙ current.taken now ticket)
-    ∙ ap (λ gs. outcome now gs (reply_alone ticket (reply.Synced current.member.assignment))) (at.named.put d (hearing now id g) (id-hearing now id g) ∙ sym put)
+sync_in_place now r ticket groups after own id bytes e at put made =
+    let g : Group = at.group in
+    let current : IsCurrent r g id bytes = at.current in
+    ap (concluded (at_moment now groups) ticket) (ap (λ o. o >>= λ g. sync_held now r ticket g) (named_is r.group groups own g at.named) ∙ current.taken now ticket)
+    ∙ ap (λ gs. outcome now gs (reply_alone ticket (reply.Synced current.member.assignment))) (sym (put g at.named.found))
     ∙ ap (λ b. outcome now after (reply_alone ticket (reply.Synced b))) current.assignment
     ∙ ap (outcome now after) (sym made)
 
 -- COMMIT in a group that is held is that of the group
-commit_found : (now : ℕ) (r : CommitRequest) (ticket : Ticket) (groups : List Group) (g : Group) (id : List ℕ) (o : Option Group) → ok_or o UnknownMemberId ≡ Ok g → commit_in now r ticket groups id o ≡ commit_held now r.generation r.member r.entries ticket g
+commit_found : (now : ℕ) (r : CommitRequest) (ticket : Ticket) (groups : List Group) (g : Group) (id : List ℕ) (o : Option Group) → ok_or o UnknownMemberId ≡ Ok g → commit_in now r ticket groups id o ≡ commit_held now r.generation r.instance r.member r.entries ticket g
 commit_found now r ticket groups g id None e = cc
-commit_found now r ticket groups g id (Some x) e = let same : x ≡ g = cc in ap (commit_held now r.generation r.member r.entries ticket) same
+commit_found now r ticket groups g id (Some x) e = let same : x ≡ g = cc in ap (commit_held now r.generation r.instance r.member r.entries ticket) same
 
-commit_named : (now : ℕ) (r : CommitRequest) (ticket : Ticket) (groups : List Group) (g : Group) (o : Option (List ℕ)) → named_group o groups ≡ Ok g → (ok_or o InvalidGroupId >>= λ id. commit_in now r ticket groups id (find_group id groups)) ≡ commit_held now r.generation r.member r.entries ticket g
+commit_named : (now : ℕ) (r : CommitRequest) (ticket : Ticket) (groups : List Group) (g : Group) (o : Option (List ℕ)) → named_group o groups ≡ Ok g → (ok_or o InvalidGroupId >>= λ id. commit_in now r ticket groups id (find_group id groups)) ≡ commit_held now r.generation r.instance r.member r.entries ticket g
 commit_named now r ticket groups g None e = cc
 commit_named now r ticket groups g (Some id) e = commit_found now r ticket groups g id (find_group id groups) e
 
-pub commit_here : (now : ℕ) (r : CommitRequest) (ticket : Ticket) (groups : List Group) (i : ℕ) (d : Group) → IsNamedAt r.group groups i → commit now r ticket groups ≡ commit_held now r.generation r.member r.entries ticket (get_or groups i d)
+pub commit_here : (now : ℕ) (r : CommitRequest) (ticket : Ticket) (groups : List Group) (own : List ℕ) (g : Group) → IsNamed r.group groups own g → commit now r ticket groups ≡ commit_held now r.generation r.instance r.member r.entries ticket g
 unfolding commit
-commit_here now r ticket groups i d at = commit_named now r ticket groups (get_or groups i d) r.group (at.found d)
+commit_here now r ticket groups own g at = commit_named now r ticket groups g r.group (named_is r.group groups own g at)
 
-pub commit_refused : (now : ℕ) (r : CommitRequest) (ticket : Ticket) (groups : List Group) (i : ℕ) (d : Group) (code : Code) → IsNamedAt r.group groups i → committer r.generation r.member (get_or groups i d) ≡ Err code → commit now r ticket groups ≡ Err code
+pub commit_refused : (now : ℕ) (r : CommitRequest) (ticket : Ticket) (groups : List Group) (own : List ℕ) (g : Group) (code : Code) → IsNamed r.group groups own g → committer r.generation r.instance r.member g ≡ Err code → commit now r ticket groups ≡ Err code
 unfolding commit_held
-commit_refused now r ticket groups i d code at e =
-    commit_here now r ticket groups i d at
-    ∙ ap (λ o. o >>= λ who. refused_if (is_too_large r.entries) OffsetMetadataTooLarge >>= λ _. Ok (committed r.entries ticket (hearing_committer now who (get_or groups i d)))) e
+commit_refused now r ticket groups own g code at e =
+    commit_here now r ticket groups own g at
+    ∙ ap (λ o. o >>= λ who. refused_if (is_too_large r.entries) OffsetMetadataTooLarge >>= λ _. Ok (committed r.entries ticket (hearing_committer now who g))) e
 
-pub commit_too_large : (now : ℕ) (r : CommitRequest) (ticket : Ticket) (groups : List Group) (i : ℕ) (d : Group) (who : Option (List ℕ)) → IsNamedAt r.group groups i → committer r.generation r.member (get_or groups i d) ≡ Ok who → is_too_large r.entries ≡ true → commit now r ticket groups ≡ Err OffsetMetadataTooLarge
+pub commit_too_large : (now : ℕ) (r : CommitRequest) (ticket : Ticket) (groups : List Group) (own : List ℕ) (g : Group) (who : Option (List ℕ)) → IsNamed r.group groups own g → committer r.generation r.instance r.member g ≡ Ok who → is_too_large r.entries ≡ true → commit now r ticket groups ≡ Err OffsetMetadataTooLarge
 unfolding commit_held
-commit_too_large now r ticket groups i d who at e large =
-    commit_here now r ticket groups i d at
-    ∙ ap (λ o. o >>= λ who. refused_if (is_too_large r.entries) OffsetMetadataTooLarge >>= λ _. Ok (committed r.entries ticket (hearing_committer now who (get_or groups i d)))) e
-    ∙ ap (λ b. refused_if b OffsetMetadataTooLarge >>= λ _. Ok (committed r.entries ticket (hearing_committer now who (get_or groups i d)))) large
+commit_too_large now r ticket groups own g who at e large =
+    commit_here now r ticket groups own g at
+    ∙ ap (λ o. o >>= λ who. refused_if (is_too_large r.entries) OffsetMetadataTooLarge >>= λ _. Ok (committed r.entries ticket (hearing_committer now who g))) e
+    ∙ ap (λ b. refused_if b OffsetMetadataTooLarge >>= λ _. Ok (committed r.entries ticket (hearing_committer now who g))) large
 
 id-committer : (now : ℕ) (who : Option (List ℕ)) (g : Group) → (hearing_committer now who g).id ≡ g.id
 id-committer now None g = refl
 id-committer now (Some id) g = id-hearing now id g
 
-pub commit_in_place : (now : ℕ) (r : CommitRequest) (ticket : Ticket) (groups after : List Group) (i : ℕ) (who : Option (List ℕ)) (d : Group) (e : Effects) (entries : List Entry) → IsNamedAt r.group groups i → committer r.generation r.member (get_or groups i d) ≡ Ok who → is_too_large r.entries ≡ false → entries ≡ map kept_entry r.entries
-    → after ≡ set groups i (hearing_committer now who (get_or groups i d)) → e ≡ commit_effects entries ticket (get_or groups i d).id → concluded (at_moment now groups) ticket (commit now r ticket groups) ≡ outcome now after e
+pub commit_in_place : (now : ℕ) (r : CommitRequest) (ticket : Ticket) (groups after : List Group) (own : List ℕ) (g : Group) (who : Option (List ℕ)) (e : Effects) (entries : List Entry) → IsNamed r.group groups own g → committer r.generation r.instance r.member g ≡ Ok who → is_too_large r.entries ≡ false → entries ≡ map kept_entry r.entries
+    → after ≡ with_group (hearing_committer now who g) groups → e ≡ commit_effects entries ticket own → concluded (at_moment now groups) ticket (commit now r ticket groups) ≡ outcome now after e
 unfolding concluded commit_held keeping_entries
-commit_in_place now r ticket groups after i who d e entries at from few kept put made =
-    let g : Group = get_or groups i d in
+commit_in_place now r ticket groups after own g who e entries at from few kept put made =
     let h : Group = hearing_committer now who g in
     ap (concluded (at_moment now groups) ticket)
-    (commit_here now r ticket groups i d at
+    (commit_here now r ticket groups own g at
     ∙ ap (λ o. o >>= λ who. refused_if (is_too_large r.entries) OffsetMetadataTooLarge >>= λ _. Ok (committed r.entries ticket (hearing_committer now who g))) from
     ∙ ap (λ b. refused_if b OffsetMetadataTooLarge >>= λ _. Ok (committed r.entries ticket h)) few)
-    ∙ ap (λ gs. outcome now gs (commit_effects (map kept_entry r.entries) ticket h.id)) (at.put d h (id-committer now who g) ∙ sym put)
-    ∙ ap (λ i. outcome now after (commit_effects (map kept_entry r.entries) ticket i)) (id-committer now who g)
-    ∙ ap (λ es. outcome now after (commit_effects es ticket g.id)) (sym kept)
+    ∙ ap (λ gs. outcome now gs (commit_effects (map kept_entry r.entries) ticket h.id)) (sym put)
+    ∙ ap (λ i. outcome now after (commit_effects (map kept_entry r.entries) ticket i)) (id-committer now who g ∙ found_named own groups g at.found)
+    ∙ ap (λ es. outcome now after (commit_effects es ticket own)) (sym kept)
     ∙ ap (outcome now after) (sym made)
-
--- one of the groups, where there is one
-pub any_group : (groups : List Group) (i : ℕ) → i < length groups → Group
-any_group [] i lt = absurd (omega arith)
-any_group (g ∷ gs) i lt = g

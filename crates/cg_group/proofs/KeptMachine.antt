@@ -41,6 +41,14 @@ fits_framed I kept id t f h =
     let Q : List ℕ → Type 0 = λ i. I t.group (kept_after kept t.commands i) in
     record { own = subst P (sym f.0) f.1; good = subst Q (sym f.0) h }
 
+-- the same groups are held after their turns
+pub found-turns : (turn : Group → Turn) → ((g : Group) → Framed g.id (turn g)) → (id : List ℕ) (gs : List Group) → is_some (find_group id (groups_after turn gs)) ≡ is_some (find_group id gs)
+unfolding find_group
+found-turns turn framed id [] = refl
+found-turns turn framed id (g ∷ gs) =
+    let P : List ℕ → Type 0 = λ i. is_some (cond (is_same (turn g).group.id id) (Some (turn g).group) (find_group id (groups_after turn gs))) ≡ is_some (cond (is_same i id) (Some g) (find_group id gs)) in
+    subst P (framed g).0 (elim (is_same (turn g).group.id id) as (λ b. is_some (cond b (Some (turn g).group) (find_group id (groups_after turn gs))) ≡ is_some (cond b (Some g) (find_group id gs))) [ true ↦ refl | false ↦ found-turns turn framed id gs ])
+
 module _ (I : Group → Option GroupRecord → Type 0) where
   taken_held : (groups : List Group) (kept : Kept) (t : Turn) (id : List ℕ) → OfGroup t.group.id t.commands → ((i : List ℕ) → is_some (kept i) ≡ true → is_some (find_group i groups) ≡ true) → is_some (kept_after kept t.commands id) ≡ true → (is_same t.group.id id || is_some (find_group id groups)) ≡ true
   taken_held groups kept t id own held e =
@@ -86,13 +94,6 @@ module _ (I : Group → Option GroupRecord → Type 0) where
         let others : Each (λ k. I k (first k.id)) gs = each-after (λ k. I k (kept k.id)) (λ k. I k (first k.id)) g.id gs (λ k d i. let R : Option GroupRecord → Type 0 = λ o. I k o in subst R (sym (kept_after-other g.id k.id kept (turn g).commands (framed g).1 d)) i) a.0 h.1 in
         subst P (sym whole) (subst Q (sym own) (keeps g kept h.0), each-turns first gs a.1 others)
 
-    found-turns : (id : List ℕ) (gs : List Group) → is_some (find_group id (groups_after turn gs)) ≡ is_some (find_group id gs)
-    unfolding find_group
-    found-turns id [] = refl
-    found-turns id (g ∷ gs) =
-        let P : List ℕ → Type 0 = λ i. is_some (cond (is_same (turn g).group.id id) (Some (turn g).group) (find_group id (groups_after turn gs))) ≡ is_some (cond (is_same i id) (Some g) (find_group id gs)) in
-        subst P (framed g).0 (elim (is_same (turn g).group.id id) as (λ b. is_some (cond b (Some (turn g).group) (find_group id (groups_after turn gs))) ≡ is_some (cond b (Some g) (find_group id gs))) [ true ↦ refl | false ↦ found-turns id gs ])
-
     held-turns : (id : List ℕ) (kept : Kept) (gs : List Group) → is_some (kept_after kept (flat_map (λ g. (turn g).commands) gs) id) ≡ true → (is_some (kept id) || is_some (find_group id gs)) ≡ true
     unfolding find_group
     held-turns id kept [] e = or_left (is_some (kept id)) false (ap (λ k. is_some (k id)) (sym (kept_after-none kept)) ∙ e)
@@ -114,7 +115,7 @@ module _ (I : Group → Option GroupRecord → Type 0) where
     invariant-everywhere s kept v = record {
       ascending = subst (λ (xs : List (List ℕ)). Ascending xs) (sym (ids_after s.groups)) v.ascending;
       each = each-turns kept s.groups v.ascending v.each;
-      held = λ id e. found-turns id s.groups ∙ either (is_some (kept id)) (is_some (find_group id s.groups)) (held-turns id kept s.groups e) (v.held id);
+      held = λ id e. found-turns turn framed id s.groups ∙ either (is_some (kept id)) (is_some (find_group id s.groups)) (held-turns id kept s.groups e) (v.held id);
     }
 
 -- a group is deleted: nothing is kept of it

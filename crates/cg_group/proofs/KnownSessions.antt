@@ -1,9 +1,9 @@
 -- A call that waits after an event waited before, or came with the event: each stage keeps it.
-use Rattle.std.proofs.Common.{◌≡◌, ℕ, Bool, true, false, not, List, [], ◌∷◌, map, refl, sym, ap, ◌∙◌, subst, suc, zero, ◌<◌, length, get_or, arith, Option, Some, None, Result, Ok, Err}
-use Rattle.std.specs.Prelude.{◌==◌, if◌then◌else◌, is_some}
+use Rattle.std.proofs.Common.{◌≡◌, ℕ, Bool, true, false, not, List, [], ◌∷◌, map, refl, sym, ap, ◌∙◌, subst, Option, Some, None, Result, Ok, Err}
+use Rattle.std.specs.Prelude.{◌==◌, if◌then◌else◌, is_some, IfOk, OnErr}
 use Rattle.std.specs.List.{list_any}
 use Rattle.cg_names.specs.declared.code.Code.{Code}
-use Rattle.cg_group.specs.declared.calls.Calls.TheVariants.{Any, Joins, OfSession, Syncs}
+use Rattle.cg_group.specs.declared.calls.Calls.TheVariants.{Joins, OfSession, Syncs}
 use Rattle.cg_group.specs.declared.event.Event.{Event}
 use Rattle.cg_group.specs.declared.event.Event.TheVariants as event
 use Rattle.cg_group.specs.declared.group.Group.{Group}
@@ -18,27 +18,29 @@ use Rattle.cg_group.specs.declared.request.SyncRequest.{SyncRequest}
 use Rattle.cg_group.specs.declared.ticket.Ticket.{Ticket}
 use Rattle.cg_group.specs.declared.turn.Turn.{Turn}
 use Rattle.cg_group.specs.Beating.{beat_taken}
-use Rattle.cg_group.specs.Joining.{admitted, in_join_phase, is_current, join_again, join_current, join_known, join_new, new_group, new_member, updated, updating, waiting, waits_with}
+use Rattle.cg_group.specs.Joining.{admitted, in_join_phase, is_current, join_again, join_current, join_known, join_new, new_group, new_member, rejoined, updated, updating, waiting, waits_with}
 use Rattle.cg_group.specs.Kept.{Each, kept_in}
 use Rattle.cg_group.specs.Leaving.{after_removal, gone_in, has_joined, leave_taken, left}
 use Rattle.cg_group.specs.declared.commit_entry.CommitEntry.{CommitEntry}
 use Rattle.cg_group.specs.Committing.{committed, hearing_committer, keeping_entries}
-use Rattle.cg_group.specs.Machine.{Machine, beat, commit, concluded, deleted, deleting, everywhere, find_group, groups_after, join, leave, met, sync}
+use Rattle.cg_group.specs.declared.effects.Effects.{Effects}
+use Rattle.cg_group.specs.Machine.{Machine, Outcome, at_moment, beat, commit, concluded, deleted, deleting, everywhere, find_group, groups_after, join, leave, met, outcome, sync, with_group}
 use Rattle.cg_group.specs.Membership.{has_id, heard, hearing, is_empty, is_preparing, keeping, leads}
+use Rattle.cg_group.specs.Replacing.{join_replacing, keeps_generation, replaced, replaced_in_place, replacing, seating, successor}
 use Rattle.cg_group.specs.Reviving.{revived, revived_from, revived_member, revived_with}
 use Rattle.cg_record.specs.declared.member.Member.{Member as KeptMember}
 use Rattle.cg_record.specs.Rosters.{RosterParts}
 use Rattle.cg_fold.specs.declared.record.GroupRecord.{GroupRecord}
 use Rattle.cg_fold.specs.Durable.{State}
 use Rattle.cg_group.specs.Rebalance.{completed, emptied, is_ready, next_round, prepared, told_to_joins, tried, turn_of}
-use Rattle.cg_group.specs.Sessions.{AreKnown, Known, Owns, closed, is_known}
-use Rattle.cg_group.specs.Syncing.{assigning, distributed, sync_current, sync_taken, sync_waits, told_to_syncs}
-use Rattle.cg_group.specs.Ticking.{at_deadline, expired, is_due, is_overdue, ticked}
+use Rattle.cg_group.specs.Sessions.{AreKnown, Known, Owns, is_known}
+use Rattle.cg_group.specs.Syncing.{assigning, distributed, kept_member, sync_current, sync_taken, sync_waits, told_to_syncs}
+use Rattle.cg_group.specs.Ticking.{at_deadline, can_complete, ended, expired, is_due, is_overdue, outstays, ticked}
 use Rattle.cg_group.specs.Waiting.{after_answers, answered, called, is_waiting}
 use Rattle.std.proofs.lemmas.Bool.{eqb-false, eqb-true, or_from}
 use Rattle.cg_group.proofs.Untouched.{calm_gone_in}
-use Rattle.cg_group.proofs.Framed.{Framed, framed-beat_taken, framed-committed, framed-gone_in, framed-join_known, framed-join_new, framed-leave_taken, framed-sync_taken, framed-ticked}
-use Rattle.cg_group.proofs.Calling.{each-filter, waits-after_answers, waits-append, waits-assigned, waits-with_member}
+use Rattle.cg_group.proofs.Framed.{Framed, framed-beat_taken, framed-committed, framed-gone_in, framed-join_known, framed-join_new, framed-join_replacing, framed-leave_taken, framed-sync_taken, framed-ticked}
+use Rattle.cg_group.proofs.Calling.{each-filter, waits-after_answers, waits-append, waits-assigned, waits-seated, waits-with_member}
 use Rattle.cg_group.proofs.KeptLists.{each-found, each-put, id-found, same_names}
 use Rattle.cg_group.proofs.Removing.{each-without}
 use Rattle.cg_group.proofs.Requests.{Fine, fine-beat, fine-commit, fine-join, fine-leave, fine-sync}
@@ -89,7 +91,7 @@ module _ (sessions : ℕ → Bool) where
   unfolding admitted
   known-admitted m kind g own h = waits-append allowed g.members m h own
 
-  known-new_member : (now : ℕ) (r : JoinRequest) (id : List ℕ) (ticket : Ticket) → sessions ticket.session ≡ true → is_known sessions (new_member now r id ticket).waits ≡ true
+  known-new_member : (now : ℕ) (r : JoinRequest) (id : List ℕ) (ticket : Ticket) → sessions ticket.session ≡ true → is_known sessions (new_member now r id [] (Join ticket)).waits ≡ true
   unfolding new_member
   known-new_member now r id ticket own = own
 
@@ -108,16 +110,38 @@ module _ (sessions : ℕ → Bool) where
   known-join_new : (now : ℕ) (r : JoinRequest) (id : List ℕ) (ticket : Ticket) (g : Group) → sessions ticket.session ≡ true → Known sessions g → K (join_new now r id ticket g)
   unfolding join_new
   known-join_new now r id ticket g own h =
-      known-tried now _ (known-in_join_phase now _ (known-admitted (new_member now r id ticket) r.kind g (known-new_member now r id ticket own) h))
+      known-tried now _ (known-in_join_phase now _ (known-admitted (new_member now r id [] (Join ticket)) r.kind g (known-new_member now r id ticket own) h))
 
   known-new_group : (id : List ℕ) → Known sessions (new_group id)
   unfolding new_group
   known-new_group id = tt
 
+  known-rejoined : (now : ℕ) (id : List ℕ) (ticket : Ticket) (t : Turn) → sessions ticket.session ≡ true → K t → K (rejoined now id ticket t)
+  unfolding rejoined
+  known-rejoined now id ticket t own h = known-tried now _ (known-waiting now id (Join ticket) _ own (known-in_join_phase now t h))
+
   known-join_again : (now : ℕ) (r : JoinRequest) (id : List ℕ) (ticket : Ticket) (g : Group) → sessions ticket.session ≡ true → Known sessions g → K (join_again now r id ticket g)
   unfolding join_again
-  known-join_again now r id ticket g own h =
-      known-tried now _ (known-waiting now id (Join ticket) _ own (known-in_join_phase now (turn_of (updating r id g)) (known-updating r id g h)))
+  known-join_again now r id ticket g own h = known-rejoined now id ticket (turn_of (updating r id g)) own (known-updating r id g h)
+
+  known-replaced : (now : ℕ) (r : JoinRequest) (id : List ℕ) (old : Member) (g : Group) → Known sessions g → K (replaced (successor now r id old) old g)
+  unfolding replaced replacing seating new_member
+  known-replaced now r id old g h = waits-seated allowed (successor now r id old) g.members refl h
+
+  known-replaced_in_place : (ticket : Ticket) (new : KeptMember) (g : Group) (t : Turn) → K t → K (replaced_in_place ticket new g t)
+  unfolding replaced_in_place
+  known-replaced_in_place ticket new g t h = h
+
+  known-join_replacing : (now : ℕ) (r : JoinRequest) (id : List ℕ) (ticket : Ticket) (old : Member) (g : Group) → sessions ticket.session ≡ true → Known sessions g → K (join_replacing now r id ticket old g)
+  unfolding join_replacing
+  known-join_replacing now r id ticket old g own h =
+      let new : Member = successor now r id old in
+      let t : Turn = replaced new old g in
+      let u : K t = known-replaced now r id old g h in
+      elim (keeps_generation t.group) as (λ b. K (if b then replaced_in_place ticket (kept_member g.protocol new) g t else rejoined now id ticket t)) [
+        | true ↦ known-replaced_in_place ticket (kept_member g.protocol new) g t u
+        | false ↦ known-rejoined now id ticket t own u
+      ]
 
   known-join_current : (now : ℕ) (id : List ℕ) (ticket : Ticket) (m : Member) (g : Group) → Known sessions g → K (join_current now id ticket m g)
   unfolding join_current
@@ -190,11 +214,19 @@ module _ (sessions : ℕ → Bool) where
         | false ↦ known-tried now t h
       ]
 
+  known-ended : (now : ℕ) (t : Turn) → K t → K (ended now t)
+  unfolding ended
+  known-ended now t h =
+      elim (can_complete t.group.members) as (λ b. K (if b then completed now t else record t { group = record t.group { started = now } })) [
+        | true ↦ known-completed now t h
+        | false ↦ h
+      ]
+
   known-at_deadline : (now : ℕ) (t : Turn) → K t → K (at_deadline now t)
   unfolding at_deadline
   known-at_deadline now t h =
-      elim (is_due now t.group) as (λ b. K (if b then completed now (record t { group = keeping (is_waiting Any) t.group }) else t)) [
-        | true ↦ known-completed now (record t { group = keeping (is_waiting Any) t.group }) (known-keeping (is_waiting Any) t.group h)
+      elim (is_due now t.group) as (λ b. K (if b then ended now (record t { group = keeping outstays t.group }) else t)) [
+        | true ↦ known-ended now (record t { group = keeping outstays t.group }) (known-keeping outstays t.group h)
         | false ↦ h
       ]
 
@@ -257,8 +289,10 @@ module _ (homes : ℕ → List ℕ → Bool) where
       (λ id new named _.
       let g : Group = new_group id in
       stays g.id (join_new s.last r new ticket g) (framed-join_new s.last r new ticket g) (known-join_new (at g.id) s.last r new ticket g (its_own ticket.session r.group g.id id own named (id-new_group id)) (known-new_group (at g.id) id)))
-      (λ id new g named e _ _.
+      (λ id new g named e _ _ _.
       stays g.id (join_new s.last r new ticket g) (framed-join_new s.last r new ticket g) (known-join_new (at g.id) s.last r new ticket g (its_own ticket.session r.group g.id id own named (found_named id s.groups g e)) (each-found Home id s.groups g e h)))
+      (λ id new g old named e _ _ _.
+      stays g.id (join_replacing s.last r new ticket old g) (framed-join_replacing s.last r new ticket old g) (known-join_replacing (at g.id) s.last r new ticket old g (its_own ticket.session r.group g.id id own named (found_named id s.groups g e)) (each-found Home id s.groups g e h)))
       (λ id own_id g m named e _ _.
       stays g.id (join_known s.last r own_id ticket m g) (framed-join_known s.last r own_id ticket m g) (known-join_known (at g.id) s.last r own_id ticket m g (its_own ticket.session r.group g.id id own named (found_named id s.groups g e)) (each-found Home id s.groups g e h)))) h
   known-met s (event.Sync ticket r) own h =
@@ -271,12 +305,13 @@ module _ (homes : ℕ → List ℕ → Bool) where
       (fine-beat Stays s.last r ticket s.groups (λ id own_id g e. stays g.id (beat_taken s.last own_id ticket g) (framed-beat_taken s.last own_id ticket g) (known-beat_taken (at g.id) s.last own_id ticket g (each-found Home id s.groups g e h)))) h
   known-met s (event.Leave ticket r) own h =
       known-concluded s ticket (leave s.last r ticket s.groups)
-      (fine-leave Stays s.last r ticket s.groups (λ id own_id g m e _. stays g.id (leave_taken s.last own_id ticket m g) (framed-leave_taken s.last own_id ticket m g) (known-leave_taken (at g.id) s.last own_id ticket m g (each-found Home id s.groups g e h)))) h
+      (fine-leave Stays s.last r ticket s.groups (λ id g m e _. stays g.id (leave_taken s.last m.id ticket m g) (framed-leave_taken s.last m.id ticket m g) (known-leave_taken (at g.id) s.last m.id ticket m g (each-found Home id s.groups g e h)))) h
   known-met s (event.Commit ticket r) own h =
       known-concluded s ticket (commit s.last r ticket s.groups)
       (fine-commit Stays s.last r ticket s.groups
       (λ id _. let g : Group = new_group id in stays g.id (committed r.entries ticket g) (framed-committed s.last r.entries ticket None g) (known-committed (at g.id) s.last r.entries ticket None g (known-new_group (at g.id) id)))
       (λ id g who e _. stays g.id (committed r.entries ticket (hearing_committer s.last who g)) (framed-committed s.last r.entries ticket who g) (known-committed (at g.id) s.last r.entries ticket who g (each-found Home id s.groups g e h)))) h
+  known-met s (event.Fetch ticket r) own h = h
   known-met s (event.Delete ticket id) own h = known-deleted s ticket (deleting id s.groups) h
   known-met s (event.Describe ticket id) own h = h
   known-met s (event.List ticket) own h = h
@@ -328,22 +363,26 @@ known-left_all homes fewer now session kept [] h = tt
 known-left_all homes fewer now session kept (g ∷ gs) h =
     (stays fewer g.id (gone_in now session g) (framed-gone_in now session g) (left_group (at homes g.id) (at fewer g.id) now session (λ q apart k. kept q g.id apart k) g h.0), known-left_all homes fewer now session kept gs h.1)
 
-same_after : (homes fewer : ℕ → List ℕ → Bool) (o : Option ℕ) → o ≡ None → ((q : ℕ) (id : List ℕ) → (o ≡ Some q → ⊥) → homes q id ≡ true → fewer q id ≡ true) → (q : ℕ) (id : List ℕ) → homes q id ≡ true → fewer q id ≡ true
-same_after homes fewer o none kept q id h = kept q id (λ e. cc) h
+-- what is known after an event
+pub known-after : (homes : ℕ → List ℕ → Bool) (now : ℕ) (groups after : List Group) (e : Event) (made : Effects) → Owns homes e → met (at_moment now groups) e ≡ outcome now after made → AreKnown homes groups → AreKnown homes after
+known-after homes now groups after e made own is h =
+    let P : List Group → Type 0 = λ gs. AreKnown homes gs in
+    subst P (ap (λ (o : Outcome). o.after.groups) is) (known-met homes (at_moment now groups) e own h)
 
--- what is known after an event, where the session that it closed is forgotten
-pub known-step : (homes fewer : ℕ → List ℕ → Bool) (s : Machine) (e : Event) → ((q : ℕ) (id : List ℕ) → (closed e ≡ Some q → ⊥) → homes q id ≡ true → fewer q id ≡ true) → Owns homes e → AreKnown homes s.groups → AreKnown fewer (met s e).after.groups
-unfolding met everywhere
-known-step homes fewer s (event.Gone session) kept own h = known-left_all homes fewer s.last session kept s.groups h
-known-step homes fewer s (event.Join ticket r fresh) kept own h = known-more homes fewer (same_after homes fewer None refl kept) _ (known-met homes s (event.Join ticket r fresh) own h)
-known-step homes fewer s (event.Sync ticket r) kept own h = known-more homes fewer (same_after homes fewer None refl kept) _ (known-met homes s (event.Sync ticket r) own h)
-known-step homes fewer s (event.Beat ticket r) kept own h = known-more homes fewer (same_after homes fewer None refl kept) _ (known-met homes s (event.Beat ticket r) own h)
-known-step homes fewer s (event.Leave ticket r) kept own h = known-more homes fewer (same_after homes fewer None refl kept) _ (known-met homes s (event.Leave ticket r) own h)
-known-step homes fewer s (event.Commit ticket r) kept own h = known-more homes fewer (same_after homes fewer None refl kept) _ (known-met homes s (event.Commit ticket r) own h)
-known-step homes fewer s (event.Delete ticket id) kept own h = known-more homes fewer (same_after homes fewer None refl kept) _ (known-met homes s (event.Delete ticket id) own h)
-known-step homes fewer s (event.Describe ticket id) kept own h = known-more homes fewer (same_after homes fewer None refl kept) _ h
-known-step homes fewer s (event.List ticket) kept own h = known-more homes fewer (same_after homes fewer None refl kept) _ h
-known-step homes fewer s event.Tick kept own h = known-more homes fewer (same_after homes fewer None refl kept) _ (known-met homes s event.Tick own h)
+-- the same, whether memory was found or not
+pub known-through : {E : Type 0} (homes : ℕ → List ℕ → Bool) (now : ℕ) (groups after : List Group) (e : Event) (r : Result Effects E) → Owns homes e → IfOk r (λ made. met (at_moment now groups) e ≡ outcome now after made) → OnErr r (after ≡ groups) → AreKnown homes groups → AreKnown homes after
+known-through homes now groups after e (Ok made) own ok err h = known-after homes now groups after e made own ok h
+known-through homes now groups after e (Err x) own ok err h = let P : List Group → Type 0 = λ gs. AreKnown homes gs in subst P (sym err) h
+
+heard_home : (homes : ℕ → List ℕ → Bool) (now : ℕ) (id : List ℕ) (g : Group) → Home homes g → Home homes (hearing now id g)
+unfolding hearing
+heard_home homes now id g k = known-hearing (at homes g.id) now id g k
+
+-- and where a member was heard in its place
+pub known-heard : (homes : ℕ → List ℕ → Bool) (now : ℕ) (id own : List ℕ) (groups after : List Group) (g : Group) → find_group own groups ≡ Some g → after ≡ with_group (hearing now id g) groups → AreKnown homes groups → AreKnown homes after
+known-heard homes now id own groups after g found put h =
+    let P : List Group → Type 0 = λ gs. AreKnown homes gs in
+    subst P (sym put) (each-put (Home homes) (hearing now id g) groups (heard_home homes now id g (each-found (Home homes) own groups g found h)) h)
 
 -- no call waits on a session that is none of these
 module _ (sessions : ℕ → Bool) (session : ℕ) (idle : sessions session ≡ false) where
@@ -368,10 +407,9 @@ module _ (sessions : ℕ → Bool) (session : ℕ) (idle : sessions session ≡ 
   idle_group now g h = calm_gone_in now session g (idle_members g.members h)
 
 -- a group that is no home of the session is not touched where it is closed
-pub known-apart : (homes : ℕ → List ℕ → Bool) (now session : ℕ) (groups : List Group) (k : ℕ) (d : Group) → k < length groups → homes session (get_or groups k d).id ≡ false → AreKnown homes groups → gone_in now session (get_or groups k d) ≡ turn_of (get_or groups k d)
-known-apart homes now session [] k d lt apart h = absurd (omega arith)
-known-apart homes now session (g ∷ gs) zero d lt apart h = idle_group (at homes g.id) session apart now g h.0
-known-apart homes now session (g ∷ gs) (suc k) d lt apart h = known-apart homes now session gs k d (omega arith) apart h.1
+pub known-apart : (homes : ℕ → List ℕ → Bool) (now session : ℕ) (groups : List Group) → AreKnown homes groups → Each (λ g. homes session g.id ≡ false → gone_in now session g ≡ turn_of g) groups
+known-apart homes now session [] h = tt
+known-apart homes now session (g ∷ gs) h = (λ apart. idle_group (at homes g.id) session apart now g h.0, known-apart homes now session gs h.1)
 
 -- after a loading no call waits
 module _ (sessions : ℕ → Bool) (now : ℕ) where

@@ -1,14 +1,11 @@
 -- Who may commit: what was tested where a COMMIT is taken.
-use Rattle.std.proofs.Common.{◌≡◌, ℕ, Bool, true, false, not, List, [], ◌∷◌, is_some, refl, sym, ap, subst, max, inl, inr, Option, Some, None, Result, Ok, Err, ok_or, nat_le, length, pos}
+use Rattle.std.proofs.Common.{◌≡◌, ℕ, true, false, not, List, [], ◌∷◌, is_some, refl, sym, ap, subst, max, inl, inr, Option, Some, None, Result, Ok, Err, ok_or, nat_le, length, pos}
 use Rattle.std.specs.Prelude.{◌⊎◌, if◌then◌else◌}
 use Rattle.std.specs.Ordering.{int_eq}
-use Rattle.std.proofs.lemmas.Bool.{not-false, false≢true}
+use Rattle.std.proofs.lemmas.Bool.{not-false}
 use Rattle.cg_names.specs.declared.code.Code.{Code}
 use Rattle.cg_names.specs.declared.code.Code.TheVariants.{CoordinatorNotAvailable, IllegalGeneration, InvalidGroupId, OffsetMetadataTooLarge, RebalanceInProgress, UnknownMemberId}
-use Rattle.cg_fold.specs.Durable.{State}
 use Rattle.cg_group.specs.declared.bounds.TheConstants.{GROUPS_MAX}
-use Rattle.cg_group.specs.declared.event.Event.{Event}
-use Rattle.cg_group.specs.declared.event.Event.TheVariants as event
 use Rattle.cg_group.specs.declared.group.Group.{Group}
 use Rattle.cg_group.specs.declared.group.Phase.{Phase}
 use Rattle.cg_group.specs.declared.group.Phase.TheVariants.{Empty, Preparing, Completing, Stable}
@@ -18,9 +15,10 @@ use Rattle.cg_group.specs.declared.ticket.Ticket.{Ticket}
 use Rattle.cg_group.specs.declared.turn.Turn.{Turn}
 use Rattle.cg_group.specs.Commits.{is_too_large}
 use Rattle.cg_group.specs.Committing.{commit_held, commit_of_member, commit_of_none, commit_unheld, committed, committer, hearing_committer, is_completing, is_negative}
+use Rattle.cg_group.specs.Fencing.{member_check}
 use Rattle.cg_group.specs.Joining.{new_group}
 use Rattle.cg_group.specs.Kept.{kept_in}
-use Rattle.cg_group.specs.Laws.{AreRequests, CommitsAreLawful, IsOfMember, IsOfNobody, after_all, members_of, state_after}
+use Rattle.cg_group.specs.Laws.{CommitsAreLawful, IsOfMember, IsOfNobody, after_all, state_after}
 use Rattle.cg_group.specs.Machine.{Machine, commit, commit_in, concluded, find_group, met, step}
 use Rattle.cg_group.specs.Membership.{find_member, is_empty}
 use Rattle.cg_group.specs.Refusing.{◌>>=◌, refused_if}
@@ -28,17 +26,7 @@ use Rattle.cg_group.specs.Reviving.{revive}
 use Rattle.cg_group.proofs.Agreeing.{Whole, empty_members}
 use Rattle.cg_group.proofs.AgreeingMachine.{whole-all}
 use Rattle.cg_group.proofs.KeptLists.{each-found}
-use Rattle.cg_group.proofs.Requests.{Fine, after_checked, after_given, after_test}
-
--- what was tested before an answer came
-
-tested : {A : Type 0} (b : Bool) (code : Code) (rest : Unit {0} → Result A Code) (x : A) → (refused_if b code >>= rest) ≡ Ok x → (b ≡ false) × (rest tt ≡ Ok x)
-tested true code rest x e = cc
-tested false code rest x e = (refl, e)
-
-given_by : {A B : Type 0} (o : Option B) (code : Code) (rest : B → Result A Code) (x : A) → (ok_or o code >>= rest) ≡ Ok x → (y : B) × (o ≡ Some y) × (rest y ≡ Ok x)
-given_by None code rest x e = cc
-given_by (Some y) code rest x e = (y, refl, e)
+use Rattle.cg_group.proofs.Requests.{Fine, after_checked, after_test, check_parts, passed_by, tested, unfenced_by}
 
 -- the group of a member that commits is not empty by its phase
 abbrev IsSound : Group → Type 0
@@ -62,21 +50,24 @@ phase_of Preparing e n = inl refl
 phase_of Completing e n = cc
 phase_of Stable e n = inr refl
 
-of_member : (r : CommitRequest) (g : Group) (who : Option (List ℕ)) → IsSound g → commit_of_member r.generation r.member g ≡ Ok who → IsOfMember r (Some g)
+of_member : (r : CommitRequest) (g : Group) (who : Option (List ℕ)) → IsSound g → commit_of_member r.generation r.instance r.member g ≡ Ok who → IsOfMember r (Some g)
 unfolding commit_of_member
 of_member r g who sound e =
-    let named = given_by r.member UnknownMemberId (λ id. ok_or (find_member id g.members) UnknownMemberId >>= λ _. refused_if (not (int_eq r.generation (pos g.generation))) IllegalGeneration >>= λ _. refused_if (is_completing g.phase) RebalanceInProgress >>= λ _. Ok (Some id)) who e in
-    let found = given_by (find_member named.0 g.members) UnknownMemberId (λ _. refused_if (not (int_eq r.generation (pos g.generation))) IllegalGeneration >>= λ _. refused_if (is_completing g.phase) RebalanceInProgress >>= λ _. Ok (Some named.0)) who named.2 in
-    let dated = tested (not (int_eq r.generation (pos g.generation))) IllegalGeneration (λ _. refused_if (is_completing g.phase) RebalanceInProgress >>= λ _. Ok (Some named.0)) who found.2 in
-    let phased = tested (is_completing g.phase) RebalanceInProgress (λ _. Ok (Some named.0)) who dated.1 in
+    let phase_test : List ℕ × Member → Unit {0} → Result (Option (List ℕ)) Code = λ own _. refused_if (is_completing g.phase) RebalanceInProgress >>= λ _. Ok (Some own.0) in
+    let dates : List ℕ × Member → Result (Option (List ℕ)) Code = λ own. refused_if (not (int_eq r.generation (pos g.generation))) IllegalGeneration >>= phase_test own in
+    let own = passed_by (member_check r.instance r.member g.members) dates who e in
+    let parts = check_parts r.instance r.member g.members own.0 own.1 in
+    let dated = tested (not (int_eq r.generation (pos g.generation))) IllegalGeneration (phase_test own.0) who own.2 in
+    let phased = tested (is_completing g.phase) RebalanceInProgress (λ _. Ok (Some own.0.0)) who dated.1 in
     record {
       group = g;
       group_is = refl;
-      id = named.0;
-      given = named.1;
-      member = ap is_some found.1;
+      id = own.0.0;
+      given = parts.0;
+      member = ap is_some parts.1;
+      unfenced = unfenced_by r.instance r.member g.members own.0 own.1;
       generation = not-false (int_eq r.generation (pos g.generation)) dated.0;
-      phase = phase_of g.phase phased.0 (λ p. found_some g.members named.0 found.0 found.1 (sound p));
+      phase = phase_of g.phase phased.0 (λ p. found_some g.members own.0.0 own.0.1 parts.1 (sound p));
     }
 
 of_nobody : (r : CommitRequest) (g : Group) (who : Option (List ℕ)) → is_empty g.members ≡ true → commit_of_none r.generation ≡ Ok who → IsOfNobody r (Some g)
@@ -84,10 +75,10 @@ of_nobody r g who empty e =
     let negative = tested (not (is_negative r.generation)) UnknownMemberId (λ _. Ok None) who e in
     record { negative = not-false (is_negative r.generation) negative.0; bare = empty_is g.members empty }
 
-of_somebody : (r : CommitRequest) (g : Group) (who : Option (List ℕ)) → IsSound g → committer r.generation r.member g ≡ Ok who → Lawful r (Some g)
+of_somebody : (r : CommitRequest) (g : Group) (who : Option (List ℕ)) → IsSound g → committer r.generation r.instance r.member g ≡ Ok who → Lawful r (Some g)
 unfolding Lawful committer
 of_somebody r g who sound e =
-    (elim (is_empty g.members) as (λ b. is_empty g.members ≡ b → (if b then commit_of_none r.generation else commit_of_member r.generation r.member g) ≡ Ok who → IsOfNobody r (Some g) ⊎ IsOfMember r (Some g)) [
+    (elim (is_empty g.members) as (λ b. is_empty g.members ≡ b → (if b then commit_of_none r.generation else commit_of_member r.generation r.instance r.member g) ≡ Ok who → IsOfNobody r (Some g) ⊎ IsOfMember r (Some g)) [
       | true ↦ λ empty k. inl (of_nobody r g who empty k)
       | false ↦ λ filled k. inr (of_member r g who sound k)
     ]) refl e
@@ -104,7 +95,7 @@ lawful_in now r ticket groups id None sound =
 lawful_in now r ticket groups id (Some g) sound =
     let P : Turn → Type 0 = λ _. IsOfNobody r (Some g) ⊎ IsOfMember r (Some g) in
     let kept : Option (List ℕ) → Unit {0} → Result Turn Code = λ who _. Ok (committed r.entries ticket (hearing_committer now who g)) in
-    after_checked P (committer r.generation r.member g) (λ who. refused_if (is_too_large r.entries) OffsetMetadataTooLarge >>= kept who)
+    after_checked P (committer r.generation r.instance r.member g) (λ who. refused_if (is_too_large r.entries) OffsetMetadataTooLarge >>= kept who)
     (λ who from. after_test P (is_too_large r.entries) OffsetMetadataTooLarge (kept who) (λ _. of_somebody r g who (sound g refl) from))
 
 lawful_commit : (now : ℕ) (r : CommitRequest) (ticket : Ticket) (groups : List Group) (id : List ℕ) → r.group ≡ Some id → ((g : Group) → find_group id groups ≡ Some g → IsSound g) → Fine (λ _. Lawful r (find_group id groups)) (commit now r ticket groups)

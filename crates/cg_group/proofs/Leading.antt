@@ -1,5 +1,5 @@
 -- The leader of a group is one of its members while assignments are handed out.
-use Rattle.std.proofs.Common.{◌≡◌, ℕ, Bool, true, false, ◌||◌, List, [], ◌∷◌, map, find, cond, refl, sym, ap, ◌∙◌, subst, Option, Some, None}
+use Rattle.std.proofs.Common.{◌≡◌, ℕ, Bool, true, false, ◌||◌, List, [], ◌∷◌, map, find, cond, refl, sym, ap, ◌∙◌, Some}
 use Rattle.std.specs.List.{list_any}
 use Rattle.std.proofs.lemmas.Bool.{or_left, or_right}
 use Rattle.cg_group.specs.declared.group.Group.{Group}

@@ -1,15 +1,17 @@
 -- The groups without one of them.
-use Rattle.std.proofs.Common.{◌≡◌, ℕ, Bool, true, false, ◌||◌, List, [], ◌∷◌, find, cond, is_some, refl, sym, ap, ◌∙◌, subst, Option, Some, None}
+use Rattle.std.proofs.Common.{◌≡◌, ℕ, true, false, List, [], ◌∷◌, cond, is_some, refl, sym, ap, ◌∙◌, subst, Some, None}
 use Rattle.std.specs.Prelude.{if◌then◌else◌}
-use Rattle.std.specs.Cmp.Lexicographic.{slice_cmp}
-use Rattle.std.specs.Ordering.{nat_cmp, is_eq}
-use Rattle.std.specs.declared.cmp.Ordering.TheVariants.{Less, Equal, Greater}
+use Rattle.std.proofs.lemmas.Bool.{false≢true}
 use Rattle.std.proofs.lemmas.Cmp.{nat_list_eq_equiv}
+use Rattle.std.proofs.lemmas.Map.Text.{is_eq-slice_cmp}
+use Rattle.std.specs.Cmp.Lexicographic.{slice_cmp}
+use Rattle.std.specs.Ordering.{nat_cmp, is_eq, match_ordering}
+use Rattle.std.specs.declared.cmp.Ordering.TheVariants.{Less, Equal, Greater}
 use Rattle.cg_group.specs.declared.group.Group.{Group}
 use Rattle.cg_group.specs.Kept.{Ascending, ComesBefore, Each}
-use Rattle.cg_group.specs.Machine.{find_group, without_group}
+use Rattle.cg_group.specs.Machine.{find_group, with_group, without_group}
 use Rattle.cg_group.specs.Membership.{is_same}
-use Rattle.cg_group.proofs.KeptLists.{each-after, group_ids, same_names}
+use Rattle.cg_group.proofs.KeptLists.{each-after, group_ids, same_names, same_self}
 
 before-without : (x id : List ℕ) (gs : List Group) → ComesBefore x (group_ids gs) → ComesBefore x (group_ids (without_group id gs))
 unfolding without_group
@@ -52,4 +54,25 @@ found-without id x (g ∷ gs) d h =
             | true ↦ λ k. refl
             | false ↦ λ k. found-without id x gs d k
           ] h
+    ]) refl
+
+not_first : (id : List ℕ) (h : Group) (hs : List Group) → find_group id (h ∷ hs) ≡ None → (is_same h.id id ≡ false) × (find_group id hs ≡ None)
+unfolding find_group
+not_first id h hs e = (elim (is_same h.id id) as (λ b. cond b (Some h) (find_group id hs) ≡ None → (b ≡ false) × (find_group id hs ≡ None)) [ true ↦ λ e. cc | false ↦ λ e. (refl, e) ]) e
+
+pub without_absent : (id : List ℕ) (gs : List Group) → find_group id gs ≡ None → without_group id gs ≡ gs
+unfolding without_group
+without_absent id [] e = refl
+without_absent id (h ∷ hs) e = let p = not_first id h hs e in ap (λ b. if b then hs else h ∷ without_group id hs) p.0 ∙ ap (λ r. h ∷ r) (without_absent id hs p.1)
+
+-- a group that was put in and is taken away leaves the groups as they were
+pub without_with : (g : Group) (gs : List Group) → find_group g.id gs ≡ None → without_group g.id (with_group g gs) ≡ gs
+unfolding with_group without_group
+without_with g [] e = ap (λ b. if b then [] else g ∷ []) (same_self g.id)
+without_with g (h ∷ hs) e =
+    let p = not_first g.id h hs e in
+    (elim (slice_cmp nat_cmp g.id h.id) as (λ o. slice_cmp nat_cmp g.id h.id ≡ o → without_group g.id (match_ordering o (g ∷ h ∷ hs) (g ∷ hs) (h ∷ with_group g hs)) ≡ h ∷ hs) [
+      | Less ↦ λ _. ap (λ b. if b then h ∷ hs else g ∷ without_group g.id (h ∷ hs)) (same_self g.id)
+      | Equal ↦ λ t. absurd (false≢true (sym p.0 ∙ nat_list_eq_equiv.symm h.id g.id ∙ sym (is_eq-slice_cmp g.id h.id) ∙ ap is_eq t))
+      | Greater ↦ λ _. ap (λ b. if b then with_group g hs else h ∷ without_group g.id (with_group g hs)) p.0 ∙ ap (λ r. h ∷ r) (without_with g hs p.1)
     ]) refl

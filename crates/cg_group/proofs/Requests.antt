@@ -1,10 +1,9 @@
 -- What a request that is taken does, and what was tested before.
-use Rattle.std.proofs.Common.{◌≡◌, ℕ, Bool, true, false, not, List, is_some, refl, Option, Some, None, Result, Ok, Err, ok_or, nat_le, length, pos}
+use Rattle.std.proofs.Common.{◌≡◌, ℕ, Bool, true, false, not, List, [], ◌∷◌, is_some, refl, ap, subst, Option, Some, None, Result, Ok, Err, ok_or, nat_le, length, pos}
 use Rattle.std.proofs.lemmas.Bool.{not-false}
 use Rattle.std.specs.Ordering.{int_eq}
 use Rattle.cg_names.specs.declared.code.Code.{Code}
 use Rattle.cg_names.specs.declared.code.Code.TheVariants.{CoordinatorNotAvailable, GroupMaxSizeReached, IllegalGeneration, InconsistentGroupProtocol, InvalidGroupId, InvalidSessionTimeout, OffsetMetadataTooLarge, RebalanceInProgress, UnknownMemberId}
-use Rattle.cg_record.specs.declared.roster.TheConstants.{MEMBERS_MAX}
 use Rattle.cg_group.specs.declared.bounds.TheConstants.{GROUPS_MAX}
 use Rattle.cg_group.specs.declared.member.Member.{Member}
 use Rattle.cg_group.specs.declared.group.Group.{Group}
@@ -16,12 +15,15 @@ use Rattle.cg_group.specs.declared.request.SyncRequest.{SyncRequest}
 use Rattle.cg_group.specs.declared.ticket.Ticket.{Ticket}
 use Rattle.cg_group.specs.declared.turn.Turn.{Turn}
 use Rattle.cg_group.specs.Beating.{beat_held, beat_taken}
-use Rattle.cg_group.specs.Joining.{drawn, is_inconsistent, is_session_refused, join_drawn, join_held, join_known, join_new, join_unheld, new_group}
-use Rattle.cg_group.specs.Leaving.{leave_held, leave_taken}
+use Rattle.cg_group.specs.Admission.{is_full, join_drawn, join_held, join_placed, join_unheld}
+use Rattle.cg_group.specs.Fencing.{fencing, member_check}
+use Rattle.cg_group.specs.Joining.{drawn, is_inconsistent, is_session_refused, join_known, join_new, new_group, own_name}
+use Rattle.cg_group.specs.Leaving.{leave_held, leave_taken, leaver}
+use Rattle.cg_group.specs.Replacing.{join_replacing}
 use Rattle.cg_group.specs.Commits.{is_too_large}
 use Rattle.cg_group.specs.Committing.{commit_held, commit_unheld, committed, committer, hearing_committer, is_negative}
 use Rattle.cg_group.specs.Machine.{commit, commit_in, find_group, join, join_in, named_group, sync, beat, leave}
-use Rattle.cg_group.specs.Membership.{find_member, is_preparing}
+use Rattle.cg_group.specs.Membership.{find_instance, find_member, is_empty, is_preparing}
 use Rattle.cg_group.specs.Refusing.{◌>>=◌, refused_if}
 use Rattle.cg_group.specs.Syncing.{sync_held, sync_taken}
 
@@ -42,50 +44,111 @@ pub after_checked : {A : Type 0} (P : Turn → Type 0) (o : Result A Code) (rest
 after_checked P (Ok x) rest h = h x refl
 after_checked P (Err code) rest h = tt
 
+-- what was tested before an answer came
+
+pub tested : {A : Type 0} (b : Bool) (code : Code) (rest : Unit {0} → Result A Code) (x : A) → (refused_if b code >>= rest) ≡ Ok x → (b ≡ false) × (rest tt ≡ Ok x)
+tested true code rest x e = cc
+tested false code rest x e = (refl, e)
+
+pub given_by : {A B : Type 0} (o : Option B) (code : Code) (rest : B → Result A Code) (x : A) → (ok_or o code >>= rest) ≡ Ok x → (y : B) × (o ≡ Some y) × (rest y ≡ Ok x)
+given_by None code rest x e = cc
+given_by (Some y) code rest x e = (y, refl, e)
+
+pub passed_by : {A B : Type 0} (o : Result B Code) (rest : B → Result A Code) (x : A) → (o >>= rest) ≡ Ok x → (y : B) × (o ≡ Ok y) × (rest y ≡ Ok x)
+passed_by (Ok y) rest x e = (y, refl, e)
+passed_by (Err code) rest x e = cc
+
+-- who passes the member check is the member whose id is given
+pub check_parts : (instance member : Option (List ℕ)) (ms : List Member) (who : List ℕ × Member) → member_check instance member ms ≡ Ok who → (member ≡ Some who.0) × (find_member who.0 ms ≡ Some who.1)
+unfolding member_check
+check_parts instance member ms who e =
+    let from = passed_by (fencing instance member ms) (λ _. ok_or member UnknownMemberId >>= λ id. ok_or (find_member id ms) UnknownMemberId >>= λ m. Ok (id, m)) who e in
+    let named = given_by member UnknownMemberId (λ id. ok_or (find_member id ms) UnknownMemberId >>= λ m. Ok (id, m)) who from.2 in
+    let found = given_by (find_member named.0 ms) UnknownMemberId (λ m. Ok (named.0, m)) who named.2 in
+    let same : (named.0, found.0) ≡ who = cc in
+    let Q : List ℕ × Member → Type 0 = λ w. (member ≡ Some w.0) × (find_member w.0 ms ≡ Some w.1) in
+    subst Q same (named.1, found.1)
+
+-- and no other has the instance that is given
+pub unfenced_by : (instance member : Option (List ℕ)) (ms : List Member) (who : List ℕ × Member) → member_check instance member ms ≡ Ok who → fencing instance member ms ≡ Ok tt
+unfolding member_check
+unfenced_by instance member ms who e =
+    (passed_by (fencing instance member ms) (λ _. ok_or member UnknownMemberId >>= λ id. ok_or (find_member id ms) UnknownMemberId >>= λ m. Ok (id, m)) who e).1
+
+-- who leaves is one of the members
+leaver_is_there : (instance member : Option (List ℕ)) (ms : List Member) (m : Member) → leaver instance member ms ≡ Ok m → is_empty ms ≡ false
+unfolding leaver find_member find_instance
+leaver_is_there None None [] m e = cc
+leaver_is_there None (Some id) [] m e = cc
+leaver_is_there (Some i) member [] m e = cc
+leaver_is_there instance member (x ∷ xs) m e = refl
+
 module _ (P : Turn → Type 0) where
+  after_check : (instance member : Option (List ℕ)) (ms : List Member) (rest : List ℕ × Member → Result Turn Code)
+      → ((who : List ℕ × Member) → member ≡ Some who.0 → find_member who.0 ms ≡ Some who.1 → Fine P (rest who)) → Fine P (member_check instance member ms >>= rest)
+  after_check instance member ms rest k =
+      after_checked P (member_check instance member ms) rest (λ who e. let parts = check_parts instance member ms who e in k who parts.0 parts.1)
+
+  fine-join_drawn : (now : ℕ) (r : JoinRequest) (id : List ℕ) (ticket : Ticket) (g : Group)
+      → (is_some (find_member id g.members) ≡ false → is_some (find_instance r.instance g.members) ≡ false → P (join_new now r id ticket g))
+      → ((old : Member) → is_some (find_member id g.members) ≡ false → find_instance r.instance g.members ≡ Some old → P (join_replacing now r id ticket old g))
+      → Fine P (join_drawn now r id ticket g)
+  unfolding join_drawn
+  fine-join_drawn now r id ticket g new replacing =
+      after_test P (is_some (find_member id g.members)) CoordinatorNotAvailable (λ _. Ok (join_placed now r id ticket g (find_instance r.instance g.members)))
+      (λ free. placed (find_instance r.instance g.members) refl free)
+    where
+      placed : (o : Option Member) → find_instance r.instance g.members ≡ o → is_some (find_member id g.members) ≡ false → P (join_placed now r id ticket g o)
+      placed None e free = new free (ap is_some e)
+      placed (Some old) e free = replacing old free e
+
   fine-join_held : (now : ℕ) (r : JoinRequest) (fresh : List ℕ) (ticket : Ticket) (member : Option (List ℕ)) (g : Group)
-      → ((new : List ℕ) → is_some (find_member new g.members) ≡ false → is_inconsistent r g ≡ false → P (join_new now r new ticket g))
+      → ((new : List ℕ) → is_some (find_member new g.members) ≡ false → is_some (find_instance r.instance g.members) ≡ false → is_inconsistent r g ≡ false → P (join_new now r new ticket g))
+      → ((new : List ℕ) (old : Member) → is_some (find_member new g.members) ≡ false → find_instance r.instance g.members ≡ Some old → is_inconsistent r g ≡ false → P (join_replacing now r new ticket old g))
       → ((own : List ℕ) (m : Member) → find_member own g.members ≡ Some m → is_inconsistent r g ≡ false → P (join_known now r own ticket m g))
       → Fine P (join_held now r fresh ticket member g)
-  unfolding join_held join_drawn
-  fine-join_held now r fresh ticket None g new known =
-      let id : List ℕ = drawn r.client fresh in
-      after_test P (nat_le MEMBERS_MAX (length g.members)) GroupMaxSizeReached (λ _. refused_if (is_inconsistent r g) InconsistentGroupProtocol >>= λ _. join_drawn now r id ticket g)
+  unfolding join_held
+  fine-join_held now r fresh ticket None g new replacing known =
+      let id : List ℕ = drawn (own_name r) fresh in
+      after_test P (is_full (find_instance r.instance g.members) g.members) GroupMaxSizeReached (λ _. refused_if (is_inconsistent r g) InconsistentGroupProtocol >>= λ _. join_drawn now r id ticket g)
       (λ _. after_test P (is_inconsistent r g) InconsistentGroupProtocol (λ _. join_drawn now r id ticket g)
-      (λ fits. after_test P (is_some (find_member id g.members)) CoordinatorNotAvailable (λ _. Ok (join_new now r id ticket g)) (λ free. new id free fits)))
-  fine-join_held now r fresh ticket (Some id) g new known =
-      after_given P (find_member id g.members) UnknownMemberId (λ m. refused_if (is_inconsistent r g) InconsistentGroupProtocol >>= λ _. Ok (join_known now r id ticket m g))
-      (λ m found. after_test P (is_inconsistent r g) InconsistentGroupProtocol (λ _. Ok (join_known now r id ticket m g)) (λ fits. known id m found fits))
+      (λ fits. fine-join_drawn now r id ticket g (λ free apart. new id free apart fits) (λ old free found. replacing id old free found fits)))
+  fine-join_held now r fresh ticket (Some id) g new replacing known =
+      after_check r.instance (Some id) g.members (λ who. refused_if (is_inconsistent r g) InconsistentGroupProtocol >>= λ _. Ok (join_known now r who.0 ticket who.1 g))
+      (λ who _ found. after_test P (is_inconsistent r g) InconsistentGroupProtocol (λ _. Ok (join_known now r who.0 ticket who.1 g)) (λ fits. known who.0 who.1 found fits))
 
   fine-join_unheld : (now : ℕ) (r : JoinRequest) (fresh : List ℕ) (ticket : Ticket) (held : ℕ) (id : List ℕ)
       → ((new : List ℕ) → P (join_new now r new ticket (new_group id))) → Fine P (join_unheld now r fresh ticket held id)
   unfolding join_unheld
   fine-join_unheld now r fresh ticket held id made =
-      after_test P (is_some r.member) UnknownMemberId (λ _. refused_if (nat_le GROUPS_MAX held) CoordinatorNotAvailable >>= λ _. Ok (join_new now r (drawn r.client fresh) ticket (new_group id)))
-      (λ _. after_test P (nat_le GROUPS_MAX held) CoordinatorNotAvailable (λ _. Ok (join_new now r (drawn r.client fresh) ticket (new_group id)))
-      (λ _. made (drawn r.client fresh)))
+      let new : List ℕ = drawn (own_name r) fresh in
+      after_test P (is_some r.member) UnknownMemberId (λ _. refused_if (nat_le GROUPS_MAX held) CoordinatorNotAvailable >>= λ _. Ok (join_new now r new ticket (new_group id)))
+      (λ _. after_test P (nat_le GROUPS_MAX held) CoordinatorNotAvailable (λ _. Ok (join_new now r new ticket (new_group id)))
+      (λ _. made new))
 
   fine-join_in : (now : ℕ) (r : JoinRequest) (fresh : List ℕ) (ticket : Ticket) (groups : List Group) (id : List ℕ) (o : Option Group)
       → (o ≡ None → (new : List ℕ) → P (join_new now r new ticket (new_group id)))
-      → ((g : Group) → o ≡ Some g → (new : List ℕ) → is_some (find_member new g.members) ≡ false → is_inconsistent r g ≡ false → P (join_new now r new ticket g))
+      → ((g : Group) → o ≡ Some g → (new : List ℕ) → is_some (find_member new g.members) ≡ false → is_some (find_instance r.instance g.members) ≡ false → is_inconsistent r g ≡ false → P (join_new now r new ticket g))
+      → ((g : Group) → o ≡ Some g → (new : List ℕ) (old : Member) → is_some (find_member new g.members) ≡ false → find_instance r.instance g.members ≡ Some old → is_inconsistent r g ≡ false → P (join_replacing now r new ticket old g))
       → ((g : Group) → o ≡ Some g → (own : List ℕ) (m : Member) → find_member own g.members ≡ Some m → is_inconsistent r g ≡ false → P (join_known now r own ticket m g))
       → Fine P (join_in now r fresh ticket groups id o)
-  fine-join_in now r fresh ticket groups id None made new known = fine-join_unheld now r fresh ticket (length groups) id (made refl)
-  fine-join_in now r fresh ticket groups id (Some g) made new known = fine-join_held now r fresh ticket r.member g (new g refl) (known g refl)
+  fine-join_in now r fresh ticket groups id None made new replacing known = fine-join_unheld now r fresh ticket (length groups) id (made refl)
+  fine-join_in now r fresh ticket groups id (Some g) made new replacing known = fine-join_held now r fresh ticket r.member g (new g refl) (replacing g refl) (known g refl)
 
-  -- JOIN: a group is made, or a member is new, or it is known
+  -- JOIN: a group is made, or a member is new, or it takes another's place, or it is known
   pub fine-join : (now : ℕ) (r : JoinRequest) (fresh : List ℕ) (ticket : Ticket) (groups : List Group)
       → ((id new : List ℕ) → r.group ≡ Some id → find_group id groups ≡ None → P (join_new now r new ticket (new_group id)))
-      → ((id new : List ℕ) (g : Group) → r.group ≡ Some id → find_group id groups ≡ Some g → is_some (find_member new g.members) ≡ false → is_inconsistent r g ≡ false → P (join_new now r new ticket g))
+      → ((id new : List ℕ) (g : Group) → r.group ≡ Some id → find_group id groups ≡ Some g → is_some (find_member new g.members) ≡ false → is_some (find_instance r.instance g.members) ≡ false → is_inconsistent r g ≡ false → P (join_new now r new ticket g))
+      → ((id new : List ℕ) (g : Group) (old : Member) → r.group ≡ Some id → find_group id groups ≡ Some g → is_some (find_member new g.members) ≡ false → find_instance r.instance g.members ≡ Some old → is_inconsistent r g ≡ false → P (join_replacing now r new ticket old g))
       → ((id own : List ℕ) (g : Group) (m : Member) → r.group ≡ Some id → find_group id groups ≡ Some g → find_member own g.members ≡ Some m → is_inconsistent r g ≡ false → P (join_known now r own ticket m g))
       → Fine P (join now r fresh ticket groups)
   unfolding join
-  fine-join now r fresh ticket groups made new known =
+  fine-join now r fresh ticket groups made new replacing known =
       let taken : List ℕ → Unit {0} → Result Turn Code = λ id _. join_in now r fresh ticket groups id (find_group id groups) in
       let timed : List ℕ → Result Turn Code = λ id. refused_if (is_session_refused r) InvalidSessionTimeout >>= taken id in
       after_given P r.group InvalidGroupId timed
       (λ id named. after_test P (is_session_refused r) InvalidSessionTimeout (taken id)
-      (λ _. fine-join_in now r fresh ticket groups id (find_group id groups) (λ e n. made id n named e) (λ g e n free fits. new id n g named e free fits) (λ g e own m found fits. known id own g m named e found fits)))
+      (λ _. fine-join_in now r fresh ticket groups id (find_group id groups) (λ e n. made id n named e) (λ g e n free apart fits. new id n g named e free apart fits) (λ g e n old free found fits. replacing id n g old named e free found fits) (λ g e own m found fits. known id own g m named e found fits)))
 
   after_named : (id : Option (List ℕ)) (groups : List Group) (rest : Group → Result Turn Code) → ((i : List ℕ) (g : Group) → id ≡ Some i → find_group i groups ≡ Some g → Fine P (rest g)) → Fine P (named_group id groups >>= rest)
   after_named None groups rest k = tt
@@ -98,13 +161,12 @@ module _ (P : Turn → Type 0) where
   fine-sync now r ticket groups k =
       after_named r.group groups (λ g. sync_held now r ticket g)
       (λ i g named e.
-      let taken : List ℕ → Member → Unit {0} → Result Turn Code = λ id m _. Ok (sync_taken now r id ticket m g g.phase) in
-      let phased : List ℕ → Member → Unit {0} → Result Turn Code = λ id m _. refused_if (is_preparing g.phase) RebalanceInProgress >>= taken id m in
-      let dated : List ℕ → Member → Result Turn Code = λ id m. refused_if (not (int_eq r.generation (pos g.generation))) IllegalGeneration >>= phased id m in
-      after_given P r.member UnknownMemberId (λ id. ok_or (find_member id g.members) UnknownMemberId >>= dated id)
-      (λ id given. after_given P (find_member id g.members) UnknownMemberId (dated id)
-      (λ m found. after_test P (not (int_eq r.generation (pos g.generation))) IllegalGeneration (phased id m)
-      (λ dates. after_test P (is_preparing g.phase) RebalanceInProgress (taken id m) (λ phases. k i id g m named e given found (not-false (int_eq r.generation (pos g.generation)) dates) phases)))))
+      let taken : List ℕ × Member → Unit {0} → Result Turn Code = λ who _. Ok (sync_taken now r who.0 ticket who.1 g g.phase) in
+      let phased : List ℕ × Member → Unit {0} → Result Turn Code = λ who _. refused_if (is_preparing g.phase) RebalanceInProgress >>= taken who in
+      let dated : List ℕ × Member → Result Turn Code = λ who. refused_if (not (int_eq r.generation (pos g.generation))) IllegalGeneration >>= phased who in
+      after_check r.instance r.member g.members dated
+      (λ who given found. after_test P (not (int_eq r.generation (pos g.generation))) IllegalGeneration (phased who)
+      (λ dates. after_test P (is_preparing g.phase) RebalanceInProgress (taken who) (λ phases. k i who.0 g who.1 named e given found (not-false (int_eq r.generation (pos g.generation)) dates) phases))))
 
   pub fine-beat : (now : ℕ) (r : BeatRequest) (ticket : Ticket) (groups : List Group)
       → ((id own : List ℕ) (g : Group) → find_group id groups ≡ Some g → P (beat_taken now own ticket g))
@@ -113,26 +175,24 @@ module _ (P : Turn → Type 0) where
   fine-beat now r ticket groups k =
       after_named r.group groups (λ g. beat_held now r ticket g)
       (λ i g named e.
-      let taken : List ℕ → Unit {0} → Result Turn Code = λ id _. Ok (beat_taken now id ticket g) in
-      let dated : List ℕ → Member → Result Turn Code = λ id m. refused_if (not (int_eq r.generation (pos g.generation))) IllegalGeneration >>= taken id in
-      after_given P r.member UnknownMemberId (λ id. ok_or (find_member id g.members) UnknownMemberId >>= dated id)
-      (λ id _. after_given P (find_member id g.members) UnknownMemberId (dated id)
-      (λ m _. after_test P (not (int_eq r.generation (pos g.generation))) IllegalGeneration (taken id) (λ _. k i id g e))))
+      let taken : List ℕ × Member → Unit {0} → Result Turn Code = λ who _. Ok (beat_taken now who.0 ticket g) in
+      let dated : List ℕ × Member → Result Turn Code = λ who. refused_if (not (int_eq r.generation (pos g.generation))) IllegalGeneration >>= taken who in
+      after_check r.instance r.member g.members dated
+      (λ who _ _. after_test P (not (int_eq r.generation (pos g.generation))) IllegalGeneration (taken who) (λ _. k i who.0 g e)))
 
   pub fine-leave : (now : ℕ) (r : LeaveRequest) (ticket : Ticket) (groups : List Group)
-      → ((id own : List ℕ) (g : Group) (m : Member) → find_group id groups ≡ Some g → find_member own g.members ≡ Some m → P (leave_taken now own ticket m g))
+      → ((id : List ℕ) (g : Group) (m : Member) → find_group id groups ≡ Some g → is_empty g.members ≡ false → P (leave_taken now m.id ticket m g))
       → Fine P (leave now r ticket groups)
   unfolding leave leave_held
   fine-leave now r ticket groups k =
       after_named r.group groups (λ g. leave_held now r ticket g)
       (λ i g named e.
-      let taken : List ℕ → Member → Result Turn Code = λ id m. Ok (leave_taken now id ticket m g) in
-      after_given P r.member UnknownMemberId (λ id. ok_or (find_member id g.members) UnknownMemberId >>= taken id)
-      (λ id _. after_given P (find_member id g.members) UnknownMemberId (taken id) (λ m found. k i id g m e found)))
+      after_checked P (leaver r.instance r.member g.members) (λ m. Ok (leave_taken now m.id ticket m g))
+      (λ m from. k i g m e (leaver_is_there r.instance r.member g.members m from)))
 
   fine-commit_in : (now : ℕ) (r : CommitRequest) (ticket : Ticket) (groups : List Group) (id : List ℕ) (o : Option Group)
       → (o ≡ None → P (committed r.entries ticket (new_group id)))
-      → ((g : Group) (who : Option (List ℕ)) → o ≡ Some g → committer r.generation r.member g ≡ Ok who → P (committed r.entries ticket (hearing_committer now who g)))
+      → ((g : Group) (who : Option (List ℕ)) → o ≡ Some g → committer r.generation r.instance r.member g ≡ Ok who → P (committed r.entries ticket (hearing_committer now who g)))
       → Fine P (commit_in now r ticket groups id o)
   unfolding commit_held commit_unheld
   fine-commit_in now r ticket groups id None made taken =
@@ -143,13 +203,13 @@ module _ (P : Turn → Type 0) where
       (λ _. after_test P (nat_le GROUPS_MAX (length groups)) CoordinatorNotAvailable kept (λ _. made refl)))
   fine-commit_in now r ticket groups id (Some g) made taken =
       let kept : Option (List ℕ) → Unit {0} → Result Turn Code = λ who _. Ok (committed r.entries ticket (hearing_committer now who g)) in
-      after_checked P (committer r.generation r.member g) (λ who. refused_if (is_too_large r.entries) OffsetMetadataTooLarge >>= kept who)
+      after_checked P (committer r.generation r.instance r.member g) (λ who. refused_if (is_too_large r.entries) OffsetMetadataTooLarge >>= kept who)
       (λ who from. after_test P (is_too_large r.entries) OffsetMetadataTooLarge (kept who) (λ _. taken g who refl from))
 
   -- COMMIT: a group is made, or a member or nobody commits to one that is held
   pub fine-commit : (now : ℕ) (r : CommitRequest) (ticket : Ticket) (groups : List Group)
       → ((id : List ℕ) → find_group id groups ≡ None → P (committed r.entries ticket (new_group id)))
-      → ((id : List ℕ) (g : Group) (who : Option (List ℕ)) → find_group id groups ≡ Some g → committer r.generation r.member g ≡ Ok who → P (committed r.entries ticket (hearing_committer now who g)))
+      → ((id : List ℕ) (g : Group) (who : Option (List ℕ)) → find_group id groups ≡ Some g → committer r.generation r.instance r.member g ≡ Ok who → P (committed r.entries ticket (hearing_committer now who g)))
       → Fine P (commit now r ticket groups)
   unfolding commit
   fine-commit now r ticket groups made taken =

@@ -1,29 +1,32 @@
 -- Which groups a loading begins with, and in which order.
-use Rattle.std.proofs.Common.{◌≡◌, ℕ, Bool, true, false, ◌||◌, ◌&&◌, List, [], ◌∷◌, ◌++◌, cond, is_some, refl, sym, ap, ◌∙◌, subst, Option, Some, None, map as each}
+use Rattle.std.proofs.Common.{◌≡◌, ℕ, Bool, true, false, ◌||◌, ◌&&◌, List, [], ◌∷◌, cond, is_some, refl, sym, ap, ◌∙◌, subst, Option, Some, None, map as each, zero, suc, ◌+◌, ◌<◌, length, get_or, take, arith, ◌++◌}
 use Rattle.std.proofs.Math.Dec.{T}
-use Rattle.std.specs.Prelude.{find as find_in}
 use Rattle.std.specs.List.{list_any}
-use Rattle.std.specs.Ordering.{eq_by_cmp, is_eq, is_lt, nat_cmp}
+use Rattle.std.specs.Ordering.{eq_by_cmp, is_eq, is_lt, nat_cmp, ordering_then}
 use Rattle.std.specs.Cmp.Lexicographic.{slice_cmp}
-use Rattle.std.specs.FinMap.{FinMap, contains_key-keys, entries, entries_sorted, find, from_entries, get-from_entries, is_sorted, keys}
+use Rattle.std.specs.FinMap.{contains_key-keys, entries, entries_sorted, from_entries, get, get-from_entries, is_sorted, keys}
 use Rattle.std.specs.FinMap.Entries.{below_all, is_some-find}
 use Rattle.std.specs.declared.cmp.Ordering.{Ordering}
 use Rattle.std.specs.declared.cmp.Ordering.TheVariants.{Less, Equal, Greater}
-use Rattle.std.proofs.lemmas.Bool.{or_left}
+use Rattle.std.proofs.lemmas.Bool.{or_left, or_right, false≢true}
 use Rattle.std.proofs.lemmas.Cmp.{nat_list_cmp_total, nat_list_eq_equiv}
+use Rattle.std.proofs.lemmas.List.{map-append, take_more}
 use Rattle.std.proofs.lemmas.List.Folds.{list_any-append}
 use Rattle.std.proofs.lemmas.Map.Text.{is_eq-slice_cmp}
 use Rattle.cg_fold.specs.declared.record.GroupRecord.{GroupRecord}
 use Rattle.cg_fold.specs.Durable.{State}
-use Rattle.cg_fold.specs.Key.{name_cmp}
+use Rattle.cg_fold.specs.Key.{key_cmp, name_cmp}
+use Rattle.cg_fold.specs.declared.key.OffsetKey.{OffsetKey}
 use Rattle.cg_fold.specs.Snapshot.{groups_in, in_order, marked}
 use Rattle.cg_record.specs.Rosters.{RosterParts}
 use Rattle.cg_group.specs.declared.group.Group.{Group}
 use Rattle.cg_group.specs.Joining.{new_group}
-use Rattle.cg_group.specs.Kept.{Ascending, ComesBefore, kept_in}
-use Rattle.cg_group.specs.Machine.{InOrder, find_group}
+use Rattle.cg_group.specs.Kept.{Ascending, ComeBefore, ComesBefore, kept_in}
+use Rattle.cg_group.specs.Machine.{InOrder, find_group, with_group}
 use Rattle.cg_group.specs.Membership.{is_same}
 use Rattle.cg_group.specs.Reviving.{revived, revived_from, revived_with}
+use Rattle.cg_group.proofs.Homing.{each_to_place}
+use Rattle.cg_group.proofs.InOrder.{with_group-last}
 use Rattle.cg_group.proofs.KeptLists.{group_ids}
 
 -- names in order
@@ -75,6 +78,24 @@ in_order-revived now state =
     let P : List (List ℕ) → Type 0 = λ xs. Ascending xs in
     subst P (sym (ids_revived now state (in_order (groups_in state)))) (ascending-in_order (groups_in state))
 
+-- one more group, put behind those before it
+
+before_take : (xs : List (List ℕ)) (n : ℕ) (d : List ℕ) → n < length xs → Ascending xs → ComeBefore (take n xs) (get_or xs n d)
+before_take [] n d lt h = absurd (omega arith)
+before_take (x ∷ xs) zero d lt h = tt
+before_take (x ∷ xs) (suc n) d lt h = (each_to_place (λ y. slice_cmp nat_cmp x y ≡ Less) xs h.0 n d (omega arith), before_take xs n d (omega arith) h.1)
+
+pub revived_next : (now : ℕ) (state : State) (n : ℕ) (x : List ℕ) → n < length (in_order (groups_in state)) → x ≡ get_or (in_order (groups_in state)) n x
+    → with_group (revived now state x) (each (revived now state) (take n (in_order (groups_in state)))) ≡ each (revived now state) (take (n + 1) (in_order (groups_in state)))
+revived_next now state n x below here =
+    let names = in_order (groups_in state) in
+    let g : Group = revived now state x in
+    let P : List (List ℕ) → Type 0 = λ ids. ComeBefore ids g.id in
+    let Q : List ℕ → Type 0 = λ y. ComeBefore (take n names) y in
+    let behind = subst P (sym (ids_revived now state (take n names))) (subst Q (sym (id_revived now state x ∙ here)) (before_take names n x below (ascending-in_order (groups_in state)))) in
+    with_group-last g (each (revived now state) (take n names)) behind
+    ∙ sym (ap (each (revived now state)) (take_more names n x below ∙ ap (λ y. take n names ++ y ∷ []) (sym here)) ∙ map-append (revived now state) (take n names) (x ∷ []))
+
 -- a group with a record is among them
 
 same_by_order : (x y : List ℕ) → eq_by_cmp name_cmp x y ≡ is_same y x
@@ -108,3 +129,30 @@ held_revived now state id h =
     (in_order-has id (groups_in state)
     ∙ list_any-append (eq_by_cmp name_cmp id) (keys state.records) (each (λ k. k.group) (keys state.offsets))
     ∙ or_left (list_any (eq_by_cmp name_cmp id) (keys state.records)) (list_any (eq_by_cmp name_cmp id) (each (λ k. k.group) (keys state.offsets))) (sym (contains_key-keys state.records id) ∙ h))
+
+-- so is a group with an offset
+
+-- two keys that tie have groups that tie
+same_group : (k x : OffsetKey) → eq_by_cmp key_cmp k x ≡ true → eq_by_cmp name_cmp k.group x.group ≡ true
+same_group k x e = first (name_cmp k.group x.group) (ordering_then (name_cmp k.topic x.topic) (nat_cmp k.partition x.partition)) e
+  where
+    first : (a b : Ordering) → is_eq (ordering_then a b) ≡ true → is_eq a ≡ true
+    first Less b e = absurd (false≢true e)
+    first Equal b e = refl
+    first Greater b e = absurd (false≢true e)
+
+group_among : (k : OffsetKey) (ks : List OffsetKey) → list_any (eq_by_cmp key_cmp k) ks ≡ true → list_any (eq_by_cmp name_cmp k.group) (each (λ x. x.group) ks) ≡ true
+group_among k [] h = h
+group_among k (x ∷ xs) h =
+    (elim (eq_by_cmp key_cmp k x) as (λ b. (b ≡ true → eq_by_cmp name_cmp k.group x.group ≡ true) → (b || list_any (eq_by_cmp key_cmp k) xs) ≡ true → (eq_by_cmp name_cmp k.group x.group || list_any (eq_by_cmp name_cmp k.group) (each (λ y. y.group) xs)) ≡ true) [
+      | true ↦ λ own _. or_left (eq_by_cmp name_cmp k.group x.group) _ (own refl)
+      | false ↦ λ _ h. or_right (eq_by_cmp name_cmp k.group x.group) _ (group_among k xs h)
+    ]) (same_group k x) h
+
+pub read_revived : (now : ℕ) (state : State) (key : OffsetKey) → is_some (get state.offsets key) ≡ true → is_some (find_group key.group (each (revived now state) (in_order (groups_in state)))) ≡ true
+read_revived now state key h =
+    found_among now state key.group (in_order (groups_in state))
+    (in_order-has key.group (groups_in state)
+    ∙ list_any-append (eq_by_cmp name_cmp key.group) (keys state.records) (each (λ k. k.group) (keys state.offsets))
+    ∙ or_right (list_any (eq_by_cmp name_cmp key.group) (keys state.records)) (list_any (eq_by_cmp name_cmp key.group) (each (λ k. k.group) (keys state.offsets)))
+    (group_among key (keys state.offsets) (sym (contains_key-keys state.offsets key) ∙ h)))

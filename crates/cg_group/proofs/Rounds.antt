@@ -1,11 +1,11 @@
 -- The join replies of an event in one group are of one round.
-use Rattle.std.proofs.Common.{◌≡◌, ℕ, Bool, true, false, List, [], ◌∷◌, map, refl, sym, ◌∙◌, subst, Option, Some, None, Result, Ok, Err}
+use Rattle.std.proofs.Common.{◌≡◌, ℕ, Bool, true, false, List, [], ◌∷◌, ◌++◌, map, refl, sym, ◌∙◌, subst, Option, Some, None, Result, Ok, Err}
 use Rattle.std.proofs.lemmas.List.{append-nil}
 use Rattle.std.specs.Prelude.{if◌then◌else◌}
 use Rattle.std.specs.List.{flat_map}
 use Rattle.std.proofs.lemmas.Bool.{and_parts, false≢true}
 use Rattle.cg_names.specs.declared.code.Code.{Code}
-use Rattle.cg_group.specs.declared.calls.Calls.TheVariants.{Any}
+use Rattle.cg_record.specs.declared.member.Member.{Member as KeptMember}
 use Rattle.cg_group.specs.declared.event.Event.TheVariants as event
 use Rattle.cg_group.specs.declared.group.Group.{Group}
 use Rattle.cg_group.specs.declared.group.Phase.{Phase}
@@ -20,29 +20,33 @@ use Rattle.cg_group.specs.declared.request.SyncEntry.{SyncEntry}
 use Rattle.cg_group.specs.declared.ticket.Ticket.{Ticket}
 use Rattle.cg_group.specs.declared.turn.Turn.{Turn}
 use Rattle.cg_group.specs.Beating.{beat_taken}
-use Rattle.cg_group.specs.Joining.{admitted, is_current, join_again, join_current, join_known, join_new, new_group, new_member, updating, waiting}
+use Rattle.cg_group.specs.Joining.{admitted, is_current, join_again, join_current, join_known, join_new, new_group, new_member, rejoined, updating, waiting}
 use Rattle.cg_group.specs.Kept.{Each}
 use Rattle.cg_group.specs.Laws.{IsOneRound, Names, RoundsAreOne, replies_by_group}
+use Rattle.cg_group.specs.declared.topic_partition.TopicPartition.{TopicPartition}
+use Rattle.cg_group.specs.Fetching.{fetched}
+use Rattle.cg_group.specs.Offsets.{OffsetMap}
 use Rattle.cg_group.specs.Leaving.{after_removal, gone_in, leave_taken, left}
 use Rattle.cg_group.specs.declared.commit_entry.CommitEntry.{CommitEntry}
 use Rattle.cg_group.specs.Committing.{committed, hearing_committer, keeping_entries}
 use Rattle.cg_group.specs.Machine.{Machine, beat, commit, concluded, deleted, deleting, describe, everywhere, join, leave, met, sync}
 use Rattle.cg_group.specs.Membership.{hearing, is_empty, is_preparing, keeping, leads}
 use Rattle.cg_group.specs.Rebalance.{completed, emptied, is_ready, joined_reply, next_round, told_to_joins, tried, turn_of}
-use Rattle.cg_group.specs.Syncing.{distributed, sync_current, sync_taken, sync_waits, synced_reply, told_to_syncs}
-use Rattle.cg_group.specs.Ticking.{at_deadline, is_due, ticked}
-use Rattle.cg_group.specs.Waiting.{is_waiting}
+use Rattle.cg_group.specs.Syncing.{distributed, kept_member, sync_current, sync_taken, sync_waits, synced_reply, told_to_syncs}
+use Rattle.cg_group.specs.Ticking.{at_deadline, can_complete, ended, is_due, outstays, ticked}
+use Rattle.cg_group.specs.Replacing.{join_replacing, keeps_generation, replaced, replaced_in_place, replaced_reply, successor}
 use Rattle.cg_group.proofs.Together.{flat_map-map}
 use Rattle.cg_group.proofs.Framed.{each-append}
 use Rattle.cg_group.proofs.KeptMachine.{each-over}
 use Rattle.cg_group.proofs.Requests.{Fine, fine-beat, fine-commit, fine-join, fine-leave, fine-sync}
-use Rattle.cg_group.proofs.Telling.{Told, each-answers, each-any, expired_tried, told-beat_taken, told-completed, told-gone_in, told-in_join_phase, told-left, told-removal, told-tried, told-waiting}
+use Rattle.cg_group.proofs.Telling.{Told, each-answers, each-any, expired_tried, told-beat_taken, told-completed, told-gone_in, told-in_join_phase, told-left, told-rejoined, told-removal, told-replaced, told-tried, told-waiting}
 
 -- no join reply
 abbrev Bare : Reply → Type 0
 Bare (reply.Joined j) = ⊥
 Bare (reply.Synced bytes) = Unit {0}
 Bare reply.Done = Unit {0}
+Bare (reply.Fetched partitions) = Unit {0}
 Bare (reply.Described d) = Unit {0}
 Bare (reply.Groups groups) = Unit {0}
 Bare (reply.Refused code) = Unit {0}
@@ -55,6 +59,7 @@ bare_of : (g : Group) (r : Reply) → Bare r → OfRound g r
 bare_of g (reply.Joined j) h = absurd h
 bare_of g (reply.Synced bytes) h = tt
 bare_of g reply.Done h = tt
+bare_of g (reply.Fetched partitions) h = tt
 bare_of g (reply.Described d) h = tt
 bare_of g (reply.Groups groups) h = tt
 bare_of g (reply.Refused code) h = tt
@@ -109,11 +114,32 @@ bare-tried now t h =
 
 round-join_new : (now : ℕ) (r : JoinRequest) (new : List ℕ) (ticket : Ticket) (g : Group) → IsOneRound (join_new now r new ticket g).replies
 unfolding join_new
-round-join_new now r new ticket g = round-tried now _ (told-in_join_phase Bare (λ _. tt) now (turn_of (admitted (new_member now r new ticket) r.kind g)) tt)
+round-join_new now r new ticket g = round-tried now _ (told-in_join_phase Bare (λ _. tt) now (turn_of (admitted (new_member now r new [] (Join ticket)) r.kind g)) tt)
+
+round-rejoined : (now : ℕ) (own : List ℕ) (ticket : Ticket) (t : Turn) → Told Bare t → IsOneRound (rejoined now own ticket t).replies
+unfolding rejoined
+round-rejoined now own ticket t h = round-tried now _ (told-rejoined Bare (λ _. tt) now own ticket t h)
 
 round-join_again : (now : ℕ) (r : JoinRequest) (own : List ℕ) (ticket : Ticket) (g : Group) → IsOneRound (join_again now r own ticket g).replies
 unfolding join_again
-round-join_again now r own ticket g = round-tried now _ (told-waiting Bare (λ _. tt) now own (Join ticket) _ (told-in_join_phase Bare (λ _. tt) now (turn_of (updating r own g)) tt))
+round-join_again now r own ticket g = round-rejoined now own ticket (turn_of (updating r own g)) tt
+
+round-replaced_in_place : (ticket : Ticket) (new : KeptMember) (g : Group) (t : Turn) → Told Bare t → IsOneRound (replaced_in_place ticket new g t).replies
+unfolding replaced_in_place
+round-replaced_in_place ticket new g t h =
+    round_of g (t.replies ++ (ticket, replaced_reply new.id g) ∷ [])
+    (each-append (λ r. OfRound g r.1) t.replies ((ticket, replaced_reply new.id g) ∷ []) (each-over (λ r. Bare r.1) (λ r. OfRound g r.1) (λ r k. bare_of g r.1 k) t.replies h) ((refl, refl, refl), tt))
+
+round-join_replacing : (now : ℕ) (r : JoinRequest) (id : List ℕ) (ticket : Ticket) (old : Member) (g : Group) → IsOneRound (join_replacing now r id ticket old g).replies
+unfolding join_replacing
+round-join_replacing now r id ticket old g =
+    let new : Member = successor now r id old in
+    let t : Turn = replaced new old g in
+    let h : Told Bare t = told-replaced Bare (λ _. tt) new old g in
+    elim (keeps_generation t.group) as (λ b. IsOneRound (if b then replaced_in_place ticket (kept_member g.protocol new) g t else rejoined now id ticket t).replies) [
+      | true ↦ round-replaced_in_place ticket (kept_member g.protocol new) g t h
+      | false ↦ round-rejoined now id ticket t h
+    ]
 
 round-join_current : (now : ℕ) (own : List ℕ) (ticket : Ticket) (m : Member) (g : Group) → IsOneRound (join_current now own ticket m g).replies
 unfolding join_current
@@ -157,12 +183,20 @@ round-leave_taken : (now : ℕ) (own : List ℕ) (ticket : Ticket) (m : Member) 
 unfolding leave_taken after_removal
 round-leave_taken now own ticket m g = round-tried now _ (told-removal Bare (λ _. tt) now (left own ticket m g) (told-left Bare (λ _. tt) tt own ticket m g))
 
+round-ended : (now : ℕ) (t : Turn) → Told Bare t → IsOneRound (ended now t).replies
+unfolding ended
+round-ended now t h =
+    elim (can_complete t.group.members) as (λ b. IsOneRound (if b then completed now t else record t { group = record t.group { started = now } }).replies) [
+      | true ↦ round-completed now t h
+      | false ↦ bare_round t.group t.replies h
+    ]
+
 round-at_deadline : (now : ℕ) (from : Turn) → Told Bare from → IsOneRound (at_deadline now (tried now from)).replies
 unfolding at_deadline
 round-at_deadline now from h =
     let t : Turn = tried now from in
-    (elim (is_due now t.group) as (λ b. is_due now t.group ≡ b → IsOneRound (if b then completed now (record t { group = keeping (is_waiting Any) t.group }) else t).replies) [
-      | true ↦ λ e. round-completed now (record t { group = keeping (is_waiting Any) t.group }) (bare-tried now from h (and_parts (is_preparing t.group.phase) _ e).0)
+    (elim (is_due now t.group) as (λ b. is_due now t.group ≡ b → IsOneRound (if b then ended now (record t { group = keeping outstays t.group }) else t).replies) [
+      | true ↦ λ e. round-ended now (record t { group = keeping outstays t.group }) (bare-tried now from h (and_parts (is_preparing t.group.phase) _ e).0)
       | false ↦ λ e. round-tried now from h
     ]) refl
 
@@ -185,6 +219,10 @@ round-concluded : (s : Machine) (ticket : Ticket) (o : Result Turn Code) → Fin
 unfolding concluded
 round-concluded s ticket (Ok t) h = h
 round-concluded s ticket (Err code) h = no_round ((ticket, reply.Refused code) ∷ []) (tt, tt)
+
+round-fetched : (offsets : OffsetMap) (group : Option (List ℕ)) (partitions : List TopicPartition) → Names 0 None None (fetched offsets group partitions)
+round-fetched offsets None partitions = tt
+round-fetched offsets (Some group) partitions = tt
 
 round-describe : (id : Option (List ℕ)) (groups : List Group) → Names 0 None None (describe id groups)
 unfolding describe
@@ -214,7 +252,8 @@ rounds_are_one s (event.Join ticket r fresh) = record {
   rounds = (
     round-concluded s ticket (join s.last r fresh ticket s.groups) (fine-join InRound s.last r fresh ticket s.groups
         (λ id new _ _. round-join_new s.last r new ticket _)
-        (λ id new g _ _ _ _. round-join_new s.last r new ticket g)
+        (λ id new g _ _ _ _ _. round-join_new s.last r new ticket g)
+        (λ id new g old _ _ _ _ _. round-join_replacing s.last r new ticket old g)
         (λ id own g m _ _ _ _. round-join_known s.last r own ticket m g)),
     tt,
   );
@@ -239,7 +278,7 @@ rounds_are_one s (event.Leave ticket r) = record {
   whole = whole-one _;
   rounds = (
     round-concluded s ticket (leave s.last r ticket s.groups) (fine-leave InRound s.last r ticket s.groups
-        (λ id own g m _ _. round-leave_taken s.last own ticket m g)),
+        (λ id g m _ _. round-leave_taken s.last m.id ticket m g)),
     tt,
   );
 }
@@ -252,6 +291,7 @@ rounds_are_one s (event.Commit ticket r) = record {
     tt,
   );
 }
+rounds_are_one s (event.Fetch ticket r) = record { whole = refl; rounds = (no_round ((ticket, fetched s.offsets r.group r.partitions) ∷ []) (round-fetched s.offsets r.group r.partitions, tt), tt) }
 rounds_are_one s (event.Delete ticket id) = record { whole = whole-one _; rounds = (round-deleted s ticket (deleting id s.groups), tt) }
 rounds_are_one s (event.Describe ticket id) = record { whole = refl; rounds = (no_round ((ticket, describe id s.groups) ∷ []) (round-describe id s.groups, tt), tt) }
 rounds_are_one s (event.List ticket) = record { whole = refl; rounds = (no_round _ (tt, tt), tt) }

@@ -3,12 +3,13 @@ use Rattle.std.proofs.Common.{◌≡◌, ℕ, Bool, true, false, not, List, [], 
 use Rattle.std.specs.Prelude.{if◌then◌else◌, option_map, option_to_list}
 use Rattle.std.specs.List.{list_any, flat_map}
 use Rattle.cg_names.specs.declared.code.Code.{Code}
-use Rattle.cg_names.specs.declared.code.Code.TheVariants.{RebalanceInProgress, UnknownMemberId}
+use Rattle.cg_names.specs.declared.code.Code.TheVariants.{FencedInstanceId, RebalanceInProgress, UnknownMemberId}
 use Rattle.cg_group.specs.declared.calls.Calls.{Calls}
 use Rattle.cg_group.specs.declared.calls.Calls.TheVariants.{Any, Joins, OfSession, Syncs}
 use Rattle.cg_group.specs.declared.group.Group.{Group}
 use Rattle.cg_group.specs.declared.member.Member.{Member}
 use Rattle.cg_group.specs.declared.member.Waits.{Waits}
+use Rattle.cg_group.specs.declared.member.Waits.TheVariants.{Join}
 use Rattle.cg_group.specs.declared.reply.Reply.{Reply}
 use Rattle.cg_group.specs.declared.reply.Reply.TheVariants as reply
 use Rattle.cg_group.specs.declared.ticket.Ticket.{Ticket}
@@ -19,6 +20,7 @@ use Rattle.cg_group.specs.Kept.{Each}
 use Rattle.cg_group.specs.Leaving.{after_removal, gone_in, has_joined, left}
 use Rattle.cg_group.specs.Membership.{find_member, is_empty, is_preparing, keeping}
 use Rattle.cg_group.specs.Rebalance.{completed, emptied, is_ready, joined_reply, next_round, prepared, told_to_joins, tried, turn_of}
+use Rattle.cg_group.specs.Replacing.{replaced}
 use Rattle.cg_group.specs.Ticking.{expired, is_overdue}
 use Rattle.cg_group.specs.Waiting.{answer, answers, called, refusing}
 use Rattle.cg_group.proofs.Framed.{each-append}
@@ -61,6 +63,13 @@ module _ (P : Reply → Type 0) (refused : (code : Code) → P (reply.Refused co
   pub told-waiting : (now : ℕ) (own : List ℕ) (waits : Waits) (t : Turn) → Told P t → Told P (waiting now own waits t)
   unfolding waiting
   told-waiting now own waits t h = each-append (λ r. P r.1) t.replies _ h (told-displaced (find_member own t.group.members))
+
+  pub told-rejoined : (now : ℕ) (own : List ℕ) (ticket : Ticket) (t : Turn) → Told P t → Told P (waiting now own (Join ticket) (in_join_phase now t))
+  told-rejoined now own ticket t h = told-waiting now own (Join ticket) (in_join_phase now t) (told-in_join_phase now t h)
+
+  pub told-replaced : (new old : Member) (g : Group) → Told P (replaced new old g)
+  unfolding replaced
+  told-replaced new old g = each-answer (λ r. P r.1) Any (refusing FencedInstanceId) old (λ t e. refused FencedInstanceId)
 
   told-told_to_joins : (now : ℕ) (t : Turn) → ((m : Member) → P (joined_reply t.group m)) → Told P t → Told P (told_to_joins now t)
   unfolding told_to_joins

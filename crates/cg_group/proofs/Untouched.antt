@@ -4,7 +4,7 @@ use Rattle.std.specs.Prelude.{◌||◌, if◌then◌else◌, is_some, Option, So
 use Rattle.std.specs.List.{list_any}
 use Rattle.std.proofs.lemmas.Bool.{or_parts}
 use Rattle.cg_group.specs.declared.calls.Calls.{Calls}
-use Rattle.cg_group.specs.declared.calls.Calls.TheVariants.{Any, OfSession}
+use Rattle.cg_group.specs.declared.calls.Calls.TheVariants.{OfSession}
 use Rattle.cg_group.specs.declared.group.Group.{Group}
 use Rattle.cg_group.specs.declared.member.Member.{Member}
 use Rattle.cg_group.specs.declared.reply.Reply.{Reply}
@@ -13,7 +13,7 @@ use Rattle.cg_group.specs.declared.turn.Turn.{Turn}
 use Rattle.cg_group.specs.Leaving.{after_removal, gone_in}
 use Rattle.cg_group.specs.Membership.{keeping}
 use Rattle.cg_group.specs.Rebalance.{completed, is_ready, tried, turn_of}
-use Rattle.cg_group.specs.Ticking.{at_deadline, expired, is_due, is_overdue, ticked}
+use Rattle.cg_group.specs.Ticking.{at_deadline, ended, expired, is_due, is_overdue, outstays, ticked}
 use Rattle.cg_group.specs.Touching.{gone_touches, tick_touches}
 use Rattle.cg_group.specs.Waiting.{after_answer, after_answers, answer, answered, answers, called, is_waiting}
 use Rattle.cg_group.specs.Waiting.{refusing}
@@ -28,7 +28,7 @@ calm_expired now t overdue ready =
 
 calm_at_deadline : (now : ℕ) (t : Turn) → is_due now t.group ≡ false → at_deadline now t ≡ t
 unfolding at_deadline
-calm_at_deadline now t due = ap (λ b. if b then completed now (record t { group = keeping (is_waiting Any) t.group }) else t) due
+calm_at_deadline now t due = ap (λ b. if b then ended now (record t { group = keeping outstays t.group }) else t) due
 
 pub calm_ticked : (now : ℕ) (g : Group) → tick_touches now g ≡ false → ticked now g ≡ turn_of g
 unfolding ticked

@@ -1,15 +1,16 @@
 -- BEAT (protocol guide, "Heartbeat").
-use Rattle.std.specs.Prelude.{ℕ, List, pos, not, [], ◌∷◌, Result, Ok, ok_or, if◌then◌else◌}
+use Rattle.std.specs.Prelude.{ℕ, List, pos, not, [], ◌∷◌, Result, Ok, if◌then◌else◌}
 use Rattle.std.specs.Ordering.{int_eq}
 use Rattle.cg_names.specs.declared.code.Code.{Code}
-use Rattle.cg_names.specs.declared.code.Code.TheVariants.{IllegalGeneration, UnknownMemberId, RebalanceInProgress}
+use Rattle.cg_names.specs.declared.code.Code.TheVariants.{IllegalGeneration, RebalanceInProgress}
 use Rattle.cg_group.specs.declared.group.Group.{Group}
 use Rattle.cg_group.specs.declared.reply.Reply.{Reply}
 use Rattle.cg_group.specs.declared.reply.Reply.TheVariants as reply
 use Rattle.cg_group.specs.declared.request.BeatRequest.{BeatRequest}
 use Rattle.cg_group.specs.declared.ticket.Ticket.{Ticket}
 use Rattle.cg_group.specs.declared.turn.Turn.{Turn}
-use Rattle.cg_group.specs.Membership.{find_member, hearing, is_preparing}
+use Rattle.cg_group.specs.Fencing.{member_check}
+use Rattle.cg_group.specs.Membership.{hearing, is_preparing}
 use Rattle.cg_group.specs.Refusing.{◌>>=◌, refused_if}
 
 -- a member is told to join again while its group prepares
@@ -23,7 +24,6 @@ beat_taken now id ticket g = record { group = hearing now id g; replies = (ticke
 -- BEAT in a group that is held
 unfoldable pub beat_held : ℕ → BeatRequest → Ticket → Group → Result Turn Code
 beat_held now r ticket g = do
-  id ← ok_or r.member UnknownMemberId
-  _ ← ok_or (find_member id g.members) UnknownMemberId
+  who ← member_check r.instance r.member g.members
   _ ← refused_if (not (int_eq r.generation (pos g.generation))) IllegalGeneration
-  Ok (beat_taken now id ticket g)
+  Ok (beat_taken now who.0 ticket g)

@@ -1,5 +1,5 @@
 -- COMMIT (protocol guide, "OffsetCommit"): how far a group has read.
-use Rattle.std.specs.Prelude.{ℕ, ℤ, pos, int_lt, Bool, true, false, not, nat_le, List, [], ◌∷◌, map, Option, Some, None, Result, Ok, ok_or, if◌then◌else◌}
+use Rattle.std.specs.Prelude.{ℕ, ℤ, pos, int_lt, Bool, true, false, not, nat_le, List, [], ◌∷◌, map, Option, Some, None, Result, Ok, if◌then◌else◌}
 use Rattle.std.specs.Ordering.{int_eq}
 use Rattle.cg_names.specs.declared.code.Code.{Code}
 use Rattle.cg_names.specs.declared.code.Code.TheVariants.{CoordinatorNotAvailable, IllegalGeneration, OffsetMetadataTooLarge, RebalanceInProgress, UnknownMemberId}
@@ -15,8 +15,9 @@ use Rattle.cg_group.specs.declared.reply.Reply.TheVariants as reply
 use Rattle.cg_group.specs.declared.ticket.Ticket.{Ticket}
 use Rattle.cg_group.specs.declared.turn.Turn.{Turn}
 use Rattle.cg_group.specs.Commits.{is_too_large, kept_entry}
+use Rattle.cg_group.specs.Fencing.{member_check}
 use Rattle.cg_group.specs.Joining.{new_group}
-use Rattle.cg_group.specs.Membership.{find_member, hearing, is_empty}
+use Rattle.cg_group.specs.Membership.{hearing, is_empty}
 use Rattle.cg_group.specs.Refusing.{◌>>=◌, refused_if}
 
 -- the commit of a client that is no member of a group
@@ -30,13 +31,12 @@ is_completing Preparing = false
 is_completing Stable = false
 
 -- a COMMIT to a group with members: the member that commits
-unfoldable pub commit_of_member : ℤ → Option (List ℕ) → Group → Result (Option (List ℕ)) Code
-commit_of_member generation member g = do
-  id ← ok_or member UnknownMemberId
-  _ ← ok_or (find_member id g.members) UnknownMemberId
+unfoldable pub commit_of_member : ℤ → Option (List ℕ) → Option (List ℕ) → Group → Result (Option (List ℕ)) Code
+commit_of_member generation instance member g = do
+  who ← member_check instance member g.members
   _ ← refused_if (not (int_eq generation (pos g.generation))) IllegalGeneration
   _ ← refused_if (is_completing g.phase) RebalanceInProgress
-  Ok (Some id)
+  Ok (Some who.0)
 
 -- a COMMIT to a group without members: nobody has to be one
 abbrev pub commit_of_none : ℤ → Result (Option (List ℕ)) Code
@@ -45,8 +45,8 @@ commit_of_none generation = do
   Ok None
 
 -- who commits
-unfoldable pub committer : ℤ → Option (List ℕ) → Group → Result (Option (List ℕ)) Code
-committer generation member g = if is_empty g.members then commit_of_none generation else commit_of_member generation member g
+unfoldable pub committer : ℤ → Option (List ℕ) → Option (List ℕ) → Group → Result (Option (List ℕ)) Code
+committer generation instance member g = if is_empty g.members then commit_of_none generation else commit_of_member generation instance member g
 
 -- a member that commits is heard
 abbrev pub hearing_committer : ℕ → Option (List ℕ) → Group → Group
@@ -66,9 +66,9 @@ abbrev pub committed : List CommitEntry → Ticket → Group → Turn
 committed entries ticket g = keeping_entries (map kept_entry entries) ticket g
 
 -- COMMIT in a group that is held
-unfoldable pub commit_held : ℕ → ℤ → Option (List ℕ) → List CommitEntry → Ticket → Group → Result Turn Code
-commit_held now generation member entries ticket g = do
-  who ← committer generation member g
+unfoldable pub commit_held : ℕ → ℤ → Option (List ℕ) → Option (List ℕ) → List CommitEntry → Ticket → Group → Result Turn Code
+commit_held now generation instance member entries ticket g = do
+  who ← committer generation instance member g
   _ ← refused_if (is_too_large entries) OffsetMetadataTooLarge
   Ok (committed entries ticket (hearing_committer now who g))
 

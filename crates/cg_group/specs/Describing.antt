@@ -1,19 +1,12 @@
 -- DESCRIBE and LIST (protocol guide, "DescribeGroups", "ListGroups").
-use Rattle.std.specs.Prelude.{ℕ, Bool, true, false, List, [], map, Option, None, if◌then◌else◌}
+use Rattle.std.specs.Prelude.{ℕ, List, [], map, Option, None, if◌then◌else◌}
 use Rattle.cg_group.specs.declared.group.Group.{Group}
-use Rattle.cg_group.specs.declared.group.Phase.{Phase}
-use Rattle.cg_group.specs.declared.group.Phase.TheVariants.{Empty, Preparing, Completing, Stable}
 use Rattle.cg_group.specs.declared.member.Member.{Member}
 use Rattle.cg_group.specs.declared.reply.Described.{Described}
 use Rattle.cg_group.specs.declared.reply.DescribedMember.{DescribedMember}
 use Rattle.cg_group.specs.declared.reply.Listing.{Listing}
+use Rattle.cg_group.specs.Membership.{is_stable}
 use Rattle.cg_group.specs.Rebalance.{subscription_for}
-
-abbrev pub is_stable : Phase → Bool
-is_stable Stable = true
-is_stable Empty = false
-is_stable Preparing = false
-is_stable Completing = false
 
 -- the protocol, where the group is stable
 abbrev pub shown_protocol : Group → Option (List ℕ)

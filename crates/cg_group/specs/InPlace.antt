@@ -1,18 +1,26 @@
 -- Requests that hear a member and change nothing else: they are taken in their group's place.
-use Rattle.std.specs.Prelude.{◌≡◌, ℕ, List, get_or, Ok}
+use Rattle.std.specs.Prelude.{◌≡◌, ℕ, List, Option, Some, Ok}
 use Rattle.cg_group.specs.declared.group.Group.{Group}
 use Rattle.cg_group.specs.declared.member.Member.{Member}
+use Rattle.cg_group.specs.declared.reply.Reply.{Reply}
 use Rattle.cg_group.specs.declared.request.BeatRequest.{BeatRequest}
 use Rattle.cg_group.specs.declared.request.SyncRequest.{SyncRequest}
 use Rattle.cg_group.specs.declared.ticket.Ticket.{Ticket}
-use Rattle.cg_group.specs.Beating.{beat_held, beat_taken}
-use Rattle.cg_group.specs.Machine.{IsNamedAt}
+use Rattle.cg_group.specs.Beating.{beat_held, beat_reply, beat_taken}
+use Rattle.cg_group.specs.Machine.{find_group}
 use Rattle.cg_group.specs.Syncing.{sync_current, sync_held}
 
--- the BEAT is taken, from this member, in the group at this place
-pub record IsBeatAt (r : BeatRequest) (groups : List Group) (i : ℕ) (id : List ℕ) : Type 0 where
-  pub named : IsNamedAt r.group groups i
-  pub taken : (now : ℕ) (ticket : Ticket) (d : Group) → beat_held now r ticket (get_or groups i d) ≡ Ok (beat_taken now id ticket (get_or groups i d))
+-- the request names this group, and it is held
+pub record IsNamed (given : Option (List ℕ)) (groups : List Group) (own : List ℕ) (group : Group) : Type 0 where
+  pub named : given ≡ Some own
+  pub found : find_group own groups ≡ Some group
+
+-- the BEAT is taken, from this member, in the group with this id, and is answered so
+pub record IsBeatIn (r : BeatRequest) (groups : List Group) (own id : List ℕ) (reply : Reply) : Type 0 where
+  pub group : Group
+  pub named : IsNamed r.group groups own group
+  pub taken : (now : ℕ) (ticket : Ticket) → beat_held now r ticket group ≡ Ok (beat_taken now id ticket group)
+  pub answered : reply ≡ beat_reply group
 
 -- a SYNC of the member with this assignment is answered at once
 pub record IsCurrent (r : SyncRequest) (g : Group) (id bytes : List ℕ) : Type 0 where
@@ -20,7 +28,8 @@ pub record IsCurrent (r : SyncRequest) (g : Group) (id bytes : List ℕ) : Type 
   pub assignment : member.assignment ≡ bytes
   pub taken : (now : ℕ) (ticket : Ticket) → sync_held now r ticket g ≡ Ok (sync_current now id ticket member g)
 
--- the SYNC is answered at once, from this member, in the group at this place
-pub record IsSyncAt (r : SyncRequest) (groups : List Group) (i : ℕ) (id bytes : List ℕ) : Type 0 where
-  pub named : IsNamedAt r.group groups i
-  pub current : (d : Group) → IsCurrent r (get_or groups i d) id bytes
+-- the SYNC is answered at once, from this member, in the group with this id
+pub record IsSyncIn (r : SyncRequest) (groups : List Group) (own id bytes : List ℕ) : Type 0 where
+  pub group : Group
+  pub named : IsNamed r.group groups own group
+  pub current : IsCurrent r group id bytes

@@ -1,12 +1,9 @@
--- JOIN (protocol guide, "JoinGroup"; KIP-62).
-use Rattle.std.specs.Prelude.{ℕ, Bool, true, false, not, ◌&&◌, ◌||◌, nat_lt, nat_le, List, [], ◌∷◌, ◌++◌, length, Option, Some, None, Result, Ok, is_some, ok_or, if◌then◌else◌}
+-- JOIN (protocol guide, "JoinGroup"; KIP-62): what it does with a new member, and with one that joins again.
+use Rattle.std.specs.Prelude.{ℕ, Bool, true, false, not, ◌&&◌, ◌||◌, nat_lt, List, [], ◌∷◌, ◌++◌, Option, Some, None, unwrap_or, if◌then◌else◌}
 use Rattle.std.specs.List.{list_any}
 use Rattle.uuid.specs.Text.{hyphenated_text, lower}
-use Rattle.cg_names.specs.declared.code.Code.{Code}
-use Rattle.cg_names.specs.declared.code.Code.TheVariants.{CoordinatorNotAvailable, InconsistentGroupProtocol, UnknownMemberId, RebalanceInProgress, GroupMaxSizeReached}
+use Rattle.cg_names.specs.declared.code.Code.TheVariants.{RebalanceInProgress}
 use Rattle.cg_record.specs.declared.millis.TheConstants.{SESSION_MS_MIN, SESSION_MS_MAX}
-use Rattle.cg_record.specs.declared.roster.TheConstants.{MEMBERS_MAX}
-use Rattle.cg_group.specs.declared.bounds.TheConstants.{GROUPS_MAX}
 use Rattle.cg_group.specs.declared.calls.Calls.TheVariants.{Any}
 use Rattle.cg_group.specs.declared.group.Group.{Group}
 use Rattle.cg_group.specs.declared.group.Phase.{Phase}
@@ -20,30 +17,33 @@ use Rattle.cg_group.specs.declared.ticket.Ticket.{Ticket}
 use Rattle.cg_group.specs.declared.turn.Turn.{Turn}
 use Rattle.cg_group.specs.Membership.{is_named, find_member, with_member, hearing, leads, is_empty, is_preparing, are_same_protocols}
 use Rattle.cg_group.specs.Rebalance.{turn_of, prepared, joined_reply, tried}
-use Rattle.cg_group.specs.Refusing.{◌>>=◌, refused_if}
 use Rattle.cg_group.specs.Vote.{is_common}
 use Rattle.cg_group.specs.Waiting.{answer, is_waiting, refusing}
 
--- the id of a new member: the client, a dash, and a UUID in lower case with hyphens
+-- what the id of a new member begins with: its instance, or else its client
+abbrev pub own_name : JoinRequest → List ℕ
+own_name r = unwrap_or r.instance r.client
+
+-- the id of a new member: that name, a dash, and a UUID in lower case with hyphens
 unfoldable pub drawn : List ℕ → List ℕ → List ℕ
-drawn client fresh = client ++ 45 ∷ hyphenated_text lower fresh
+drawn name fresh = name ++ 45 ∷ hyphenated_text lower fresh
 
 -- a group that is not held yet
 unfoldable pub new_group : List ℕ → Group
 new_group id = record { id = id; phase = Empty; generation = 0; kind = None; protocol = None; leader = None; members = []; started = 0 }
 
--- a member that joins for the first time, and waits
-unfoldable pub new_member : ℕ → JoinRequest → List ℕ → Ticket → Member
-new_member now r id ticket = record {
+-- a member that joins under a new id, with what is assigned to it and what it waits for
+unfoldable pub new_member : ℕ → JoinRequest → List ℕ → List ℕ → Waits → Member
+new_member now r id assignment waits = record {
   id = id;
-  instance = None;
+  instance = r.instance;
   client = r.client;
   session = r.session_ms;
   rebalance = r.rebalance;
   protocols = r.protocols;
-  assignment = [];
+  assignment = assignment;
   heard = now;
-  waits = Join ticket;
+  waits = waits;
 }
 
 -- the member is put last; in a group without members it leads, and its type is the group's
@@ -60,7 +60,7 @@ in_join_phase now t = if is_preparing t.group.phase then t else prepared now t
 
 -- JOIN of a new member
 unfoldable pub join_new : ℕ → JoinRequest → List ℕ → Ticket → Group → Turn
-join_new now r id ticket g = tried now (in_join_phase now (turn_of (admitted (new_member now r id ticket) r.kind g)))
+join_new now r id ticket g = tried now (in_join_phase now (turn_of (admitted (new_member now r id [] (Join ticket)) r.kind g)))
 
 -- a member with the time-outs and protocols of this JOIN; its client stays
 abbrev pub updated : JoinRequest → Member → Member
@@ -87,9 +87,13 @@ waiting now id waits t = record {
   commands = t.commands;
 }
 
--- JOIN of a member that joins again: update, prepare, wait, try
+-- the member joins with the others: prepare, wait, try
+unfoldable pub rejoined : ℕ → List ℕ → Ticket → Turn → Turn
+rejoined now id ticket t = tried now (waiting now id (Join ticket) (in_join_phase now t))
+
+-- JOIN of a member that joins again: it is updated, and joins with the others
 unfoldable pub join_again : ℕ → JoinRequest → List ℕ → Ticket → Group → Turn
-join_again now r id ticket g = tried now (waiting now id (Join ticket) (in_join_phase now (turn_of (updating r id g))))
+join_again now r id ticket g = rejoined now id ticket (turn_of (updating r id g))
 
 -- JOIN of a member that is told the present generation
 unfoldable pub join_current : ℕ → List ℕ → Ticket → Member → Group → Turn
@@ -114,27 +118,3 @@ is_session_refused r = nat_lt r.session_ms SESSION_MS_MIN || nat_lt SESSION_MS_M
 unfoldable pub is_inconsistent : JoinRequest → Group → Bool
 is_inconsistent r g =
     not (is_empty g.members) && (not (is_named g.kind r.kind) || not (list_any (λ p. is_common g.members p.name) r.protocols))
-
--- JOIN under the id that was drawn
-unfoldable pub join_drawn : ℕ → JoinRequest → List ℕ → Ticket → Group → Result Turn Code
-join_drawn now r id ticket g = do
-  _ ← refused_if (is_some (find_member id g.members)) CoordinatorNotAvailable
-  Ok (join_new now r id ticket g)
-
--- JOIN in a group that is held
-unfoldable pub join_held : ℕ → JoinRequest → List ℕ → Ticket → Option (List ℕ) → Group → Result Turn Code
-join_held now r fresh ticket None g = do
-  _ ← refused_if (nat_le MEMBERS_MAX (length g.members)) GroupMaxSizeReached
-  _ ← refused_if (is_inconsistent r g) InconsistentGroupProtocol
-  join_drawn now r (drawn r.client fresh) ticket g
-join_held now r fresh ticket (Some id) g = do
-  m ← ok_or (find_member id g.members) UnknownMemberId
-  _ ← refused_if (is_inconsistent r g) InconsistentGroupProtocol
-  Ok (join_known now r id ticket m g)
-
--- JOIN in a group that is not held
-unfoldable pub join_unheld : ℕ → JoinRequest → List ℕ → Ticket → ℕ → List ℕ → Result Turn Code
-join_unheld now r fresh ticket held id = do
-  _ ← refused_if (is_some r.member) UnknownMemberId
-  _ ← refused_if (nat_le GROUPS_MAX held) CoordinatorNotAvailable
-  Ok (join_new now r (drawn r.client fresh) ticket (new_group id))

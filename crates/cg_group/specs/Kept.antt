@@ -1,5 +1,5 @@
 -- What the durable state keeps of a group, and the order in which groups stand.
-use Rattle.std.specs.Prelude.{◌≡◌, ◌≤◌, ℕ, List, [], ◌∷◌, Option, Some, None, IfSome}
+use Rattle.std.specs.Prelude.{◌≡◌, ℕ, List, [], ◌∷◌, Option, IfSome}
 use Rattle.std.specs.Ordering.{Ordering-set, nat_cmp}
 use Rattle.std.specs.FinMap as finmap
 use mathlib.Core.HLevel.{Unit-prop, ×_prop}
@@ -17,6 +17,10 @@ Each P (x ∷ xs) = P x × Each P xs
 -- the first comes before each of the others by its bytes
 abbrev pub ComesBefore : List ℕ → List (List ℕ) → Type 0
 ComesBefore x ys = Each (λ y. slice_cmp nat_cmp x y ≡ Less) ys
+
+-- each of the others comes before the last by its bytes
+abbrev pub ComeBefore : List (List ℕ) → List ℕ → Type 0
+ComeBefore xs y = Each (λ x. slice_cmp nat_cmp x y ≡ Less) xs
 
 -- names by their bytes, each once
 abbrev pub Ascending : List (List ℕ) → Type 0

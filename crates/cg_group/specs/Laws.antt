@@ -1,10 +1,13 @@
 -- The laws of the machine, over every list of events from every state that a loading begins with.
-use Rattle.std.specs.Prelude.{◌≡◌, ◌⊎◌, ℕ, Bool, true, false, pos, ◌&&◌, ◌==◌, List, [], ◌∷◌, ◌++◌, map, Option, Some, None, is_some}
+use Rattle.std.specs.Prelude.{◌≡◌, ◌⊎◌, ℕ, Bool, true, false, pos, ◌&&◌, ◌==◌, List, [], ◌∷◌, ◌++◌, map, Option, Some, None, Ok, is_some}
 use Rattle.std.specs.List.{list_any, flat_map}
-use Rattle.std.specs.Option.{option_to_list}
 use Rattle.std.specs.Ordering.{int_eq}
+use Rattle.std.specs.FinMap as finmap
 use Rattle.cg_record.specs.declared.command.Command.{Command}
+use Rattle.cg_record.specs.declared.command.Command.TheVariants as command
+use Rattle.cg_record.specs.declared.member.Member.{Member as KeptMember}
 use Rattle.cg_record.specs.Rosters.{RosterParts}
+use Rattle.cg_fold.specs.declared.key.OffsetKey.{OffsetKey}
 use Rattle.cg_fold.specs.declared.record.GroupRecord.{GroupRecord}
 use Rattle.cg_fold.specs.Durable.{State, after}
 use Rattle.cg_group.specs.declared.event.Event.{Event}
@@ -18,11 +21,12 @@ use Rattle.cg_group.specs.declared.request.CommitRequest.{CommitRequest}
 use Rattle.cg_group.specs.declared.reply.Reply.TheVariants as reply
 use Rattle.cg_group.specs.declared.ticket.Ticket.{Ticket}
 use Rattle.cg_group.specs.Committing.{is_negative}
+use Rattle.cg_group.specs.Fencing.{fencing}
 use Rattle.cg_group.specs.Kept.{AreRecords, Each, Kept, kept_in}
 use Rattle.cg_group.specs.Leaving.{gone_in}
 use Rattle.cg_group.specs.Members.{AreDistinct}
 use Rattle.cg_group.specs.Machine.{Machine, Outcome, find_group, met, step}
-use Rattle.cg_group.specs.Membership.{find_member, is_named, is_same}
+use Rattle.cg_group.specs.Membership.{find_member, has_instance, is_named, is_same}
 use Rattle.cg_group.specs.Reviving.{revive}
 use Rattle.cg_group.specs.Syncing.{kept_member}
 use Rattle.cg_group.specs.Ticking.{ticked}
@@ -44,6 +48,7 @@ is_request (event.Sync ticket r) = true
 is_request (event.Beat ticket r) = true
 is_request (event.Leave ticket r) = true
 is_request (event.Commit ticket r) = true
+is_request (event.Fetch ticket r) = true
 is_request (event.Delete ticket id) = true
 is_request (event.Describe ticket id) = true
 is_request (event.List ticket) = true
@@ -71,6 +76,7 @@ replies_by_group s (event.Sync ticket r) = (met s (event.Sync ticket r)).effects
 replies_by_group s (event.Beat ticket r) = (met s (event.Beat ticket r)).effects.replies ∷ []
 replies_by_group s (event.Leave ticket r) = (met s (event.Leave ticket r)).effects.replies ∷ []
 replies_by_group s (event.Commit ticket r) = (met s (event.Commit ticket r)).effects.replies ∷ []
+replies_by_group s (event.Fetch ticket r) = (met s (event.Fetch ticket r)).effects.replies ∷ []
 replies_by_group s (event.Delete ticket id) = (met s (event.Delete ticket id)).effects.replies ∷ []
 replies_by_group s (event.Describe ticket id) = (met s (event.Describe ticket id)).effects.replies ∷ []
 replies_by_group s (event.List ticket) = (met s (event.List ticket)).effects.replies ∷ []
@@ -80,6 +86,7 @@ abbrev pub Names : ℕ → Option (List ℕ) → Option (List ℕ) → Reply →
 Names generation protocol leader (reply.Joined j) = (j.generation ≡ generation) × (j.protocol ≡ protocol) × (j.leader ≡ leader)
 Names generation protocol leader (reply.Synced bytes) = Unit {0}
 Names generation protocol leader reply.Done = Unit {0}
+Names generation protocol leader (reply.Fetched partitions) = Unit {0}
 Names generation protocol leader (reply.Described d) = Unit {0}
 Names generation protocol leader (reply.Groups groups) = Unit {0}
 Names generation protocol leader (reply.Refused code) = Unit {0}
@@ -140,9 +147,12 @@ AgreesIn Empty g kept = TellsOf g kept
 AgreesIn Preparing g kept = Unit {0}
 AgreesIn Completing g kept = Unit {0}
 
-pub record Agrees (s : Machine) (kept : Kept) : Type 0 where
-  pub held : (id : List ℕ) → is_some (kept id) ≡ true → is_some (find_group id s.groups) ≡ true
-  pub told : Each (λ g. AgreesIn g.phase g (kept g.id)) s.groups
+-- the offsets are those of the durable state; each group that it has a record or an offset of is held; and what it tells of each is so
+pub record Agrees (s : Machine) (state : State) : Type 0 where
+  pub offsets : s.offsets ≡ state.offsets
+  pub held : (id : List ℕ) → is_some (kept_in state id) ≡ true → is_some (find_group id s.groups) ≡ true
+  pub read : (key : OffsetKey) → is_some (finmap.get state.offsets key) ≡ true → is_some (find_group key.group s.groups) ≡ true
+  pub told : Each (λ g. AgreesIn g.phase g (kept_in state g.id)) s.groups
 
 -- the durable state after these events
 abbrev pub state_after : State → ℕ → List (Event × ℕ) → State
@@ -151,9 +161,10 @@ state_after state now events = after state (commands_of events (revive state now
 abbrev pub MachineAndCommandsAgree : Type 0
 MachineAndCommandsAgree =
     (state : State) (now : ℕ) (events : List (Event × ℕ)) → AreRequests events
-    → Agrees (after_all events (revive state now)) (kept_in (state_after state now events))
+    → Agrees (after_all events (revive state now)) (state_after state now events)
 
--- A SYNCED reply goes to a member that named the group's generation, and gives the bytes that are kept for it.
+-- A SYNCED reply goes to a member that named the group's generation, and gives the bytes that are kept for it; a member that takes
+-- another's place has its assignment.
 
 abbrev pub is_same_ticket : Ticket → Ticket → Bool
 is_same_ticket t u = (t.session == u.session) && (t.number == u.number)
@@ -166,6 +177,7 @@ is_sync_of group generation member t (event.Join ticket r fresh) = false
 is_sync_of group generation member t (event.Beat ticket r) = false
 is_sync_of group generation member t (event.Leave ticket r) = false
 is_sync_of group generation member t (event.Commit ticket r) = false
+is_sync_of group generation member t (event.Fetch ticket r) = false
 is_sync_of group generation member t (event.Delete ticket id) = false
 is_sync_of group generation member t (event.Describe ticket id) = false
 is_sync_of group generation member t (event.List ticket) = false
@@ -192,6 +204,7 @@ is_earned_in events g kept (t, reply.Synced bytes) =
     list_any (λ m. has_named events g.id g.generation m.id t && is_kept_for kept m.id bytes) g.members
 is_earned_in events g kept (t, reply.Joined j) = true
 is_earned_in events g kept (t, reply.Done) = true
+is_earned_in events g kept (t, reply.Fetched partitions) = true
 is_earned_in events g kept (t, reply.Described d) = true
 is_earned_in events g kept (t, reply.Groups listings) = true
 is_earned_in events g kept (t, reply.Refused code) = true
@@ -201,19 +214,37 @@ abbrev pub is_earned : List (Event × ℕ) → List Group → Kept → Ticket ×
 is_earned events groups kept (t, reply.Synced bytes) = list_any (λ g. is_earned_in events g (kept g.id) (t, reply.Synced bytes)) groups
 is_earned events groups kept (t, reply.Joined j) = true
 is_earned events groups kept (t, reply.Done) = true
+is_earned events groups kept (t, reply.Fetched partitions) = true
 is_earned events groups kept (t, reply.Described d) = true
 is_earned events groups kept (t, reply.Groups listings) = true
 is_earned events groups kept (t, reply.Refused code) = true
 
--- each reply of one more event, by what was met with it, and what is held and kept at its end
+-- a member has the instance of the new one, and its assignment
+abbrev pub passes_assignment : KeptMember → Member → Bool
+passes_assignment new m = has_instance new.instance m && is_same m.assignment new.assignment
+
+-- a Replaced command has the assignment of the member whose place it takes, as its group was before
+abbrev pub is_passed_on : List Group → Command → Bool
+is_passed_on groups (command.Replaced r) = list_any (λ g. is_same g.id r.group && list_any (passes_assignment r.member) g.members) groups
+is_passed_on groups (command.Assigned a) = true
+is_passed_on groups (command.Emptied e) = true
+is_passed_on groups (command.Committed c) = true
+is_passed_on groups (command.Deleted d) = true
+
+-- what one more event makes: each reply by what was met with it, and by what is held and kept at its end; each command by what was held before
+pub record IsEarned (events : List (Event × ℕ)) (before : Machine) (kept : Kept) (o : Outcome) : Type 0 where
+  pub replies : Each (λ r. is_earned events o.after.groups kept r ≡ true) o.effects.replies
+  pub commands : Each (λ c. is_passed_on before.groups c ≡ true) o.effects.commands
+
 abbrev pub AssignmentsAreEarned : Type 0
 AssignmentsAreEarned =
     (state : State) (now : ℕ) (events : List (Event × ℕ)) (e : Event) (m : ℕ) → AreRequests events
-    → let o : Outcome = step (after_all events (revive state now)) e m in
-    Each (λ r. is_earned (events ++ (e, m) ∷ []) o.after.groups (kept_in (after (state_after state now events) o.effects.commands)) r ≡ true) o.effects.replies
+    → let before : Machine = after_all events (revive state now) in
+    let o : Outcome = step before e m in
+    IsEarned (events ++ (e, m) ∷ []) before (kept_in (after (state_after state now events) o.effects.commands)) o
 
--- A taken commit has a negative generation and a group without members, or comes from a member, with the group's generation, in
--- PreparingRebalance or Stable.
+-- A taken commit has a negative generation and a group without members, or comes from a member that is not fenced, with the group's
+-- generation, in PreparingRebalance or Stable.
 
 -- the members of a group that may not be held
 abbrev pub members_of : Option Group → List Member
@@ -225,13 +256,14 @@ pub record IsOfNobody (r : CommitRequest) (held : Option Group) : Type 0 where
   pub negative : is_negative r.generation ≡ true
   pub bare : members_of held ≡ []
 
--- a commit of a member
+-- a commit of a member, whose instance no other has
 pub record IsOfMember (r : CommitRequest) (held : Option Group) : Type 0 where
   pub group : Group
   pub group_is : held ≡ Some group
   pub id : List ℕ
   pub given : r.member ≡ Some id
   pub member : is_some (find_member id group.members) ≡ true
+  pub unfenced : fencing r.instance r.member group.members ≡ Ok tt
   pub generation : int_eq r.generation (pos group.generation) ≡ true
   pub phase : (group.phase ≡ Preparing) ⊎ (group.phase ≡ Stable)
 

@@ -1,6 +1,8 @@
--- The machine: which groups are held, and what an event makes of them. The moment of an event is its own or the last one, whichever is later.
-use Rattle.std.specs.Prelude.{◌≡◌, ◌<◌, get_or, set, not, if◌then◌else◌, ℕ, max, List, [], ◌∷◌, map, length, Option, Some, None, Result, Ok, Err, option_map, ok_or, find}
-use Rattle.std.specs.List.{flat_map, remove}
+-- The machine: which groups are held, how far each has read, and what an event makes of them. The moment of an event is its own or the
+-- last one, whichever is later.
+use Rattle.std.specs.Prelude.{not, if◌then◌else◌, ℕ, max, List, [], ◌∷◌, map, length, Option, Some, None, Result, Ok, Err, option_map, ok_or, find}
+use Rattle.std.specs.List.{flat_map}
+use Rattle.std.specs.FinMap as finmap
 use Rattle.std.specs.Ordering.{nat_cmp, match_ordering}
 use Rattle.std.specs.Cmp.Lexicographic.{slice_cmp}
 use Rattle.cg_names.specs.declared.code.Code.{Code}
@@ -8,7 +10,7 @@ use Rattle.cg_names.specs.declared.code.Code.TheVariants.{GroupIdNotFound, Inval
 use Rattle.cg_record.specs.declared.command.Command.TheVariants as command
 use Rattle.cg_group.specs.declared.effects.Effects.{Effects}
 use Rattle.cg_group.specs.declared.event.Event.{Event}
-use Rattle.cg_group.specs.declared.event.Event.TheVariants.{Join, Sync, Beat, Leave, Commit, Delete, Describe, Gone, Tick}
+use Rattle.cg_group.specs.declared.event.Event.TheVariants.{Join, Sync, Beat, Leave, Commit, Fetch, Delete, Describe, Gone, Tick}
 use Rattle.cg_group.specs.declared.event.Event.TheVariants as event
 use Rattle.cg_group.specs.declared.group.Group.{Group}
 use Rattle.cg_group.specs.declared.reply.Reply.{Reply}
@@ -20,20 +22,24 @@ use Rattle.cg_group.specs.declared.request.LeaveRequest.{LeaveRequest}
 use Rattle.cg_group.specs.declared.request.SyncRequest.{SyncRequest}
 use Rattle.cg_group.specs.declared.ticket.Ticket.{Ticket}
 use Rattle.cg_group.specs.declared.turn.Turn.{Turn}
+use Rattle.cg_group.specs.Admission.{join_held, join_unheld}
 use Rattle.cg_group.specs.Beating.{beat_held}
 use Rattle.cg_group.specs.Committing.{commit_held, commit_unheld}
 use Rattle.cg_group.specs.Describing.{description, listing}
-use Rattle.cg_group.specs.Joining.{is_session_refused, join_held, join_unheld}
+use Rattle.cg_group.specs.Fetching.{fetched}
+use Rattle.cg_group.specs.Joining.{is_session_refused}
 use Rattle.cg_group.specs.Leaving.{gone_in, leave_held}
 use Rattle.cg_group.specs.Kept.{Ascending}
 use Rattle.cg_group.specs.Membership.{is_empty, is_same}
+use Rattle.cg_group.specs.Offsets.{OffsetMap, offsets_after}
 use Rattle.cg_group.specs.Refusing.{◌>>=◌, refused_if}
 use Rattle.cg_group.specs.Syncing.{sync_held}
 use Rattle.cg_group.specs.Ticking.{ticked}
 
--- the groups that are held, by the bytes of their ids, and the last moment
+-- the groups that are held, by the bytes of their ids, how far each has read, and the last moment
 pub record Machine : Type 0 where
   pub groups : List Group
+  pub offsets : OffsetMap
   pub last : ℕ
 
 -- the machine after an event, and what the event made
@@ -41,9 +47,17 @@ pub record Outcome : Type 0 where
   pub after : Machine
   pub effects : Effects
 
--- these groups at this moment
+-- these groups at this moment; of offsets nothing is said
 abbrev pub at_moment : ℕ → List Group → Machine
-at_moment now groups = record { groups = groups; last = now }
+at_moment now groups = record { groups = groups; offsets = finmap.empty; last = now }
+
+-- these groups and offsets at this moment
+abbrev pub standing : ℕ → List Group → OffsetMap → Machine
+standing now groups offsets = record { groups = groups; offsets = offsets; last = now }
+
+-- these groups and effects at this moment, and offsets of which nothing was said yet
+abbrev pub outcome_beside : OffsetMap → ℕ → List Group → Effects → Outcome
+outcome_beside offsets now groups effects = record { after = standing now groups offsets; effects = effects }
 
 -- these groups and effects at this moment
 abbrev pub outcome : ℕ → List Group → Effects → Outcome
@@ -88,13 +102,6 @@ named_group id groups = do
   i ← ok_or id InvalidGroupId
   ok_or (find_group i groups) UnknownMemberId
 
--- the group that a request names stands at this place: there it is found, there a group with its id goes, and there it is taken away
-pub record IsNamedAt (id : Option (List ℕ)) (groups : List Group) (i : ℕ) : Type 0 where
-  pub within : i < length groups
-  pub found : (d : Group) → named_group id groups ≡ Ok (get_or groups i d)
-  pub put : (d : Group) (g : Group) → g.id ≡ (get_or groups i d).id → with_group g groups ≡ set groups i g
-  pub gone : (x : List ℕ) → id ≡ Some x → without_group x groups ≡ remove groups i
-
 -- JOIN, in its group
 abbrev pub join_in : ℕ → JoinRequest → List ℕ → Ticket → List Group → List ℕ → Option Group → Result Turn Code
 join_in now r fresh ticket groups id None = join_unheld now r fresh ticket (length groups) id
@@ -128,7 +135,7 @@ leave now r ticket groups = do
 -- COMMIT, in its group
 abbrev pub commit_in : ℕ → CommitRequest → Ticket → List Group → List ℕ → Option Group → Result Turn Code
 commit_in now r ticket groups id None = commit_unheld r.generation r.entries ticket (length groups) id
-commit_in now r ticket groups id (Some g) = commit_held now r.generation r.member r.entries ticket g
+commit_in now r ticket groups id (Some g) = commit_held now r.generation r.instance r.member r.entries ticket g
 
 -- COMMIT
 unfoldable pub commit : ℕ → CommitRequest → Ticket → List Group → Result Turn Code
@@ -180,12 +187,17 @@ met s (Sync ticket r) = concluded s ticket (sync s.last r ticket s.groups)
 met s (Beat ticket r) = concluded s ticket (beat s.last r ticket s.groups)
 met s (Leave ticket r) = concluded s ticket (leave s.last r ticket s.groups)
 met s (Commit ticket r) = concluded s ticket (commit s.last r ticket s.groups)
+met s (Fetch ticket r) = replying s ticket (fetched s.offsets r.group r.partitions)
 met s (Delete ticket id) = deleted s ticket (deleting id s.groups)
 met s (Describe ticket id) = replying s ticket (describe id s.groups)
 met s (event.List ticket) = replying s ticket (reply.Groups (map listing s.groups))
 met s (Gone session) = everywhere (gone_in s.last session) s
 met s Tick = everywhere (ticked s.last) s
 
+-- the offsets are what the commands make of them
+abbrev pub keeping : Outcome → Outcome
+keeping o = record o { after = record o.after { offsets = offsets_after o.after.offsets o.effects.commands } }
+
 -- the step: an event at a moment; an earlier moment counts as the last one
 unfoldable pub step : Machine → Event → ℕ → Outcome
-step s event now = met (record s { last = max s.last now }) event
+step s event now = keeping (met (record s { last = max s.last now }) event)

@@ -1,5 +1,5 @@
 -- The members of a group, by their ids, and their lists of protocols.
-use Rattle.std.specs.Prelude.{ℕ, Bool, true, false, ◌&&◌, List, [], ◌∷◌, Option, Some, None, nat_eq, find, filter, if◌then◌else◌}
+use Rattle.std.specs.Prelude.{ℕ, Bool, true, false, ◌&&◌, List, [], ◌∷◌, Option, Some, None, find, filter, if◌then◌else◌}
 use Rattle.std.specs.List.{list_any}
 use Rattle.std.specs.Cmp.Lexicographic.{pointwise}
 use Rattle.cg_group.specs.declared.group.Group.{Group}
@@ -68,6 +68,12 @@ is_preparing Preparing = true
 is_preparing Empty = false
 is_preparing Completing = false
 is_preparing Stable = false
+
+abbrev pub is_stable : Phase → Bool
+is_stable Stable = true
+is_stable Empty = false
+is_stable Preparing = false
+is_stable Completing = false
 
 -- two protocols have one name and ask for the same
 abbrev pub is_same_protocol : Protocol → Protocol → Bool

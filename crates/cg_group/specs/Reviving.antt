@@ -61,4 +61,4 @@ revived now state id = revived_from now id (finmap.get state.records id)
 
 -- the machine that a loading begins with
 unfoldable pub revive : State → ℕ → Machine
-revive state now = record { groups = map (revived now state) (in_order (groups_in state)); last = now }
+revive state now = record { groups = map (revived now state) (in_order (groups_in state)); offsets = state.offsets; last = now }

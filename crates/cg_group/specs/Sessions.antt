@@ -1,8 +1,7 @@
 -- The sessions on which calls wait, and in which groups.
-use Rattle.std.specs.Prelude.{◌≡◌, ℕ, Bool, true, false, List, [], ◌∷◌, Option, Some, None}
+use Rattle.std.specs.Prelude.{◌≡◌, ℕ, Bool, true, false, List, [], ◌∷◌, Option, Some, None, is_some}
 use Rattle.std.specs.BTreeMap as map
 use Rattle.std.specs.BTreeMap.{BTreeMap}
-use Rattle.std.specs.BTreeSet.{BTreeSet, contains}
 use Rattle.std.specs.Ordering.{nat_cmp}
 use Rattle.std.specs.Cmp.Lexicographic.{slice_cmp}
 use mathlib.Core.Bool.{Bool-set}
@@ -13,6 +12,8 @@ use Rattle.cg_group.specs.declared.group.Group.{Group}
 use Rattle.cg_group.specs.declared.member.Member.{Member}
 use Rattle.cg_group.specs.declared.member.Waits.{Waits}
 use Rattle.cg_group.specs.declared.member.Waits.TheVariants.{Nothing, Join, Sync}
+use Rattle.cg_group.specs.declared.sessions.Home.{Home}
+use Rattle.cg_group.specs.declared.sessions.Home.TheVariants.{Certain, Doubtful}
 use Rattle.cg_group.specs.Kept.{Each}
 
 -- a member waits for nothing, or on one of these sessions
@@ -46,35 +47,33 @@ Owns homes (event.Sync ticket r) = (id : List ℕ) → r.group ≡ Some id → h
 Owns homes (event.Beat ticket r) = Unit {0}
 Owns homes (event.Leave ticket r) = Unit {0}
 Owns homes (event.Commit ticket r) = Unit {0}
+Owns homes (event.Fetch ticket r) = Unit {0}
 Owns homes (event.Delete ticket id) = Unit {0}
 Owns homes (event.Describe ticket id) = Unit {0}
 Owns homes (event.List ticket) = Unit {0}
 Owns homes (event.Gone session) = Unit {0}
 Owns homes event.Tick = Unit {0}
 
--- the session that the event closes
-abbrev pub closed : Event → Option ℕ
-closed (event.Gone session) = Some session
-closed (event.Join ticket r fresh) = None
-closed (event.Sync ticket r) = None
-closed (event.Beat ticket r) = None
-closed (event.Leave ticket r) = None
-closed (event.Commit ticket r) = None
-closed (event.Delete ticket id) = None
-closed (event.Describe ticket id) = None
-closed (event.List ticket) = None
-closed event.Tick = None
-
--- the group is one of these; where they were too many to be kept, each group is
-abbrev pub is_among : List ℕ → Option (BTreeSet (List ℕ)) → Bool
-is_among id None = true
-is_among id (Some ids) = contains (slice_cmp nat_cmp) ids id
-
--- the same, of a session that has homes
-abbrev pub is_kept : List ℕ → Option (Option (BTreeSet (List ℕ))) → Bool
-is_kept id None = false
-is_kept id (Some groups) = is_among id groups
+-- the group is noted with these
+abbrev pub is_noted : List ℕ → Option (BTreeMap (List ℕ) Home) → Bool
+is_noted id None = false
+is_noted id (Some groups) = is_some (map.get (slice_cmp nat_cmp) groups id)
 
 -- the group is a home of the session
-abbrev pub is_home : BTreeMap ℕ (Option (BTreeSet (List ℕ))) → ℕ → List ℕ → Bool
-is_home homes session id = is_kept id (map.get nat_cmp homes session)
+abbrev pub is_home : BTreeMap ℕ (BTreeMap (List ℕ) Home) → ℕ → List ℕ → Bool
+is_home homes session id = is_noted id (map.get nat_cmp homes session)
+
+-- a call waits in such a home
+abbrev pub is_lived_in : Option Home → Bool
+is_lived_in None = false
+is_lived_in (Some Certain) = true
+is_lived_in (Some Doubtful) = false
+
+-- the group is noted with these, as one in which a call waits
+abbrev pub is_certain_in : List ℕ → Option (BTreeMap (List ℕ) Home) → Bool
+is_certain_in id None = false
+is_certain_in id (Some groups) = is_lived_in (map.get (slice_cmp nat_cmp) groups id)
+
+-- the group is a home of the session, and no doubt of it
+abbrev pub is_certain : BTreeMap ℕ (BTreeMap (List ℕ) Home) → ℕ → List ℕ → Bool
+is_certain homes session id = is_certain_in id (map.get nat_cmp homes session)

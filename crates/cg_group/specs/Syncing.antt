@@ -1,8 +1,8 @@
 -- SYNC (protocol guide, "SyncGroup"): the leader hands the assignments in, and each member gets its own.
-use Rattle.std.specs.Prelude.{ℕ, pos, not, List, [], ◌∷◌, ◌++◌, map, Option, Result, Ok, option_map, option_and_then, option_to_list, ok_or, unwrap_or, find, if◌then◌else◌}
+use Rattle.std.specs.Prelude.{ℕ, pos, not, List, [], ◌∷◌, ◌++◌, map, Option, Result, Ok, option_map, option_and_then, option_to_list, unwrap_or, find, if◌then◌else◌}
 use Rattle.std.specs.Ordering.{int_eq}
 use Rattle.cg_names.specs.declared.code.Code.{Code}
-use Rattle.cg_names.specs.declared.code.Code.TheVariants.{IllegalGeneration, UnknownMemberId, RebalanceInProgress}
+use Rattle.cg_names.specs.declared.code.Code.TheVariants.{IllegalGeneration, RebalanceInProgress}
 use Rattle.cg_group.specs.declared.calls.Calls.TheVariants.{Syncs}
 use Rattle.cg_record.specs.declared.command.Command.{Command}
 use Rattle.cg_record.specs.declared.command.Command.TheVariants as command
@@ -19,8 +19,9 @@ use Rattle.cg_group.specs.declared.request.SyncEntry.{SyncEntry}
 use Rattle.cg_group.specs.declared.request.SyncRequest.{SyncRequest}
 use Rattle.cg_group.specs.declared.ticket.Ticket.{Ticket}
 use Rattle.cg_group.specs.declared.turn.Turn.{Turn}
+use Rattle.cg_group.specs.Fencing.{member_check}
 use Rattle.cg_group.specs.Joining.{waiting}
-use Rattle.cg_group.specs.Membership.{find_member, hearing, is_preparing, is_same, leads}
+use Rattle.cg_group.specs.Membership.{hearing, is_preparing, is_same, leads}
 use Rattle.cg_group.specs.Rebalance.{completed_generation, subscription_for, turn_of}
 use Rattle.cg_group.specs.Refusing.{◌>>=◌, refused_if}
 use Rattle.cg_group.specs.Waiting.{after_answers, answers}
@@ -101,8 +102,7 @@ sync_taken now r id ticket m g Preparing = sync_current now id ticket m g
 -- SYNC in a group that is held
 unfoldable pub sync_held : ℕ → SyncRequest → Ticket → Group → Result Turn Code
 sync_held now r ticket g = do
-  id ← ok_or r.member UnknownMemberId
-  m ← ok_or (find_member id g.members) UnknownMemberId
+  who ← member_check r.instance r.member g.members
   _ ← refused_if (not (int_eq r.generation (pos g.generation))) IllegalGeneration
   _ ← refused_if (is_preparing g.phase) RebalanceInProgress
-  Ok (sync_taken now r id ticket m g g.phase)
+  Ok (sync_taken now r who.0 ticket who.1 g g.phase)

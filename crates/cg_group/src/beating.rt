@@ -2,6 +2,7 @@
 ghost use Rattle.std.specs.Prelude.{◌≡◌, ℕ, Ok, Err, MatchResult};
 ghost use Rattle.cg_group.specs.Beating.{beat_reply, beat_taken, beat_held};
 
+use crate::fencing::checked_member;
 use crate::group::{Group, Phase};
 use crate::reply::Reply;
 use crate::request::BeatRequest;
@@ -26,12 +27,7 @@ pub fn beating_member<'a>(r: &'a BeatRequest, group: &Group) -> Result<&'a Membe
         (λ id. (now : ℕ) (ticket : Ticket) → beat_held now r.now ticket group.now ≡ Ok (beat_taken now id.now ticket group.now))
         (λ code. (now : ℕ) (ticket : Ticket) → beat_held now r.now ticket group.now ≡ Err code) }
 {
-    let Some(id) = &r.member else {
-        return Err(Code::UnknownMemberId);
-    };
-    if group.members.find(id).is_none() {
-        return Err(Code::UnknownMemberId);
-    }
+    let (id, _) = checked_member(&r.instance, &r.member, &group.members)?;
     if i64::from(r.generation) != i64::from(group.generation.get()) {
         return Err(Code::IllegalGeneration);
     }

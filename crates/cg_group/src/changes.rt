@@ -1,32 +1,54 @@
 //! Groups that an event changes: all of them are made before the first is put into its place.
-ghost use Rattle.std.specs.Prelude.{◌≡◌, ◌<◌, ◌+◌, length};
-ghost use Rattle.cg_group.specs.Changes.{AreWithin, changed};
+ghost use Rattle.std.specs.Prelude.{◌≡◌, []};
+ghost use Rattle.cg_group.specs.Changes.{AreHeld, changed};
 
 use crate::effects::Effects;
 use crate::group::Group;
 use crate::held::Held;
+use crate::listed::Listed;
+use cg_names::GroupId;
+use std::alloc::Global;
 
-/// A group that an event changed, and the place where it stands among those that are held.
+/// A group in which an event answered calls.
 #[derive(Drop)]
-pub struct Change {
-    pub place: usize,
-    pub group: Group,
+pub struct Answered {
+    pub group: GroupId,
+    /// How many replies there were in all, once its own were made.
+    pub until: usize,
 }
 
 /// What an event changed so far, and what it made.
 #[derive(Drop)]
 pub struct Changes {
-    pub groups: Vec<Change>,
+    pub groups: Vec<Group>,
+    pub answered: Vec<Answered>,
     pub effects: Effects,
 }
 
+impl Changes {
+    /// Nothing yet. Takes no memory.
+    pub fn new(alloc: Global) -> Self
+        ensures groups { result.groups.items ≡ [] }
+        ensures commands { result.effects.commands ≡ [] }
+        ensures replies { result.effects.replies ≡ [] }
+    {
+        Changes {
+            groups: Vec::new(alloc),
+            answered: Vec::new(alloc),
+            effects: Effects {
+                commands: Listed::new(alloc),
+                replies: Listed::new(alloc),
+            },
+        }
+    }
+}
+
 /// Puts the changed groups into their places. Takes no memory.
-pub fn put_all(held: &mut Held, changes: Vec<Change>)
-    requires { AreWithin (length held.old) changes.items }
+pub fn put_all(held: &mut Held, changes: Vec<Group>)
+    requires { AreHeld held.old changes.items }
     ensures { held.new ≡ changed changes.items held.old }
 {
-    for change in changes {
-        let Change { place, group } = change;
-        held.put(place, group);
+    for group in changes {
+        held.replace(group);
     }
 }

@@ -1,18 +1,20 @@
 //! COMMIT: how far a group has read.
-ghost use Rattle.std.specs.Prelude.{◌≡◌, Ok, Err, Some, IfOk, MatchResult};
+ghost use Rattle.std.specs.Prelude.{◌≡◌, ℕ, List, Ok, Err, Some, IfOk, OnErr, MatchResult};
 ghost use Rattle.std.specs.Option.{option_copied};
 ghost use Rattle.cg_group.specs.Committing.{commit_effects, commit_of_member, commit_unheld, committer, keeping_entries};
+ghost use Rattle.cg_group.specs.Joining.{new_group};
+ghost use Rattle.cg_group.specs.Offsets.{offsets_after};
 
 use crate::bounds::GROUPS_MAX;
 use crate::commits::Commits;
 use crate::effects::Effects;
+use crate::fencing::checked_member;
 use crate::group::{Group, Phase};
-use crate::joining::new_group;
 use crate::listed::Listed;
 use crate::reply::Reply;
 use crate::ticket::Ticket;
-use crate::turn::Turn;
-use cg_names::{Code, GroupId, MemberId};
+use cg_fold::Offsets;
+use cg_names::{Code, InstanceId, MemberId};
 use cg_record::{Command, Committed, Entries};
 use std::alloc::{AllocError, Global};
 
@@ -20,19 +22,15 @@ use std::alloc::{AllocError, Global};
 #[tactic(auto, unfolding(crate::specs::Committing::commit_of_member))]
 fn committing_member<'a>(
     generation: i32,
+    instance: &Option<InstanceId>,
     member: &'a Option<MemberId>,
     group: &Group,
 ) -> Result<&'a MemberId, Code>
     ensures { MatchResult result
-        (λ id. commit_of_member generation member.now group.now ≡ Ok (Some id.now))
-        (λ code. commit_of_member generation member.now group.now ≡ Err code) }
+        (λ id. commit_of_member generation instance.now member.now group.now ≡ Ok (Some id.now))
+        (λ code. commit_of_member generation instance.now member.now group.now ≡ Err code) }
 {
-    let Some(id) = member else {
-        return Err(Code::UnknownMemberId);
-    };
-    if !group.members.has(id) {
-        return Err(Code::UnknownMemberId);
-    }
+    let (id, _) = checked_member(instance, member, &group.members)?;
     if i64::from(generation) != i64::from(group.generation.get()) {
         return Err(Code::IllegalGeneration);
     }
@@ -46,12 +44,13 @@ fn committing_member<'a>(
 #[tactic(auto, unfolding(crate::specs::Committing::committer))]
 pub fn committer<'a>(
     generation: i32,
+    instance: &Option<InstanceId>,
     member: &'a Option<MemberId>,
     group: &Group,
 ) -> Result<Option<&'a MemberId>, Code>
     ensures { MatchResult result
-        (λ who. committer generation member.now group.now ≡ Ok (option_copied who))
-        (λ code. committer generation member.now group.now ≡ Err code) }
+        (λ who. committer generation instance.now member.now group.now ≡ Ok (option_copied who))
+        (λ code. committer generation instance.now member.now group.now ≡ Err code) }
 {
     if group.members.len() == 0 {
         if generation < 0 {
@@ -59,57 +58,46 @@ pub fn committer<'a>(
         }
         return Err(Code::UnknownMemberId);
     }
-    match committing_member(generation, member, group) {
+    match committing_member(generation, instance, member, group) {
         Ok(id) => Ok(Some(id)),
         Err(code) => Err(code),
     }
 }
 
-/// What a COMMIT that is taken makes in the group with this id.
-pub fn commit_effects(
+/// Keeps a commit: its command and its reply. Want of memory leaves the offsets as they were.
+#[tactic(auto, unfolding(cg_fold::specs::Durable::effect))]
+pub fn keep_commit(
     alloc: Global,
-    entries: Entries,
+    offsets: &mut Offsets,
+    committed: Committed,
     ticket: Ticket,
-    group: &GroupId,
 ) -> Result<Effects, AllocError>
-    ensures { IfOk result (λ e. e ≡ commit_effects entries ticket group.now) }
+    ensures effects { IfOk result (λ e. e ≡ commit_effects committed.entries ticket committed.group) }
+    ensures offsets { IfOk result (λ e. offsets.new ≡ offsets_after offsets.old e.commands) }
+    ensures err { OnErr result (offsets.new ≡ offsets.old) }
 {
-    let id = group.clone()?;
-    let mut commands = Listed::new(alloc);
-    commands.push(Command::Committed(Committed { group: id, entries }))?;
+    let mut commands = Vec::with_capacity(alloc, 1)?;
     let mut replies = Listed::new(alloc);
     replies.push((ticket, Reply::Done))?;
-    Ok(Effects { commands, replies })
-}
-
-#[tactic(auto, unfolding(crate::specs::Committing::keeping_entries))]
-fn keeping_entries(
-    alloc: Global,
-    entries: Entries,
-    ticket: Ticket,
-    group: Group,
-) -> Result<Turn, AllocError>
-    ensures { IfOk result (λ t. t ≡ keeping_entries entries ticket group) }
-{
-    let Effects { commands, replies } = commit_effects(alloc, entries, ticket, &group.id)?;
-    Ok(Turn {
-        group,
+    offsets.commit(&committed)?;
+    commands.push_reserved(Command::Committed(committed));
+    Ok(Effects {
+        commands: Listed::from_vec(commands),
         replies,
-        commands,
     })
 }
 
-/// COMMIT in a group that is not held, beside so many that are.
-#[tactic(auto, unfolding(crate::specs::Committing::commit_unheld))]
-pub fn commit_unheld(
+/// What a COMMIT in a group that is not held keeps, beside so many that are.
+#[tactic(auto, unfolding(crate::specs::Committing::commit_unheld, crate::specs::Committing::keeping_entries))]
+pub fn committing_unheld(
     alloc: Global,
     generation: i32,
     entries: Commits,
-    ticket: Ticket,
     held: usize,
-    id: GroupId,
-) -> Result<Result<Turn, Code>, AllocError>
-    ensures { IfOk result (λ o. o ≡ commit_unheld generation entries ticket held id) }
+) -> Result<Result<Entries, Code>, AllocError>
+    ensures { IfOk result (λ o. MatchResult o
+        (λ kept. (ticket : Ticket) (id : List ℕ) → commit_unheld generation entries ticket held id ≡ Ok (keeping_entries kept ticket (new_group id)))
+        (λ code. (ticket : Ticket) (id : List ℕ) → commit_unheld generation entries ticket held id ≡ Err code)) }
 {
     if generation >= 0 {
         return Ok(Err(Code::IllegalGeneration));
@@ -120,6 +108,5 @@ pub fn commit_unheld(
     if GROUPS_MAX <= held {
         return Ok(Err(Code::CoordinatorNotAvailable));
     }
-    let turn = keeping_entries(alloc, entries, ticket, new_group(alloc, id))?;
-    Ok(Ok(turn))
+    Ok(Ok(entries))
 }

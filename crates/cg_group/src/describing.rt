@@ -1,6 +1,7 @@
 //! DESCRIBE and LIST.
 ghost use Rattle.std.specs.Prelude.{◌≡◌, [], IfOk, map, if◌then◌else◌};
-ghost use Rattle.cg_group.specs.Describing.{is_stable, shown_protocol, shown_member, description, listing};
+ghost use Rattle.cg_group.specs.Membership.{is_stable};
+ghost use Rattle.cg_group.specs.Describing.{shown_protocol, shown_member, description, listing};
 ghost use Rattle.cg_group.specs.Rebalance.{subscription_for};
 
 use crate::copies::copied_name;
@@ -122,8 +123,8 @@ pub fn listings(alloc: Global, groups: &Held) -> Result<Listed<Listing>, AllocEr
     ensures { IfOk result (λ ls. ls ≡ map listing groups.now) }
 {
     let mut list = Listed::new(alloc);
-    for place in 0..groups.len() {
-        list.push(listing(groups.at(place))?)?;
+    for group in groups.iter() {
+        list.push(listing(group)?)?;
     }
     Ok(list)
 }

@@ -1,4 +1,6 @@
-use crate::request::{BeatRequest, CommitRequest, JoinRequest, LeaveRequest, SyncRequest};
+use crate::request::{
+    BeatRequest, CommitRequest, FetchRequest, JoinRequest, LeaveRequest, SyncRequest,
+};
 use crate::ticket::Ticket;
 use cg_names::GroupId;
 use uuid::Uuid;
@@ -12,6 +14,8 @@ pub enum Event {
     Beat(Ticket, BeatRequest),
     Leave(Ticket, LeaveRequest),
     Commit(Ticket, CommitRequest),
+    /// A question for offsets.
+    Fetch(Ticket, FetchRequest),
     /// The end of a group without members.
     Delete(Ticket, Option<GroupId>),
     /// A question for one group.

@@ -1,14 +1,14 @@
 //! What an event does in each group that is held. A group that it does not touch stays where it is, without a copy.
-ghost use Rattle.std.specs.Prelude.{◌≡◌, ◌<◌, ◌+◌, IfOk, OnOk, length};
-ghost use Rattle.cg_group.specs.Changes.{AreWithin, HaveTurned, changed};
-ghost use Rattle.cg_group.specs.Machine.{groups_after, effects_of};
+ghost use Rattle.std.specs.Prelude.{◌≡◌, ℕ, Some, List, [], ◌∷◌, ◌++◌, IfOk, OnOk};
+ghost use Rattle.cg_group.specs.declared.group.Group.{Group};
+ghost use Rattle.cg_group.specs.Changes.{AreHeld, HaveTurned, KeepIds, changed};
+ghost use Rattle.cg_group.specs.Kept.{ComeBefore};
+ghost use Rattle.cg_group.specs.Machine.{InOrder, find_group, groups_after, effects_of};
 
-use crate::changes::{Change, Changes};
-use crate::effects::Effects;
+use crate::changes::{Answered, Changes};
 use crate::group::Group;
 use crate::held::Held;
 use crate::leaving::{gone_in, gone_touches};
-use crate::listed::Listed;
 use crate::ticking::{tick_touches, ticked};
 use crate::turn::Turn;
 use cg_names::Moment;
@@ -73,31 +73,32 @@ impl Turning for Going {
     }
 }
 
-/// The group at this place takes its turn, where the event touches it.
-#[tactic(auto, using(crate::proofs::Changed::turned_untouched))]
-pub fn turn_at<T: Turning>(
+/// A group takes its turn, where the event touches it.
+pub fn turn_one<T: Turning>(
     alloc: Global,
     turning: &T,
-    groups: &Held,
-    place: usize,
+    group: &Group,
     done: &mut Changes,
 ) -> Result<(), AllocError>
-    requires within { place < length groups.now }
-    requires before { HaveTurned (T.turns turning.now) groups.now place done.old }
-    ensures { OnOk result (HaveTurned (T.turns turning.now) groups.now (place + 1) done.new) }
+    requires { KeepIds (T.turns turning.now) }
+    ensures { OnOk result
+        ((groups : List Group) (ids : List (List ℕ)) → InOrder groups → find_group group.now.id groups ≡ Some group.now → ComeBefore ids group.now.id
+        → HaveTurned (T.turns turning.now) groups ids done.old → HaveTurned (T.turns turning.now) groups (ids ++ group.now.id ∷ []) done.new) }
 {
-    let group = groups.at(place);
     if !turning.touches(group) {
         return Ok(());
     }
+    let id = group.id.clone()?;
     let Turn {
         group,
         replies,
         commands,
     } = turning.turn(alloc, group)?;
-    done.groups.push(Change { place, group })?;
+    done.groups.push(group)?;
     done.effects.commands.append(commands)?;
     done.effects.replies.append(replies)?;
+    let until = done.effects.replies.len();
+    done.answered.push(Answered { group: id, until })?;
     Ok(())
 }
 
@@ -107,19 +108,14 @@ pub fn everywhere<T: Turning>(
     turning: &T,
     groups: &Held,
 ) -> Result<Changes, AllocError>
-    ensures within { IfOk result (λ c. AreWithin (length groups.now) c.groups.items) }
+    requires { KeepIds (T.turns turning.now) }
+    ensures held { IfOk result (λ c. AreHeld groups.now c.groups.items) }
     ensures groups { IfOk result (λ c. changed c.groups.items groups.now ≡ groups_after (T.turns turning.now) groups.now) }
     ensures effects { IfOk result (λ c. c.effects ≡ effects_of (T.turns turning.now) groups.now) }
 {
-    let mut done = Changes {
-        groups: Vec::new(alloc),
-        effects: Effects {
-            commands: Listed::new(alloc),
-            replies: Listed::new(alloc),
-        },
-    };
-    for place in 0..groups.len() {
-        turn_at(alloc, turning, groups, place, &mut done)?;
+    let mut done = Changes::new(alloc);
+    for group in groups.iter() {
+        turn_one(alloc, turning, group, &mut done)?;
     }
     Ok(done)
 }

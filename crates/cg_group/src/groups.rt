@@ -1,9 +1,8 @@
 //! The groups that are held, and the step of the machine.
-ghost use Rattle.std.specs.Prelude.{◌≡◌, IfOk, IfErr, OnErr, length, map, slice_get};
-ghost use Rattle.cg_group.specs.Kept.{Ascending-prop};
+ghost use Rattle.std.specs.Prelude.{◌≡◌, IfOk, IfErr, OnErr, length, slice_get};
 ghost use Rattle.cg_group.specs.Sessions.{AreKnown, AreKnown-prop, is_home};
 ghost use Rattle.cg_group.specs.Waiting.{waiting_calls};
-ghost use Rattle.cg_group.specs.Machine.{InOrder, step};
+ghost use Rattle.cg_group.specs.Machine.{step};
 ghost use Rattle.cg_group.specs.Reviving.{revive};
 
 use crate::effects::Effects;
@@ -11,9 +10,9 @@ use crate::event::Event;
 use crate::held::Held;
 use crate::meeting::met;
 use crate::reviving::revived_all;
-use crate::sessions::{Homes, closed, expect_call, forget};
+use crate::sessions::Homes;
 use crate::ticket::Ticket;
-use cg_fold::Durable;
+use cg_fold::{Durable, Offsets};
 use cg_names::Moment;
 use std::alloc::{AllocError, Global};
 use std::collections::BTreeMap;
@@ -21,22 +20,26 @@ use std::marker::Model;
 
 /// The groups that a coordinator holds, and the moment of the last event.
 /// Contracts see the groups by the bytes of their ids.
-#[derive(Debug, Drop)]
+#[derive(Drop)]
 pub struct Groups {
     held: Held,
+    offsets: Offsets,
     last: Moment,
     /// Where the calls of each session wait.
     homes: Homes,
-    ghost in_order: { InOrder held } by { Ascending-prop (map (λ g. g.id) held) },
     ghost known: { AreKnown (is_home homes) held } by { AreKnown-prop (is_home homes) held },
 }
 
 impl Model for Groups {
+    ghost use Rattle.std.specs.Coded.{codes};
+    ghost use Rattle.cg_fold.specs.Key.{offsets_code};
     ghost use Rattle.cg_group.specs.Machine.{Machine};
 
     ghost Value = { Machine };
 
-    ghost view = { λ g. record { groups = g.held; last = g.last } };
+    ghost coded = { Prim.hlevel (codes, offsets_code) };
+
+    ghost view = { λ g. record { groups = g.held; offsets = g.offsets; last = g.last } };
 }
 
 impl Groups {
@@ -53,6 +56,7 @@ impl Groups {
         match revived_all(alloc, now, &durable) {
             Ok(held) => Ok(Groups {
                 held,
+                offsets: durable.into_offsets(),
                 last: now,
                 homes: BTreeMap::new(alloc),
             }),
@@ -81,10 +85,13 @@ impl Groups {
         ensures err { OnErr result (self.new ≡ self.old) }
     {
         let now = self.last.max(now);
-        expect_call(self.held.allocator(), &mut self.homes, &event)?;
-        let gone = closed(&event);
-        let effects = met(now, &mut self.held, &self.homes, event)?;
-        forget(&mut self.homes, gone);
+        let effects = met(
+            now,
+            &mut self.held,
+            &mut self.offsets,
+            &mut self.homes,
+            event,
+        )?;
         self.last = now;
         Ok(effects)
     }

@@ -1,9 +1,14 @@
-//! The groups that are held, each in a box of its own: where a group is made, pointers alone are moved.
-ghost use Rattle.std.specs.Prelude.{◌≡◌, ◌<◌, ◌≤◌, [], ◌∷◌, ◌++◌, get_or, insert, length, not, set, slice_get, IfOk, OnErr, OnOk};
-ghost use Rattle.std.specs.List.{position, remove};
-ghost use Rattle.std.specs.Ordering.{nat_cmp, is_gt};
+//! The groups that are held, in a map by their ids.
+ghost use Rattle.std.specs.Prelude.{◌≡◌, ℕ, Some, None, [], length, is_some, slice_get, true, OnErr, OnOk};
+ghost use Rattle.std.specs.BTreeMap.{get, is_at};
 ghost use Rattle.std.specs.Cmp.Lexicographic.{slice_cmp};
-ghost use Rattle.cg_group.specs.Machine.{InOrder};
+ghost use Rattle.std.specs.Map.{set_value};
+ghost use Rattle.std.specs.Map.Iter.{ShowsInOrder, deref};
+ghost use Rattle.std.specs.Option.{option_copied};
+ghost use Rattle.std.specs.Ordering.{nat_cmp};
+ghost use Rattle.cg_group.specs.declared.group.Group.{Group};
+ghost use Rattle.cg_group.specs.Held.{IsHeld};
+ghost use Rattle.cg_group.specs.Machine.{InOrder, find_group, with_group, without_group};
 ghost use Rattle.cg_group.specs.Membership.{hearing};
 ghost use Rattle.cg_group.specs.Waiting.{waiting_calls};
 
@@ -12,33 +17,30 @@ use crate::group::Group;
 use crate::ticket::Ticket;
 use cg_names::{GroupId, MemberId, Moment};
 use std::alloc::{AllocError, Global};
-use std::cmp::Ordering;
+use std::collections::BTreeMap;
+use std::collections::btree_map::Values;
 use std::marker::Model;
 
-/// Groups in their order. Contracts see the list.
+/// Groups in their order, each under its own id. Contracts see the list.
 #[derive(Debug, Drop)]
 pub struct Held {
-    boxes: Vec<Box<Group>>,
+    alloc: Global,
+    groups: BTreeMap<GroupId, Group>,
 }
 
 impl Model for Held {
     ghost use Rattle.std.specs.Prelude.{List};
+    ghost use Rattle.std.specs.BTreeMap.{values};
     ghost use Rattle.cg_group.specs.declared.group.Group.{Group};
-    ghost use Rattle.cg_group.specs.Held.{unboxed};
+    ghost use Rattle.cg_group.specs.Held.{StandUnderIds};
+    ghost use Rattle.cg_group.specs.Held.{IsHeld};
+    ghost use Rattle.cg_group.specs.Machine.{InOrder};
 
     ghost Value = { List Group };
 
-    ghost view = { λ h. unboxed h.boxes.items };
-}
+    ghost view = { λ h. values h.groups };
 
-fn comes_after(id: &GroupId, group: &Group) -> bool
-    ensures { result ≡ is_gt (slice_cmp nat_cmp id.now group.now.id) }
-{
-    match id.cmp(&group.id) {
-        Ordering::Greater => true,
-        Ordering::Less => false,
-        Ordering::Equal => false,
-    }
+    ghost invariant = { λ h. StandUnderIds h.groups.entries × InOrder (values h.groups) };
 }
 
 #[tactic(auto, unfolding(crate::specs::Membership::hearing))]
@@ -48,47 +50,62 @@ fn hear_in(now: Moment, id: &MemberId, group: &mut Group)
     group.members.hear(id, now);
 }
 
+fn replace_in(groups: &mut BTreeMap<GroupId, Group>, group: Group)
+    requires { is_some (get (slice_cmp nat_cmp) groups.old group.id) ≡ true }
+    ensures { groups.new.entries ≡ set_value (is_at (slice_cmp nat_cmp group.id)) groups.old.entries group }
+{
+    if let Some(place) = groups.get_mut(&group.id) {
+        *place = group;
+    }
+}
+
+fn hear_among(groups: &mut BTreeMap<GroupId, Group>, own: &GroupId, id: &MemberId, now: Moment)
+    ensures some { (g : Group) → get (slice_cmp nat_cmp) groups.old own.now ≡ Some g → groups.new.entries ≡ set_value (is_at (slice_cmp nat_cmp own.now)) groups.old.entries (hearing now id.now g) }
+    ensures none { get (slice_cmp nat_cmp) groups.old own.now ≡ None → groups.new.entries ≡ groups.old.entries }
+{
+    if let Some(group) = groups.get_mut(own) {
+        hear_in(now, id, group);
+    }
+}
+
 impl Held {
     /// No groups. Takes no memory.
     pub fn new(alloc: Global) -> Self
         ensures { result ≡ [] }
     {
         Held {
-            boxes: Vec::new(alloc),
+            alloc,
+            groups: BTreeMap::new(alloc),
         }
     }
 
-    /// Where boxes are made.
+    /// Where groups are kept.
     pub fn allocator(&self) -> Global {
-        *self.boxes.allocator()
+        self.alloc
     }
 
     /// How many groups there are.
     pub fn len(&self) -> usize
         ensures { result ≡ length self.now }
     {
-        self.boxes.len()
+        self.groups.len()
     }
 
-    /// The group at this place.
-    pub fn at(&self, place: usize) -> &Group
-        requires { place < length self.now }
-        ensures { result.now ≡ get_or self.now place result.now }
+    /// The groups in their order.
+    pub fn iter(&self) -> Values<'_, GroupId, Group>
+        ensures rest { result ≡ self.now }
+        ensures runs { ShowsInOrder (deref {X = Group}) }
+        ensures in_order { InOrder self.now }
     {
-        &self.boxes[place]
+        self.groups.values()
     }
 
-    /// Where the first group stands that the id does not come after. A binary search.
-    pub fn place_for(&self, id: &GroupId) -> Option<usize>
-        requires { InOrder self.now }
-        ensures { result ≡ position (λ g. not (is_gt (slice_cmp nat_cmp id.now g.id))) self.now }
+    /// The group with this id. Costs a look-up.
+    pub fn find(&self, id: &GroupId) -> Option<&Group>
+        ensures found { option_copied result ≡ find_group id.now self.now }
+        ensures in_order { InOrder self.now }
     {
-        let place = self.boxes.partition_point(|group| comes_after(id, group));
-        if place < self.boxes.len() {
-            Some(place)
-        } else {
-            None
-        }
+        self.groups.get(id)
     }
 
     /// The i-th call that waits, counted from 0, by group and joining order. Takes no memory.
@@ -96,55 +113,55 @@ impl Held {
     pub fn parked(&self, i: u64) -> Option<Ticket>
         ensures { result ≡ slice_get (waiting_calls self.now) i }
     {
-        self.boxes
-            .iter()
+        self.groups
+            .values()
             .flat_map(|g| g.members.as_slice().iter())
             .filter_map(|m| Calls::Any.called(m.waits))
             .nth(i as usize)
     }
 
-    /// Puts a group last.
-    pub fn push(&mut self, group: Group) -> Result<(), AllocError>
-        ensures ok { OnOk result (self.new ≡ self.old ++ group ∷ []) }
+    // A group whose id is not held.
+    fn add(&mut self, group: Group) -> Result<(), AllocError>
+        ensures ok { OnOk result (self.new ≡ with_group group self.old) }
         ensures err { OnErr result (self.new ≡ self.old) }
     {
-        let made = Box::new(self.allocator(), group)?;
-        self.boxes.push(made)?;
+        let id = group.id.clone()?;
+        self.groups.insert(id, group)?;
         Ok(())
     }
 
-    /// Puts a group before the one at this place. Moves the pointers from there on.
-    pub fn insert(&mut self, place: usize, group: Group) -> Result<(), AllocError>
-        requires { place ≤ length self.old }
-        ensures ok { OnOk result (self.new ≡ insert self.old place group) }
+    /// Puts a group in the place of its id. Takes memory only where the id is not held.
+    pub fn put(&mut self, group: Group) -> Result<(), AllocError>
+        ensures ok { OnOk result (self.new ≡ with_group group self.old) }
         ensures err { OnErr result (self.new ≡ self.old) }
     {
-        let made = Box::new(self.allocator(), group)?;
-        self.boxes.insert(place, made)?;
+        if self.groups.contains_key(&group.id) {
+            self.replace(group);
+            return Ok(());
+        }
+        self.add(group)?;
         Ok(())
     }
 
-    /// Puts a group in the place of another. Takes no memory.
-    pub fn put(&mut self, place: usize, group: Group)
-        requires { place < length self.old }
-        ensures { self.new ≡ set self.old place group }
+    /// Puts a group in the place of the one with its id. Takes no memory.
+    pub fn replace(&mut self, group: Group)
+        requires { IsHeld self.old group.id }
+        ensures { self.new ≡ with_group group self.old }
     {
-        *self.boxes[place] = group;
+        replace_in(&mut self.groups, group);
     }
 
-    /// Takes the group at this place away. Moves the pointers behind it.
-    pub fn remove(&mut self, place: usize)
-        requires { place < length self.old }
-        ensures { self.new ≡ remove self.old place }
+    /// Takes the group with this id away.
+    pub fn remove(&mut self, id: &GroupId)
+        ensures { self.new ≡ without_group id.now self.old }
     {
-        let _group = self.boxes.remove(place);
+        let _group = self.groups.remove(id);
     }
 
-    /// The member with this id, of the group at this place, was heard now. Takes no memory.
-    pub fn hear(&mut self, place: usize, id: &MemberId, now: Moment)
-        requires { place < length self.old }
-        ensures { (d : Group) → self.new ≡ set self.old place (hearing now id.now (get_or self.old place d)) }
+    /// The member with this id, of this group, was heard now. Takes no memory.
+    pub fn hear(&mut self, group: &GroupId, id: &MemberId, now: Moment)
+        ensures { (g : Group) → find_group group.now self.old ≡ Some g → self.new ≡ with_group (hearing now id.now g) self.old }
     {
-        hear_in(now, id, &mut self.boxes[place]);
+        hear_among(&mut self.groups, group, id, now);
     }
 }

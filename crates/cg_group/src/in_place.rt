@@ -1,25 +1,30 @@
 //! Requests that hear a member and change nothing else are taken in the place of their group, without a copy of it.
-ghost use Rattle.std.specs.Prelude.{◌≡◌, ◌<◌, ℕ, List, length, get_or, set, Err, IfOk, IfErr, OnOk, OnErr, MatchResult, MatchOption, ⊤};
-ghost use Rattle.cg_group.specs.InPlace.{IsBeatAt, IsCurrent, IsSyncAt};
+ghost use Rattle.std.specs.Prelude.{◌≡◌, ℕ, Bool, List, Some, Err, IfOk, OnOk, OnErr, IsOk, MatchResult, MatchOption, ⊤};
+ghost use Rattle.cg_group.specs.declared.group.Group.{Group};
+ghost use Rattle.cg_group.specs.InPlace.{IsBeatIn, IsSyncIn};
 ghost use Rattle.cg_group.specs.Committing.{hearing_committer};
-ghost use Rattle.cg_group.specs.Machine.{InOrder, IsNamedAt, at_moment, outcome, reply_alone, concluded, beat, commit, sync};
+ghost use Rattle.cg_group.specs.Machine.{InOrder, at_moment, outcome, reply_alone, concluded, beat, commit, find_group, named_group, sync, with_group};
 ghost use Rattle.std.specs.Option.{option_copied};
 ghost use Rattle.cg_group.specs.Membership.{hearing};
+ghost use Rattle.cg_group.specs.Offsets.{offsets_after};
+ghost use Rattle.cg_group.specs.Sessions.{AreKnown};
 ghost use Rattle.cg_group.specs.Syncing.{sync_current, sync_held};
 
 use crate::beating::{beat_reply, beating_member};
-use crate::committing::{commit_effects, committer};
+use crate::committing::{committer, keep_commit};
 use crate::effects::Effects;
+use crate::fencing::checked_member;
 use crate::group::{Group, Phase};
 use crate::held::Held;
 use crate::listed::Listed;
 use crate::member::Member;
-use crate::placing::place_of;
+use crate::naming::named;
 use crate::reply::Reply;
 use crate::request::{BeatRequest, CommitRequest, SyncRequest};
 use crate::ticket::Ticket;
-use cg_names::{Code, MemberId, Moment};
-use cg_record::Assignment;
+use cg_fold::Offsets;
+use cg_names::{Code, GroupId, MemberId, Moment};
+use cg_record::{Assignment, Committed};
 use std::alloc::{AllocError, Global};
 
 /// One reply, and nothing else.
@@ -34,37 +39,38 @@ pub fn reply_alone(alloc: Global, ticket: Ticket, reply: Reply) -> Result<Effect
     })
 }
 
-// Hears the member in the group at this place, and replies.
-fn hear_at(
+// Hears the member in the group with this id, and replies.
+fn hear_in(
     now: Moment,
     held: &mut Held,
-    place: usize,
+    own: &GroupId,
     id: &MemberId,
     ticket: Ticket,
     reply: Reply,
 ) -> Result<Effects, AllocError>
-    requires { place < length held.old }
     ensures groups { OnOk result
-        ((d : Group) → held.new ≡ set held.old place (hearing now id.now (get_or held.old place d))) }
+        ((g : Group) → find_group own.now held.old ≡ Some g → held.new ≡ with_group (hearing now id.now g) held.old) }
     ensures effects { IfOk result (λ e. e ≡ reply_alone ticket reply) }
     ensures err { OnErr result (held.new ≡ held.old) }
 {
     let effects = reply_alone(held.allocator(), ticket, reply)?;
-    held.hear(place, id, now);
+    held.hear(own, id, now);
     Ok(effects)
 }
 
-// Where a BEAT is taken, and from which member.
-fn beating_place<'a>(r: &'a BeatRequest, groups: &Held) -> Result<(usize, &'a MemberId), Code>
-    requires { InOrder groups.now }
-    ensures { MatchResult result (λ p. IsBeatAt r.now groups.now p.0 p.1.now)
+// In which group a BEAT is taken, from which member, and how it is answered.
+fn beating<'a>(
+    r: &'a BeatRequest,
+    groups: &Held,
+) -> Result<(&'a GroupId, &'a MemberId, Reply), Code>
+    ensures { MatchResult result (λ p. IsBeatIn r.now groups.now p.0.now p.1.now p.2)
         (λ code. (now : ℕ) (ticket : Ticket) → beat now r.now ticket groups.now ≡ Err code) }
 {
-    match place_of(groups, &r.group) {
+    match named(groups, &r.group) {
         Err(code) => Err(code),
-        Ok(place) => match beating_member(r, groups.at(place)) {
+        Ok((own, group)) => match beating_member(r, group) {
             Err(code) => Err(code),
-            Ok(id) => Ok((place, id)),
+            Ok(id) => Ok((own, id, beat_reply(group))),
         },
     }
 }
@@ -76,19 +82,17 @@ pub fn meet_beat(
     ticket: Ticket,
     r: &BeatRequest,
 ) -> Result<Effects, AllocError>
-    requires { InOrder held.old }
     ensures ok { IfOk result
         (λ e. concluded (at_moment now held.old) ticket (beat now r.now ticket held.old) ≡ outcome now held.new e) }
     ensures err { OnErr result (held.new ≡ held.old) }
 {
-    match beating_place(r, held) {
+    match beating(r, held) {
         Err(code) => {
             let effects = reply_alone(held.allocator(), ticket, Reply::Refused(code))?;
             Ok(effects)
         }
-        Ok((place, id)) => {
-            let reply = beat_reply(held.at(place));
-            let effects = hear_at(now, held, place, id, ticket, reply)?;
+        Ok((own, id, reply)) => {
+            let effects = hear_in(now, held, own, id, ticket, reply)?;
             Ok(effects)
         }
     }
@@ -107,10 +111,7 @@ fn syncing_member<'a, 'b>(
         Phase::Stable => {}
         _ => return None,
     }
-    let Some(id) = &r.member else {
-        return None;
-    };
-    let Some(member) = group.members.find(id) else {
+    let Ok((id, member)) = checked_member(&r.instance, &r.member, &group.members) else {
         return None;
     };
     if i64::from(r.generation) != i64::from(group.generation.get()) {
@@ -119,77 +120,86 @@ fn syncing_member<'a, 'b>(
     Some((id, member))
 }
 
-/// Where a SYNC is answered at once, from which member and with which assignment.
-pub fn syncing_place<'a>(
+/// In which group a SYNC is answered at once, from which member and with which assignment.
+pub fn syncing<'a>(
     r: &'a SyncRequest,
     groups: &Held,
-) -> Result<Option<(usize, &'a MemberId, Assignment)>, AllocError>
-    requires { InOrder groups.now }
-    ensures { IfOk result (λ o. MatchOption o ⊤ (λ p. IsSyncAt r.now groups.now p.0 p.1.now p.2)) }
+) -> Result<Option<(&'a GroupId, &'a MemberId, Assignment)>, AllocError>
+    ensures { IfOk result (λ o. MatchOption o ⊤ (λ p. IsSyncIn r.now groups.now p.0.now p.1.now p.2)) }
 {
-    let Ok(place) = place_of(groups, &r.group) else {
+    let Ok((own, group)) = named(groups, &r.group) else {
         return Ok(None);
     };
-    match syncing_member(r, groups.at(place)) {
+    match syncing_member(r, group) {
         None => Ok(None),
         Some((id, member)) => {
             let assignment = member.assignment.clone()?;
-            Ok(Some((place, id, assignment)))
+            Ok(Some((own, id, assignment)))
         }
     }
 }
 
 /// A SYNC that is answered at once.
-pub fn sync_at(
+pub fn sync_in(
     now: Moment,
     held: &mut Held,
     ticket: Ticket,
-    place: usize,
+    own: &GroupId,
     id: &MemberId,
     assignment: Assignment,
 ) -> Result<Effects, AllocError>
-    requires { place < length held.old }
     ensures ok { IfOk result
-        (λ e. (r : SyncRequest) → IsSyncAt r held.old place id.now assignment
+        (λ e. (r : SyncRequest) → IsSyncIn r held.old own.now id.now assignment
         → concluded (at_moment now held.old) ticket (sync now r ticket held.old) ≡ outcome now held.new e) }
+    ensures known { OnOk result
+        ((r : SyncRequest) (homes : ℕ → List ℕ → Bool) → IsSyncIn r held.old own.now id.now assignment → AreKnown homes held.old → AreKnown homes held.new) }
     ensures err { OnErr result (held.new ≡ held.old) }
 {
-    let effects = hear_at(now, held, place, id, ticket, Reply::Synced(assignment))?;
+    let effects = hear_in(now, held, own, id, ticket, Reply::Synced(assignment))?;
     Ok(effects)
 }
 
-// Hears who commits, in the group at this place.
-fn hear_committer(now: Moment, held: &mut Held, place: usize, who: Option<&MemberId>)
-    requires { place < length held.old }
-    ensures { (d : Group) → held.new ≡ set held.old place (hearing_committer now (option_copied who.entry) (get_or held.old place d)) }
+// Hears who commits, in the group with this id.
+fn hear_committer(now: Moment, held: &mut Held, own: &GroupId, who: Option<&MemberId>)
+    requires { InOrder held.old }
+    ensures { (g : Group) → find_group own.now held.old ≡ Some g → held.new ≡ with_group (hearing_committer now (option_copied who.entry) g) held.old }
 {
     match who {
         None => {}
-        Some(id) => held.hear(place, id, now),
+        Some(id) => held.hear(own, id, now),
     }
 }
 
-/// A COMMIT in the group at this place.
-pub fn commit_at(
+/// A COMMIT in a group that is held.
+pub fn commit_in(
     now: Moment,
     held: &mut Held,
+    offsets: &mut Offsets,
     ticket: Ticket,
-    place: usize,
     r: CommitRequest,
 ) -> Result<Effects, AllocError>
-    requires { IsNamedAt r.group held.old place }
+    requires { IsOk (named_group r.group held.old) }
     ensures ok { IfOk result
         (λ e. concluded (at_moment now held.old) ticket (commit now r ticket held.old) ≡ outcome now held.new e) }
-    ensures err { OnErr result (held.new ≡ held.old) }
+    ensures offsets { IfOk result (λ e. offsets.new ≡ offsets_after offsets.old e.commands) }
+    ensures err { OnErr result ((held.new ≡ held.old) × (offsets.new ≡ offsets.old)) }
 {
     let alloc = held.allocator();
     let CommitRequest {
+        group,
         generation,
+        instance,
         member,
         entries,
-        ..
     } = r;
-    match committer(generation, &member, held.at(place)) {
+    let (own, group) = match named(held, &group) {
+        Ok(named) => named,
+        Err(code) => {
+            let effects = reply_alone(alloc, ticket, Reply::Refused(code))?;
+            return Ok(effects);
+        }
+    };
+    match committer(generation, &instance, &member, group) {
         Err(code) => {
             let effects = reply_alone(alloc, ticket, Reply::Refused(code))?;
             Ok(effects)
@@ -200,8 +210,10 @@ pub fn commit_at(
                 let effects = reply_alone(alloc, ticket, refused)?;
                 return Ok(effects);
             };
-            let effects = commit_effects(alloc, entries, ticket, &held.at(place).id)?;
-            hear_committer(now, held, place, who);
+            let id = own.clone()?;
+            let committed = Committed { group: id, entries };
+            let effects = keep_commit(alloc, offsets, committed, ticket)?;
+            hear_committer(now, held, own, who);
             Ok(effects)
         }
     }

@@ -1,66 +1,24 @@
-//! JOIN: who may, and what it does.
-ghost use Rattle.std.specs.Prelude.{◌≡◌, ◌<◌, None, Some, false, is_some, length, IfOk};
-ghost use Rattle.cg_names.specs.Grammar.{IsName};
-ghost use Rattle.cg_names.specs.declared.name.TheConstants.{MEMBER_ID_BYTES_MAX};
+//! JOIN: what it does with a new member, and with one that joins again.
+ghost use Rattle.std.specs.Prelude.{◌≡◌, ◌<◌, [], false, is_some, length, IfOk};
 ghost use Rattle.cg_record.specs.declared.roster.TheConstants.{MEMBERS_MAX};
-ghost use Rattle.std.specs.List.{list_any};
-ghost use Rattle.cg_group.specs.Membership.{is_named, find_member, find_instance};
-ghost use Rattle.cg_group.specs.Vote.{is_common};
-ghost use Rattle.cg_group.specs.Joining.{drawn, new_group, new_member, admitted, in_join_phase, join_new, updating, waiting, join_again, join_current, is_current, join_known, is_inconsistent, join_drawn, join_held, join_unheld};
+ghost use Rattle.cg_group.specs.Membership.{find_member, find_instance};
+ghost use Rattle.cg_group.specs.Joining.{new_group, new_member, admitted, in_join_phase, join_new, updating, waiting, rejoined, join_again, join_current, is_current, join_known};
+ghost use Rattle.cg_group.specs.declared.member.Waits.TheVariants.{Join};
 
 use crate::answers::{Refusing, answer_one};
-use crate::bounds::GROUPS_MAX;
 use crate::calls::Calls;
 use crate::checked::CheckedJoin;
 use crate::copies::copied_group;
 use crate::group::{Group, Phase};
-use crate::listed::Listed;
 use crate::member::{Member, Waits};
 use crate::members::Members;
 use crate::rebalance::{joined_reply, leads, prepared, tried, turn_of};
 use crate::request::JoinRequest;
 use crate::ticket::Ticket;
 use crate::turn::Turn;
-use crate::vote::is_common;
-use cg_names::{ClientId, Code, Generation, GroupId, MemberId, Moment, NameFault, ProtocolName};
+use cg_names::{Code, Generation, GroupId, MemberId, Moment, ProtocolName};
 use cg_record::{Assignment, MEMBERS_MAX};
 use std::alloc::{AllocError, Global};
-use uuid::Uuid;
-
-// The member id that these bytes spell.
-fn member_id(alloc: Global, bytes: &[u8]) -> Result<MemberId, AllocError>
-    requires { IsName MEMBER_ID_BYTES_MAX bytes.now }
-    ensures { IfOk result (λ id. id ≡ bytes.now) }
-{
-    match MemberId::from_bytes(alloc, bytes) {
-        Ok(id) => Ok(id),
-        Err(NameFault::Memory) => Err(AllocError),
-        Err(NameFault::Empty | NameFault::TooLong | NameFault::BadByte | NameFault::Reserved) =>
-            unreachable!(),
-    }
-}
-
-// The bytes of the id of a new member.
-#[tactic(auto, unfolding(crate::specs::Joining::drawn))]
-fn drawn_bytes(alloc: Global, client: &[u8], fresh: Uuid) -> Result<Vec<u8>, AllocError>
-    ensures { IfOk result (λ bytes. bytes.items ≡ drawn client.now fresh) }
-{
-    let mut buffer = Uuid::encode_buffer();
-    let text = fresh.hyphenated().encode_lower(&mut buffer);
-    let mut bytes = Vec::from_slice(alloc, client)?;
-    bytes.push(b'-')?;
-    bytes.extend_from_slice(text.as_bytes())?;
-    Ok(bytes)
-}
-
-// The id of a new member.
-fn drawn(alloc: Global, client: &ClientId, fresh: Uuid) -> Result<MemberId, AllocError>
-    ensures { IfOk result (λ id. id ≡ drawn client.now fresh) }
-{
-    let bytes = drawn_bytes(alloc, client.as_bytes(), fresh)?;
-    let id = member_id(alloc, bytes.as_slice())?;
-    Ok(id)
-}
 
 /// A group that is not held yet. Takes no memory.
 #[tactic(auto, unfolding(crate::specs::Joining::new_group))]
@@ -79,29 +37,29 @@ pub fn new_group(alloc: Global, id: GroupId) -> Group
     }
 }
 
-// A member that joins for the first time, and the type of its protocols.
+/// A member that joins under a new id, and the type of its protocols. Takes no memory.
 #[tactic(auto, unfolding(crate::specs::Joining::new_member))]
-fn new_member(
-    alloc: Global,
+pub fn new_member(
     now: Moment,
     r: CheckedJoin,
     id: MemberId,
-    ticket: Ticket,
+    assignment: Assignment,
+    waits: Waits,
 ) -> (Member, ProtocolName)
-    ensures member { result.0 ≡ new_member now r id ticket }
+    ensures member { result.0 ≡ new_member now r id assignment waits }
     ensures kind { result.1 ≡ r.kind }
 {
     let CheckedJoin { request, session } = r;
     let member = Member {
         id,
-        instance: None,
+        instance: request.instance,
         client: request.client,
         session,
         rebalance: request.rebalance,
         protocols: request.protocols,
-        assignment: Assignment::empty(alloc),
+        assignment,
         heard: now,
-        waits: Waits::Join(ticket),
+        waits,
     };
     (member, request.kind)
 }
@@ -132,8 +90,9 @@ fn in_join_phase(now: Moment, turn: Turn) -> Result<Turn, AllocError>
     }
 }
 
-#[tactic(auto, unfolding(crate::specs::Joining::join_new, crate::specs::Joining::new_member), using(crate::proofs::Together::no_instance_found))]
-fn join_new(
+/// JOIN of a new member.
+#[tactic(auto, unfolding(crate::specs::Joining::join_new, crate::specs::Joining::new_member))]
+pub fn join_new(
     alloc: Global,
     now: Moment,
     r: CheckedJoin,
@@ -143,9 +102,10 @@ fn join_new(
 ) -> Result<Turn, AllocError>
     requires room { length group.members < MEMBERS_MAX }
     requires own_id { is_some (find_member id group.members) ≡ false }
+    requires own_instance { is_some (find_instance r.instance group.members) ≡ false }
     ensures { IfOk result (λ t. t ≡ join_new now r id ticket group) }
 {
-    let (member, kind) = new_member(alloc, now, r, id, ticket);
+    let (member, kind) = new_member(now, r, id, Assignment::empty(alloc), Waits::Join(ticket));
     let group = admitted(member, kind, group)?;
     let turn = in_join_phase(now, turn_of(alloc, group))?;
     tried(alloc, now, turn)
@@ -181,6 +141,22 @@ pub fn waiting(now: Moment, id: &MemberId, waits: Waits, turn: Turn) -> Result<T
     })
 }
 
+/// The member joins with the others.
+#[tactic(auto, unfolding(crate::specs::Joining::rejoined))]
+pub fn rejoined(
+    alloc: Global,
+    now: Moment,
+    id: &MemberId,
+    ticket: Ticket,
+    turn: Turn,
+) -> Result<Turn, AllocError>
+    ensures { IfOk result (λ t. t ≡ rejoined now id.now ticket turn) }
+{
+    let turn = in_join_phase(now, turn)?;
+    let turn = waiting(now, id, Waits::Join(ticket), turn)?;
+    tried(alloc, now, turn)
+}
+
 #[tactic(auto, unfolding(crate::specs::Joining::join_again))]
 fn join_again(
     alloc: Global,
@@ -192,9 +168,8 @@ fn join_again(
 ) -> Result<Turn, AllocError>
     ensures { IfOk result (λ t. t ≡ join_again now r id.now ticket group) }
 {
-    let turn = in_join_phase(now, turn_of(alloc, updating(r, id, group)))?;
-    let turn = waiting(now, id, Waits::Join(ticket), turn)?;
-    tried(alloc, now, turn)
+    let turn = turn_of(alloc, updating(r, id, group));
+    rejoined(alloc, now, id, ticket, turn)
 }
 
 #[tactic(auto, unfolding(crate::specs::Joining::join_current, crate::specs::Membership::hearing))]
@@ -229,8 +204,9 @@ fn is_current(r: &JoinRequest, member: &Member, group: &Group) -> bool
     }
 }
 
+/// JOIN of a member by its id.
 #[tactic(auto, unfolding(crate::specs::Joining::join_known))]
-fn join_known(
+pub fn join_known(
     alloc: Global,
     now: Moment,
     r: CheckedJoin,
@@ -246,138 +222,4 @@ fn join_known(
     } else {
         join_again(alloc, now, r, id, ticket, copied_group(alloc, group)?)
     }
-}
-
-fn has_kind(group: &Group, kind: &ProtocolName) -> bool
-    ensures { result ≡ is_named group.now.kind kind.now }
-{
-    match &group.kind {
-        None => false,
-        Some(own) => *own == *kind,
-    }
-}
-
-fn shares_protocol(r: &JoinRequest, members: &[Member]) -> bool
-    ensures { result ≡ list_any (λ p. is_common members.now p.name) r.now.protocols }
-{
-    r.protocols
-        .as_slice()
-        .iter()
-        .any(|p| is_common(members, &p.name))
-}
-
-#[tactic(auto, unfolding(crate::specs::Joining::is_inconsistent))]
-fn is_inconsistent(r: &JoinRequest, group: &Group) -> bool
-    ensures { result ≡ is_inconsistent r.now group.now }
-{
-    group.members.len() != 0
-        && (!has_kind(group, &r.kind) || !shares_protocol(r, group.members.as_slice()))
-}
-
-#[tactic(auto, unfolding(crate::specs::Joining::join_drawn))]
-fn join_drawn(
-    alloc: Global,
-    now: Moment,
-    r: CheckedJoin,
-    id: MemberId,
-    ticket: Ticket,
-    group: &Group,
-) -> Result<Result<Turn, Code>, AllocError>
-    requires { length group.now.members < MEMBERS_MAX }
-    ensures { IfOk result (λ o. o ≡ join_drawn now r id ticket group.now) }
-{
-    if group.members.has(&id) {
-        return Ok(Err(Code::CoordinatorNotAvailable));
-    }
-    let turn = join_new(alloc, now, r, id, ticket, copied_group(alloc, group)?)?;
-    Ok(Ok(turn))
-}
-
-#[tactic(auto, unfolding(crate::specs::Joining::join_held))]
-fn join_stranger(
-    alloc: Global,
-    now: Moment,
-    r: CheckedJoin,
-    fresh: Uuid,
-    ticket: Ticket,
-    group: &Group,
-) -> Result<Result<Turn, Code>, AllocError>
-    ensures { IfOk result (λ o. o ≡ join_held now r fresh ticket None group.now) }
-{
-    if MEMBERS_MAX <= group.members.len() {
-        return Ok(Err(Code::GroupMaxSizeReached));
-    }
-    if is_inconsistent(&r.request, group) {
-        return Ok(Err(Code::InconsistentGroupProtocol));
-    }
-    let id = drawn(alloc, &r.request.client, fresh)?;
-    let outcome = join_drawn(alloc, now, r, id, ticket, group)?;
-    Ok(outcome)
-}
-
-#[tactic(auto, unfolding(crate::specs::Joining::join_held))]
-fn join_member(
-    alloc: Global,
-    now: Moment,
-    r: CheckedJoin,
-    fresh: Uuid,
-    ticket: Ticket,
-    id: &MemberId,
-    group: &Group,
-) -> Result<Result<Turn, Code>, AllocError>
-    ensures { IfOk result (λ o. o ≡ join_held now r fresh ticket (Some id.now) group.now) }
-{
-    let Some(member) = group.members.find(id) else {
-        return Ok(Err(Code::UnknownMemberId));
-    };
-    if is_inconsistent(&r.request, group) {
-        return Ok(Err(Code::InconsistentGroupProtocol));
-    }
-    let turn = join_known(alloc, now, r, id, ticket, member, group)?;
-    Ok(Ok(turn))
-}
-
-/// JOIN in a group that is held.
-#[tactic(auto, unfolding(crate::specs::Joining::join_held))]
-pub fn join_held(
-    alloc: Global,
-    now: Moment,
-    r: CheckedJoin,
-    fresh: Uuid,
-    ticket: Ticket,
-    group: &Group,
-) -> Result<Result<Turn, Code>, AllocError>
-    ensures { IfOk result (λ o. o ≡ join_held now r fresh ticket r.member group.now) }
-{
-    match &r.request.member {
-        None => join_stranger(alloc, now, r, fresh, ticket, group),
-        Some(id) => {
-            let id = id.clone()?;
-            join_member(alloc, now, r, fresh, ticket, &id, group)
-        }
-    }
-}
-
-/// JOIN in a group that is not held, beside so many that are.
-#[tactic(auto, unfolding(crate::specs::Joining::join_unheld, crate::specs::Joining::new_group, crate::specs::Membership::find_member))]
-pub fn join_unheld(
-    alloc: Global,
-    now: Moment,
-    r: CheckedJoin,
-    fresh: Uuid,
-    ticket: Ticket,
-    held: usize,
-    id: GroupId,
-) -> Result<Result<Turn, Code>, AllocError>
-    ensures { IfOk result (λ o. o ≡ join_unheld now r fresh ticket held id) }
-{
-    if r.request.member.is_some() {
-        return Ok(Err(Code::UnknownMemberId));
-    }
-    if GROUPS_MAX <= held {
-        return Ok(Err(Code::CoordinatorNotAvailable));
-    }
-    let member = drawn(alloc, &r.request.client, fresh)?;
-    let turn = join_new(alloc, now, r, member, ticket, new_group(alloc, id))?;
-    Ok(Ok(turn))
 }

@@ -12,18 +12,20 @@ pub fn rounds_are_one()
     ensures { RoundsAreOne }
 {}
 
-/// A taken commit has a negative generation and a group without members, or comes from a member that named the group's generation,
-/// while the group joins again or is stable.
+/// A taken commit has a negative generation and a group without members, or comes from a member that is not fenced and named the
+/// group's generation, while the group joins again or is stable.
 pub fn commits_are_lawful()
     ensures { CommitsAreLawful }
 {}
 
 /// A SYNCED reply goes to a member that named the generation of its group, and gives the bytes that the commands keep for it.
+/// A member that takes another's place has its assignment.
 pub fn assignments_are_earned()
     ensures { AssignmentsAreEarned }
 {}
 
-/// Each group with a record is held, and a stable or empty group is what its record tells.
+/// The offsets are those that the commands make; each group with a record or an offset is held; and a stable or empty group is what its
+/// record tells.
 pub fn machine_and_commands_agree()
     ensures { MachineAndCommandsAgree }
 {}

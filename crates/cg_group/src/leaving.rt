@@ -1,6 +1,6 @@
 //! LEAVE, and sessions that are closed.
-ghost use Rattle.std.specs.Prelude.{◌≡◌, not, IfOk};
-ghost use Rattle.cg_group.specs.Leaving.{after_removal, left, leave_taken, leave_held, gone_in};
+ghost use Rattle.std.specs.Prelude.{◌≡◌, Ok, Err, Some, not, IfOk, MatchResult};
+ghost use Rattle.cg_group.specs.Leaving.{after_removal, left, leave_taken, may_be, leaver, leave_held, gone_in};
 ghost use Rattle.cg_group.specs.Touching.{gone_touches};
 ghost use Rattle.cg_group.specs.Membership.{has_id, is_named, keeping, leader_among};
 ghost use Rattle.std.specs.List.{list_any};
@@ -11,12 +11,13 @@ use crate::copies::copied_group;
 use crate::group::{Group, Phase};
 use crate::listed::Listed;
 use crate::member::Member;
+use crate::members::Members;
 use crate::rebalance::{leads, prepared, tried, turn_of};
 use crate::reply::Reply;
 use crate::request::LeaveRequest;
 use crate::ticket::Ticket;
 use crate::turn::Turn;
-use cg_names::{Code, MemberId, Moment};
+use cg_names::{Code, InstanceId, MemberId, Moment};
 use std::alloc::{AllocError, Global};
 
 fn has_leader(group: &Group) -> bool
@@ -94,6 +95,56 @@ fn leave_taken(
     Ok(turn)
 }
 
+// Whether no id is given, or this one.
+fn may_be(given: &Option<MemberId>, id: &MemberId) -> bool
+    ensures { result ≡ may_be given.now id.now }
+{
+    match given {
+        None => true,
+        Some(given) => *given == *id,
+    }
+}
+
+// The member with the instance, where its id may be the one that is given.
+#[tactic(auto, unfolding(crate::specs::Leaving::leaver))]
+fn static_leaver<'a>(
+    instance: &InstanceId,
+    member: &Option<MemberId>,
+    members: &'a Members,
+) -> Result<&'a Member, Code>
+    ensures { MatchResult result
+        (λ m. leaver (Some instance.now) member.now members.now ≡ Ok m.now)
+        (λ code. leaver (Some instance.now) member.now members.now ≡ Err code) }
+{
+    let Some(own) = members.with_instance(instance) else {
+        return Err(Code::UnknownMemberId);
+    };
+    if may_be(member, &own.id) {
+        Ok(own)
+    } else {
+        Err(Code::FencedInstanceId)
+    }
+}
+
+// Who leaves.
+#[tactic(auto, unfolding(crate::specs::Leaving::leaver))]
+fn leaver<'a>(r: &LeaveRequest, members: &'a Members) -> Result<&'a Member, Code>
+    ensures { MatchResult result
+        (λ m. leaver r.now.instance r.now.member members.now ≡ Ok m.now)
+        (λ code. leaver r.now.instance r.now.member members.now ≡ Err code) }
+{
+    if let Some(instance) = &r.instance {
+        return static_leaver(instance, &r.member, members);
+    }
+    let Some(id) = &r.member else {
+        return Err(Code::UnknownMemberId);
+    };
+    match members.find(id) {
+        None => Err(Code::UnknownMemberId),
+        Some(own) => Ok(own),
+    }
+}
+
 /// LEAVE in a group that is held.
 #[tactic(auto, unfolding(crate::specs::Leaving::leave_held))]
 pub fn leave_held(
@@ -105,14 +156,13 @@ pub fn leave_held(
 ) -> Result<Result<Turn, Code>, AllocError>
     ensures { IfOk result (λ o. o ≡ leave_held now r.now ticket group.now) }
 {
-    let Some(id) = &r.member else {
-        return Ok(Err(Code::UnknownMemberId));
-    };
-    let Some(member) = group.members.find(id) else {
-        return Ok(Err(Code::UnknownMemberId));
-    };
-    let turn = leave_taken(alloc, now, id, ticket, member, group)?;
-    Ok(Ok(turn))
+    match leaver(r, &group.members) {
+        Err(code) => Ok(Err(code)),
+        Ok(member) => {
+            let turn = leave_taken(alloc, now, &member.id, ticket, member, group)?;
+            Ok(Ok(turn))
+        }
+    }
 }
 
 /// Whether a call of the session waits in the group: one pass over its members. Takes no memory.

@@ -3,6 +3,7 @@
 //! Stands on the commands of `cg_record` and the durable state of `cg_fold`; a drawn member id ends in a `uuid`.
 #![tactic(auto)]
 
+mod admission;
 mod answers;
 mod assignments;
 mod beating;
@@ -13,11 +14,15 @@ mod checked;
 mod commit_entry;
 mod commits;
 mod committing;
+mod concluding;
 mod copies;
 mod describing;
+mod drawing;
 mod effects;
 mod event;
 mod everywhere;
+mod fencing;
+mod fetching;
 mod group;
 mod groups;
 mod held;
@@ -30,19 +35,25 @@ mod listed;
 mod meeting;
 mod member;
 mod members;
-mod placing;
+mod naming;
+mod parking;
+mod partitions;
 mod protocol;
 mod protocols;
 mod rebalance;
+mod replacing;
 mod reply;
 mod request;
 mod reviving;
 mod sessions;
+mod settling;
+mod sync_entries;
 mod syncing;
 #[cfg(test)]
 mod tests;
 mod ticket;
 mod ticking;
+mod topic_partition;
 mod turn;
 mod vote;
 
@@ -60,9 +71,16 @@ pub use laws::{
 pub use listed::Listed;
 pub use member::{Member, Waits};
 pub use members::Members;
+pub use partitions::Partitions;
 pub use protocol::{PROTOCOLS_MAX, Protocol};
 pub use protocols::Protocols;
-pub use reply::{Described, DescribedMember, Joined, JoinedMember, Listing, Reply};
-pub use request::{BeatRequest, CommitRequest, JoinRequest, LeaveRequest, SyncEntry, SyncRequest};
+pub use reply::{
+    Described, DescribedMember, FetchedPartition, Joined, JoinedMember, Listing, Reply,
+};
+pub use request::{
+    BeatRequest, CommitRequest, FetchRequest, JoinRequest, LeaveRequest, SyncEntry, SyncRequest,
+};
+pub use sync_entries::SyncEntries;
 pub use ticket::Ticket;
+pub use topic_partition::TopicPartition;
 pub use turn::Turn;

@@ -1,22 +1,24 @@
-ghost use Rattle.std.specs.Prelude.{◌≡◌, ◌<◌, [], ◌∷◌, ◌++◌, false, length, List, not, OnOk, OnErr, IfOk, filter, map, is_some};
+ghost use Rattle.std.specs.Prelude.{◌≡◌, ◌<◌, [], ◌∷◌, ◌++◌, true, false, Some, length, List, not, OnOk, OnErr, IfOk, filter, map, is_some};
 ghost use Rattle.std.specs.Option.{option_copied};
 ghost use Rattle.std.specs.List.{position, list_any, list_all};
 ghost use Rattle.cg_record.specs.declared.roster.TheConstants.{MEMBERS_MAX};
-ghost use Rattle.cg_group.specs.Members.{AreMembers};
-ghost use Rattle.cg_group.specs.Membership.{has_id, find_member, find_instance, with_member, heard};
+ghost use Rattle.cg_group.specs.Names.{are_distinct};
+ghost use Rattle.cg_group.specs.Members.{AreMembers, instances};
+ghost use Rattle.cg_group.specs.Membership.{has_id, has_instance, find_member, find_instance, with_member, heard};
+ghost use Rattle.cg_group.specs.Replacing.{seating};
 ghost use Rattle.cg_group.specs.Waiting.{after_answer, after_answers, is_waiting};
 ghost use Rattle.cg_group.specs.Joining.{updated, waits_with};
 ghost use Rattle.cg_group.specs.Assignments.{IsIndex};
 ghost use Rattle.cg_group.specs.Syncing.{assigned};
 ghost use Rattle.cg_group.specs.declared.request.SyncEntry.{SyncEntry};
-ghost use Rattle.cg_group.specs.Ticking.{is_overdue};
+ghost use Rattle.cg_group.specs.Ticking.{is_overdue, outstays};
 
 use crate::assignments::{Index, indexed, noted};
 use crate::calls::{Calls, is_waiting};
 use crate::checked::CheckedJoin;
 use crate::member::{Member, Waits};
 use crate::request::SyncEntry;
-use cg_names::{MemberId, Moment};
+use cg_names::{InstanceId, MemberId, Moment};
 use std::alloc::{AllocError, Global};
 use std::marker::Model;
 
@@ -43,6 +45,38 @@ fn place_of(id: &MemberId, members: &[Member]) -> Option<usize>
     ensures { result ≡ position (has_id id.now) members.now }
 {
     members.iter().position(|m| m.id == *id)
+}
+
+// Where the member with this instance stands.
+fn seat_of(instance: &Option<InstanceId>, members: &[Member]) -> Option<usize>
+    ensures { result ≡ position (has_instance instance.now) members.now }
+{
+    members.iter().position(|m| has_instance(instance, m))
+}
+
+/// Whether the member has this instance, where one is given.
+pub fn has_instance(instance: &Option<InstanceId>, member: &Member) -> bool
+    ensures { result ≡ has_instance instance.now member.now }
+{
+    match instance {
+        None => false,
+        Some(instance) => has_own(instance, member),
+    }
+}
+
+fn has_own(instance: &InstanceId, member: &Member) -> bool
+    ensures { result ≡ has_instance (Some instance.now) member.now }
+{
+    match &member.instance {
+        None => false,
+        Some(own) => *own == *instance,
+    }
+}
+
+fn outstays(member: &Member) -> bool
+    ensures { result ≡ outstays member.now }
+{
+    member.instance.is_some() || is_waiting(Calls::Any, member)
 }
 
 fn has_id(member: &Member, id: &MemberId) -> bool
@@ -171,10 +205,21 @@ fn keep_timely(members: &mut Vec<Member>, now: Moment)
     members.retain(|m| !is_overdue(m, now));
 }
 
-fn keep_waiting(members: &mut Vec<Member>)
-    ensures { members.new.items ≡ filter (is_waiting Calls.Any) members.old.items }
+fn keep_outstaying(members: &mut Vec<Member>)
+    ensures { members.new.items ≡ filter outstays members.old.items }
 {
-    members.retain(|m| is_waiting(Calls::Any, m));
+    members.retain(|m| outstays(m));
+}
+
+// Puts the member in the place of the one with its instance.
+#[tactic(auto, unfolding(crate::specs::Replacing::seating))]
+fn seat_one(members: &mut Vec<Member>, member: Member)
+    requires { are_distinct (instances members.old.items) ≡ true }
+    ensures { members.new.items ≡ seating member members.old.items }
+{
+    if let Some(place) = seat_of(&member.instance, members.as_slice()) {
+        members[place] = member;
+    }
 }
 
 impl Members {
@@ -220,6 +265,24 @@ impl Members {
         items.iter().find(|m| m.id == *id)
     }
 
+    /// The member with this instance, where one is given.
+    #[tactic(auto, unfolding(crate::specs::Membership::find_instance))]
+    pub fn find_instance(&self, instance: &Option<InstanceId>) -> Option<&Member>
+        ensures { option_copied result ≡ find_instance instance.now self.now }
+    {
+        let items = self.items.as_slice();
+        items.iter().find(|m| has_instance(instance, m))
+    }
+
+    /// The member with this instance.
+    #[tactic(auto, unfolding(crate::specs::Membership::find_instance))]
+    pub fn with_instance(&self, instance: &InstanceId) -> Option<&Member>
+        ensures { option_copied result ≡ find_instance (Some instance.now) self.now }
+    {
+        let items = self.items.as_slice();
+        items.iter().find(|m| has_own(instance, m))
+    }
+
     /// Whether there is a member with this id.
     pub fn has(&self, id: &MemberId) -> bool
         ensures { result ≡ is_some (find_member id.now self.now) }
@@ -238,6 +301,15 @@ impl Members {
     {
         self.items.push(member)?;
         Ok(())
+    }
+
+    /// Puts a member in the place of the one with its instance.
+    #[tactic(auto, using(crate::proofs::Seats::after_seating))]
+    pub fn replace(&mut self, member: Member)
+        requires own_id { is_some (find_member member.id self.old) ≡ false }
+        ensures { self.new ≡ seating member self.old }
+    {
+        seat_one(&mut self.items, member);
     }
 
     /// The member with this id was heard now.
@@ -295,12 +367,19 @@ impl Members {
         keep_timely(&mut self.items, now);
     }
 
-    /// Removes the members that do not wait.
+    /// Removes the dynamic members that do not wait.
     #[tactic(auto, using(crate::proofs::Together::after_removing))]
     pub fn remove_idle(&mut self)
-        ensures { self.new ≡ filter (is_waiting Calls.Any) self.old }
+        ensures { self.new ≡ filter outstays self.old }
     {
-        keep_waiting(&mut self.items);
+        keep_outstaying(&mut self.items);
+    }
+
+    /// Whether a member waits with one of these calls.
+    pub fn has_waiting(&self, which: Calls) -> bool
+        ensures { result ≡ list_any (is_waiting which) self.now }
+    {
+        self.items.as_slice().iter().any(|m| is_waiting(which, m))
     }
 
     /// Whether each member waits with one of these calls.

@@ -1,7 +1,8 @@
 use crate::group::Phase;
 use crate::listed::Listed;
-use cg_names::{ClientId, Code, Generation, GroupId, InstanceId, MemberId, ProtocolName};
-use cg_record::{Assignment, Subscription};
+use cg_fold::StoredOffset;
+use cg_names::{ClientId, Code, Generation, GroupId, InstanceId, MemberId, ProtocolName, Topic};
+use cg_record::{Assignment, Partition, Subscription};
 
 /// A member, as the leader of its group is told of it.
 #[derive(Debug, Drop)]
@@ -23,6 +24,15 @@ pub struct Joined {
     pub member: MemberId,
     /// The members in joining order, for the leader alone.
     pub members: Listed<JoinedMember>,
+}
+
+/// How far a group has read one partition.
+#[derive(Debug, Drop)]
+pub struct FetchedPartition {
+    pub topic: Topic,
+    pub partition: Partition,
+    /// None where the group has committed nothing for it.
+    pub stored: Option<StoredOffset>,
 }
 
 /// A member, as a description of its group shows it.
@@ -66,6 +76,8 @@ pub enum Reply {
     Synced(Assignment),
     /// To a BEAT, a LEAVE, a COMMIT or a DELETE.
     Done,
+    /// To a FETCH: the partitions in the order in which they were asked for.
+    Fetched(Listed<FetchedPartition>),
     /// To a DESCRIBE; a group that is not held is dead.
     Described(Option<Described>),
     /// To a LIST: the groups that are held, by the bytes of their ids.

@@ -1,7 +1,8 @@
 use crate::commits::Commits;
-use crate::listed::Listed;
+use crate::partitions::Partitions;
 use crate::protocols::Protocols;
-use cg_names::{ClientId, GroupId, MemberId, ProtocolName};
+use crate::sync_entries::SyncEntries;
+use cg_names::{ClientId, GroupId, InstanceId, MemberId, ProtocolName};
 use cg_record::{Assignment, RebalanceTimeout};
 
 /// JOIN (JoinGroup request).
@@ -10,6 +11,8 @@ pub struct JoinRequest {
     pub group: Option<GroupId>,
     /// None from who is no member yet.
     pub member: Option<MemberId>,
+    /// From a static member: its own name for itself (KIP-345).
+    pub instance: Option<InstanceId>,
     pub client: ClientId,
     /// The session time-out, in milliseconds.
     pub session_ms: u32,
@@ -33,8 +36,10 @@ pub struct SyncRequest {
     pub group: Option<GroupId>,
     pub generation: i32,
     pub member: Option<MemberId>,
+    /// From a static member: its own name for itself (KIP-345).
+    pub instance: Option<InstanceId>,
     /// From the leader: what each member got.
-    pub entries: Listed<SyncEntry>,
+    pub entries: SyncEntries,
 }
 
 /// BEAT (Heartbeat request).
@@ -43,6 +48,8 @@ pub struct BeatRequest {
     pub group: Option<GroupId>,
     pub generation: i32,
     pub member: Option<MemberId>,
+    /// From a static member: its own name for itself (KIP-345).
+    pub instance: Option<InstanceId>,
 }
 
 /// LEAVE (LeaveGroup request).
@@ -50,6 +57,8 @@ pub struct BeatRequest {
 pub struct LeaveRequest {
     pub group: Option<GroupId>,
     pub member: Option<MemberId>,
+    /// Of the static member that leaves; the member id may be left out then (KIP-345).
+    pub instance: Option<InstanceId>,
 }
 
 /// COMMIT (OffsetCommit request).
@@ -59,5 +68,14 @@ pub struct CommitRequest {
     /// Negative from who is no member.
     pub generation: i32,
     pub member: Option<MemberId>,
+    /// From a static member: its own name for itself (KIP-345).
+    pub instance: Option<InstanceId>,
     pub entries: Commits,
+}
+
+/// FETCH (OffsetFetch request).
+#[derive(Debug, Drop)]
+pub struct FetchRequest {
+    pub group: Option<GroupId>,
+    pub partitions: Partitions,
 }

@@ -154,7 +154,7 @@ pub fn revived_all(alloc: Global, now: Moment, durable: &Durable) -> Result<Held
     let ids = durable.group_ids()?;
     let mut groups = Held::new(alloc);
     for id in ids.as_slice() {
-        groups.push(revived(alloc, now, id, durable)?)?;
+        groups.put(revived(alloc, now, id, durable)?)?;
     }
     Ok(groups)
 }

@@ -1,126 +1,144 @@
 //! The groups in which the calls of a session wait: where it is closed, the others are not gone through.
-ghost use Rattle.std.specs.Prelude.{◌≡◌, ℕ, List, Option, Some, None, true, OnOk};
-ghost use Rattle.std.specs.Option.{option_copied};
+ghost use Rattle.std.specs.Prelude.{◌≡◌, ℕ, List, Some, None, true, false, OnOk};
 ghost use Rattle.std.specs.BTreeMap.{get};
 ghost use Rattle.std.specs.Ordering.{nat_cmp};
-ghost use Rattle.cg_group.specs.Sessions.{Owns, closed, is_among, is_home};
+ghost use Rattle.std.specs.Cmp.Lexicographic.{slice_cmp};
+ghost use Rattle.cg_group.specs.Sessions.{is_certain, is_certain_in, is_home, is_noted};
 
-use crate::bounds::HOMES_MAX;
-use crate::event::Event;
 use cg_names::GroupId;
 use std::alloc::{AllocError, Global};
-use std::collections::{BTreeMap, BTreeSet};
+use std::collections::BTreeMap;
 
-/// For each session the groups in which a call of it waits, and perhaps others that it named; None where these are more than
-/// `HOMES_MAX`, and all groups count.
-pub type Homes = BTreeMap<u64, Option<BTreeSet<GroupId>>>;
+/// How a group is a home of a session.
+#[derive(Clone, Copy, Debug)]
+pub enum Home {
+    /// A call of the session waits in the group.
+    Certain,
+    /// Perhaps no call of the session waits there any more, and nothing more is known of it.
+    Doubtful,
+}
+
+/// For each session the groups in which a call of it waits.
+pub type Homes = BTreeMap<u64, BTreeMap<GroupId, Home>>;
 
 // The first home of a session.
-fn put_first(alloc: Global, homes: &mut Homes, session: u64, id: GroupId) -> Result<(), AllocError>
+fn note_first(alloc: Global, homes: &mut Homes, session: u64, id: GroupId) -> Result<(), AllocError>
     requires { get nat_cmp homes.old session ≡ None }
     ensures kept { (q : ℕ) (x : List ℕ) → is_home homes.old q x ≡ true → is_home homes.new q x ≡ true }
     ensures here { OnOk result (is_home homes.new session id ≡ true) }
 {
-    let mut ids = BTreeSet::new(alloc);
-    ids.insert(id)?;
-    homes.insert(session, Some(ids))?;
+    let mut groups = BTreeMap::new(alloc);
+    groups.insert(id, Home::Certain)?;
+    homes.insert(session, groups)?;
     Ok(())
 }
 
-// One more of at most so many groups; the next one makes them all.
-fn add_home(groups: &mut Option<BTreeSet<GroupId>>, id: GroupId) -> Result<(), AllocError>
-    ensures kept { (x : List ℕ) → is_among x groups.old ≡ true → is_among x groups.new ≡ true }
-    ensures here { OnOk result (is_among id groups.new ≡ true) }
+// One more home of a session.
+fn note_in(groups: &mut BTreeMap<GroupId, Home>, id: GroupId) -> Result<(), AllocError>
+    ensures kept { (x : List ℕ) → is_noted x (Some groups.old) ≡ true → is_noted x (Some groups.new) ≡ true }
+    ensures here { OnOk result (is_noted id (Some groups.new) ≡ true) }
 {
-    let Some(ids) = groups else {
-        return Ok(());
-    };
-    if ids.contains(&id) {
-        return Ok(());
-    }
-    if ids.len() >= HOMES_MAX {
-        *groups = None;
-        return Ok(());
-    }
-    ids.insert(id)?;
+    groups.insert(id, Home::Certain)?;
     Ok(())
 }
 
-// The group is a home of the session from now on.
-fn expect_group(
-    alloc: Global,
-    homes: &mut Homes,
-    session: u64,
-    id: GroupId,
-) -> Result<(), AllocError>
+/// The group is a home of the session from now on.
+pub fn note(alloc: Global, homes: &mut Homes, session: u64, id: GroupId) -> Result<(), AllocError>
     ensures kept { (q : ℕ) (x : List ℕ) → is_home homes.old q x ≡ true → is_home homes.new q x ≡ true }
     ensures here { OnOk result (is_home homes.new session id ≡ true) }
 {
     let Some(groups) = homes.get_mut(&session) else {
-        return put_first(alloc, homes, session, id);
+        return note_first(alloc, homes, session, id);
     };
-    add_home(groups, id)?;
+    note_in(groups, id)?;
     Ok(())
 }
 
-fn expect_session(
-    alloc: Global,
-    homes: &mut Homes,
-    session: u64,
-    id: &Option<GroupId>,
-) -> Result<(), AllocError>
-    ensures kept { (q : ℕ) (x : List ℕ) → is_home homes.old q x ≡ true → is_home homes.new q x ≡ true }
-    ensures here { OnOk result ((x : List ℕ) → id.now ≡ Some x → is_home homes.new session x ≡ true) }
+fn doubt_in(groups: &mut BTreeMap<GroupId, Home>, id: &GroupId)
+    ensures { (x : List ℕ) → is_noted x (Some groups.old) ≡ true → is_noted x (Some groups.new) ≡ true }
 {
-    let Some(id) = id else {
-        return Ok(());
-    };
-    let id = id.clone()?;
-    expect_group(alloc, homes, session, id)
-}
-
-/// The group of an event whose call may begin to wait is a home of its session.
-pub fn expect_call(alloc: Global, homes: &mut Homes, event: &Event) -> Result<(), AllocError>
-    ensures kept { (q : ℕ) (x : List ℕ) → is_home homes.old q x ≡ true → is_home homes.new q x ≡ true }
-    ensures owns { OnOk result (Owns (is_home homes.new) event.now) }
-{
-    match event {
-        Event::Join(ticket, r, _) => expect_session(alloc, homes, ticket.session, &r.group),
-        Event::Sync(ticket, r) => expect_session(alloc, homes, ticket.session, &r.group),
-        Event::Beat(_, _) => Ok(()),
-        Event::Leave(_, _) => Ok(()),
-        Event::Commit(_, _) => Ok(()),
-        Event::Delete(_, _) => Ok(()),
-        Event::Describe(_, _) => Ok(()),
-        Event::List(_) => Ok(()),
-        Event::Gone(_) => Ok(()),
-        Event::Tick => Ok(()),
+    if let Some(home) = groups.get_mut(id) {
+        *home = Home::Doubtful;
     }
 }
 
-/// The session that the event closes.
-pub fn closed(event: &Event) -> Option<u64>
-    ensures { result ≡ closed event.now }
+/// A call of the session was answered in the group: it is a doubtful home of it, if it is one.
+pub fn doubt(homes: &mut Homes, session: u64, id: &GroupId)
+    ensures { (q : ℕ) (x : List ℕ) → is_home homes.old q x ≡ true → is_home homes.new q x ≡ true }
 {
-    match event {
-        Event::Gone(session) => Some(*session),
-        Event::Join(_, _, _) => None,
-        Event::Sync(_, _) => None,
-        Event::Beat(_, _) => None,
-        Event::Leave(_, _) => None,
-        Event::Commit(_, _) => None,
-        Event::Delete(_, _) => None,
-        Event::Describe(_, _) => None,
-        Event::List(_) => None,
-        Event::Tick => None,
+    if let Some(groups) = homes.get_mut(&session) {
+        doubt_in(groups, id);
+    }
+}
+
+fn affirm_in(groups: &mut BTreeMap<GroupId, Home>, id: &GroupId)
+    ensures kept { (x : List ℕ) → is_noted x (Some groups.old) ≡ true → is_noted x (Some groups.new) ≡ true }
+    ensures certain { (x : List ℕ) → is_certain_in x (Some groups.old) ≡ true → is_certain_in x (Some groups.new) ≡ true }
+    ensures here { is_noted id.now (Some groups.old) ≡ true → is_certain_in id.now (Some groups.new) ≡ true }
+{
+    if let Some(home) = groups.get_mut(id) {
+        *home = Home::Certain;
+    }
+}
+
+/// A call of the session waits in the group: it is no doubtful home of it.
+pub fn affirm(homes: &mut Homes, session: u64, id: &GroupId)
+    ensures kept { (q : ℕ) (x : List ℕ) → is_home homes.old q x ≡ true → is_home homes.new q x ≡ true }
+    ensures certain { (q : ℕ) (x : List ℕ) → is_certain homes.old q x ≡ true → is_certain homes.new q x ≡ true }
+    ensures here { is_home homes.old session id.now ≡ true → is_certain homes.new session id.now ≡ true }
+{
+    if let Some(groups) = homes.get_mut(&session) {
+        affirm_in(groups, id);
+    }
+}
+
+// Whether the group is a doubtful home.
+fn is_doubtful(groups: &BTreeMap<GroupId, Home>, id: &GroupId) -> bool
+    ensures { result ≡ true → is_certain_in id.now (Some groups.now) ≡ false }
+{
+    match groups.get(id) {
+        Some(Home::Doubtful) => true,
+        Some(Home::Certain) => false,
+        None => false,
+    }
+}
+
+fn leave_in(groups: &mut BTreeMap<GroupId, Home>, id: &GroupId)
+    ensures others { (x : List ℕ) → (x ≡ id.now → ⊥) → is_noted x (Some groups.old) ≡ true → is_noted x (Some groups.new) ≡ true }
+    ensures certain { (x : List ℕ) → is_certain_in x (Some groups.old) ≡ true → is_certain_in x (Some groups.new) ≡ true }
+{
+    if is_doubtful(groups, id) {
+        groups.remove(id);
+    }
+}
+
+// The homes of the session without the group, where it is a doubtful one; and whether none is left.
+fn leave_one(homes: &mut Homes, session: u64, id: &GroupId) -> bool
+    ensures others { (q : ℕ) (x : List ℕ) → (x ≡ id.now → ⊥) → is_home homes.old q x ≡ true → is_home homes.new q x ≡ true }
+    ensures certain { (q : ℕ) (x : List ℕ) → is_certain homes.old q x ≡ true → is_certain homes.new q x ≡ true }
+    ensures bare { result ≡ true → (x : List ℕ) → is_home homes.new session x ≡ false }
+    ensures calm { result ≡ true → (x : List ℕ) → is_certain homes.new session x ≡ false }
+{
+    let Some(groups) = homes.get_mut(&session) else {
+        return false;
+    };
+    leave_in(groups, id);
+    groups.is_empty()
+}
+
+/// A doubtful home of the session is none any more.
+pub fn leave(homes: &mut Homes, session: u64, id: &GroupId)
+    ensures others { (q : ℕ) (x : List ℕ) → (x ≡ id.now → ⊥) → is_home homes.old q x ≡ true → is_home homes.new q x ≡ true }
+    ensures certain { (q : ℕ) (x : List ℕ) → is_certain homes.old q x ≡ true → is_certain homes.new q x ≡ true }
+{
+    if leave_one(homes, session, id) {
+        let _left = homes.remove(&session);
     }
 }
 
 /// A session that was closed has no homes any more.
-pub fn forget(homes: &mut Homes, closed: Option<u64>)
-    ensures { (q : ℕ) (x : List ℕ) → (closed ≡ Some q → ⊥) → is_home homes.old q x ≡ true → is_home homes.new q x ≡ true }
+pub fn forget(homes: &mut Homes, session: u64)
+    ensures { (q : ℕ) (x : List ℕ) → (Some session ≡ Some q → ⊥) → is_home homes.old q x ≡ true → is_home homes.new q x ≡ true }
 {
-    if let Some(session) = closed {
-        homes.remove(&session);
-    }
+    let _closed = homes.remove(&session);
 }

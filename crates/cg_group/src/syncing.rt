@@ -6,6 +6,7 @@ ghost use Rattle.cg_group.specs.Syncing.{assigning, kept_member, kept_roster, as
 use crate::answers::{Telling, answer_all};
 use crate::calls::Calls;
 use crate::copies::{copied_group, copied_name};
+use crate::fencing::checked_member;
 use crate::group::{Group, Phase};
 use crate::joining::waiting;
 use crate::listed::Listed;
@@ -46,7 +47,8 @@ fn assigning(alloc: Global, entries: &[SyncEntry], group: Group) -> Result<Group
     })
 }
 
-fn kept_member(
+/// A member, as the command keeps it.
+pub fn kept_member(
     alloc: Global,
     protocol: &Option<ProtocolName>,
     member: &Member,
@@ -270,11 +272,9 @@ pub fn sync_held(
 ) -> Result<Result<Turn, Code>, AllocError>
     ensures { IfOk result (λ o. o ≡ sync_held now r.now ticket group.now) }
 {
-    let Some(id) = &r.member else {
-        return Ok(Err(Code::UnknownMemberId));
-    };
-    let Some(member) = group.members.find(id) else {
-        return Ok(Err(Code::UnknownMemberId));
+    let (id, member) = match checked_member(&r.instance, &r.member, &group.members) {
+        Ok(who) => who,
+        Err(code) => return Ok(Err(code)),
     };
     if i64::from(r.generation) != i64::from(group.generation.get()) {
         return Ok(Err(Code::IllegalGeneration));

@@ -1,8 +1,9 @@
 //! Worked examples of the protocol: events with the lines that they are answered by.
 use crate::{
-    BeatRequest, CommitEntry, CommitRequest, Commits, Effects, Event, GROUPS_MAX, Groups,
-    JoinRequest, JoinedMember, LeaveRequest, Listed, Phase, Protocol, Protocols, Reply, SyncEntry,
-    SyncRequest, Ticket,
+    BeatRequest, CommitEntry, CommitRequest, Commits, Effects, Event, FetchRequest,
+    FetchedPartition, GROUPS_MAX, Groups, JoinRequest, JoinedMember, LeaveRequest, Listed,
+    Partitions, Phase, Protocol, Protocols, Reply, SyncEntries, SyncEntry, SyncRequest, Ticket,
+    TopicPartition,
 };
 use cg_fold::Durable;
 use cg_names::{GENERATION_MAX, Moment, Name};
@@ -17,5 +18,7 @@ use uuid::Uuid;
 
 mod committing;
 mod deleting;
+mod fencing;
 mod lines;
+mod replacing;
 mod rows;

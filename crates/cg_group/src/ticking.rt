@@ -1,12 +1,14 @@
 //! Time-outs: sessions that expire, and the deadline of the join phase.
 ghost use Rattle.std.specs.Prelude.{◌≡◌, IfOk};
-ghost use Rattle.cg_group.specs.Ticking.{expired, greatest_rebalance, is_due, at_deadline, ticked};
+ghost use Rattle.cg_group.specs.Ticking.{can_complete, expired, greatest_rebalance, is_due, ended, at_deadline, ticked};
 ghost use Rattle.cg_group.specs.Touching.{tick_touches};
 
+use crate::calls::Calls;
 use crate::copies::copied_group;
 use crate::group::Group;
 use crate::leaving::{after_removal, checked_leader};
 use crate::member::Member;
+use crate::members::Members;
 use crate::rebalance::{completed, is_preparing, is_ready, tried, turn_of};
 use crate::turn::Turn;
 use cg_names::Moment;
@@ -55,6 +57,32 @@ fn is_due(now: Moment, group: &Group) -> bool
         && now.is_past(group.started, greatest_rebalance(group.members.as_slice()))
 }
 
+fn can_complete(members: &Members) -> bool
+    ensures { result ≡ can_complete members.now }
+{
+    members.len() == 0 || members.has_waiting(Calls::Any)
+}
+
+#[tactic(auto, unfolding(crate::specs::Ticking::ended))]
+fn ended(alloc: Global, now: Moment, turn: Turn) -> Result<Turn, AllocError>
+    ensures { IfOk result (λ t. t ≡ ended now turn) }
+{
+    if can_complete(&turn.group.members) {
+        return completed(alloc, now, turn);
+    }
+    let Turn {
+        mut group,
+        replies,
+        commands,
+    } = turn;
+    group.started = now;
+    Ok(Turn {
+        group,
+        replies,
+        commands,
+    })
+}
+
 #[tactic(auto, unfolding(crate::specs::Ticking::at_deadline, crate::specs::Membership::keeping))]
 fn at_deadline(alloc: Global, now: Moment, turn: Turn) -> Result<Turn, AllocError>
     ensures { IfOk result (λ t. t ≡ at_deadline now turn) }
@@ -69,7 +97,7 @@ fn at_deadline(alloc: Global, now: Moment, turn: Turn) -> Result<Turn, AllocErro
     } = turn;
     group.members.remove_idle();
     let group = checked_leader(group);
-    completed(
+    ended(
         alloc,
         now,
         Turn {

@@ -1,4 +1,4 @@
-use super::lines::{C1, C2, Committer, JOINED_1, M1, M2, Scene, commit_entry};
+use super::lines::{C1, C2, Committer, JOINED_1, Joiner, M1, M2, Scene, commit_entry};
 use super::*;
 
 /// A COMMIT of who is no member.
@@ -277,5 +277,34 @@ fn a_commit_has_partitions_that_differ(rt: HostRuntime) -> Result<(), Fail> {
         list.push(other)?;
         assert_eq!(rt; Commits::from_vec(list).is_ok(), is_commit);
     }
+    Ok(())
+}
+
+#[test]
+fn a_commit_of_the_generation_before_is_refused(rt: HostRuntime) -> Result<(), Fail> {
+    let alloc = rt.alloc();
+    let mut s = Scene::new(alloc)?;
+    assert_eq!(rt; s.join(alloc, 0, 1, "g", C1)?.as_str(), JOINED_1);
+    let first =
+        "Assigned g 1 consumer range c1-00000000-0000-0000-0000-000000000001 1|s1 SYNCED x|";
+    assert_eq!(rt; s.sync(alloc, 0, 1, 1, M1, &[])?.as_str(), first);
+    let again = Joiner { member: M1, ..C1 };
+    let joined = s.join(alloc, 0, 1, "g", again)?;
+    assert!(rt; joined.as_str().starts_with("s1 JOINED 2 "));
+    let present = Committer {
+        generation: 2,
+        member: M1,
+        partitions: &[(0, 1)],
+    };
+    assert_eq!(rt; s.commit(alloc, 0, 1, "g", present)?.as_str(), "s1 ERR 27|");
+    let second =
+        "Assigned g 2 consumer range c1-00000000-0000-0000-0000-000000000001 1|s1 SYNCED x|";
+    assert_eq!(rt; s.sync(alloc, 0, 1, 2, M1, &[])?.as_str(), second);
+    let before = Committer {
+        generation: 1,
+        ..present
+    };
+    assert_eq!(rt; s.commit(alloc, 0, 1, "g", before)?.as_str(), "s1 ERR 22|");
+    assert_eq!(rt; s.commit(alloc, 0, 1, "g", BARE)?.as_str(), "s1 ERR 25|");
     Ok(())
 }

@@ -12,6 +12,7 @@ pub struct Scene {
 #[derive(Clone, Copy)]
 pub struct Joiner<'a> {
     pub member: &'a str,
+    pub instance: &'a str,
     pub client: &'a str,
     pub session_ms: u32,
     pub rebalance_ms: u32,
@@ -33,6 +34,7 @@ pub const M2: &str = "c2-00000000-0000-0000-0000-000000000002";
 
 pub const C1: Joiner<'static> = Joiner {
     member: "-",
+    instance: "-",
     client: "c1",
     session_ms: 10_000,
     rebalance_ms: 20_000,
@@ -42,6 +44,7 @@ pub const C1: Joiner<'static> = Joiner {
 
 pub const C2: Joiner<'static> = Joiner {
     member: "-",
+    instance: "-",
     client: "c2",
     session_ms: 10_000,
     rebalance_ms: 20_000,
@@ -61,6 +64,14 @@ fn name_of<const MAX: usize, const SORT: u8>(
     }
     let name = Name::parse(alloc, word)?;
     Ok(Some(name))
+}
+
+// Who calls: a member id, and behind a space its instance, where one is given.
+fn caller(words: &str) -> (&str, &str) {
+    match words.split_once(' ') {
+        None => (words, "-"),
+        Some((id, instance)) => (id, instance),
+    }
 }
 
 fn subscription(alloc: Global, byte: u8) -> Result<Subscription, Fail> {
@@ -90,6 +101,7 @@ fn join_request(alloc: Global, group: &str, j: Joiner) -> Result<JoinRequest, Fa
     Ok(JoinRequest {
         group: name_of(alloc, group)?,
         member: name_of(alloc, j.member)?,
+        instance: name_of(alloc, j.instance)?,
         client: Name::parse(alloc, j.client)?,
         session_ms: j.session_ms,
         rebalance: RebalanceTimeout::new(j.rebalance_ms).ok_or("too long")?,
@@ -98,8 +110,8 @@ fn join_request(alloc: Global, group: &str, j: Joiner) -> Result<JoinRequest, Fa
     })
 }
 
-fn entries(alloc: Global, words: &[(&str, u8)]) -> Result<Listed<SyncEntry>, Fail> {
-    let mut list = Listed::new(alloc);
+fn entries(alloc: Global, words: &[(&str, u8)]) -> Result<SyncEntries, Fail> {
+    let mut list = Vec::new(alloc);
     for (member, byte) in words {
         let bytes = vec![in alloc; *byte]?;
         let assignment = Assignment::from_vec(bytes).map_err(|_| "too long")?;
@@ -108,7 +120,8 @@ fn entries(alloc: Global, words: &[(&str, u8)]) -> Result<Listed<SyncEntry>, Fai
             assignment,
         })?;
     }
-    Ok(list)
+    let entries = SyncEntries::from_vec(list).map_err(|_| "too many, or twice")?;
+    Ok(entries)
 }
 
 /// What a COMMIT says of one partition of a topic.
@@ -135,6 +148,23 @@ fn commits(alloc: Global, partitions: &[(u32, usize)]) -> Result<Commits, Fail> 
     }
     let commits = Commits::from_vec(list).map_err(|_| "none, too many, or twice")?;
     Ok(commits)
+}
+
+/// One partition of topic `t`.
+pub fn topic_partition(alloc: Global, partition: u32) -> Result<TopicPartition, Fail> {
+    Ok(TopicPartition {
+        topic: Name::parse(alloc, "t")?,
+        partition: Partition::new(partition).ok_or("no partition")?,
+    })
+}
+
+fn asked(alloc: Global, partitions: &[u32]) -> Result<Partitions, Fail> {
+    let mut list = Vec::new(alloc);
+    for partition in partitions {
+        list.push(topic_partition(alloc, *partition)?)?;
+    }
+    let partitions = Partitions::from_vec(list).map_err(|_| "none, too many, or twice")?;
+    Ok(partitions)
 }
 
 fn ticket(session: u64) -> Ticket {
@@ -170,7 +200,9 @@ impl Scene {
         j: Joiner,
     ) -> Result<String, Fail> {
         let r = join_request(alloc, group, j)?;
-        self.drawn = self.drawn.wrapping_add(1);
+        if j.member == "-" {
+            self.drawn = self.drawn.wrapping_add(1);
+        }
         let fresh = Uuid::from_u128(u128::from(self.drawn));
         self.meet(alloc, Event::Join(ticket(session), r, fresh), now)
     }
@@ -187,7 +219,8 @@ impl Scene {
         let r = SyncRequest {
             group: name_of(alloc, "g")?,
             generation,
-            member: name_of(alloc, member)?,
+            member: name_of(alloc, caller(member).0)?,
+            instance: name_of(alloc, caller(member).1)?,
             entries: entries(alloc, words)?,
         };
         self.meet(alloc, Event::Sync(ticket(session), r), now)
@@ -204,7 +237,8 @@ impl Scene {
         let r = BeatRequest {
             group: name_of(alloc, "g")?,
             generation,
-            member: name_of(alloc, member)?,
+            member: name_of(alloc, caller(member).0)?,
+            instance: name_of(alloc, caller(member).1)?,
         };
         self.meet(alloc, Event::Beat(ticket(session), r), now)
     }
@@ -218,7 +252,8 @@ impl Scene {
     ) -> Result<String, Fail> {
         let r = LeaveRequest {
             group: name_of(alloc, "g")?,
-            member: name_of(alloc, member)?,
+            member: name_of(alloc, caller(member).0)?,
+            instance: name_of(alloc, caller(member).1)?,
         };
         self.meet(alloc, Event::Leave(ticket(session), r), now)
     }
@@ -234,7 +269,8 @@ impl Scene {
         let r = CommitRequest {
             group: name_of(alloc, group)?,
             generation: c.generation,
-            member: name_of(alloc, c.member)?,
+            member: name_of(alloc, caller(c.member).0)?,
+            instance: name_of(alloc, caller(c.member).1)?,
             entries: commits(alloc, c.partitions)?,
         };
         self.meet(alloc, Event::Commit(ticket(session), r), now)
@@ -249,6 +285,22 @@ impl Scene {
     ) -> Result<String, Fail> {
         let id = name_of(alloc, group)?;
         self.meet(alloc, Event::Delete(ticket(session), id), now)
+    }
+
+    /// A FETCH of these partitions of topic `t`.
+    pub fn fetch(
+        &mut self,
+        alloc: Global,
+        now: u64,
+        session: u64,
+        group: &str,
+        partitions: &[u32],
+    ) -> Result<String, Fail> {
+        let r = FetchRequest {
+            group: name_of(alloc, group)?,
+            partitions: asked(alloc, partitions)?,
+        };
+        self.meet(alloc, Event::Fetch(ticket(session), r), now)
     }
 
     pub fn describe(&mut self, alloc: Global, now: u64, session: u64) -> Result<String, Fail> {
@@ -300,6 +352,21 @@ fn write_joined_member(out: &mut String, m: &JoinedMember) -> Result<(), Fail> {
     write_bytes(out, m.subscription.as_bytes())
 }
 
+// A partition; of metadata the number of bytes.
+fn write_fetched(out: &mut String, p: &FetchedPartition) -> Result<(), Fail> {
+    let topic = p.topic.as_str();
+    let partition = p.partition.get();
+    match &p.stored {
+        None => write!(out, " {topic}:{partition}:-1:0")?,
+        Some(stored) => {
+            let offset = stored.offset.get();
+            let metadata_len = stored.metadata.as_bytes().len();
+            write!(out, " {topic}:{partition}:{offset}:{metadata_len}")?;
+        }
+    }
+    Ok(())
+}
+
 fn write_reply(out: &mut String, reply: &Reply) -> Result<(), Fail> {
     match reply {
         Reply::Joined(j) => {
@@ -321,6 +388,12 @@ fn write_reply(out: &mut String, reply: &Reply) -> Result<(), Fail> {
             write_bytes(out, assignment.as_bytes())?;
         }
         Reply::Done => write!(out, "OK")?,
+        Reply::Fetched(partitions) => {
+            write!(out, "FETCHED")?;
+            for p in partitions.as_slice() {
+                write_fetched(out, p)?;
+            }
+        }
         Reply::Described(None) => write!(out, "GROUP Dead 0 - -")?,
         Reply::Described(Some(d)) => {
             let phase = phase_word(d.phase);
@@ -385,7 +458,18 @@ fn write_command(out: &mut String, command: &Command) -> Result<(), Fail> {
             let kind = e.kind.as_str();
             write!(out, "Emptied {group} {generation} {kind}|")?;
         }
-        Command::Replaced(_) => write!(out, "Replaced|")?,
+        Command::Replaced(r) => {
+            let group = r.group.as_str();
+            let member = r.member.member();
+            let id = member.id.as_str();
+            let instance = word(&member.instance);
+            let client = member.client.as_str();
+            write!(out, "Replaced {group} {id}:{instance}:{client}:")?;
+            write_bytes(out, member.subscription.as_bytes())?;
+            write!(out, ":")?;
+            write_bytes(out, member.assignment.as_bytes())?;
+            write!(out, "|")?;
+        }
         Command::Committed(c) => {
             let group = c.group.as_str();
             write!(out, "Committed {group}")?;

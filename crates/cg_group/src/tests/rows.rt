@@ -111,6 +111,8 @@ fn a_join_phase_ends_at_its_deadline(rt: HostRuntime) -> Result<(), Fail> {
 fn a_join_that_was_lost_is_unknown(rt: HostRuntime) -> Result<(), Fail> {
     let alloc = rt.alloc();
     let mut s = Scene::new(alloc)?;
+    // The join that was lost drew the first id.
+    s.drawn = 1;
     let c1 = Joiner { member: M1, ..C1 };
     assert_eq!(rt; s.join(alloc, 0, 1, "g", c1)?.as_str(), "s1 ERR 25|");
     assert_eq!(rt; s.describe(alloc, 0, 1)?.as_str(), "s1 GROUP Dead 0 - -|");
@@ -167,6 +169,22 @@ fn a_closed_session_waits_no_longer(rt: HostRuntime) -> Result<(), Fail> {
         s.leave(alloc, 10_000, 1, M1)?.as_str(),
         "Emptied g 3 consumer|s1 OK|"
     );
+    Ok(())
+}
+
+#[test]
+fn a_session_with_two_calls_is_answered_for_the_one_that_still_waits(
+    rt: HostRuntime,
+) -> Result<(), Fail> {
+    let alloc = rt.alloc();
+    let mut s = Scene::new(alloc)?;
+    assert_eq!(rt; s.join(alloc, 0, 1, "g", C1)?.as_str(), JOINED_1);
+    assert_eq!(rt; s.join(alloc, 0, 2, "g", C2)?.as_str(), "");
+    let c3 = Joiner { client: "c3", ..C2 };
+    assert_eq!(rt; s.join(alloc, 0, 2, "g", c3)?.as_str(), "");
+    assert_eq!(rt; s.leave(alloc, 0, 3, M2)?.as_str(), "s2 ERR 25|s3 OK|");
+    assert_eq!(rt; s.gone(alloc, 0, 2)?.as_str(), "s2 ERR 15|");
+    assert!(rt; s.groups.parked(0).is_none());
     Ok(())
 }
 
@@ -303,5 +321,30 @@ fn a_session_that_names_many_groups_is_answered(rt: HostRuntime) -> Result<(), F
     assert_eq!(rt; s.join(alloc, 0, 2, "g", C2)?.as_str(), "");
     assert_eq!(rt; s.gone(alloc, 0, 2)?.as_str(), "s2 ERR 15|");
     assert!(rt; s.groups.parked(0).is_none());
+    Ok(())
+}
+
+#[test]
+fn a_leader_hands_in_one_entry_for_a_member(rt: HostRuntime) -> Result<(), Fail> {
+    let alloc = rt.alloc();
+    for (count, twice, is_taken) in [
+        (0usize, false, true),
+        (64, false, true),
+        (65, false, false),
+        (64, true, false),
+    ] {
+        let mut list = Vec::new(alloc);
+        for i in 0..count {
+            let number = if twice && i == 63 { 0 } else { i };
+            let member = format!(in alloc; "m{number}")?;
+            list.push(SyncEntry {
+                member: Name::parse(alloc, member.as_str())?,
+                assignment: Assignment::empty(alloc),
+            })?;
+        }
+        assert_eq!(rt; SyncEntries::from_vec(list).is_ok(), is_taken);
+    }
+    let none = SyncEntries::none(alloc);
+    assert_eq!(rt; none.as_slice().len(), 0);
     Ok(())
 }

@@ -1,29 +1,27 @@
-use Rattle.std.proofs.Common.{length, arith}
-use Rattle.cg_group.proofs.AtHome.{midway-all, midway-here, midway-next, midway-none, none_left}
-use Rattle.cg_group.proofs.Changed.{all_turned, none_turned}
+use Rattle.std.proofs.Common.{◌≡◌, ℕ, List, Option, false, ap, sym, subst, ◌∙◌}
+use Rattle.std.specs.BTreeMap.{BTreeMap}
+use Rattle.std.specs.Option.{option_copied}
+use Rattle.cg_group.specs.declared.sessions.Home.{Home}
+use Rattle.cg_group.specs.Kept.{Each}
+use Rattle.cg_group.specs.Rebalance.{turn_of}
+use Rattle.cg_group.specs.Sessions.{is_noted}
+use Rattle.cg_group.proofs.Changed.{none_touched, none_turned}
 use Rattle.cg_group.proofs.homes.turn_there.Goals as goal
 
-pub loop-place-init : goal.loop-place-init
-loop-place-init g c =
+pub turn_homes-requires-clause-others : goal.turn_homes-requires-clause-others
+turn_homes-requires-clause-others g c =
     let turn = g.T.Turning.turns c.args.turning.now in
-    midway-none turn c.args.groups.now c.args.places _ c.requires.below c.requires.others (none_turned turn c.args.groups.now _ c.new.ensures.items c.new-2.ensures c.new-3.ensures)
+    let P : Option (BTreeMap (List ℕ) Home) → Type 0 = λ o. Each (λ k. is_noted k.id o ≡ false → turn k ≡ turn_of k) c.args.groups.now in
+    subst P (sym c.get.ensures.value ∙ ap option_copied c.in-Some.is) c.requires.others
 
-pub turn_at-requires-clause-before : goal.turn_at-requires-clause-before
-turn_at-requires-clause-before g c =
-    (midway-here (g.T.Turning.turns c.args.turning.now) c.args.groups.now c.loop-place.places c.in-Some.place c.in-Some.ensures.member c.in-Some.ensures.least c.loop-place.done c.loop-place.invariant).1
-
-pub loop-place-preserved : goal.loop-place-preserved
-loop-place-preserved g c =
-    midway-next (g.T.Turning.turns c.args.turning.now) c.args.groups.now c.loop-place.places c.in-Some.place c.in-Some.ensures.member c.in-Some.ensures.least c.loop-place.done c.turn_at.new.done c.pop_first.new.self c.in-Some.ensures.updates.0 c.loop-place.invariant c.in_ok-turn_at.ensures
-
-pub returns-clause-groups : goal.returns-clause-groups
-returns-clause-groups g c =
+pub returns-in-None-clause-groups : goal.returns-in-None-clause-groups
+returns-in-None-clause-groups g c =
     let turn = g.T.Turning.turns c.args.turning.now in
-    let l = c.loop-place in
-    (all_turned turn c.args.groups.now (length c.args.groups.now) l.done (omega arith) (midway-all turn c.args.groups.now l.places l.done (none_left l.places c.in_default.ensures.variant.1) l.invariant)).0
+    let P : Option (BTreeMap (List ℕ) Home) → Type 0 = λ o. Each (λ k. is_noted k.id o ≡ false → turn k ≡ turn_of k) c.args.groups.now in
+    (none_touched turn c.args.groups.now c.new.result (subst P (sym c.get.ensures.value ∙ ap option_copied c.in-None.is) c.requires.others) (none_turned turn c.args.groups.now c.new.result c.new.ensures.groups c.new.ensures.commands c.new.ensures.replies)).1
 
-pub returns-clause-effects : goal.returns-clause-effects
-returns-clause-effects g c =
+pub returns-in-None-clause-effects : goal.returns-in-None-clause-effects
+returns-in-None-clause-effects g c =
     let turn = g.T.Turning.turns c.args.turning.now in
-    let l = c.loop-place in
-    (all_turned turn c.args.groups.now (length c.args.groups.now) l.done (omega arith) (midway-all turn c.args.groups.now l.places l.done (none_left l.places c.in_default.ensures.variant.1) l.invariant)).1
+    let P : Option (BTreeMap (List ℕ) Home) → Type 0 = λ o. Each (λ k. is_noted k.id o ≡ false → turn k ≡ turn_of k) c.args.groups.now in
+    (none_touched turn c.args.groups.now c.new.result (subst P (sym c.get.ensures.value ∙ ap option_copied c.in-None.is) c.requires.others) (none_turned turn c.args.groups.now c.new.result c.new.ensures.groups c.new.ensures.commands c.new.ensures.replies)).2

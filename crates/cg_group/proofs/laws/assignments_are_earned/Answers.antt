@@ -1,4 +1,4 @@
-use Rattle.cg_group.proofs.Earned.{assignments_are_earned}
+use Rattle.cg_group.proofs.Passing.{assignments_are_earned}
 use Rattle.cg_group.proofs.laws.assignments_are_earned.Goals as goal
 
 pub returns : goal.returns

@@ -1,6 +1,5 @@
 use Rattle.std.proofs.Common.{◌≡◌, map, take}
 use Rattle.cg_group.specs.Reviving.{revived}
-use Rattle.cg_fold.specs.Snapshot.{groups_in, in_order}
 use Rattle.cg_group.proofs.reviving.revived_all.Given as goal
 
 abbrev pub invariant-loop-id : goal.invariant-loop-id

@@ -1,4 +1,4 @@
-use Rattle.std.proofs.Common.{rules, ◌≡◌, ap, ◌∙◌, map}
+use Rattle.std.proofs.Common.{rules, ap, ◌∙◌, map}
 use Rattle.cg_group.specs.Syncing.{kept_member}
 use Rattle.cg_group.proofs.Rostering.{kept_roster_is}
 use Rattle.cg_group.proofs.syncing.kept_roster.Goals as goal

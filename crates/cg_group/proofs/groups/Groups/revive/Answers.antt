@@ -1,7 +1,5 @@
 use Rattle.std.proofs.Common.{List, sym, subst}
 use Rattle.cg_group.specs.declared.group.Group.{Group}
-use Rattle.cg_group.specs.Machine.{InOrder}
-use Rattle.cg_group.proofs.Revived.{in_order-revived}
 use Rattle.cg_fold.specs.Snapshot.{groups_in, in_order}
 use Rattle.cg_group.specs.Sessions.{AreKnown, is_home}
 use Rattle.cg_group.proofs.KnownSessions.{known-revived}
@@ -9,8 +7,5 @@ use Rattle.cg_group.proofs.groups.Groups.revive.Goals as goal
 
 pub invariant_of-result : goal.invariant_of-result
 invariant_of-result c =
-    let P : List Group → Type 0 = λ gs. InOrder gs in
-    let Q : List Group → Type 0 = λ gs. AreKnown (is_home c.new.result) gs in (
-      subst P (sym c.in-Ok.ensures) (in_order-revived c.args.now c.args.durable),
-      (subst Q (sym c.in-Ok.ensures) (known-revived (is_home c.new.result) c.args.now c.args.durable (in_order (groups_in c.args.durable))), tt),
-    )
+    let Q : List Group → Type 0 = λ gs. AreKnown (is_home c.new.result) gs in
+    (subst Q (sym c.in-Ok.ensures) (known-revived (is_home c.new.result) c.args.now c.args.durable (in_order (groups_in c.args.durable))), tt)

@@ -1,18 +1,17 @@
-use Rattle.std.proofs.Common.{◌≡◌, List, get_or, ap, ◌∙◌}
-use Rattle.std.proofs.Math.ListN.{set}
-use Rattle.std.specs.Box.{with_value}
+use Rattle.std.proofs.Common.{List, ap, ◌∙◌}
 use Rattle.cg_group.specs.declared.group.Group.{Group}
-use Rattle.cg_group.specs.Held.{unboxed}
+use Rattle.cg_group.specs.Machine.{find_group, with_group}
 use Rattle.cg_group.specs.Membership.{hearing}
-use Rattle.cg_group.proofs.Boxed.{unboxed-set, unboxed_at, within_boxes}
+use Rattle.cg_group.proofs.Mapped.{heard_there, heard_whole}
 use Rattle.cg_group.proofs.held.Held.hear.Goals as goal
+
+pub invariant_of-self : goal.invariant_of-self
+invariant_of-self c =
+    heard_whole c.args.group.now c.args.now c.args.id.now c.self.inside.groups.entries c.hear_among.new.groups.entries c.self.invariant.0 c.self.invariant.1 c.hear_among.ensures.some c.hear_among.ensures.none
 
 pub returns : goal.returns
 returns c =
-    λ d.
-    let bs = c.self.inside.boxes.items in
-    let below = within_boxes bs c.args.self.now c.args.place c.self.view_is c.requires in
-    let here : c.deref_mut.result.now ≡ get_or (unboxed bs) c.args.place d = c.deref_mut.ensures.value ∙ unboxed_at bs c.args.place c.index_mut.result.now d below c.index_mut.ensures.value in
-    unboxed-set bs c.args.place (with_value c.index_mut.result.now c.hear_in.new.group)
-    ∙ ap (set (unboxed bs) c.args.place) (c.hear_in.ensures ∙ ap (hearing c.args.now c.args.id.now) here)
-    ∙ ap (λ (gs : List Group). set gs c.args.place (hearing c.args.now c.args.id.now (get_or gs c.args.place d))) c.self.view_is
+    λ g found.
+    heard_there c.args.group.now c.args.now c.args.id.now c.self.inside.groups.entries c.hear_among.new.groups.entries c.self.invariant.0 c.self.invariant.1 c.hear_among.ensures.some g
+    (ap (find_group c.args.group.now) c.self.view_is ∙ found)
+    ∙ ap (λ (gs : List Group). with_group (hearing c.args.now c.args.id.now g) gs) c.self.view_is

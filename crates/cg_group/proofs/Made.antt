@@ -1,0 +1,50 @@
+-- A COMMIT in a group that is not held.
+use Rattle.std.proofs.Common.{◌≡◌, ℕ, List, length, refl, sym, ap, ◌∙◌, subst, Option, Some, None, Result, Ok, Err, ok_or}
+use Rattle.std.specs.Prelude.{IsErr}
+use Rattle.cg_names.specs.declared.code.Code.{Code}
+use Rattle.cg_names.specs.declared.code.Code.TheVariants.{InvalidGroupId, UnknownMemberId}
+use Rattle.cg_record.specs.declared.entry.Entry.{Entry}
+use Rattle.cg_group.specs.declared.effects.Effects.{Effects}
+use Rattle.cg_group.specs.declared.group.Group.{Group}
+use Rattle.cg_group.specs.declared.request.CommitRequest.{CommitRequest}
+use Rattle.cg_group.specs.declared.ticket.Ticket.{Ticket}
+use Rattle.cg_group.specs.declared.turn.Turn.{Turn}
+use Rattle.cg_group.specs.Committing.{commit_effects, commit_unheld, keeping_entries}
+use Rattle.cg_group.specs.Joining.{new_group}
+use Rattle.cg_group.specs.Machine.{at_moment, commit, commit_in, concluded, find_group, named_group, outcome, with_group, without_group}
+use Rattle.cg_group.specs.Refusing.{◌>>=◌}
+use Rattle.cg_group.proofs.Removing.{without_with}
+
+pub commit_made : (now : ℕ) (groups after : List Group) (ticket : Ticket) (entries : List Entry) (id : List ℕ) (e : Effects) → after ≡ with_group (new_group id) groups → e ≡ commit_effects entries ticket id → concluded (at_moment now groups) ticket (Ok (keeping_entries entries ticket (new_group id))) ≡ outcome now after e
+unfolding concluded keeping_entries new_group
+commit_made now groups after ticket entries id e put made = ap (λ gs. outcome now gs (commit_effects entries ticket id)) (sym put) ∙ ap (outcome now after) (sym made)
+
+pub commit_unnamed : (now : ℕ) (r : CommitRequest) (ticket : Ticket) (groups : List Group) → r.group ≡ None → commit now r ticket groups ≡ Err InvalidGroupId
+unfolding commit
+commit_unnamed now r ticket groups e = ap (λ o. ok_or o InvalidGroupId >>= λ id. commit_in now r ticket groups id (find_group id groups)) e
+
+absent : (o : Option Group) → IsErr (ok_or o UnknownMemberId) → o ≡ None
+absent None h = refl
+absent (Some g) h = absurd (cc h)
+
+pub absent_group : (id : List ℕ) (groups : List Group) → IsErr (named_group (Some id) groups) → find_group id groups ≡ None
+absent_group id groups h = absent (find_group id groups) h
+
+pub commit_absent : (now : ℕ) (r : CommitRequest) (ticket : Ticket) (groups : List Group) (id : List ℕ) → r.group ≡ Some id → find_group id groups ≡ None → commit now r ticket groups ≡ commit_unheld r.generation r.entries ticket (length groups) id
+unfolding commit
+commit_absent now r ticket groups id e none =
+    ap (λ o. ok_or o InvalidGroupId >>= λ i. commit_in now r ticket groups i (find_group i groups)) e
+    ∙ ap (commit_in now r ticket groups id) none
+
+-- a group that a commit made and that is taken away again
+pub unmade : (id : List ℕ) (groups : List Group) → find_group id groups ≡ None → without_group id (with_group (new_group id) groups) ≡ groups
+unfolding new_group
+unmade id groups none = without_with (new_group id) groups none
+
+-- a group that a name does not find is not held
+not_held : (o : Option Group) → ok_or o UnknownMemberId ≡ Err UnknownMemberId → o ≡ None
+not_held None e = refl
+not_held (Some g) e = cc
+
+pub err_is : (id : List ℕ) (groups : List Group) → named_group (Some id) groups ≡ Err UnknownMemberId → find_group id groups ≡ None
+err_is id groups e = not_held (find_group id groups) e

@@ -1,0 +1,177 @@
+-- Turns other than a commit's make the commands Assigned and Emptied, and a replacement one more: what holds of these holds of all.
+use Rattle.std.proofs.Common.{◌≡◌, ℕ, true, false, not, List, [], ◌∷◌, ◌++◌, Option, Some, None}
+use Rattle.std.specs.Prelude.{if◌then◌else◌}
+use Rattle.std.specs.List.{list_any, flat_map}
+use Rattle.std.specs.Option.{option_to_list, option_map, option_and_then}
+use Rattle.cg_record.specs.declared.assigned.Assigned.{Assigned}
+use Rattle.cg_record.specs.declared.command.Command.{Command}
+use Rattle.cg_record.specs.declared.command.Command.TheVariants as command
+use Rattle.cg_record.specs.declared.emptied.Emptied.{Emptied}
+use Rattle.cg_group.specs.declared.group.Group.{Group}
+use Rattle.cg_group.specs.declared.group.Phase.{Phase}
+use Rattle.cg_group.specs.declared.group.Phase.TheVariants.{Empty, Preparing, Completing, Stable}
+use Rattle.cg_group.specs.declared.member.Member.{Member}
+use Rattle.cg_group.specs.declared.member.Waits.{Waits}
+use Rattle.cg_group.specs.declared.member.Waits.TheVariants.{Join, Sync}
+use Rattle.cg_group.specs.declared.request.JoinRequest.{JoinRequest}
+use Rattle.cg_group.specs.declared.request.SyncEntry.{SyncEntry}
+use Rattle.cg_group.specs.declared.request.SyncRequest.{SyncRequest}
+use Rattle.cg_group.specs.declared.ticket.Ticket.{Ticket}
+use Rattle.cg_group.specs.declared.turn.Turn.{Turn}
+use Rattle.cg_group.specs.Beating.{beat_taken}
+use Rattle.cg_group.specs.Joining.{admitted, in_join_phase, is_current, join_again, join_current, join_known, join_new, new_member, rejoined, updating, waiting}
+use Rattle.cg_group.specs.Kept.{Each}
+use Rattle.cg_group.specs.Leaving.{after_removal, gone_in, has_joined, leave_taken, left}
+use Rattle.cg_group.specs.Membership.{hearing, is_empty, is_preparing, keeping, leads}
+use Rattle.cg_group.specs.Rebalance.{completed, completed_generation, emptied, emptied_command, is_ready, next_round, prepared, told_to_joins, tried, turn_of}
+use Rattle.cg_group.specs.Syncing.{assigned_command, assigning, distributed, kept_roster, sync_current, sync_taken, sync_waits, told_to_syncs}
+use Rattle.cg_group.specs.Ticking.{at_deadline, can_complete, ended, expired, is_due, is_overdue, outstays, ticked}
+use Rattle.cg_group.proofs.Framed.{each-append}
+
+module _ (P : Command → Type 0) (assigned_is : (a : Assigned) → P (command.Assigned a)) (emptied_is : (e : Emptied) → P (command.Emptied e)) where
+  abbrev Makes : Turn → Type 0
+  Makes t = Each P t.commands
+
+  makes-prepared : (now : ℕ) (t : Turn) → Makes t → Makes (prepared now t)
+  unfolding prepared
+  makes-prepared now t h = h
+
+  makes-in_join_phase : (now : ℕ) (t : Turn) → Makes t → Makes (in_join_phase now t)
+  makes-in_join_phase now t h = elim (is_preparing t.group.phase) as (λ b. Makes (if b then t else prepared now t)) [ true ↦ h | false ↦ makes-prepared now t h ]
+
+  makes-waiting : (now : ℕ) (own : List ℕ) (waits : Waits) (t : Turn) → Makes t → Makes (waiting now own waits t)
+  unfolding waiting
+  makes-waiting now own waits t h = h
+
+  makes-told_to_joins : (now : ℕ) (t : Turn) → Makes t → Makes (told_to_joins now t)
+  unfolding told_to_joins
+  makes-told_to_joins now t h = h
+
+  makes-one_emptied : (g : Group) → Each P (emptied_command g)
+  unfolding emptied_command
+  makes-one_emptied g = go (completed_generation g.generation) g.kind
+    where
+      go : (n : Option ℕ) (k : Option (List ℕ)) → Each P (option_to_list (option_and_then (λ generation. option_map (λ kind. command.Emptied (record { group = g.id; generation = generation; kind = kind })) k) n))
+      go None k = tt
+      go (Some n) None = tt
+      go (Some n) (Some k) = (emptied_is (record { group = g.id; generation = n; kind = k }), tt)
+
+  makes-emptied : (t : Turn) → Makes t → Makes (emptied t)
+  unfolding emptied
+  makes-emptied t h = each-append P t.commands (emptied_command (emptied t).group) h (makes-one_emptied (emptied t).group)
+
+  makes-completed : (now : ℕ) (t : Turn) → Makes t → Makes (completed now t)
+  unfolding completed
+  makes-completed now t h =
+      elim (is_empty t.group.members) as (λ b. Makes (if b then emptied t else told_to_joins now (record t { group = next_round t.group }))) [
+        | true ↦ makes-emptied t h
+        | false ↦ makes-told_to_joins now (record t { group = next_round t.group }) h
+      ]
+
+  makes-tried : (now : ℕ) (t : Turn) → Makes t → Makes (tried now t)
+  unfolding tried
+  makes-tried now t h = elim (is_ready t.group) as (λ b. Makes (if b then completed now t else t)) [ true ↦ makes-completed now t h | false ↦ h ]
+
+  pub makes-join_new : (now : ℕ) (r : JoinRequest) (id : List ℕ) (ticket : Ticket) (g : Group) → Makes (join_new now r id ticket g)
+  unfolding join_new
+  makes-join_new now r id ticket g = makes-tried now _ (makes-in_join_phase now (turn_of (admitted (new_member now r id [] (Join ticket)) r.kind g)) tt)
+
+  pub makes-rejoined : (now : ℕ) (own : List ℕ) (ticket : Ticket) (t : Turn) → Makes t → Makes (rejoined now own ticket t)
+  unfolding rejoined
+  makes-rejoined now own ticket t h = makes-tried now _ (makes-waiting now own _ _ (makes-in_join_phase now t h))
+
+  makes-join_again : (now : ℕ) (r : JoinRequest) (id : List ℕ) (ticket : Ticket) (g : Group) → Makes (join_again now r id ticket g)
+  unfolding join_again
+  makes-join_again now r id ticket g = makes-rejoined now id ticket (turn_of (updating r id g)) tt
+
+  makes-join_current : (now : ℕ) (id : List ℕ) (ticket : Ticket) (m : Member) (g : Group) → Makes (join_current now id ticket m g)
+  unfolding join_current
+  makes-join_current now id ticket m g = tt
+
+  pub makes-join_known : (now : ℕ) (r : JoinRequest) (id : List ℕ) (ticket : Ticket) (m : Member) (g : Group) → Makes (join_known now r id ticket m g)
+  unfolding join_known
+  makes-join_known now r id ticket m g =
+      elim (is_current r m g g.phase) as (λ b. Makes (if b then join_current now id ticket m g else join_again now r id ticket g)) [
+        | true ↦ makes-join_current now id ticket m g
+        | false ↦ makes-join_again now r id ticket g
+      ]
+
+  makes-one_assigned : (g : Group) → Each P (assigned_command g)
+  unfolding assigned_command
+  makes-one_assigned g = go (completed_generation g.generation) g.kind g.protocol g.leader
+    where
+      go : (n : Option ℕ) (k p l : Option (List ℕ)) → Each P (option_to_list (option_and_then (λ generation. option_and_then (λ kind. option_and_then (λ protocol. option_map (λ leader. command.Assigned (record { group = g.id; generation = generation; kind = kind; roster = kept_roster protocol leader g })) l) p) k) n))
+      go None k p l = tt
+      go (Some n) None p l = tt
+      go (Some n) (Some k) None l = tt
+      go (Some n) (Some k) (Some p) None = tt
+      go (Some n) (Some k) (Some p) (Some l) = (assigned_is (record { group = g.id; generation = n; kind = k; roster = kept_roster p l g }), tt)
+
+  makes-distributed : (now : ℕ) (entries : List SyncEntry) (t : Turn) → Makes t → Makes (distributed now entries t)
+  unfolding distributed told_to_syncs
+  makes-distributed now entries t h = each-append P t.commands (assigned_command (assigning entries t.group)) h (makes-one_assigned (assigning entries t.group))
+
+  makes-sync_waits : (now : ℕ) (r : SyncRequest) (id : List ℕ) (ticket : Ticket) (m : Member) (g : Group) → Makes (sync_waits now r id ticket m g)
+  unfolding sync_waits
+  makes-sync_waits now r id ticket m g =
+      let t : Turn = waiting now id (Sync ticket) (turn_of (hearing now id g)) in
+      let h : Makes t = makes-waiting now id (Sync ticket) (turn_of (hearing now id g)) tt in
+      elim (leads g m) as (λ b. Makes (if b then distributed now r.entries t else t)) [ true ↦ makes-distributed now r.entries t h | false ↦ h ]
+
+  makes-sync_current : (now : ℕ) (id : List ℕ) (ticket : Ticket) (m : Member) (g : Group) → Makes (sync_current now id ticket m g)
+  unfolding sync_current
+  makes-sync_current now id ticket m g = tt
+
+  pub makes-sync_taken : (now : ℕ) (r : SyncRequest) (id : List ℕ) (ticket : Ticket) (m : Member) (g : Group) (phase : Phase) → Makes (sync_taken now r id ticket m g phase)
+  unfolding sync_taken
+  makes-sync_taken now r id ticket m g Completing = makes-sync_waits now r id ticket m g
+  makes-sync_taken now r id ticket m g Stable = makes-sync_current now id ticket m g
+  makes-sync_taken now r id ticket m g Empty = makes-sync_current now id ticket m g
+  makes-sync_taken now r id ticket m g Preparing = makes-sync_current now id ticket m g
+
+  pub makes-beat_taken : (now : ℕ) (id : List ℕ) (ticket : Ticket) (g : Group) → Makes (beat_taken now id ticket g)
+  unfolding beat_taken
+  makes-beat_taken now id ticket g = tt
+
+  makes-after_removal : (now : ℕ) (t : Turn) → Makes t → Makes (after_removal now t)
+  unfolding after_removal
+  makes-after_removal now t h =
+      makes-tried now _ (elim (has_joined t.group.phase) as (λ b. Makes (if b then prepared now t else t)) [ true ↦ makes-prepared now t h | false ↦ h ])
+
+  makes-left : (id : List ℕ) (ticket : Ticket) (m : Member) (g : Group) → Makes (left id ticket m g)
+  unfolding left
+  makes-left id ticket m g = tt
+
+  pub makes-leave_taken : (now : ℕ) (id : List ℕ) (ticket : Ticket) (m : Member) (g : Group) → Makes (leave_taken now id ticket m g)
+  unfolding leave_taken
+  makes-leave_taken now id ticket m g = makes-after_removal now (left id ticket m g) (makes-left id ticket m g)
+
+  pub makes-gone_in : (now session : ℕ) (g : Group) → Makes (gone_in now session g)
+  unfolding gone_in
+  makes-gone_in now session g = tt
+
+  makes-expired : (now : ℕ) (t : Turn) → Makes t → Makes (expired now t)
+  unfolding expired
+  makes-expired now t h =
+      elim (list_any (is_overdue now) t.group.members) as (λ b. Makes (if b then after_removal now (record t { group = keeping (λ m. not (is_overdue now m)) t.group }) else tried now t)) [
+        | true ↦ makes-after_removal now _ h
+        | false ↦ makes-tried now t h
+      ]
+
+  makes-ended : (now : ℕ) (t : Turn) → Makes t → Makes (ended now t)
+  unfolding ended
+  makes-ended now t h =
+      elim (can_complete t.group.members) as (λ b. Makes (if b then completed now t else record t { group = record t.group { started = now } })) [ true ↦ makes-completed now t h | false ↦ h ]
+
+  makes-at_deadline : (now : ℕ) (t : Turn) → Makes t → Makes (at_deadline now t)
+  unfolding at_deadline
+  makes-at_deadline now t h =
+      elim (is_due now t.group) as (λ b. Makes (if b then ended now (record t { group = keeping outstays t.group }) else t)) [ true ↦ makes-ended now (record t { group = keeping outstays t.group }) h | false ↦ h ]
+
+  pub makes-ticked : (now : ℕ) (g : Group) → Makes (ticked now g)
+  unfolding ticked
+  makes-ticked now g = makes-at_deadline now (expired now (turn_of g)) (makes-expired now (turn_of g) tt)
+
+  pub makes-all : (turn : Group → Turn) → ((g : Group) → Makes (turn g)) → (groups : List Group) → Each P (flat_map (λ g. (turn g).commands) groups)
+  makes-all turn h [] = tt
+  makes-all turn h (g ∷ gs) = each-append P (turn g).commands (flat_map (λ g. (turn g).commands) gs) (h g) (makes-all turn h gs)

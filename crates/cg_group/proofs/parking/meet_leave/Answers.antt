@@ -1,0 +1,13 @@
+use Rattle.std.proofs.Common.{ap, sym, ◌∙◌}
+use Rattle.cg_group.specs.declared.event.Event.TheVariants as event
+use Rattle.cg_group.specs.Machine.{at_moment, concluded, met}
+use Rattle.cg_group.specs.Sessions.{is_home}
+use Rattle.cg_group.proofs.KnownSessions.{known-after}
+use Rattle.cg_group.proofs.parking.meet_leave.Goals as goal
+
+pub returns-clause-known : goal.returns-clause-known
+unfolding met
+returns-clause-known c =
+    c.settle_named.ensures
+    (known-after (is_home c.args.homes.now) c.args.now c.args.held.now c.conclude.new.held (event.Leave c.args.ticket c.args.r.now) c.in_ok-effects.effects tt
+    (ap (concluded (at_moment c.args.now c.args.held.now) c.args.ticket) (sym c.in_ok-concluding.ensures) ∙ c.in_ok-effects.ensures.ok) c.requires)

@@ -1,0 +1,42 @@
+//! A request is refused, or its group takes its turn.
+ghost use Rattle.std.specs.Prelude.{◌≡◌, IfOk, OnErr};
+ghost use Rattle.cg_group.specs.Machine.{at_moment, concluded, outcome};
+
+use crate::effects::Effects;
+use crate::held::Held;
+use crate::in_place::reply_alone;
+use crate::reply::Reply;
+use crate::ticket::Ticket;
+use crate::turn::Turn;
+use cg_names::{Code, Moment};
+use std::alloc::{AllocError, Global};
+
+/// What a request does.
+#[tactic(auto, unfolding(crate::specs::Machine::concluded))]
+pub fn conclude(
+    alloc: Global,
+    now: Moment,
+    held: &mut Held,
+    ticket: Ticket,
+    concluding: Result<Turn, Code>,
+) -> Result<Effects, AllocError>
+    ensures ok { IfOk result
+        (λ e. concluded (at_moment now held.old) ticket concluding ≡ outcome now held.new e) }
+    ensures err { OnErr result (held.new ≡ held.old) }
+{
+    match concluding {
+        Err(code) => {
+            let effects = reply_alone(alloc, ticket, Reply::Refused(code))?;
+            Ok(effects)
+        }
+        Ok(turn) => {
+            let Turn {
+                group,
+                replies,
+                commands,
+            } = turn;
+            held.put(group)?;
+            Ok(Effects { commands, replies })
+        }
+    }
+}

@@ -1,0 +1,25 @@
+//! The group that a request names.
+ghost use Rattle.std.specs.Prelude.{◌≡◌, Err, IfOk, MatchResult};
+ghost use Rattle.cg_group.specs.InPlace.{IsNamed};
+ghost use Rattle.cg_group.specs.Machine.{InOrder, named_group};
+
+use crate::group::Group;
+use crate::held::Held;
+use cg_names::{Code, GroupId};
+
+/// The id that a request gives, and the group with it. Costs a look-up.
+pub fn named<'a, 'b>(
+    groups: &'b Held,
+    id: &'a Option<GroupId>,
+) -> Result<(&'a GroupId, &'b Group), Code>
+    ensures named { MatchResult result (λ p. IsNamed id.now groups.now p.0.now p.1.now) (λ code. named_group id.now groups.now ≡ Err code) }
+    ensures in_order { IfOk result (λ _. InOrder groups.now) }
+{
+    let Some(id) = id else {
+        return Err(Code::InvalidGroupId);
+    };
+    match groups.find(id) {
+        None => Err(Code::UnknownMemberId),
+        Some(group) => Ok((id, group)),
+    }
+}

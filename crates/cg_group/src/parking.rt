@@ -1,0 +1,222 @@
+//! Requests whose calls may begin to wait, or that answer calls which wait: JOIN, SYNC and LEAVE.
+ghost use Rattle.std.specs.Prelude.{◌≡◌, ℕ, List, Some, true, false, IfOk, OnErr, OnOk};
+ghost use Rattle.cg_group.specs.Joining.{is_session_refused};
+ghost use Rattle.cg_group.specs.Machine.{at_moment, concluded, join, leave, outcome, sync};
+ghost use Rattle.cg_group.specs.Sessions.{AreKnown, is_home};
+
+use crate::admission::{join_held, join_unheld};
+use crate::checked::CheckedJoin;
+use crate::concluding::conclude;
+use crate::copies::copied_name;
+use crate::effects::Effects;
+use crate::held::Held;
+use crate::in_place::{sync_in, syncing};
+use crate::leaving::leave_held;
+use crate::naming::named;
+use crate::request::{JoinRequest, LeaveRequest, SyncRequest};
+use crate::sessions::{Homes, note};
+use crate::settling::settle_named;
+use crate::syncing::sync_held;
+use crate::ticket::Ticket;
+use crate::turn::Turn;
+use cg_names::{Code, GroupId, Moment};
+use std::alloc::{AllocError, Global};
+use uuid::Uuid;
+
+#[tactic(auto, unfolding(crate::specs::Machine::join))]
+fn join(
+    alloc: Global,
+    now: Moment,
+    r: JoinRequest,
+    fresh: Uuid,
+    ticket: Ticket,
+    groups: &Held,
+) -> Result<Result<Turn, Code>, AllocError>
+    ensures { IfOk result (λ o. o ≡ join now r fresh ticket groups.now) }
+{
+    if r.group.is_none() {
+        return Ok(Err(Code::InvalidGroupId));
+    }
+    let Some(r) = CheckedJoin::new(r) else {
+        return Ok(Err(Code::InvalidSessionTimeout));
+    };
+    let taken = join_checked(alloc, now, r, fresh, ticket, groups)?;
+    Ok(taken)
+}
+
+// JOIN with a session time-out that is taken.
+#[tactic(auto, unfolding(crate::specs::Machine::join))]
+fn join_checked(
+    alloc: Global,
+    now: Moment,
+    r: CheckedJoin,
+    fresh: Uuid,
+    ticket: Ticket,
+    groups: &Held,
+) -> Result<Result<Turn, Code>, AllocError>
+    requires { is_session_refused r ≡ false }
+    ensures { IfOk result (λ o. o ≡ join now r fresh ticket groups.now) }
+{
+    let Some(id) = &r.request.group else {
+        return Ok(Err(Code::InvalidGroupId));
+    };
+    match groups.find(id) {
+        None => {
+            let id = id.clone()?;
+            let taken = join_unheld(alloc, now, r, fresh, ticket, groups.len(), id)?;
+            Ok(taken)
+        }
+        Some(group) => {
+            let taken = join_held(alloc, now, r, fresh, ticket, group)?;
+            Ok(taken)
+        }
+    }
+}
+
+#[tactic(auto, unfolding(crate::specs::Machine::sync))]
+fn sync(
+    alloc: Global,
+    now: Moment,
+    r: &SyncRequest,
+    ticket: Ticket,
+    groups: &Held,
+) -> Result<Result<Turn, Code>, AllocError>
+    ensures { IfOk result (λ o. o ≡ sync now r.now ticket groups.now) }
+{
+    match named(groups, &r.group) {
+        Err(code) => Ok(Err(code)),
+        Ok((_, group)) => {
+            let taken = sync_held(alloc, now, r, ticket, group)?;
+            Ok(taken)
+        }
+    }
+}
+
+#[tactic(auto, unfolding(crate::specs::Machine::leave))]
+fn leave(
+    alloc: Global,
+    now: Moment,
+    r: &LeaveRequest,
+    ticket: Ticket,
+    groups: &Held,
+) -> Result<Result<Turn, Code>, AllocError>
+    ensures { IfOk result (λ o. o ≡ leave now r.now ticket groups.now) }
+{
+    match named(groups, &r.group) {
+        Err(code) => Ok(Err(code)),
+        Ok((_, group)) => {
+            let taken = leave_held(alloc, now, r, ticket, group)?;
+            Ok(taken)
+        }
+    }
+}
+
+// The group that a request names is a home of its session, before its call begins to wait.
+fn note_named(
+    alloc: Global,
+    homes: &mut Homes,
+    session: u64,
+    id: &Option<GroupId>,
+) -> Result<(), AllocError>
+    ensures kept { (q : ℕ) (x : List ℕ) → is_home homes.old q x ≡ true → is_home homes.new q x ≡ true }
+    ensures here { OnOk result ((x : List ℕ) → id.now ≡ Some x → is_home homes.new session x ≡ true) }
+{
+    let Some(id) = id else {
+        return Ok(());
+    };
+    let id = id.clone()?;
+    note(alloc, homes, session, id)
+}
+
+/// A JOIN.
+pub fn meet_join(
+    now: Moment,
+    held: &mut Held,
+    homes: &mut Homes,
+    ticket: Ticket,
+    r: JoinRequest,
+    fresh: Uuid,
+) -> Result<Effects, AllocError>
+    requires { AreKnown (is_home homes.old) held.old }
+    ensures known { AreKnown (is_home homes.new) held.new }
+    ensures ok { IfOk result
+        (λ e. concluded (at_moment now held.old) ticket (join now r fresh ticket held.old) ≡ outcome now held.new e) }
+    ensures err { OnErr result (held.new ≡ held.old) }
+{
+    let alloc = held.allocator();
+    let own = copied_name(&r.group)?;
+    note_named(alloc, homes, ticket.session, &own)?;
+    let concluding = join(alloc, now, r, fresh, ticket, held)?;
+    let effects = conclude(alloc, now, held, ticket, concluding)?;
+    settle_named(homes, held, &own, effects.replies.as_slice());
+    Ok(effects)
+}
+
+// A SYNC that is not answered in its group's place.
+fn meet_sync_apart(
+    now: Moment,
+    held: &mut Held,
+    homes: &mut Homes,
+    ticket: Ticket,
+    r: &SyncRequest,
+) -> Result<Effects, AllocError>
+    requires { AreKnown (is_home homes.old) held.old }
+    ensures known { AreKnown (is_home homes.new) held.new }
+    ensures ok { IfOk result
+        (λ e. concluded (at_moment now held.old) ticket (sync now r.now ticket held.old) ≡ outcome now held.new e) }
+    ensures err { OnErr result (held.new ≡ held.old) }
+{
+    let alloc = held.allocator();
+    note_named(alloc, homes, ticket.session, &r.group)?;
+    let concluding = sync(alloc, now, r, ticket, held)?;
+    let effects = conclude(alloc, now, held, ticket, concluding)?;
+    settle_named(homes, held, &r.group, effects.replies.as_slice());
+    Ok(effects)
+}
+
+/// A SYNC: in its group's place where it is answered at once.
+pub fn meet_sync(
+    now: Moment,
+    held: &mut Held,
+    homes: &mut Homes,
+    ticket: Ticket,
+    r: &SyncRequest,
+) -> Result<Effects, AllocError>
+    requires { AreKnown (is_home homes.old) held.old }
+    ensures known { AreKnown (is_home homes.new) held.new }
+    ensures ok { IfOk result
+        (λ e. concluded (at_moment now held.old) ticket (sync now r.now ticket held.old) ≡ outcome now held.new e) }
+    ensures err { OnErr result (held.new ≡ held.old) }
+{
+    match syncing(r, held)? {
+        Some((own, id, assignment)) => {
+            let effects = sync_in(now, held, ticket, own, id, assignment)?;
+            Ok(effects)
+        }
+        None => {
+            let effects = meet_sync_apart(now, held, homes, ticket, r)?;
+            Ok(effects)
+        }
+    }
+}
+
+/// A LEAVE.
+pub fn meet_leave(
+    now: Moment,
+    held: &mut Held,
+    homes: &mut Homes,
+    ticket: Ticket,
+    r: &LeaveRequest,
+) -> Result<Effects, AllocError>
+    requires { AreKnown (is_home homes.old) held.old }
+    ensures known { AreKnown (is_home homes.new) held.new }
+    ensures ok { IfOk result
+        (λ e. concluded (at_moment now held.old) ticket (leave now r.now ticket held.old) ≡ outcome now held.new e) }
+    ensures err { OnErr result (held.new ≡ held.old) }
+{
+    let alloc = held.allocator();
+    let concluding = leave(alloc, now, r, ticket, held)?;
+    let effects = conclude(alloc, now, held, ticket, concluding)?;
+    settle_named(homes, held, &r.group, effects.replies.as_slice());
+    Ok(effects)
+}
