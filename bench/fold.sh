@@ -5,6 +5,6 @@ set -eu
 cd "$(dirname "$0")/../crates/bench_fold"
 rt run -- measure
 env time -f "peak without a part: %M KiB" out/bench_fold
-for part in state snapshot revive; do
+for part in state snapshot revive step; do
     env time -f "peak of $part: %M KiB" out/bench_fold "$part"
 done

@@ -1,12 +1,15 @@
-//! How long the durable state takes, for few groups and many: to apply its commands, to take a snapshot, and to revive the groups.
+//! How long the durable state takes, for few groups and many: to apply its commands, to take a
+//! snapshot, to revive the groups, and to step them.
 //! Without an argument it prints how it is called, and measures nothing.
 #![tactic(auto)]
 
 mod copying;
+mod events;
 mod making;
 mod measure;
 mod part;
 mod scene;
+mod stepping;
 mod tally;
 
 use anyhow::{Context, Result};
@@ -24,6 +27,8 @@ fn main(rt: HostRuntime) -> Result<()> {
 }
 
 fn usage<R: Print>(rt: &R) -> Result<()> {
-    println!(rt; "usage: bench_fold measure, or bench_fold with a part: state, snapshot, revive")?;
+    println!(rt;
+        "usage: bench_fold measure, or bench_fold with a part: state, snapshot, revive, step"
+    )?;
     Ok(())
 }

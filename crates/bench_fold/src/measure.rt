@@ -1,6 +1,8 @@
 use crate::copying::copied;
+use crate::events::events;
 use crate::making::made;
 use crate::scene::{OFFSETS, Order, commands};
+use crate::stepping::done_of;
 use crate::tally::Tally;
 use anyhow::{Result, ensure};
 use cg_fold::Durable;
@@ -22,6 +24,7 @@ struct Tallies {
     snapshot: Tally,
     copy: Tally,
     revive: Tally,
+    step: Tally,
     drop: Tally,
 }
 
@@ -33,6 +36,7 @@ impl Tallies {
             snapshot: Tally::new(alloc, groups),
             copy: Tally::new(alloc, groups),
             revive: Tally::new(alloc, groups),
+            step: Tally::new(alloc, groups),
             drop: Tally::new(alloc, groups),
         }
     }
@@ -44,6 +48,7 @@ impl Tallies {
             snapshot,
             copy,
             revive,
+            step,
             drop,
         } = self;
         Times {
@@ -52,6 +57,7 @@ impl Tallies {
             snapshot: snapshot.per_group(),
             copy: copy.per_group(),
             revive: revive.per_group(),
+            step: step.per_group(),
             drop: drop.per_group(),
         }
     }
@@ -65,6 +71,7 @@ struct Times {
     snapshot: u64,
     copy: u64,
     revive: u64,
+    step: u64,
     drop: u64,
 }
 
@@ -98,14 +105,24 @@ fn copy<R: Clock>(rt: &R, alloc: Global, commands: &[Command], tally: &mut Tally
     Ok(())
 }
 
-fn revive<R: Clock>(rt: &R, alloc: Global, durable: Durable, tally: &mut Tally) -> Result<u64> {
+fn revive<R: Clock>(rt: &R, alloc: Global, durable: Durable, tally: &mut Tally) -> Result<Groups> {
     let start = Instant::now(rt)?;
     let groups = Groups::revive(alloc, durable, Moment::from_millis(0)).map_err(|(
         wanting,
         _,
     )| wanting)?;
     tally.add(start.elapsed(rt)?)?;
-    Ok(groups.held())
+    Ok(groups)
+}
+
+// One commit to each group.
+fn step<R: Clock>(rt: &R, alloc: Global, groups: &mut Groups, tally: &mut Tally) -> Result<()> {
+    let events = events(alloc, groups.held())?;
+    let start = Instant::now(rt)?;
+    let done = done_of(groups, events)?;
+    tally.add(start.elapsed(rt)?)?;
+    ensure!(done == groups.held(), "a commit is refused");
+    Ok(())
 }
 
 // What reviving does beside it: it gives the memory of the state back.
@@ -134,7 +151,9 @@ fn go<R: Clock>(
     );
     let taken = snapshot(rt, &durable, &mut tallies.snapshot)?;
     copy(rt, alloc, &taken, &mut tallies.copy)?;
-    revive(rt, alloc, durable, &mut tallies.revive)
+    let mut groups = revive(rt, alloc, durable, &mut tallies.revive)?;
+    step(rt, alloc, &mut groups, &mut tallies.step)?;
+    Ok(groups.held())
 }
 
 fn measured<R: Clock>(rt: &R, alloc: Global, groups: u64) -> Result<Times> {
@@ -166,6 +185,7 @@ fn report<R: Print>(rt: &R, groups: u64, times: Times, base: Times) -> Result<()
     report_one(rt, "snapshot", times.snapshot, base.snapshot)?;
     report_one(rt, "plain copy", times.copy, base.copy)?;
     report_one(rt, "revive", times.revive, base.revive)?;
+    report_one(rt, "step", times.step, base.step)?;
     report_one(rt, "drop", times.drop, base.drop)?;
     let of = hundredths(times.snapshot, times.copy);
     println!(rt; "  snapshot in hundredths of the plain copy: {of}")?;

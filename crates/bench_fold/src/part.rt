@@ -1,6 +1,8 @@
 //! One part by itself, so that the peak of the process's memory is that part's.
+use crate::events::events;
 use crate::making::apply_all;
 use crate::scene::push_group;
+use crate::stepping::done_of;
 use anyhow::{Result, ensure};
 use cg_fold::Durable;
 use cg_group::{GROUPS_MAX, Groups};
@@ -16,6 +18,8 @@ pub enum Part {
     Snapshot,
     /// And the groups are revived of it.
     Revive,
+    /// And each is committed to once.
+    Step,
 }
 
 /// The part with this name.
@@ -24,6 +28,7 @@ pub fn named(word: &str) -> Option<Part> {
         "state" => Some(Part::State),
         "snapshot" => Some(Part::Snapshot),
         "revive" => Some(Part::Revive),
+        "step" => Some(Part::Step),
         _ => None,
     }
 }
@@ -44,12 +49,19 @@ fn snapshot(durable: &Durable) -> Result<()> {
     Ok(())
 }
 
-fn revive(alloc: Global, durable: Durable) -> Result<()> {
+fn revive(alloc: Global, durable: Durable) -> Result<Groups> {
     let groups = Groups::revive(alloc, durable, Moment::from_millis(0)).map_err(|(
         wanting,
         _,
     )| wanting)?;
     ensure!(groups.held() == GROUPS_MAX as u64, "a group is not held");
+    Ok(groups)
+}
+
+fn step(alloc: Global, groups: &mut Groups) -> Result<()> {
+    let events = events(alloc, GROUPS_MAX as u64)?;
+    let done = done_of(groups, events)?;
+    ensure!(done == GROUPS_MAX as u64, "a commit is refused");
     Ok(())
 }
 
@@ -61,7 +73,10 @@ pub fn run<R: Print + Alloc<A = Global>>(rt: &R, part: Part) -> Result<()> {
     match part {
         Part::State => {}
         Part::Snapshot => snapshot(&durable)?,
-        Part::Revive => revive(alloc, durable)?,
+        Part::Revive => {
+            let _groups = revive(alloc, durable)?;
+        }
+        Part::Step => step(alloc, &mut revive(alloc, durable)?)?,
     }
     println!(rt; "{records} records, {offsets} offsets")?;
     Ok(())

@@ -37,17 +37,23 @@ pub enum Order {
     Scattered,
 }
 
-fn name<const MAX: usize, const SORT: u8>(alloc: Global, text: &str) -> Result<Name<MAX, SORT>> {
+/// The name with this text.
+pub fn name<const MAX: usize, const SORT: u8>(
+    alloc: Global,
+    text: &str,
+) -> Result<Name<MAX, SORT>> {
     let name = Name::parse(alloc, text)?;
     Ok(name)
 }
 
-fn group_id(alloc: Global, number: u64) -> Result<GroupId> {
+/// The id of the group with this number.
+pub fn group_id(alloc: Global, number: u64) -> Result<GroupId> {
     let text = format!(in alloc; "group-{number:04}")?;
     name(alloc, &text)
 }
 
-fn member_id(alloc: Global, number: u32) -> Result<MemberId> {
+/// The id of the member with this number; each group has members of the same numbers.
+pub fn member_id(alloc: Global, number: u32) -> Result<MemberId> {
     let text = format!(in alloc; "client-{number}-00000000-0000-4000-8000-{number:012}")?;
     name(alloc, &text)
 }

@@ -65,6 +65,7 @@ struct Rates {
     join: u64,
     making: u64,
     leading: u64,
+    closing: u64,
     gone: u64,
     tick: u64,
 }
@@ -77,6 +78,7 @@ fn measured<R: Clock>(rt: &R, alloc: Global, groups: u64, members: u64) -> Resul
         join: rate(rt, alloc, &mut scene, Sort::Join, EVENTS)?,
         making: rate_once(rt, alloc, Once::Making, groups, members)?,
         leading: rate_once(rt, alloc, Once::Leading, groups, members)?,
+        closing: rate_once(rt, alloc, Once::Closing, groups, members)?,
         gone: rate(rt, alloc, &mut scene, Sort::Gone, EVENTS_EVERYWHERE)?,
         tick: rate(rt, alloc, &mut scene, Sort::Tick, EVENTS_EVERYWHERE)?,
     })
@@ -100,7 +102,8 @@ fn report<R: Print>(rt: &R, groups: u64, members: u64, rates: Rates, base: Rates
     report_one(rt, "JOIN", rates.join, base.join)?;
     report_one(rt, "JOIN that makes a group", rates.making, base.making)?;
     report_one(rt, "SYNC of a leader", rates.leading, base.leading)?;
-    report_one(rt, "Gone", rates.gone, base.gone)?;
+    report_one(rt, "Gone, a call waits", rates.closing, base.closing)?;
+    report_one(rt, "Gone, idle", rates.gone, base.gone)?;
     report_one(rt, "Tick", rates.tick, base.tick)?;
     Ok(())
 }

@@ -4,7 +4,7 @@ ghost use Rattle.std.specs.Prelude.{◌≡◌, IfOk, vec_len};
 use anyhow::{Context, Result, bail};
 use cg_fold::Durable;
 use cg_group::{
-    BeatRequest, Effects, Event, Groups, JoinRequest, Listed, Protocol, Protocols, Reply,
+    BeatRequest, Effects, Event, Groups, JoinRequest, Protocol, Protocols, Reply, SyncEntries,
     SyncEntry, SyncRequest, Ticket,
 };
 use cg_names::{GroupId, MemberId, Moment, Name};
@@ -22,6 +22,9 @@ fn now() -> Moment {
 
 /// A session on which no call waits.
 const IDLE_SESSION: u64 = 2;
+
+/// The first of the sessions on which a call waits.
+const WAITING_SESSION: u64 = 3;
 
 /// The sort of an event that leaves the groups stable.
 #[derive(Clone, Copy)]
@@ -43,6 +46,8 @@ pub enum Once {
     Making,
     /// The SYNC of a leader, with an assignment for each member.
     Leading,
+    /// A session is closed on which the SYNC of a member waits.
+    Closing,
 }
 
 /// Groups that are held, with a member of each that does not lead.
@@ -74,6 +79,7 @@ fn join_request(
     Ok(JoinRequest {
         group: Some(group),
         member,
+        instance: None,
         client: name(alloc, client)?,
         session_ms: 10_000,
         rebalance,
@@ -94,8 +100,8 @@ fn last_joined(effects: &Effects) -> Result<MemberId> {
 }
 
 // An assignment for each member that a leader was told of.
-fn assignments(alloc: Global, joined: &Effects) -> Result<Listed<SyncEntry>> {
-    let mut entries = Listed::new(alloc);
+fn assignments(alloc: Global, joined: &Effects) -> Result<SyncEntries> {
+    let mut entries = Vec::new(alloc);
     for (_, reply) in joined.replies.as_slice() {
         if let Reply::Joined(joined) = reply {
             for member in joined.members.as_slice() {
@@ -106,7 +112,10 @@ fn assignments(alloc: Global, joined: &Effects) -> Result<Listed<SyncEntry>> {
             }
         }
     }
-    Ok(entries)
+    match SyncEntries::from_vec(entries) {
+        Ok(entries) => Ok(entries),
+        Err(_) => bail!("a member was told of twice"),
+    }
 }
 
 impl Scene {
@@ -159,19 +168,39 @@ impl Scene {
     fn found(&mut self, id: &str) -> Result<()> {
         let (leader, joined) = self.gather(id)?;
         let follower = last_joined(&joined)?;
-        let sync = self.sync(name(self.alloc, id)?, leader, Listed::new(self.alloc));
+        let group = name(self.alloc, id)?;
+        let sync = self.sync(ticket(), group, leader, SyncEntries::none(self.alloc));
         self.meet(sync)?;
         self.followers.push((name(self.alloc, id)?, follower))?;
         Ok(())
     }
 
-    fn sync(&self, group: GroupId, member: MemberId, entries: Listed<SyncEntry>) -> Event {
+    // A SYNC of a member that does not lead waits, on a session of its own: the session.
+    fn await_leader(&mut self, id: &str, n: usize) -> Result<u64> {
+        let (_, joined) = self.gather(id)?;
+        let follower = last_joined(&joined)?;
+        let session = WAITING_SESSION.saturating_add(n as u64);
+        let call = Ticket { session, number: 0 };
+        let group = name(self.alloc, id)?;
+        let sync = self.sync(call, group, follower, SyncEntries::none(self.alloc));
+        self.meet(sync)?;
+        Ok(session)
+    }
+
+    fn sync(
+        &self,
+        ticket: Ticket,
+        group: GroupId,
+        member: MemberId,
+        entries: SyncEntries,
+    ) -> Event {
         Event::Sync(
-            ticket(),
+            ticket,
             SyncRequest {
                 group: Some(group),
                 generation: GENERATION,
                 member: Some(member),
+                instance: None,
                 entries,
             },
         )
@@ -185,9 +214,10 @@ impl Scene {
                     group: Some(group),
                     generation: GENERATION,
                     member: Some(member),
+                    instance: None,
                 },
             )),
-            Sort::Sync => Ok(self.sync(group, member, Listed::new(self.alloc))),
+            Sort::Sync => Ok(self.sync(ticket(), group, member, SyncEntries::none(self.alloc))),
             Sort::Join => {
                 let request = join_request(self.alloc, group, Some(member), "client-1")?;
                 Ok(Event::Join(ticket(), request, Uuid::from_u128(0)))
@@ -227,7 +257,11 @@ impl Scene {
             Once::Leading => {
                 let (leader, joined) = self.gather(&id)?;
                 let entries = assignments(self.alloc, &joined)?;
-                Ok(self.sync(name(self.alloc, &id)?, leader, entries))
+                Ok(self.sync(ticket(), name(self.alloc, &id)?, leader, entries))
+            }
+            Once::Closing => {
+                let session = self.await_leader(&id, n)?;
+                Ok(Event::Gone(session))
             }
         }
     }
