@@ -177,6 +177,7 @@ fn metadata_has_a_limit(rt: HostRuntime) -> Result<(), Fail> {
         ..BARE
     };
     assert_eq!(rt; s.commit(alloc, 0, 1, "g", long)?.as_str(), "s1 ERR 12|");
+    assert_eq!(rt; s.list(alloc, 0, 1)?.as_str(), "s1 GROUPS|");
     assert_eq!(rt; s.groups.held(), 0);
     let longest = Committer {
         partitions: LONGEST,

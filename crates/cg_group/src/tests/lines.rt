@@ -234,8 +234,21 @@ impl Scene {
         generation: i32,
         member: &str,
     ) -> Result<String, Fail> {
+        self.beat_in(alloc, now, session, "g", generation, member)
+    }
+
+    /// A BEAT that names this group.
+    pub fn beat_in(
+        &mut self,
+        alloc: Global,
+        now: u64,
+        session: u64,
+        group: &str,
+        generation: i32,
+        member: &str,
+    ) -> Result<String, Fail> {
         let r = BeatRequest {
-            group: name_of(alloc, "g")?,
+            group: name_of(alloc, group)?,
             generation,
             member: name_of(alloc, caller(member).0)?,
             instance: name_of(alloc, caller(member).1)?,

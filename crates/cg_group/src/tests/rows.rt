@@ -348,3 +348,14 @@ fn a_leader_hands_in_one_entry_for_a_member(rt: HostRuntime) -> Result<(), Fail>
     assert_eq!(rt; none.as_slice().len(), 0);
     Ok(())
 }
+
+#[test]
+fn a_call_that_names_no_group_is_refused(rt: HostRuntime) -> Result<(), Fail> {
+    let alloc = rt.alloc();
+    let mut s = Scene::new(alloc)?;
+    assert_eq!(rt; s.beat_in(alloc, 0, 1, "-", 1, "m")?.as_str(), "s1 ERR 24|");
+    assert_eq!(rt; s.beat_in(alloc, 0, 1, "g", 1, "m")?.as_str(), "s1 ERR 25|");
+    assert_eq!(rt; s.join(alloc, 0, 1, "-", C1)?.as_str(), "s1 ERR 24|");
+    assert_eq!(rt; s.list(alloc, 0, 1)?.as_str(), "s1 GROUPS|");
+    Ok(())
+}
