@@ -1,29 +1,158 @@
--- One held reply leaves.
-use Rattle.std.proofs.Common.{◌≡◌, ℕ, suc, ◌+◌, ◌<◌, ◌≤◌, List, [], ◌∷◌, ◌++◌, length, get_or, map, take, drop, cond, ap, sym, ◌∙◌, arith, append_assoc}
-use Rattle.std.proofs.lemmas.Bool.{le-leb}
-use Rattle.cg_desk.specs.declared.held.HeldReply.{HeldReply}
+-- Replies that leave, one after the other.
+use Rattle.std.proofs.Common.{◌≡◌, ℕ, zero, suc, ◌+◌, ◌<◌, ◌≤◌, List, [], ◌∷◌, ◌++◌, length, get_or, map, take, drop, cond, refl, ap, sym, ◌∙◌, arith, leb, append_assoc, add-one, drop-cons, length-take}
+use Rattle.std.proofs.lemmas.List.{append-nil, get_or-take}
+use Rattle.std.proofs.lemmas.Option.{get_or_from_slice_get, slice_get_within}
+use Rattle.std.proofs.Math.ListN.{drop_of_length-le}
+use Rattle.std.specs.Prelude.{slice_get, Some, None}
+use Rattle.std.proofs.lemmas.Bool.{le-leb, lt-leb}
+use Rattle.cg_group.specs.declared.reply.Reply.{Reply}
+use Rattle.cg_group.specs.declared.ticket.Ticket.{Ticket}
+use Rattle.cg_desk.specs.declared.held.HeldStep.{HeldStep}
 use Rattle.cg_desk.specs.declared.outgoing.Outgoing.{Outgoing}
-use Rattle.cg_desk.specs.Held.{ready, sent}
+use Rattle.cg_desk.specs.declared.token.ReplyToken.{ReplyToken}
+use Rattle.cg_desk.specs.Answering.{after_answering, answering, answering_one, refusal, refused}
+use Rattle.cg_desk.specs.Held.{calls_of, ready, released, replies_of, still_held}
+use Rattle.cg_desk.specs.Tokens.{without}
 
-pub front_is : {X : Type 0} (items rest : List X) (reply : X) → 0 < length items → reply ≡ get_or items 0 reply → rest ≡ drop 1 items → items ≡ reply ∷ rest
-front_is [] rest reply some front behind = absurd (omega arith)
-front_is (x ∷ xs) rest reply some front behind = cc
+pub answering-nil : (tokens : List ReplyToken) → answering [] tokens ≡ []
+unfolding answering
+answering-nil tokens = refl
 
--- what is still held, and what left with what is still to leave
-pub record Leaves (settled : ℕ) (items rest : List HeldReply) (out new : List Outgoing) : Type 0 where
-  pub held : drop (ready settled rest) rest ≡ drop (ready settled items) items
-  pub gone : new ++ map sent (take (ready settled rest) rest) ≡ out ++ map sent (take (ready settled items) items)
+pub answering-cons : (r : Ticket × Reply) (rs : List (Ticket × Reply)) (tokens : List ReplyToken) → answering (r ∷ rs) tokens ≡ answering_one r tokens ++ answering rs (without r.0 tokens)
+unfolding answering
+answering-cons r rs tokens = refl
 
-ready-front : (settled : ℕ) (reply : HeldReply) (rest : List HeldReply) → reply.need ≤ settled → ready settled (reply ∷ rest) ≡ suc (ready settled rest)
-ready-front settled reply rest passes = ap (λ b. cond b (1 + ready settled rest) 0) (le-leb reply.need settled passes) ∙ omega arith
+pub after-nil : (tokens : List ReplyToken) → after_answering [] tokens ≡ tokens
+unfolding after_answering
+after-nil tokens = refl
 
-pub leaves : (settled : ℕ) (items rest : List HeldReply) (reply : HeldReply) (out new : List Outgoing) → items ≡ reply ∷ rest → reply.need ≤ settled → new ≡ out ++ sent reply ∷ [] → Leaves settled items rest out new
-leaves settled items rest reply out new is passes grown =
-    let one : ready settled items ≡ suc (ready settled rest) = ap (ready settled) is ∙ ready-front settled reply rest passes in
-    let dropped : drop (ready settled items) items ≡ drop (ready settled rest) rest = ap (λ n. drop n items) one ∙ ap (λ l. drop (suc (ready settled rest)) l) is in
-    let taken : map sent (take (ready settled items) items) ≡ sent reply ∷ map sent (take (ready settled rest) rest) =
-    ap (λ n. map sent (take n items)) one ∙ ap (λ l. map sent (take (suc (ready settled rest)) l)) is in
-    record {
-      held = sym dropped;
-      gone = ap (λ l. l ++ map sent (take (ready settled rest) rest)) grown ∙ append_assoc out (sent reply ∷ []) (map sent (take (ready settled rest) rest)) ∙ ap (λ l. out ++ l) (sym taken);
-    }
+pub after-cons : (r : Ticket × Reply) (rs : List (Ticket × Reply)) (tokens : List ReplyToken) → after_answering (r ∷ rs) tokens ≡ after_answering rs (without r.0 tokens)
+unfolding after_answering
+after-cons r rs tokens = refl
+
+pub after-append : (rs qs : List (Ticket × Reply)) (tokens : List ReplyToken) → after_answering (rs ++ qs) tokens ≡ after_answering qs (after_answering rs tokens)
+unfolding after_answering
+after-append [] qs tokens = refl
+after-append (r ∷ rs) qs tokens = after-append rs qs (without r.0 tokens)
+
+pub answering-append : (rs qs : List (Ticket × Reply)) (tokens : List ReplyToken) → answering (rs ++ qs) tokens ≡ answering rs tokens ++ answering qs (after_answering rs tokens)
+unfolding answering after_answering
+answering-append [] qs tokens = refl
+answering-append (r ∷ rs) qs tokens =
+    ap (λ out. answering_one r tokens ++ out) (answering-append rs qs (without r.0 tokens))
+    ∙ sym (append_assoc (answering_one r tokens) (answering rs (without r.0 tokens)) (answering qs (after_answering rs (without r.0 tokens))))
+
+-- the loop has gone as far as the replies that are left tell
+pub record Told (rs : List (Ticket × Reply)) (tokens : List ReplyToken) (out : List Outgoing) (qs : List (Ticket × Reply)) (left : List ReplyToken) (more : List Outgoing) : Type 0 where
+  pub told : more ++ answering qs left ≡ out ++ answering rs tokens
+  pub kept : after_answering qs left ≡ after_answering rs tokens
+
+-- nothing is told yet
+pub told_here : (rs : List (Ticket × Reply)) (tokens : List ReplyToken) (out : List Outgoing) → Told rs tokens out rs tokens out
+told_here rs tokens out = record { told = refl; kept = refl }
+
+pub told_then : (rs qs ps : List (Ticket × Reply)) (tokens left last : List ReplyToken) (out more most : List Outgoing) → Told rs tokens out qs left more → Told qs left more ps last most → Told rs tokens out ps last most
+told_then rs qs ps tokens left last out more most a b = record { told = b.told ∙ a.told; kept = b.kept ∙ a.kept }
+
+-- the replies in front are told
+pub told_many : (items rs qs : List (Ticket × Reply)) (tokens left : List ReplyToken) (out more : List Outgoing) → items ≡ rs ++ qs → left ≡ after_answering rs tokens → more ≡ out ++ answering rs tokens
+    → Told items tokens out qs left more
+told_many items rs qs tokens left out more is taken grown = record {
+  told =
+      ap (λ l. l ++ answering qs left) grown
+      ∙ ap (λ t. (out ++ answering rs tokens) ++ answering qs t) taken
+      ∙ append_assoc out (answering rs tokens) (answering qs (after_answering rs tokens))
+      ∙ ap (λ l. out ++ l) (sym (answering-append rs qs tokens))
+      ∙ ap (λ l. out ++ answering l tokens) (sym is);
+  kept = ap (after_answering qs) taken ∙ sym (after-append rs qs tokens) ∙ ap (λ l. after_answering l tokens) (sym is);
+}
+
+answering-single : (r : Ticket × Reply) (tokens : List ReplyToken) → answering (r ∷ []) tokens ≡ answering_one r tokens
+answering-single r tokens = answering-cons r [] tokens ∙ ap (λ l. answering_one r tokens ++ l) (answering-nil (without r.0 tokens)) ∙ append-nil (answering_one r tokens)
+
+after-single : (r : Ticket × Reply) (tokens : List ReplyToken) → after_answering (r ∷ []) tokens ≡ without r.0 tokens
+after-single r tokens = after-cons r [] tokens ∙ after-nil (without r.0 tokens)
+
+-- the reply in front is told
+pub told_one : (items rs : List (Ticket × Reply)) (r : Ticket × Reply) (tokens left : List ReplyToken) (out more : List Outgoing) → items ≡ r ∷ rs → left ≡ without r.0 tokens → more ≡ out ++ answering_one r tokens
+    → Told items tokens out rs left more
+told_one items rs r tokens left out more is taken grown =
+    told_many items (r ∷ []) rs tokens left out more is (taken ∙ sym (after-single r tokens)) (grown ∙ ap (λ l. out ++ l) (sym (answering-single r tokens)))
+
+-- all are told
+pub told_out : (rs : List (Ticket × Reply)) (tokens left : List ReplyToken) (out more : List Outgoing) (qs : List (Ticket × Reply)) → qs ≡ [] → Told rs tokens out qs left more → more ≡ out ++ answering rs tokens
+told_out rs tokens left out more qs none told =
+    sym (append-nil more) ∙ ap (λ l. more ++ l) (sym (answering-nil left)) ∙ ap (λ l. more ++ answering l left) (sym none) ∙ told.told
+
+pub told_tokens : (rs : List (Ticket × Reply)) (tokens left : List ReplyToken) (out more : List Outgoing) (qs : List (Ticket × Reply)) → qs ≡ [] → Told rs tokens out qs left more → left ≡ after_answering rs tokens
+told_tokens rs tokens left out more qs none told = sym (after-nil left) ∙ ap (λ l. after_answering l left) (sym none) ∙ told.kept
+
+pub front_is : {X : Type 0} (items rest : List X) (x : X) → 0 < length items → x ≡ get_or items 0 x → rest ≡ drop 1 items → items ≡ x ∷ rest
+front_is [] rest x some front behind = absurd (omega arith)
+front_is (y ∷ ys) rest x some front behind = cc
+
+ready-front : (settled : ℕ) (step : HeldStep) (rest : List HeldStep) → step.need ≤ settled → ready settled (step ∷ rest) ≡ suc (ready settled rest)
+ready-front settled step rest passes = ap (λ b. cond b (1 + ready settled rest) 0) (le-leb step.need settled passes) ∙ omega arith
+
+pub released-front : (settled : ℕ) (step : HeldStep) (rest items : List HeldStep) → items ≡ step ∷ rest → step.need ≤ settled → released settled items ≡ step.replies ++ released settled rest
+released-front settled step rest items is passes =
+    ap (released settled) is ∙ ap (λ n. replies_of (take n (step ∷ rest))) (ready-front settled step rest passes)
+
+pub still-front : (settled : ℕ) (step : HeldStep) (rest items : List HeldStep) → items ≡ step ∷ rest → step.need ≤ settled → still_held settled items ≡ still_held settled rest
+still-front settled step rest items is passes =
+    ap (still_held settled) is ∙ ap (λ n. drop n (step ∷ rest)) (ready-front settled step rest passes)
+
+-- where the front has to wait, nothing leaves
+pub ready-none : (settled : ℕ) (step : HeldStep) (items : List HeldStep) → 0 < length items → step ≡ get_or items 0 step → settled < step.need → ready settled items ≡ 0
+ready-none settled step [] some front waits = absurd (omega arith)
+ready-none settled step (s ∷ items) some front waits =
+    ap (λ (h : HeldStep). cond (leb h.need settled) (1 + ready settled items) 0) (sym front)
+    ∙ ap (λ b. cond b (1 + ready settled items) 0) (lt-leb step.need settled waits)
+
+pub none-released : (settled : ℕ) (items : List HeldStep) → ready settled items ≡ 0 → released settled items ≡ []
+none-released settled items none = ap (λ n. replies_of (take n items)) none
+
+pub all-held : (settled : ℕ) (items : List HeldStep) → ready settled items ≡ 0 → still_held settled items ≡ items
+all-held settled items none = ap (λ n. drop n items) none
+
+-- the refusals of the calls of more replies
+pub refusals-append : (rs qs : List (Ticket × Reply)) → map refusal (calls_of (rs ++ qs)) ≡ map refusal (calls_of rs) ++ map refusal (calls_of qs)
+refusals-append [] qs = refl
+refusals-append (r ∷ rs) qs = ap (λ l. refusal r.0 ∷ l) (refusals-append rs qs)
+
+past-end : {X : Type 0} (xs : List X) (i : ℕ) → slice_get xs i ≡ None → length xs ≤ i
+past-end [] i none = omega arith
+past-end (x ∷ xs) zero none = absurd (cc)
+past-end (x ∷ xs) (suc i) none = let rest = past-end xs i none in omega arith
+
+-- the calls from a place on, of as many as there are tokens
+pub calls-front : (waiting : List Ticket) (count i : ℕ) (t : Ticket) → i < count → slice_get waiting i ≡ Some t → drop i (take count waiting) ≡ t ∷ drop (i + 1) (take count waiting)
+calls-front waiting count i t within found =
+    let there = slice_get_within waiting i t found in
+    let len = length-take count waiting in
+    let inside : i < length (take count waiting) = omega arith in
+    drop-cons (take count waiting) i t inside
+    ∙ ap (λ x. x ∷ drop (suc i) (take count waiting)) (get_or-take count waiting i t within ∙ get_or_from_slice_get waiting i t t found)
+    ∙ ap (λ n. t ∷ drop n (take count waiting)) (sym (add-one i))
+
+pub calls-end : (waiting : List Ticket) (count i : ℕ) → slice_get waiting i ≡ None → drop i (take count waiting) ≡ []
+calls-end waiting count i none =
+    let past = past-end waiting i none in
+    let len = length-take count waiting in
+    drop_of_length-le (take count waiting) (omega arith)
+
+pub calls-past : (waiting : List Ticket) (count i : ℕ) → count ≤ i → drop i (take count waiting) ≡ []
+calls-past waiting count i past = let len = length-take count waiting in drop_of_length-le (take count waiting) (omega arith)
+
+-- the calls of held replies are refused, then those that wait, then the rest
+pub all_refused : (calls waiting : List Ticket) (t0 t1 t2 t3 : List ReplyToken) (out0 out1 out2 out3 : List Outgoing) → out0 ≡ []
+    → out1 ≡ out0 ++ answering (map refusal calls) t0 → t1 ≡ after_answering (map refusal calls) t0
+    → out2 ≡ out1 ++ answering (map refusal (take (length t1) waiting)) t1 → t2 ≡ after_answering (map refusal (take (length t1) waiting)) t1
+    → t3 ≡ t2 → out3 ≡ out2 ++ map refused t3
+    → out3 ≡ (let left : List ReplyToken = after_answering (map refusal calls) t0 in
+    answering (map refusal calls) t0 ++ answering (map refusal (take (length left) waiting)) left ++ map refused (after_answering (map refusal (take (length left) waiting)) left))
+all_refused calls waiting t0 t1 t2 t3 out0 out1 out2 out3 empty o1 k1 o2 k2 k3 o3 =
+    o3
+    ∙ ap (λ l. l ++ map refused t3) (o2 ∙ ap (λ l. l ++ answering (map refusal (take (length t1) waiting)) t1) (o1 ∙ ap (λ l. l ++ answering (map refusal calls) t0) empty))
+    ∙ ap (λ t. (answering (map refusal calls) t0 ++ answering (map refusal (take (length t1) waiting)) t1) ++ map refused t) (k3 ∙ k2)
+    ∙ ap (λ t. answering (map refusal calls) t0 ++ answering (map refusal (take (length t) waiting)) t ++ map refused (after_answering (map refusal (take (length t) waiting)) t)) k1

@@ -1,2 +1,16 @@
+pub mod Found
 pub mod Leaving
-pub mod Taking
+pub mod FrontLaws
+pub mod Taken
+pub mod Parting
+pub mod Alike
+pub mod Weights
+pub mod Owing
+pub mod Called
+pub mod CalledRequests
+pub mod CalledTurns
+pub mod CalledEverywhere
+pub mod CalledGroups
+pub mod CalledEvents
+pub mod Living
+pub mod Balanced

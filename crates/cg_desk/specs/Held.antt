@@ -1,21 +1,31 @@
--- Replies that wait for their commands.
-use Rattle.std.specs.Prelude.{ℕ, List, nat_le}
-use Rattle.std.specs.List.{prefix_len}
-use Rattle.cg_desk.specs.Outgoings.{answer}
-use Rattle.cg_desk.specs.Tokens.{call_of}
-use Rattle.cg_group.specs.declared.reply.Reply.TheVariants.{Refused}
-use Rattle.cg_names.specs.declared.code.Code.TheVariants.{CoordinatorNotAvailable}
-use Rattle.cg_desk.specs.declared.held.HeldReply.{HeldReply}
-use Rattle.cg_desk.specs.declared.outgoing.Outgoing.{Outgoing}
+-- Replies that wait for their commands: those of one step wait together.
+use Rattle.std.specs.Prelude.{ℕ, List, [], ◌∷◌, take, drop, map, nat_le}
+use Rattle.std.specs.List.{flat_map, prefix_len}
+use Rattle.cg_group.specs.declared.reply.Reply.{Reply}
+use Rattle.cg_group.specs.declared.ticket.Ticket.{Ticket}
+use Rattle.cg_desk.specs.declared.held.HeldStep.{HeldStep}
 
--- how many of the held replies, from the front on, have all the commands that they need
-abbrev pub ready : ℕ → List HeldReply → ℕ
-ready settled held = prefix_len (λ (reply : HeldReply). nat_le reply.need settled) held
+-- the replies of a step as they are held; a step without replies is not
+abbrev pub holding : ℕ → List (Ticket × Reply) → List HeldStep
+holding need [] = []
+holding need (r ∷ rs) = record { need = need; replies = r ∷ rs } ∷ []
 
--- a held reply as it leaves
-abbrev pub sent : HeldReply → Outgoing
-sent held = answer (call_of held.token) held.reply
+-- how many of the held steps, from the front on, have all the commands that they need
+abbrev pub ready : ℕ → List HeldStep → ℕ
+ready settled held = prefix_len (λ (step : HeldStep). nat_le step.need settled) held
 
--- a held reply that is refused in its place
-abbrev pub refused : HeldReply → Outgoing
-refused held = answer (call_of held.token) (Refused CoordinatorNotAvailable)
+-- the replies of held steps, in their order
+abbrev pub replies_of : List HeldStep → List (Ticket × Reply)
+replies_of held = flat_map (λ (step : HeldStep). step.replies) held
+
+-- the replies that leave
+abbrev pub released : ℕ → List HeldStep → List (Ticket × Reply)
+released settled held = replies_of (take (ready settled held) held)
+
+-- the steps that are still held
+abbrev pub still_held : ℕ → List HeldStep → List HeldStep
+still_held settled held = drop (ready settled held) held
+
+-- the calls that replies go to
+abbrev pub calls_of : List (Ticket × Reply) → List Ticket
+calls_of replies = map (λ (r : Ticket × Reply). r.0) replies

@@ -5,6 +5,7 @@
 
 mod admission;
 mod answers;
+mod asking;
 mod assignments;
 mod beating;
 mod bounds;
@@ -57,6 +58,7 @@ mod topic_partition;
 mod turn;
 mod vote;
 
+pub use asking::Request;
 pub use bounds::GROUPS_MAX;
 pub use commit_entry::CommitEntry;
 pub use commits::Commits;

@@ -55,7 +55,7 @@ pub use partition::{PARTITION_MAX, Partition};
 pub use reading::read;
 pub use replaced::{Replaced, StaticMember};
 pub use roster::{MEMBERS_MAX, Roster};
-pub use sizes::size;
+pub use sizes::{COMMAND_BYTES_MAX, size};
 pub use writing::write;
 
 #[cfg(test)]

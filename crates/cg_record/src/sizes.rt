@@ -36,6 +36,9 @@ const GROUP_FIXED_BYTES: u64 = 6;
 // The bytes of a commit but for its group and its entries: a length of 1, a count of 1.
 const COMMITTED_FIXED_BYTES: u64 = 2;
 
+/// The bytes of a command at most.
+pub const COMMAND_BYTES_MAX: u64 = 352_001;
+
 #[tactic(auto, using(crate::proofs::TextLens::entry_len, cg_names::proofs::Names::length_from_name))]
 fn entry_size(entry: &Entry) -> u64
     ensures size { result ≡ length (entry_text entry.now) }
@@ -165,7 +168,8 @@ fn deleted_size(deleted: &Deleted) -> u64
 /// The number of bytes that `write` spends on the command. Goes through its members or entries, and takes no memory.
 #[tactic(auto, unfolding(crate::specs::Spelling::command_text))]
 pub fn size(command: &Command) -> u64
-    ensures { result ≡ length (command_text command.now) }
+    ensures size { result ≡ length (command_text command.now) }
+    ensures bound { result ≤ COMMAND_BYTES_MAX }
 {
     match command {
         Command::Assigned(assigned) => 1 + assigned_size(assigned),

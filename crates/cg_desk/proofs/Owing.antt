@@ -1,0 +1,189 @@
+-- Each call without an answer has one token.
+use Rattle.std.proofs.Common.{◌≡◌, ℕ, suc, ◌+◌, ◌≤◌, Bool, true, false, not, List, [], ◌∷◌, ◌++◌, length, map, take, drop, cond, refl, ap, sym, ◌∙◌, arith, eq-eqb}
+use Rattle.std.specs.Prelude.{Option, Some, None, is_some, nat_eq, nat_lt, ◌&&◌, if◌then◌else◌}
+use Rattle.std.specs.List.{position, position_or_len}
+use Rattle.std.proofs.lemmas.Bool.{ltb-false}
+use Rattle.std.proofs.lemmas.List.{append-nil, map-append, nil_from_length, take-append-drop}
+use Rattle.std.proofs.Math.Seq.{take-length}
+use Rattle.std.proofs.lemmas.List.Concat.{flat_map-append}
+use Rattle.std.proofs.lemmas.List.Sums.{sum_by-append, sum_by-cons}
+use Rattle.cg_group.specs.declared.event.Event.{Event}
+use Rattle.cg_group.specs.declared.reply.Reply.{Reply}
+use Rattle.cg_group.specs.declared.ticket.Ticket.{Ticket}
+use Rattle.cg_group.specs.Machine.{Machine, step}
+use Rattle.cg_group.specs.Waiting.{waiting_calls}
+use Rattle.cg_desk.specs.Answering.{after_answering, answering, answering_one, refusal, refused}
+use Rattle.cg_desk.specs.Books.{Books, failing, letting_go, served, settling, stepped}
+use Rattle.cg_desk.specs.Desks.{opened}
+use Rattle.cg_desk.specs.Flights.{Idle}
+use Rattle.cg_desk.specs.Held.{calls_of, holding, ready, released, replies_of, still_held}
+use Rattle.cg_desk.specs.Laws.{weight_of, weight_out}
+use Rattle.cg_desk.specs.Owed.{IsOwed, KeepsCalls, sent, weight_calls}
+use Rattle.cg_desk.specs.Tokens.{call_of, has_token, is_for, without}
+use Rattle.cg_desk.specs.declared.held.HeldStep.{HeldStep}
+use Rattle.cg_desk.specs.declared.outgoing.Outgoing.{Outgoing}
+use Rattle.cg_desk.specs.declared.token.ReplyToken.{ReplyToken}
+use Rattle.cg_desk.proofs.Weights.{one-weight}
+
+-- a ticket weighs one, and every other nothing
+abbrev alone : Ticket → Ticket → ℕ
+alone ticket other = cond (nat_eq other.session ticket.session && nat_eq other.number ticket.number) 1 0
+
+alone-self : (ticket : Ticket) → alone ticket ticket ≡ 1
+alone-self ticket =
+    ap (λ b. cond (b && nat_eq ticket.number ticket.number) 1 0) (eq-eqb ticket.session ticket.session refl) ∙ ap (λ b. cond b 1 0) (eq-eqb ticket.number ticket.number refl)
+
+none-step : (b : Bool) (token : ReplyToken) (ticket : Ticket) (tokens : List ReplyToken) → is_for ticket token ≡ b → suc (length tokens) ≤ cond (not b) (1 + position_or_len (is_for ticket) tokens) 0
+    → (length tokens ≤ position_or_len (is_for ticket) tokens → weight_of (alone ticket) tokens ≡ 0) → cond b 1 0 + weight_of (alone ticket) tokens ≡ 0
+none-step true token ticket tokens is past rest = absurd (omega arith)
+none-step false token ticket tokens is past rest = let none = rest (omega arith) in omega arith
+
+none-weighs : (ticket : Ticket) (tokens : List ReplyToken) → length tokens ≤ position_or_len (is_for ticket) tokens → weight_of (alone ticket) tokens ≡ 0
+none-weighs ticket [] past = refl
+none-weighs ticket (token ∷ tokens) past =
+    let one = sum_by-cons (λ (t : ReplyToken). alone ticket (call_of t)) token tokens in
+    let rest = none-step (is_for ticket token) token ticket tokens refl past (none-weighs ticket tokens) in
+    omega arith
+
+missed : (b : Bool) (n : ℕ) → (let o : Option ℕ = cond b (Some n) None in o) ≡ None → b ≡ false
+missed true n is = absurd (cc)
+missed false n is = refl
+
+found-at : (ticket : Ticket) (tokens : List ReplyToken) (at : Option ℕ) → position (is_for ticket) tokens ≡ at → 1 ≤ weight_of (alone ticket) tokens → is_some at ≡ true
+found-at ticket tokens None is some =
+    let past = ltb-false (position_or_len (is_for ticket) tokens) (length tokens) (missed (nat_lt (position_or_len (is_for ticket) tokens) (length tokens)) (position_or_len (is_for ticket) tokens) is) in
+    let none = none-weighs ticket tokens past in
+    absurd (omega arith)
+found-at ticket tokens (Some at) is some = refl
+
+found : (ticket : Ticket) (tokens : List ReplyToken) → 1 ≤ weight_of (alone ticket) tokens → has_token ticket tokens ≡ true
+unfolding has_token
+found ticket tokens some = found-at ticket tokens (position (is_for ticket) tokens) refl some
+
+-- each of the replies leaves, and the tokens of the rest stay
+record AllLeave (rs : List (Ticket × Reply)) (tokens : List ReplyToken) (rest : (Ticket → ℕ) → ℕ) : Type 0 where
+  gone : answering rs tokens ≡ map sent rs
+  stay : (weight : Ticket → ℕ) → weight_of weight (after_answering rs tokens) ≡ rest weight
+
+all-leave : (rs : List (Ticket × Reply)) (tokens : List ReplyToken) (rest : (Ticket → ℕ) → ℕ)
+    → ((weight : Ticket → ℕ) → weight_of weight tokens ≡ weight_calls weight (calls_of rs) + rest weight) → AllLeave rs tokens rest
+unfolding answering after_answering
+all-leave [] tokens rest owes = record { gone = refl; stay = λ weight. let all = owes weight in omega arith }
+all-leave (r ∷ rs) tokens rest owes =
+    let own = owes (alone r.0) in
+    let front = sum_by-cons (alone r.0) r.0 (calls_of rs) in
+    let self = alone-self r.0 in
+    let has : has_token r.0 tokens ≡ true = found r.0 tokens (omega arith) in
+    let one : answering_one r tokens ≡ sent r ∷ [] = ap (λ b. let l : List Outgoing = if b then sent r ∷ [] else [] in l) has in
+    let less : (weight : Ticket → ℕ) → weight_of weight (without r.0 tokens) ≡ weight_calls weight (calls_of rs) + rest weight = λ weight.
+    let all = owes weight in
+    let taken = one-weight weight r tokens in
+    let left = ap (weight_out weight) one in
+    let first = sum_by-cons weight r.0 (calls_of rs) in
+    omega arith in
+    let more = all-leave rs (without r.0 tokens) rest less in
+    record {
+      gone = ap (λ l. l ++ answering rs (without r.0 tokens)) one ∙ ap (λ l. sent r ∷ l) more.gone;
+      stay = more.stay;
+    }
+
+calls-append : (rs qs : List (Ticket × Reply)) → calls_of (rs ++ qs) ≡ calls_of rs ++ calls_of qs
+calls-append [] qs = refl
+calls-append (r ∷ rs) qs = ap (λ l. r.0 ∷ l) (calls-append rs qs)
+
+-- held replies are those that leave and those that stay
+take-drop : {X : Type 0} (n : ℕ) (xs : List X) → xs ≡ take n xs ++ drop n xs
+take-drop n xs = sym (take-append-drop n xs)
+
+split-held : (settled : ℕ) (held : List HeldStep) → replies_of held ≡ released settled held ++ replies_of (still_held settled held)
+split-held settled held = ap replies_of (take-drop (ready settled held) held) ∙ flat_map-append (λ (s : HeldStep). s.replies) (take (ready settled held) held) (still_held settled held)
+
+record Goes (c : Books) : Type 0 where
+  gone : (letting_go c).out ≡ map sent (released c.settled c.held)
+  owed : IsOwed (letting_go c).books
+
+goes : (c : Books) → IsOwed c → Goes c
+unfolding letting_go
+goes c owed =
+    let rest : (Ticket → ℕ) → ℕ = λ weight. weight_calls weight (calls_of (replies_of (still_held c.settled c.held))) + weight_calls weight (waiting_calls c.machine.groups) in
+    let all = all-leave (released c.settled c.held) c.tokens rest (λ weight.
+    let total = owed weight in
+    let split = ap (λ rs. weight_calls weight (calls_of rs)) (split-held c.settled c.held) in
+    let calls = ap (weight_calls weight) (calls-append (released c.settled c.held) (replies_of (still_held c.settled c.held))) in
+    let both = sum_by-append weight (calls_of (released c.settled c.held)) (calls_of (replies_of (still_held c.settled c.held))) in
+    omega arith) in
+    record { gone = all.gone; owed = all.stay }
+
+held-more : (need : ℕ) (held : List HeldStep) (rs : List (Ticket × Reply)) → replies_of (held ++ holding need rs) ≡ replies_of held ++ rs
+held-more need held [] = flat_map-append (λ (s : HeldStep). s.replies) held []
+held-more need held (r ∷ rs) =
+    let step : HeldStep = record { need = need; replies = r ∷ rs } in
+    flat_map-append (λ (s : HeldStep). s.replies) held (step ∷ []) ∙ ap (λ l. replies_of held ++ l) (append-nil (r ∷ rs))
+
+stepped-owed : (b : Books) (handed : List ReplyToken) (e : Event) (now : ℕ) → IsOwed b → KeepsCalls b.machine handed e now → IsOwed (stepped b (step b.machine e now) handed)
+stepped-owed b handed e now owed keeps weight =
+    let rs = (step b.machine e now).effects.replies in
+    let before = owed weight in
+    let kept = keeps weight in
+    let tokens = sum_by-append (λ (t : ReplyToken). weight (call_of t)) b.tokens handed in
+    let held = ap (λ l. weight_calls weight (calls_of l)) (held-more (b.numbered + length (step b.machine e now).effects.commands) b.held rs) in
+    let calls = ap (weight_calls weight) (calls-append (replies_of b.held) rs) in
+    let both = sum_by-append weight (calls_of (replies_of b.held)) (calls_of rs) in
+    omega arith
+
+pub begins : (number : ℕ) (s : Machine) → waiting_calls s.groups ≡ [] → IsOwed (opened number s)
+begins number s none weight = let waiting = ap (weight_calls weight) none in omega arith
+
+pub owed-served : (b : Books) (handed : List ReplyToken) (e : Event) (now : ℕ) → IsOwed b → KeepsCalls b.machine handed e now → IsOwed (served b handed e now).books
+unfolding served
+owed-served b handed e now owed keeps = (goes (stepped b (step b.machine e now) handed) (stepped-owed b handed e now owed keeps)).owed
+
+pub leave-served : (b : Books) (handed : List ReplyToken) (e : Event) (now : ℕ) → IsOwed b → KeepsCalls b.machine handed e now
+    → (served b handed e now).out ≡ map sent (released b.settled (stepped b (step b.machine e now) handed).held)
+unfolding served
+leave-served b handed e now owed keeps = (goes (stepped b (step b.machine e now) handed) (stepped-owed b handed e now owed keeps)).gone
+
+pub owed-settled : (b : Books) (count : ℕ) → IsOwed b → IsOwed (settling b count).books
+unfolding settling
+owed-settled b count owed = (goes (let c : Books = record b { settled = b.settled + count; course = Idle } in c) owed).owed
+
+pub leave-settled : (b : Books) (count : ℕ) → IsOwed b → (settling b count).out ≡ map sent (released (b.settled + count) b.held)
+unfolding settling
+leave-settled b count owed = (goes (let c : Books = record b { settled = b.settled + count; course = Idle } in c) owed).gone
+
+calls-refused : (calls : List Ticket) → calls_of (map refusal calls) ≡ calls
+calls-refused [] = refl
+calls-refused (t ∷ calls) = ap (λ l. t ∷ l) (calls-refused calls)
+
+tokens-count : (tokens : List ReplyToken) → weight_of (λ t. 1) tokens ≡ length tokens
+tokens-count [] = refl
+tokens-count (token ∷ tokens) = let one = sum_by-cons (λ (t : ReplyToken). 1) token tokens in let rest = tokens-count tokens in omega arith
+
+calls-count : (calls : List Ticket) → weight_calls (λ t. 1) calls ≡ length calls
+calls-count [] = refl
+calls-count (t ∷ calls) = let one = sum_by-cons (λ (u : Ticket). 1) t calls in let rest = calls-count calls in omega arith
+
+pub failed : (b : Books) → IsOwed b → failing b ≡ map sent (map refusal (calls_of (replies_of b.held) ++ waiting_calls b.machine.groups))
+unfolding failing
+failed b owed =
+    let held = calls_of (replies_of b.held) in
+    let waiting = waiting_calls b.machine.groups in
+    let answered = map refusal held in
+    let left = after_answering answered b.tokens in
+    let first = all-leave answered b.tokens (λ weight. weight_calls weight waiting) (λ weight. let all = owed weight in let calls = ap (weight_calls weight) (calls-refused held) in omega arith) in
+    let some = first.stay (λ t. 1) in
+    let left_count = tokens-count left in
+    let waiting_count = calls-count waiting in
+    let whole : take (length left) waiting ≡ waiting = (let same : length left ≡ length waiting = omega arith in ap (λ n. take n waiting) same ∙ take-length waiting) in
+    let second = all-leave (map refusal waiting) left (λ weight. 0) (λ weight. let all = first.stay weight in let calls = ap (weight_calls weight) (calls-refused waiting) in omega arith) in
+    let last = after_answering (map refusal waiting) left in
+    let none_left = second.stay (λ t. 1) in
+    let last_count = tokens-count last in
+    let none : last ≡ [] = nil_from_length last (omega arith) in
+    ap (λ ts. (answering answered b.tokens ++ answering (map refusal ts) left) ++ map refused (after_answering (map refusal ts) left)) whole
+    ∙ ap (λ ts. (answering answered b.tokens ++ answering (map refusal waiting) left) ++ map refused ts) none
+    ∙ append-nil (answering answered b.tokens ++ answering (map refusal waiting) left)
+    ∙ ap (λ l. l ++ answering (map refusal waiting) left) first.gone
+    ∙ ap (λ l. map sent answered ++ l) second.gone
+    ∙ sym (map-append sent answered (map refusal waiting))
+    ∙ ap (map sent) (sym (map-append refusal held waiting))

@@ -1,0 +1,140 @@
+-- Tickets by their weights.
+use Rattle.std.proofs.Common.{◌≡◌, ℕ, ◌+◌, ◌<◌, Bool, true, false, List, [], ◌∷◌, ◌++◌, length, get_or, map, take, cond, refl, ap, sym, ◌∙◌, subst, arith}
+use Rattle.std.specs.Prelude.{Option, Some, None, is_some, if◌then◌else◌}
+use Rattle.std.specs.List.{position, remove, sum_by}
+use Rattle.std.specs.List.Sorted.{IsPermutation}
+use Rattle.std.proofs.lemmas.List.{get_or_default}
+use Rattle.std.proofs.lemmas.List.Quantifiers.{position-Some}
+use Rattle.std.proofs.lemmas.List.Sorted.{IsPermutation-remove, sum_by-IsPermutation}
+use Rattle.std.proofs.lemmas.List.Sums.{sum_by-append, sum_by-cons}
+use Rattle.cg_group.specs.declared.event.Event.{Event}
+use Rattle.cg_group.specs.declared.event.Event.TheVariants as event
+use Rattle.cg_group.specs.declared.reply.Reply.{Reply}
+use Rattle.cg_group.specs.declared.reply.Reply.TheVariants.{Refused}
+use Rattle.cg_names.specs.declared.code.Code.TheVariants.{CoordinatorNotAvailable}
+use Rattle.cg_group.specs.declared.ticket.Ticket.{Ticket}
+use Rattle.cg_group.specs.Machine.{step}
+use Rattle.cg_group.specs.Waiting.{waiting_calls}
+use Rattle.cg_desk.specs.Answering.{after_answering, answering, answering_one, refusal, refused}
+use Rattle.cg_desk.specs.Books.{Books, Served, failing, is_short, letting_go, served, settling, stepped}
+use Rattle.cg_desk.specs.Desks.{Answer, State, Loading, Serving, Failed, at_rest, failing_on, gone_on, request_on, serving, settle_on, tick_on}
+use Rattle.cg_desk.specs.Held.{calls_of, released, replies_of}
+use Rattle.cg_desk.specs.Laws.{AreKept, TicketsAreKept, tokens_of, weight_of, weight_out}
+use Rattle.cg_desk.specs.Flights.{Idle}
+use Rattle.cg_desk.specs.Outgoings.{answer, ticket_of}
+use Rattle.cg_desk.specs.Tokens.{call_of, has_token, is_for, without, without_place}
+use Rattle.cg_desk.specs.declared.outgoing.Outgoing.{Outgoing}
+use Rattle.cg_desk.specs.declared.token.ReplyToken.{ReplyToken}
+use Rattle.cg_desk.proofs.Found.{for_call}
+
+-- one token and the rest weigh what all do
+taken-weight : (weight : Ticket → ℕ) (tokens : List ReplyToken) (ticket : Ticket) (at : ℕ) → position (is_for ticket) tokens ≡ Some at → weight ticket + weight_of weight (remove tokens at) ≡ weight_of weight tokens
+taken-weight weight tokens ticket at found =
+    let none : ReplyToken = record { ticket = ticket } in
+    let there = position-Some (is_for ticket) tokens at none found in
+    let token : ReplyToken = get_or tokens at none in
+    let value : token ≡ get_or tokens at token = get_or_default tokens at none token there.0 in
+    let call : call_of token ≡ ticket = for_call tokens ticket at token found value in
+    let moved = sum_by-IsPermutation (λ (t : ReplyToken). weight (call_of t)) tokens (token ∷ remove tokens at) (IsPermutation-remove tokens at token there.0 value) in
+    let front = sum_by-append (λ (t : ReplyToken). weight (call_of t)) (token ∷ []) (remove tokens at) in
+    let one : weight (call_of token) ≡ weight ticket = ap weight call in
+    omega arith
+
+one-at : (weight : Ticket → ℕ) (r : Ticket × Reply) (tokens : List ReplyToken) (at : Option ℕ) → position (is_for r.0) tokens ≡ at
+    → weight_out weight (if is_some at then answer r.0 r.1 ∷ [] else []) + weight_of weight (without_place at tokens) ≡ weight_of weight tokens
+one-at weight r tokens None missed = omega arith
+one-at weight r tokens (Some at) found = let taken = taken-weight weight tokens r.0 at found in omega arith
+
+pub one-weight : (weight : Ticket → ℕ) (r : Ticket × Reply) (tokens : List ReplyToken) → weight_out weight (answering_one r tokens) + weight_of weight (without r.0 tokens) ≡ weight_of weight tokens
+unfolding has_token without
+one-weight weight r tokens = one-at weight r tokens (position (is_for r.0) tokens) refl
+
+answering-weight : (weight : Ticket → ℕ) (rs : List (Ticket × Reply)) (tokens : List ReplyToken) → weight_out weight (answering rs tokens) + weight_of weight (after_answering rs tokens) ≡ weight_of weight tokens
+unfolding answering after_answering
+answering-weight weight [] tokens = omega arith
+answering-weight weight (r ∷ rs) tokens =
+    let both = sum_by-append (λ (o : Outgoing). weight (ticket_of o)) (answering_one r tokens) (answering rs (without r.0 tokens)) in
+    let one = one-weight weight r tokens in
+    let rest = answering-weight weight rs (without r.0 tokens) in
+    omega arith
+
+going-weight : (weight : Ticket → ℕ) (b : Books) → weight_out weight (letting_go b).out + weight_of weight (letting_go b).books.tokens ≡ weight_of weight b.tokens
+unfolding letting_go
+going-weight weight b = answering-weight weight (released b.settled b.held) b.tokens
+
+served-kept : (b : Books) (handed : List ReplyToken) (e : Event) (now : ℕ) → AreKept b.tokens handed (served b handed e now).out (served b handed e now).books.tokens
+unfolding served
+served-kept b handed e now weight =
+    let both = sum_by-append (λ (t : ReplyToken). weight (call_of t)) b.tokens handed in
+    let gone = going-weight weight (stepped b (step b.machine e now) handed) in
+    omega arith
+
+settled-kept : (b : Books) (count : ℕ) → AreKept b.tokens [] (settling b count).out (settling b count).books.tokens
+unfolding settling
+settled-kept b count weight = let gone = going-weight weight (let c : Books = record b { settled = b.settled + count; course = Idle } in c) in omega arith
+
+refused-weight : (weight : Ticket → ℕ) (tokens : List ReplyToken) → weight_out weight (map refused tokens) ≡ weight_of weight tokens
+refused-weight weight [] = refl
+refused-weight weight (token ∷ tokens) =
+    let one = sum_by-cons (λ (o : Outgoing). weight (ticket_of o)) (refused token) (map refused tokens) in
+    let same = sum_by-cons (λ (t : ReplyToken). weight (call_of t)) token tokens in
+    let rest = refused-weight weight tokens in
+    omega arith
+
+failed-kept : (b : Books) → AreKept b.tokens [] (failing b) []
+unfolding failing
+failed-kept b weight =
+    let f : Outgoing → ℕ = λ (o : Outgoing). weight (ticket_of o) in
+    let answered : List (Ticket × Reply) = map refusal (calls_of (replies_of b.held)) in
+    let left : List ReplyToken = after_answering answered b.tokens in
+    let waiting : List (Ticket × Reply) = map refusal (take (length left) (waiting_calls b.machine.groups)) in
+    let last : List ReplyToken = after_answering waiting left in
+    let outer = sum_by-append f (answering answered b.tokens ++ answering waiting left) (map refused last) in
+    let inner = sum_by-append f (answering answered b.tokens) (answering waiting left) in
+    let first = answering-weight weight answered b.tokens in
+    let second = answering-weight weight waiting left in
+    let third = refused-weight weight last in
+    omega arith
+
+asked-kept : (short : Bool) (b : Books) (token : ReplyToken) (e : Event) (now : ℕ)
+    → let a : Answer = if short then record { after = Serving b; out = answer (call_of token) (Refused CoordinatorNotAvailable) ∷ [] } else serving (served b (token ∷ []) e now) in
+    AreKept b.tokens (token ∷ []) a.out (tokens_of a.after)
+asked-kept true b token e now weight = omega arith
+asked-kept false b token e now weight = served-kept b (token ∷ []) e now weight
+
+ticked-kept : (short : Bool) (b : Books) (e : Event) (now : ℕ) → let a : Answer = if short then at_rest (Serving b) else serving (served b [] e now) in AreKept b.tokens [] a.out (tokens_of a.after)
+ticked-kept true b e now weight = omega arith
+ticked-kept false b e now weight = served-kept b [] e now weight
+
+request-kept : (s : State) (token : ReplyToken) (e : Event) (now : ℕ) → AreKept (tokens_of s) (token ∷ []) (request_on s token e now).out (tokens_of (request_on s token e now).after)
+unfolding request_on
+request-kept Loading token e now weight = omega arith
+request-kept (Failed n m) token e now weight = omega arith
+request-kept (Serving b) token e now weight = asked-kept (is_short b) b token e now weight
+
+tick-kept : (s : State) (now : ℕ) → AreKept (tokens_of s) [] (tick_on s now).out (tokens_of (tick_on s now).after)
+unfolding tick_on
+tick-kept Loading now weight = omega arith
+tick-kept (Failed n m) now weight = omega arith
+tick-kept (Serving b) now weight = ticked-kept (is_short b) b event.Tick now weight
+
+gone-kept : (s : State) (session now : ℕ) → AreKept (tokens_of s) [] (gone_on s session now).out (tokens_of (gone_on s session now).after)
+unfolding gone_on
+gone-kept Loading session now weight = omega arith
+gone-kept (Failed n m) session now weight = omega arith
+gone-kept (Serving b) session now weight = served-kept b [] (event.Gone session) now weight
+
+settle-kept : (s : State) (count : ℕ) → AreKept (tokens_of s) [] (settle_on s count).out (tokens_of (settle_on s count).after)
+unfolding settle_on
+settle-kept Loading count weight = omega arith
+settle-kept (Failed n m) count weight = omega arith
+settle-kept (Serving b) count weight = settled-kept b count weight
+
+fail-kept : (s : State) → AreKept (tokens_of s) [] (failing_on s) []
+unfolding failing_on
+fail-kept Loading weight = omega arith
+fail-kept (Failed n m) weight = omega arith
+fail-kept (Serving b) weight = failed-kept b weight
+
+pub tickets_are_kept : TicketsAreKept
+tickets_are_kept = record { request = request-kept; tick = tick-kept; gone = gone-kept; settle = settle-kept; fail = fail-kept }

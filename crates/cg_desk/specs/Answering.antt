@@ -1,0 +1,32 @@
+-- Replies that leave: each takes the token of its call with it.
+use Rattle.std.specs.Prelude.{ℕ, List, [], ◌∷◌, ◌++◌, map, if◌then◌else◌}
+use Rattle.cg_group.specs.declared.reply.Reply.{Reply}
+use Rattle.cg_group.specs.declared.reply.Reply.TheVariants.{Refused}
+use Rattle.cg_group.specs.declared.ticket.Ticket.{Ticket}
+use Rattle.cg_names.specs.declared.code.Code.TheVariants.{CoordinatorNotAvailable}
+use Rattle.cg_desk.specs.Outgoings.{answer}
+use Rattle.cg_desk.specs.Tokens.{call_of, has_token, without}
+use Rattle.cg_desk.specs.declared.outgoing.Outgoing.{Outgoing}
+use Rattle.cg_desk.specs.declared.token.ReplyToken.{ReplyToken}
+
+-- a reply as it leaves, where its call has a token
+abbrev pub answering_one : Ticket × Reply → List ReplyToken → List Outgoing
+answering_one r tokens = if has_token r.0 tokens then answer r.0 r.1 ∷ [] else []
+
+-- the replies as they leave, in their order, each to a call that has a token still
+unfoldable pub answering : List (Ticket × Reply) → List ReplyToken → List Outgoing
+answering [] tokens = []
+answering (r ∷ rs) tokens = answering_one r tokens ++ answering rs (without r.0 tokens)
+
+-- the tokens that are left then
+unfoldable pub after_answering : List (Ticket × Reply) → List ReplyToken → List ReplyToken
+after_answering [] tokens = tokens
+after_answering (r ∷ rs) tokens = after_answering rs (without r.0 tokens)
+
+-- a refusal for want of the coordinator
+abbrev pub refusal : Ticket → Ticket × Reply
+refusal ticket = (ticket, Refused CoordinatorNotAvailable)
+
+-- a token whose call is refused so
+abbrev pub refused : ReplyToken → Outgoing
+refused token = answer (call_of token) (Refused CoordinatorNotAvailable)

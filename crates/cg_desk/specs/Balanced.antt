@@ -1,0 +1,53 @@
+-- Each call without an answer has one token for good, whatever the desk is asked; so no reply waits for a token that is not there.
+use Rattle.std.specs.Prelude.{◌≡◌, ◌+◌, ℕ, List, [], ◌∷◌, ◌++◌, map, Option}
+use Rattle.cg_fold.specs.Durable.{State as Durable}
+use Rattle.cg_group.specs.declared.asking.Request.{Request}
+use Rattle.cg_group.specs.declared.event.Event.{Event}
+use Rattle.cg_group.specs.declared.event.Event.TheVariants.{Gone, Tick}
+use Rattle.cg_group.specs.Asking.{asked}
+use Rattle.cg_group.specs.Kept.{AreRecords}
+use Rattle.cg_group.specs.Machine.{step}
+use Rattle.cg_group.specs.Reviving.{revive}
+use Rattle.cg_group.specs.Waiting.{waiting_calls}
+use Rattle.cg_store.specs.declared.batch.Batch.{Batch}
+use Rattle.cg_desk.specs.Answering.{refusal}
+use Rattle.cg_desk.specs.Books.{Books, failing, served, settling, stepped}
+use Rattle.cg_desk.specs.Desks.{State, Failed, Loading, Serving, IsTakenFrom, gone_on, opened, request_on, return_to, settle_on, tick_on}
+use Rattle.cg_desk.specs.Held.{calls_of, released, replies_of}
+use Rattle.cg_desk.specs.Made.{IsMade}
+use Rattle.cg_desk.specs.Owed.{IsOwed, sent}
+use Rattle.cg_desk.specs.Tokens.{call_of}
+use Rattle.cg_desk.specs.declared.token.ReplyToken.{ReplyToken}
+
+-- events made the machine of a loading, and the tokens stand for the calls without an answer
+pub record IsBalanced (b : Books) : Type 0 where
+  pub made : IsMade b.machine
+  pub owed : IsOwed b
+
+abbrev pub IsBalancedAt : State → Type 0
+IsBalancedAt Loading = Unit {0}
+IsBalancedAt (Failed numbered settled) = Unit {0}
+IsBalancedAt (Serving b) = IsBalanced b
+
+-- a desk that has loaded what commands made is balanced, and each of its calls leaves it so
+pub record DesksStayBalanced : Type 0 where
+  pub loaded : (number : ℕ) (durable : Durable) (now : ℕ) → AreRecords durable → IsBalancedAt (Serving (opened number (revive durable now)))
+  pub request : (s : State) (r : Request) (token : ReplyToken) (fresh : List ℕ) (now : ℕ) → IsBalancedAt s → IsBalancedAt (request_on s token (asked r (call_of token) fresh) now).after
+  pub tick : (s : State) (now : ℕ) → IsBalancedAt s → IsBalancedAt (tick_on s now).after
+  pub gone : (s : State) (session now : ℕ) → IsBalancedAt s → IsBalancedAt (gone_on s session now).after
+  pub take : (s after : State) (o : Option Batch) → IsTakenFrom s o after → IsBalancedAt s → IsBalancedAt after
+  pub give_back : (s : State) → IsBalancedAt s → IsBalancedAt (return_to s)
+  pub settle : (s : State) (count : ℕ) → IsBalancedAt s → IsBalancedAt (settle_on s count).after
+
+-- the replies that leave a step with their calls: all those whose commands are settled
+abbrev pub AllLeave : Books → List ReplyToken → Event → ℕ → Type 0
+AllLeave b handed e now = (served b handed e now).out ≡ map sent (released b.settled (stepped b (step b.machine e now) handed).held)
+
+-- each reply whose commands are settled finds its call; and a failure refuses the calls of held replies, those that wait, and no
+-- others
+pub record RepliesFindTheirCalls : Type 0 where
+  pub request : (b : Books) (r : Request) (token : ReplyToken) (fresh : List ℕ) (now : ℕ) → IsBalanced b → AllLeave b (token ∷ []) (asked r (call_of token) fresh) now
+  pub tick : (b : Books) (now : ℕ) → IsBalanced b → AllLeave b [] Tick now
+  pub gone : (b : Books) (session now : ℕ) → IsBalanced b → AllLeave b [] (Gone session) now
+  pub settle : (b : Books) (count : ℕ) → IsBalanced b → (settling b count).out ≡ map sent (released (b.settled + count) b.held)
+  pub fail : (b : Books) → IsBalanced b → failing b ≡ map sent (map refusal (calls_of (replies_of b.held) ++ waiting_calls b.machine.groups))

@@ -1,0 +1,121 @@
+-- A desk that serves: what contracts see of it, and what each call does.
+use Rattle.std.specs.Prelude.{◌≡◌, ◌+◌, ◌-◌, ◌*◌, ℕ, Bool, List, [], ◌∷◌, ◌++◌, length, map, take, drop, nat_lt, true, false, Option, Some, None}
+use Rattle.cg_group.specs.declared.effects.Effects.{Effects}
+use Rattle.cg_group.specs.declared.event.Event.{Event}
+use Rattle.cg_group.specs.declared.ticket.Ticket.{Ticket}
+use Rattle.cg_group.specs.declared.reply.Reply.{Reply}
+use Rattle.cg_group.specs.Machine.{Machine, Outcome, step}
+use Rattle.cg_group.specs.Waiting.{waiting_calls}
+use Rattle.cg_record.specs.declared.command.Command.{Command}
+use Rattle.cg_store.specs.declared.batch.Batch.{Batch}
+use Rattle.cg_store.specs.declared.segment.TheConstants.{COMMAND_NUMBER_MAX}
+use Rattle.cg_desk.specs.Answering.{after_answering, answering, refusal, refused}
+use Rattle.cg_desk.specs.Fronts.{in_frame}
+use Rattle.cg_desk.specs.Held.{calls_of, holding, released, replies_of, still_held}
+use Rattle.cg_desk.specs.Flights.{Course, Idle, Away, Returned, is_away, unsettled}
+use Rattle.cg_desk.specs.declared.bounds.TheConstants.{SPARE_NUMBERS, SPARE_NUMBERS_PER_GROUP}
+use Rattle.cg_desk.specs.declared.fault.SettleFault.{SettleFault}
+use Rattle.cg_desk.specs.declared.fault.SettleFault.TheVariants.{Memory, NotInFlight, Foreign}
+use Rattle.cg_desk.specs.declared.held.HeldStep.{HeldStep}
+use Rattle.cg_desk.specs.declared.outgoing.Outgoing.{Outgoing}
+use Rattle.cg_desk.specs.declared.token.ReplyToken.{ReplyToken}
+
+-- the machine; the number of the last command, and of the last that is settled; the commands that were never taken; where the
+-- batch stands that was taken last; the replies that wait; and the tokens of all calls without an answer
+pub record Books : Type 0 where
+  pub machine : Machine
+  pub numbered : ℕ
+  pub settled : ℕ
+  pub queue : List Command
+  pub course : Course
+  pub held : List HeldStep
+  pub tokens : List ReplyToken
+
+-- a desk and the replies that leave it
+pub record Served : Type 0 where
+  pub books : Books
+  pub out : List Outgoing
+
+-- fewer command numbers are left than a request may ask for
+abbrev pub is_short : Books → Bool
+is_short b = nat_lt (COMMAND_NUMBER_MAX - b.numbered) (SPARE_NUMBERS + SPARE_NUMBERS_PER_GROUP * length b.machine.groups)
+
+-- the commands of a step are numbered, and then its replies are held, with the number of all commands as their need
+abbrev pub numbering : Books → Effects → Books
+numbering b effects = record b {
+  numbered = b.numbered + length effects.commands;
+  queue = b.queue ++ effects.commands;
+  held = b.held ++ holding (b.numbered + length effects.commands) effects.replies;
+}
+
+-- a step of the machine, and the token of the call that asked for it, where there is one
+abbrev pub stepped : Books → Outcome → List ReplyToken → Books
+stepped b o handed = numbering (record b { machine = o.after; tokens = b.tokens ++ handed }) o.effects
+
+-- the replies whose commands are settled leave, each with the token of its call
+unfoldable pub letting_go : Books → Served
+letting_go b = record {
+  books = record b {
+    held = still_held b.settled b.held;
+    tokens = after_answering (released b.settled b.held) b.tokens;
+  };
+  out = answering (released b.settled b.held) b.tokens;
+}
+
+-- an event is met, and what may leave does
+unfoldable pub served : Books → List ReplyToken → Event → ℕ → Served
+served b handed event now = letting_go (stepped b (step b.machine event now) handed)
+
+-- the batch in flight stands on the disk
+unfoldable pub settling : Books → ℕ → Served
+settling b count = letting_go (record b { settled = b.settled + count; course = Idle })
+
+-- the calls of held replies are refused in their order, then those that wait, by group and joining order, as many as there are
+-- tokens left, and then the rest, which is none where each call has one token
+unfoldable pub failing : Books → List Outgoing
+failing b =
+    let answered : List (Ticket × Reply) = map refusal (calls_of (replies_of b.held)) in
+    let left : List ReplyToken = after_answering answered b.tokens in
+    let waiting : List (Ticket × Reply) = map refusal (take (length left) (waiting_calls b.machine.groups)) in
+    answering answered b.tokens ++ answering waiting left ++ map refused (after_answering waiting left)
+
+-- the commands of the next batch, or none: those that were given back, or as many of the queue as one frame holds
+abbrev pub next_batch : Course → List Command → List Command
+next_batch Idle queue = take (in_frame queue) queue
+next_batch (Away commands) queue = []
+next_batch (Returned commands) queue = commands
+
+-- the queue without them
+abbrev pub queue_after : Course → List Command → List Command
+queue_after Idle queue = drop (in_frame queue) queue
+queue_after (Away commands) queue = queue
+queue_after (Returned commands) queue = queue
+
+-- the next batch is taken
+unfoldable pub taking : Books → Books
+taking b = record b { course = Away (next_batch b.course b.queue); queue = queue_after b.course b.queue }
+
+-- what a take gives, and leaves: no batch exactly where no command waits, since each command fits a frame
+abbrev pub IsTake : Books → Option Batch → Books → Type 0
+IsTake b None c = (b.course ≡ Idle) × (b.queue ≡ []) × (c ≡ b)
+IsTake b (Some batch) c = (batch.first ≡ b.settled + 1) × (batch.commands ≡ next_batch b.course b.queue) × (c ≡ taking b)
+
+-- the batch in flight is given back
+abbrev pub returning : Books → Books
+returning b = record b { course = Returned (unsettled b.course) }
+
+-- it is the batch in flight: its commands, under their numbers
+abbrev pub IsFlying : Course → ℕ → Batch → Type 0
+IsFlying course settled batch = (course ≡ Away batch.commands) × (batch.first ≡ settled + 1)
+
+abbrev pub IsInFlight : Books → Batch → Type 0
+IsInFlight b batch = IsFlying b.course b.settled batch
+
+-- a fault is the reason why a batch is refused; memory can be wanting for the batch in flight alone
+abbrev pub IsWhy : Course → ℕ → Batch → SettleFault → Type 0
+IsWhy course settled batch Memory = IsFlying course settled batch
+IsWhy course settled batch NotInFlight = is_away course ≡ false
+IsWhy course settled batch Foreign = (is_away course ≡ true) × (¬ IsFlying course settled batch)
+
+abbrev pub IsReason : Books → Batch → SettleFault → Type 0
+IsReason b batch fault = IsWhy b.course b.settled batch fault

@@ -1,0 +1,53 @@
+-- The laws of the desk.
+use Rattle.std.specs.Prelude.{◌≡◌, ◌+◌, ◌≤◌, ◌<◌, ℕ, List, [], ◌∷◌, length, take}
+use Rattle.std.specs.List.{sum_by}
+use Rattle.cg_frame.specs.declared.segment.TheConstants.{LARGEST_PAYLOAD_BYTES}
+use Rattle.cg_group.specs.declared.event.Event.{Event}
+use Rattle.cg_group.specs.declared.ticket.Ticket.{Ticket}
+use Rattle.cg_record.specs.declared.command.Command.{Command}
+use Rattle.cg_record.specs.Spelling.{spelling}
+use Rattle.cg_desk.specs.Desks.{State, Loading, Serving, Failed, failing_on, gone_on, request_on, settle_on, tick_on}
+use Rattle.cg_desk.specs.Fronts.{in_frame}
+use Rattle.cg_desk.specs.Outgoings.{ticket_of}
+use Rattle.cg_desk.specs.Tokens.{call_of}
+use Rattle.cg_desk.specs.declared.outgoing.Outgoing.{Outgoing}
+use Rattle.cg_desk.specs.declared.token.ReplyToken.{ReplyToken}
+
+-- No call is forgotten, and none is answered twice.
+
+-- the tokens of calls without an answer
+abbrev pub tokens_of : State → List ReplyToken
+tokens_of Loading = []
+tokens_of (Failed numbered settled) = []
+tokens_of (Serving b) = b.tokens
+
+-- what the tickets of tokens, or of replies that left, weigh together
+abbrev pub weight_of : (Ticket → ℕ) → List ReplyToken → ℕ
+weight_of weight tokens = sum_by (λ (token : ReplyToken). weight (call_of token)) tokens
+
+abbrev pub weight_out : (Ticket → ℕ) → List Outgoing → ℕ
+weight_out weight out = sum_by (λ (outgoing : Outgoing). weight (ticket_of outgoing)) out
+
+-- counted with repeats, the tickets without an answer before a call and of the token that it took are those of the replies that
+-- left in it and those without an answer after it: whatever each ticket weighs, both weigh the same
+abbrev pub AreKept : List ReplyToken → List ReplyToken → List Outgoing → List ReplyToken → Type 0
+AreKept before taken out after =
+    (weight : Ticket → ℕ) → weight_out weight out + weight_of weight after ≡ weight_of weight before + weight_of weight taken
+
+pub record TicketsAreKept : Type 0 where
+  pub request : (s : State) (token : ReplyToken) (e : Event) (now : ℕ) → AreKept (tokens_of s) (token ∷ []) (request_on s token e now).out (tokens_of (request_on s token e now).after)
+  pub tick : (s : State) (now : ℕ) → AreKept (tokens_of s) [] (tick_on s now).out (tokens_of (tick_on s now).after)
+  pub gone : (s : State) (session now : ℕ) → AreKept (tokens_of s) [] (gone_on s session now).out (tokens_of (gone_on s session now).after)
+  pub settle : (s : State) (count : ℕ) → AreKept (tokens_of s) [] (settle_on s count).out (tokens_of (settle_on s count).after)
+  pub fail : (s : State) → AreKept (tokens_of s) [] (failing_on s) []
+
+-- A batch is as long as one frame allows.
+
+-- so many commands are the longest front whose text one frame holds
+pub record IsLongestFront (count : ℕ) (commands : List Command) : Type 0 where
+  pub within : count ≤ length commands
+  pub fits : 1 ≤ count → length (spelling (take count commands)) ≤ LARGEST_PAYLOAD_BYTES
+  pub longest : (more : ℕ) → count < more → more ≤ length commands → LARGEST_PAYLOAD_BYTES < length (spelling (take more commands))
+
+abbrev pub BatchesAreLongest : Type 0
+BatchesAreLongest = (commands : List Command) → IsLongestFront (in_frame commands) commands

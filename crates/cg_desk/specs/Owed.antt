@@ -1,0 +1,33 @@
+-- Each call without an answer has one token: either a reply is held for it, or it waits in the machine.
+use Rattle.std.specs.Prelude.{◌≡◌, ◌+◌, ℕ, List}
+use Rattle.std.specs.List.{sum_by}
+use Rattle.cg_group.specs.declared.event.Event.{Event}
+use Rattle.cg_group.specs.declared.reply.Reply.{Reply}
+use Rattle.cg_group.specs.declared.ticket.Ticket.{Ticket}
+use Rattle.cg_group.specs.Machine.{Machine, step}
+use Rattle.cg_group.specs.Waiting.{waiting_calls}
+use Rattle.cg_desk.specs.Books.{Books}
+use Rattle.cg_desk.specs.Held.{calls_of, replies_of}
+use Rattle.cg_desk.specs.Laws.{weight_of}
+use Rattle.cg_desk.specs.Outgoings.{answer}
+use Rattle.cg_desk.specs.declared.outgoing.Outgoing.{Outgoing}
+use Rattle.cg_desk.specs.declared.token.ReplyToken.{ReplyToken}
+
+-- what the tickets of calls weigh together
+abbrev pub weight_calls : (Ticket → ℕ) → List Ticket → ℕ
+weight_calls weight calls = sum_by weight calls
+
+-- counted with repeats, the tokens stand for the calls of held replies and for those that wait
+abbrev pub IsOwed : Books → Type 0
+IsOwed b =
+    (weight : Ticket → ℕ) → weight_of weight b.tokens ≡ weight_calls weight (calls_of (replies_of b.held)) + weight_calls weight (waiting_calls b.machine.groups)
+
+-- counted with repeats, the calls that waited before an event and the one that asked for it are those that it answers and those
+-- that wait after it
+abbrev pub KeepsCalls : Machine → List ReplyToken → Event → ℕ → Type 0
+KeepsCalls s handed e now =
+    (weight : Ticket → ℕ) → weight_calls weight (calls_of (step s e now).effects.replies) + weight_calls weight (waiting_calls (step s e now).after.groups) ≡ weight_calls weight (waiting_calls s.groups) + weight_of weight handed
+
+-- a reply as it leaves
+abbrev pub sent : Ticket × Reply → Outgoing
+sent r = answer r.0 r.1

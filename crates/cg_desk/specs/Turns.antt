@@ -1,0 +1,61 @@
+-- What a turn of one group does to the calls of its members: each is answered, or goes on waiting.
+use Rattle.std.specs.Prelude.{◌≡◌, ◌+◌, ℕ, true, List, Option, Some, is_some}
+use Rattle.std.specs.List.{sum_by}
+use Rattle.std.specs.Option.{option_to_list}
+use Rattle.cg_group.specs.declared.calls.Calls.TheVariants.{Any}
+use Rattle.cg_group.specs.declared.commit_entry.CommitEntry.{CommitEntry}
+use Rattle.cg_group.specs.declared.group.Group.{Group}
+use Rattle.cg_group.specs.declared.group.Phase.{Phase}
+use Rattle.cg_group.specs.declared.member.Member.{Member}
+use Rattle.cg_group.specs.declared.reply.Reply.{Reply}
+use Rattle.cg_group.specs.declared.request.JoinRequest.{JoinRequest}
+use Rattle.cg_group.specs.declared.request.SyncRequest.{SyncRequest}
+use Rattle.cg_group.specs.declared.ticket.Ticket.{Ticket}
+use Rattle.cg_group.specs.declared.turn.Turn.{Turn}
+use Rattle.cg_group.specs.Beating.{beat_taken}
+use Rattle.cg_group.specs.Committing.{committed, hearing_committer}
+use Rattle.cg_group.specs.Joining.{join_known, join_new}
+use Rattle.cg_group.specs.Leaving.{gone_in, leave_taken}
+use Rattle.cg_group.specs.Members.{ids, instances}
+use Rattle.cg_group.specs.Membership.{find_instance, find_member}
+use Rattle.cg_group.specs.Names.{are_distinct}
+use Rattle.cg_group.specs.Replacing.{join_replacing}
+use Rattle.cg_group.specs.Syncing.{sync_taken}
+use Rattle.cg_group.specs.Ticking.{ticked}
+use Rattle.cg_group.specs.Waiting.{called}
+use Rattle.cg_desk.specs.Held.{calls_of}
+use Rattle.cg_desk.specs.Owed.{weight_calls}
+
+-- what the ticket of a member's waiting call weighs, those of members together, and those that replies go to
+abbrev pub own : (Ticket → ℕ) → Member → ℕ
+own weight m = weight_calls weight (option_to_list (called Any m.waits))
+
+abbrev pub waits_of : (Ticket → ℕ) → List Member → ℕ
+waits_of weight members = sum_by (own weight) members
+
+abbrev pub told_of : (Ticket → ℕ) → List (Ticket × Reply) → ℕ
+told_of weight replies = weight_calls weight (calls_of replies)
+
+-- what a turn has answered, and what waits in its group
+abbrev pub total : (Ticket → ℕ) → Turn → ℕ
+total weight t = told_of weight t.replies + waits_of weight t.group.members
+
+-- counted with repeats, what a turn has answered and what waits after it is what waited before it and the call that asks
+abbrev pub TakesIn : Group → Ticket → Turn → Type 0
+TakesIn g ticket t = (weight : Ticket → ℕ) → total weight t ≡ waits_of weight g.members + weight ticket
+
+-- the same of an event that no call asks for
+abbrev pub TakesNone : Group → Turn → Type 0
+TakesNone g t = (weight : Ticket → ℕ) → total weight t ≡ waits_of weight g.members
+
+-- every turn of a group keeps its calls
+pub record TurnsKeepTheirCalls : Type 0 where
+  pub first_join : (now : ℕ) (r : JoinRequest) (id : List ℕ) (ticket : Ticket) (g : Group) → TakesIn g ticket (join_new now r id ticket g)
+  pub join : (now : ℕ) (r : JoinRequest) (id : List ℕ) (ticket : Ticket) (m : Member) (g : Group) → is_some (find_member id g.members) ≡ true → TakesIn g ticket (join_known now r id ticket m g)
+  pub replace : (now : ℕ) (r : JoinRequest) (id : List ℕ) (ticket : Ticket) (old : Member) (g : Group) → are_distinct (instances g.members) ≡ true → find_instance r.instance g.members ≡ Some old → TakesIn g ticket (join_replacing now r id ticket old g)
+  pub sync : (now : ℕ) (r : SyncRequest) (id : List ℕ) (ticket : Ticket) (m : Member) (g : Group) (phase : Phase) → is_some (find_member id g.members) ≡ true → TakesIn g ticket (sync_taken now r id ticket m g phase)
+  pub beat : (now : ℕ) (id : List ℕ) (ticket : Ticket) (g : Group) → TakesIn g ticket (beat_taken now id ticket g)
+  pub leave : (now : ℕ) (id : List ℕ) (ticket : Ticket) (m : Member) (g : Group) → are_distinct (ids g.members) ≡ true → find_member id g.members ≡ Some m → TakesIn g ticket (leave_taken now id ticket m g)
+  pub commit : (now : ℕ) (entries : List CommitEntry) (ticket : Ticket) (who : Option (List ℕ)) (g : Group) → TakesIn g ticket (committed entries ticket (hearing_committer now who g))
+  pub gone : (now session : ℕ) (g : Group) → TakesNone g (gone_in now session g)
+  pub tick : (now : ℕ) (g : Group) → TakesNone g (ticked now g)

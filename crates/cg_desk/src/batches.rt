@@ -1,0 +1,179 @@
+//! Batches on their way: taken, given back, settled.
+ghost use Rattle.std.specs.Prelude.{◌≡◌, ◌≢◌, ◌<◌, ◌+◌, ◌^◌, ◌↔◌, ℕ, ⊤, [], true, false, length, take, drop, IfOk, IfErr, OnOk, OnErr, IsTrue, MatchOption, MatchResult};
+ghost use Rattle.cg_desk.specs.Flights.{Away, Returned, course_of, first_of, is_away, is_returned};
+ghost use Rattle.cg_desk.specs.Fronts.{in_frame};
+ghost use Rattle.cg_desk.specs.Books.{IsFlying, IsWhy};
+ghost use Rattle.cg_desk.specs.Queues.{commands_of};
+
+use crate::copies::copied_commands;
+use crate::fault::{SettleFault, TakeFault};
+use crate::flight::Flight;
+use crate::fronts::{batch_of, copied_front, in_frame, taken_front};
+use crate::held::HeldStep;
+use crate::outgoing::Outgoing;
+use crate::permit::Permit;
+use crate::queue::Queue;
+use crate::same::are_same_commands;
+use crate::serving::Serving;
+use cg_record::Command;
+use cg_store::{Batch, Receipt};
+use std::alloc::{AllocError, Global};
+use std::mem;
+
+// Takes as many commands from the front of the queue as one frame holds, and copies of them. Want of memory takes none.
+fn take_front(
+    alloc: Global,
+    queue: &mut Queue,
+    settled: u64,
+) -> Result<Option<(Batch, Vec<Command>)>, AllocError>
+    requires { settled + length (commands_of queue.old) < 2 ^ 64 }
+    ensures none { IfOk result (λ o. MatchOption o (commands_of queue.old ≡ []) (λ t. ⊤)) }
+    ensures batch { IfOk result (λ o. MatchOption o ⊤ (λ t. (t.0.first ≡ settled + 1) × (t.0.commands ≡ take (in_frame (commands_of queue.old)) (commands_of queue.old)) × (t.1.items ≡ take (in_frame (commands_of queue.old)) (commands_of queue.old)))) }
+    ensures rest { OnOk result (commands_of queue.new ≡ drop (in_frame (commands_of queue.old)) (commands_of queue.old)) }
+    ensures err { OnErr result (commands_of queue.new ≡ commands_of queue.old) }
+{
+    queue.gather()?;
+    let count = in_frame(&queue.front);
+    if count == 0 {
+        return Ok(None);
+    }
+    let copies = copied_front(alloc, &queue.front, count)?;
+    let commands = taken_front(alloc, &mut queue.front, count)?;
+    Ok(Some((batch_of(settled + 1, commands), copies)))
+}
+
+// Whether a number comes right behind another.
+fn is_next(before: u64, number: u64) -> bool
+    ensures { IsTrue result ↔ (number ≡ before + 1) }
+{
+    before < number && number - before == 1
+}
+
+// Whether the batch is the one in flight, and why not.
+fn check(flight: &Flight, settled: u64, batch: &Batch) -> Result<(), SettleFault>
+    ensures cases { MatchResult result
+        (λ u. IsFlying (course_of flight.now) settled batch.now)
+        (λ fault. IsWhy (course_of flight.now) settled batch.now fault) }
+    ensures told { IfErr result (λ fault. fault ≢ SettleFault.Memory) }
+{
+    match flight {
+        Flight::Away(copies) => {
+            if is_next(settled, batch.first)
+                && are_same_commands(copies, batch.commands.as_slice())
+            {
+                Ok(())
+            } else {
+                Err(SettleFault::Foreign)
+            }
+        }
+        _ => Err(SettleFault::NotInFlight),
+    }
+}
+
+// Copies of the commands of a batch that was given back.
+fn copies_of_returned(alloc: Global, flight: &Flight) -> Result<Option<Vec<Command>>, AllocError>
+    ensures { IfOk result (λ o. MatchOption o
+        (is_returned (course_of flight.now) ≡ false)
+        (λ copies. course_of flight.now ≡ Returned copies.items)) }
+{
+    match flight {
+        Flight::Returned(batch) => {
+            let copies = copied_commands(alloc, batch.commands.as_slice())?;
+            Ok(Some(copies))
+        }
+        _ => Ok(None),
+    }
+}
+
+// The batch that was given back leaves again.
+fn leave_again(flight: &mut Flight, copies: Vec<Command>) -> Batch
+    requires { course_of flight.old ≡ Returned copies.items }
+    ensures batch { result.commands ≡ copies.items }
+    ensures first { (next : ℕ) → first_of flight.old next ≡ result.first }
+    ensures flight { course_of flight.new ≡ Away copies.items }
+    ensures idle { (next : ℕ) → first_of flight.new next ≡ next }
+{
+    match mem::replace(flight, Flight::Away(copies)) {
+        Flight::Returned(batch) => batch,
+        _ => unreachable!(),
+    }
+}
+
+impl Serving {
+    ghost use Rattle.cg_desk.specs.Books.{Books, IsInFlight, IsReason, IsTake, returning, settling};
+    ghost use Rattle.cg_desk.specs.Serving.{books};
+    ghost use Rattle.cg_store.specs.Receipts.{batch_of as batch_in};
+
+    // Takes a batch where none is in flight.
+    fn take_next(&mut self) -> Result<Option<Batch>, AllocError>
+        requires { is_away (books self.old).course ≡ false }
+        ensures ok { IfOk result (λ o. IsTake (books self.old) o (books self.new)) }
+        ensures err { OnErr result (books self.new ≡ books self.old) }
+    {
+        if let Some(copies) = copies_of_returned(self.alloc, &self.flight)? {
+            return Ok(Some(leave_again(&mut self.flight, copies)));
+        }
+        let _numbered = self.numbered;
+        match take_front(self.alloc, &mut self.queue, self.settled)? {
+            None => Ok(None),
+            Some(taken) => {
+                let (batch, copies) = taken;
+                self.flight = Flight::Away(copies);
+                Ok(Some(batch))
+            }
+        }
+    }
+
+    /// Takes the next commands: the batch that was given back, or as many as one frame holds. None where nothing waits.
+    pub fn take_batch(&mut self) -> Result<Option<Batch>, TakeFault>
+        ensures ok { IfOk result (λ o. IsTake (books self.old) o (books self.new)) }
+        ensures in_flight { is_away (books self.old).course ≡ true → result ≡ Err TakeFault.InFlight }
+        ensures err { OnErr result (books self.new ≡ books self.old) }
+        ensures memory { is_away (books self.old).course ≡ false → IfErr result (λ fault. fault ≡ TakeFault.Memory) }
+    {
+        if let Flight::Away(_) = &self.flight {
+            return Err(TakeFault::InFlight);
+        }
+        match self.take_next() {
+            Ok(batch) => Ok(batch),
+            Err(_) => Err(TakeFault::Memory),
+        }
+    }
+
+    /// Takes the batch in flight back: the next take gives it again. Takes no memory.
+    pub fn give_back(&mut self, batch: Batch) -> Result<(), (SettleFault, Batch)>
+        ensures ok { OnOk result (IsInFlight (books self.old) batch × (books self.new ≡ returning (books self.old))) }
+        ensures err { IfErr result (λ e. (e.1 ≡ batch) × (e.0 ≢ SettleFault.Memory) × IsReason (books self.old) batch e.0) }
+        ensures unchanged { OnErr result (books self.new ≡ books self.old) }
+    {
+        match check(&self.flight, self.settled, &batch) {
+            Err(fault) => Err((fault, batch)),
+            Ok(()) => {
+                self.flight = Flight::Returned(batch);
+                Ok(())
+            }
+        }
+    }
+
+    /// The batch in flight stands on the disk: what waited for its commands leaves. After a refusal nothing has changed.
+    #[tactic(auto, unfolding(crate::specs::Books::letting_go, crate::specs::Books::settling))]
+    pub fn settle(&mut self, receipt: Receipt) -> Result<Vec<Outgoing>, (SettleFault, Receipt)>
+        ensures ok { IfOk result (λ out. IsInFlight (books self.old) (batch_in receipt)
+            × (settling (books self.old) (length (batch_in receipt).commands) ≡ record { books = books self.new; out = out.items })) }
+        ensures err { IfErr result (λ e. (e.1 ≡ receipt) × IsReason (books self.old) (batch_in receipt) e.0) }
+        ensures unchanged { OnErr result (books self.new ≡ books self.old) }
+    {
+        if let Err(fault) = check(&self.flight, self.settled, receipt.batch()) {
+            return Err((fault, receipt));
+        }
+        let Ok(out) = Vec::with_capacity(self.alloc, self.tokens.len()) else {
+            return Err((SettleFault::Memory, receipt));
+        };
+        let mut out = out;
+        self.settled += receipt.batch().commands.as_slice().len() as u64;
+        self.flight = Flight::Idle;
+        let permit = Permit::new(self.settled);
+        HeldStep::release(&mut self.held, &mut self.tokens, &permit, &mut out);
+        Ok(out)
+    }
+}

@@ -1,0 +1,254 @@
+//! The desk.
+ghost use Rattle.std.specs.Prelude.{◌≡◌, ◌≢◌, ◌∷◌, [], true, false, length, IsTrue, IsOk, IfOk, IfErr, OnOk, OnErr};
+ghost use Rattle.cg_desk.specs.Outgoings.{answer};
+ghost use Rattle.cg_desk.specs.Refusals.{is_refusal};
+ghost use Rattle.cg_desk.specs.Tokens.{call_of};
+
+use crate::fault::{SettleFault, TakeFault};
+use crate::outgoing::Outgoing;
+use crate::serving::Serving;
+use crate::token::ReplyToken;
+use cg_fold::Durable;
+use cg_group::{Groups, Reply, Request};
+use cg_names::{Code, Moment};
+use cg_store::{Batch, Receipt};
+use std::alloc::{AllocError, Global};
+use std::mem;
+use uuid::Uuid;
+
+/// What a desk is about.
+pub enum Phase {
+    /// Nothing is loaded yet.
+    Loading,
+    Serving(Serving),
+    /// The disk failed: the numbers of the last command and of the last that was settled.
+    Failed(u64, u64),
+}
+
+/// Who is owed an answer, and when it may leave: a machine behind a queue of numbered commands.
+pub struct Desk {
+    pub(crate) alloc: Global,
+    pub(crate) phase: Phase,
+}
+
+// The answer to a call that the desk refuses by itself.
+fn refused_at_once(
+    alloc: Global,
+    token: ReplyToken,
+    code: Code,
+) -> Result<Vec<Outgoing>, (AllocError, ReplyToken)>
+    requires { IsTrue (is_refusal code) }
+    ensures ok { IfOk result (λ out. out.items ≡ answer (call_of token) (Reply.Refused code) ∷ []) }
+    ensures back { IfErr result (λ e. e.1 ≡ token) }
+{
+    match Vec::with_capacity(alloc, 1) {
+        Ok(mut out) => {
+            out.push_reserved(token.refuse(code));
+            Ok(out)
+        }
+        Err(error) => Err((error, token)),
+    }
+}
+
+impl Desk {
+    ghost use Rattle.cg_fold.specs.Durable.{State as DurableState};
+    ghost use Rattle.cg_group.specs.Asking.{asked};
+    ghost use Rattle.cg_group.specs.Reviving.{revive};
+    ghost use Rattle.cg_store.specs.Receipts.{batch_of};
+    ghost use Rattle.cg_desk.specs.Desks.{IsOut, IsReasonAt, IsTakenFrom, failing_on, gone_on, is_out, numbered_of, opened, request_on, return_to, settle_on, settled_of, state_of, tick_on};
+    ghost use Rattle.cg_desk.specs.Desks as state;
+
+    /// A desk to which nothing is loaded yet: it answers each request by 14. Takes no memory.
+    pub fn loading(alloc: Global) -> Result<Self, AllocError>
+        ensures ok { IsOk result }
+        ensures state { IfOk result (λ desk. state_of desk ≡ state.Loading) }
+    {
+        Ok(Desk {
+            alloc,
+            phase: Phase::Loading,
+        })
+    }
+
+    /// Begins to serve: so many commands were loaded, and this is what they make. Want of memory gives the state back.
+    pub fn loaded(
+        &mut self,
+        number: u64,
+        durable: Durable,
+        now: Moment,
+    ) -> Result<(), (AllocError, Durable)>
+        requires { state_of self.old ≡ state.Loading }
+        ensures ok { OnOk result (state_of self.new ≡ state.Serving (opened number (revive durable now))) }
+        ensures err { OnErr result (state_of self.new ≡ state_of self.old) }
+        ensures back { IfErr result (λ e. e.1 ≡ durable) }
+    {
+        let groups = Groups::revive(self.alloc, durable, now)?;
+        let serving = Serving::new(self.alloc, groups, number);
+        match mem::replace(&mut self.phase, Phase::Serving(serving)) {
+            Phase::Loading => {}
+            Phase::Failed(_, _) => {}
+            Phase::Serving(before) => {
+                let _ = before.fail();
+            }
+        }
+        Ok(())
+    }
+
+    /// The number of the last command.
+    pub fn numbered(&self) -> u64
+        ensures { result ≡ numbered_of (state_of self.now) }
+    {
+        match &self.phase {
+            Phase::Loading => 0,
+            Phase::Serving(serving) => serving.numbered,
+            Phase::Failed(numbered, _) => *numbered,
+        }
+    }
+
+    /// The number of the last command that is settled.
+    pub fn settled(&self) -> u64
+        ensures { result ≡ settled_of (state_of self.now) }
+    {
+        match &self.phase {
+            Phase::Loading => 0,
+            Phase::Serving(serving) => serving.settled,
+            Phase::Failed(_, settled) => *settled,
+        }
+    }
+
+    /// A request of the call of this token: the replies that leave now, be it to this call or to others. It goes through all
+    /// calls without an answer. Want of memory gives the token back, and nothing has changed.
+    #[tactic(auto, unfolding(crate::specs::Desks::request_on))]
+    pub fn request(
+        &mut self,
+        token: ReplyToken,
+        request: Request,
+        now: Moment,
+        fresh: Uuid,
+    ) -> Result<Vec<Outgoing>, (AllocError, ReplyToken)>
+        ensures ok { IfOk result
+            (λ out. request_on (state_of self.old) token (asked request (call_of token) fresh) now ≡ record { after = state_of self.new; out = out.items }) }
+        ensures err { OnErr result (state_of self.new ≡ state_of self.old) }
+        ensures back { IfErr result (λ e. e.1 ≡ token) }
+    {
+        match &mut self.phase {
+            Phase::Loading => refused_at_once(self.alloc, token, Code::CoordinatorLoadInProgress),
+            Phase::Failed(_, _) => {
+                refused_at_once(self.alloc, token, Code::CoordinatorNotAvailable)
+            }
+            Phase::Serving(serving) => {
+                if serving.is_short() {
+                    return refused_at_once(self.alloc, token, Code::CoordinatorNotAvailable);
+                }
+                serving.ask(token, request, now, fresh)
+            }
+        }
+    }
+
+    /// Time has gone by: the replies that leave now. After want of memory nothing has changed.
+    #[tactic(auto, unfolding(crate::specs::Desks::tick_on))]
+    pub fn tick(&mut self, now: Moment) -> Result<Vec<Outgoing>, AllocError>
+        ensures ok { IfOk result
+            (λ out. tick_on (state_of self.old) now ≡ record { after = state_of self.new; out = out.items }) }
+        ensures err { OnErr result (state_of self.new ≡ state_of self.old) }
+    {
+        match &mut self.phase {
+            Phase::Loading => Ok(Vec::new(self.alloc)),
+            Phase::Failed(_, _) => Ok(Vec::new(self.alloc)),
+            Phase::Serving(serving) => {
+                if serving.is_short() {
+                    return Ok(Vec::new(self.alloc));
+                }
+                serving.tick(now)
+            }
+        }
+    }
+
+    /// A session is closed: the replies that leave now. After want of memory nothing has changed.
+    #[tactic(auto, unfolding(crate::specs::Desks::gone_on))]
+    pub fn gone(&mut self, session: u64, now: Moment) -> Result<Vec<Outgoing>, AllocError>
+        ensures ok { IfOk result
+            (λ out. gone_on (state_of self.old) session now ≡ record { after = state_of self.new; out = out.items }) }
+        ensures err { OnErr result (state_of self.new ≡ state_of self.old) }
+    {
+        match &mut self.phase {
+            Phase::Loading => Ok(Vec::new(self.alloc)),
+            Phase::Failed(_, _) => Ok(Vec::new(self.alloc)),
+            Phase::Serving(serving) => serving.gone(session, now),
+        }
+    }
+
+    /// Takes the next commands, for the store: the batch that was given back, or as many as one frame holds. None where no
+    /// command waits, and where the desk does not serve. After a refusal nothing has changed.
+    pub fn take_batch(&mut self) -> Result<Option<Batch>, TakeFault>
+        ensures ok { IfOk result (λ o. IsTakenFrom (state_of self.old) o (state_of self.new)) }
+        ensures in_flight { is_out (state_of self.old) ≡ true → result ≡ Err TakeFault.InFlight }
+        ensures memory { is_out (state_of self.old) ≡ false → IfErr result (λ fault. fault ≡ TakeFault.Memory) }
+        ensures err { OnErr result (state_of self.new ≡ state_of self.old) }
+    {
+        match &mut self.phase {
+            Phase::Loading => Ok(None),
+            Phase::Failed(_, _) => Ok(None),
+            Phase::Serving(serving) => serving.take_batch(),
+        }
+    }
+
+    /// Takes the batch in flight back, since the store was full: the next take gives it again. Takes no memory; after a refusal
+    /// nothing has changed.
+    pub fn give_back(&mut self, batch: Batch) -> Result<(), (SettleFault, Batch)>
+        ensures ok { OnOk result (IsOut (state_of self.old) batch) }
+        ensures state { OnOk result (state_of self.new ≡ return_to (state_of self.old)) }
+        ensures err { IfErr result (λ e. (e.1 ≡ batch) × (e.0 ≢ SettleFault.Memory) × IsReasonAt (state_of self.old) batch e.0) }
+        ensures unchanged { OnErr result (state_of self.new ≡ state_of self.old) }
+    {
+        match &mut self.phase {
+            Phase::Loading => Err((SettleFault::NotInFlight, batch)),
+            Phase::Failed(_, _) => Err((SettleFault::NotInFlight, batch)),
+            Phase::Serving(serving) => serving.give_back(batch),
+        }
+    }
+
+    /// The batch in flight stands on the disk: the replies that leave now. After a refusal nothing has changed.
+    #[tactic(auto, unfolding(crate::specs::Desks::settle_on))]
+    pub fn settle(&mut self, receipt: Receipt) -> Result<Vec<Outgoing>, (SettleFault, Receipt)>
+        ensures ok { OnOk result (IsOut (state_of self.old) (batch_of receipt)) }
+        ensures out { IfOk result
+            (λ out. settle_on (state_of self.old) (length (batch_of receipt).commands) ≡ record { after = state_of self.new; out = out.items }) }
+        ensures err { IfErr result (λ e. (e.1 ≡ receipt) × IsReasonAt (state_of self.old) (batch_of receipt) e.0) }
+        ensures unchanged { OnErr result (state_of self.new ≡ state_of self.old) }
+    {
+        match &mut self.phase {
+            Phase::Loading => Err((SettleFault::NotInFlight, receipt)),
+            Phase::Failed(_, _) => Err((SettleFault::NotInFlight, receipt)),
+            Phase::Serving(serving) => serving.settle(receipt),
+        }
+    }
+
+    /// The disk failed: refuses every call without an answer by 15, those of held replies in their order, then those that wait,
+    /// by group and joining order. From now on the desk answers every request so. Takes no memory; a second failure gives
+    /// nothing.
+    #[tactic(auto, unfolding(crate::specs::Desks::failing_on))]
+    pub fn fail(&mut self) -> Vec<Outgoing>
+        ensures out { result.items ≡ failing_on (state_of self.old) }
+        ensures state { state_of self.new ≡ state.Failed (numbered_of (state_of self.old)) (settled_of (state_of self.old)) }
+    {
+        let failed = Phase::Failed(self.numbered(), self.settled());
+        match mem::replace(&mut self.phase, failed) {
+            Phase::Loading => Vec::new(self.alloc),
+            Phase::Failed(_, _) => Vec::new(self.alloc),
+            Phase::Serving(serving) => serving.fail(),
+        }
+    }
+
+    /// Ends the desk: refuses every call without an answer as `fail` does.
+    #[tactic(auto, unfolding(crate::specs::Desks::failing_on))]
+    pub fn close(self) -> Vec<Outgoing>
+        ensures { result.items ≡ failing_on (state_of self) }
+    {
+        let Desk { alloc, phase } = self;
+        match phase {
+            Phase::Loading => Vec::new(alloc),
+            Phase::Failed(_, _) => Vec::new(alloc),
+            Phase::Serving(last) => last.fail(),
+        }
+    }
+}

@@ -1,0 +1,89 @@
+//! Calls that are refused all at once: the disk failed, or the desk is closed.
+ghost use Rattle.std.specs.Prelude.{◌≡◌, ◌≤◌, ◌+◌, ◌++◌, [], length, map, take, vec_len, vec_capacity};
+ghost use Rattle.std.specs.VecDeque.{deque_len};
+ghost use Rattle.cg_desk.specs.Answering.{after_answering, answering, answering_one, refusal, refused};
+ghost use Rattle.cg_desk.specs.Held.{calls_of, replies_of};
+ghost use Rattle.cg_desk.specs.Tokens.{without};
+ghost use Rattle.cg_group.specs.Waiting.{waiting_calls};
+
+use crate::answering::refuse_call;
+use crate::held::HeldStep;
+use crate::outgoing::Outgoing;
+use crate::token::ReplyToken;
+use cg_group::{Groups, Listed, Reply, Ticket};
+use cg_names::Code;
+use std::collections::VecDeque;
+
+// Refuses the call of a reply that was held, in place of the reply.
+fn refuse_reply(tokens: &mut Vec<ReplyToken>, held: (Ticket, Reply), out: &mut Vec<Outgoing>)
+    requires { vec_len out.old + vec_len tokens.old ≤ vec_capacity out.old }
+    ensures out { out.new.items ≡ out.old.items ++ answering_one (refusal held.0) tokens.old.items }
+    ensures tokens { tokens.new.items ≡ without held.0 tokens.old.items }
+    ensures room { vec_len out.new + vec_len tokens.new ≤ vec_capacity out.new }
+    ensures capacity { vec_capacity out.new ≡ vec_capacity out.old }
+{
+    let (ticket, _reply) = held;
+    refuse_call(tokens, ticket, out);
+}
+
+// Refuses the calls of replies that were held.
+fn refuse_calls(
+    tokens: &mut Vec<ReplyToken>,
+    replies: Listed<(Ticket, Reply)>,
+    out: &mut Vec<Outgoing>,
+)
+    requires { vec_len out.old + vec_len tokens.old ≤ vec_capacity out.old }
+    ensures out { out.new.items ≡ out.old.items ++ answering (map refusal (calls_of replies)) tokens.old.items }
+    ensures tokens { tokens.new.items ≡ after_answering (map refusal (calls_of replies)) tokens.old.items }
+    ensures room { vec_len out.new + vec_len tokens.new ≤ vec_capacity out.new }
+    ensures capacity { vec_capacity out.new ≡ vec_capacity out.old }
+{
+    for reply in replies.into_vec() {
+        refuse_reply(tokens, reply, out);
+    }
+}
+
+/// Refuses the call of each held reply in its order, in place of the reply.
+pub fn refuse_held(
+    tokens: &mut Vec<ReplyToken>,
+    held: &mut VecDeque<HeldStep>,
+    out: &mut Vec<Outgoing>,
+)
+    requires { vec_len out.old + vec_len tokens.old ≤ vec_capacity out.old }
+    ensures out { out.new.items ≡ out.old.items ++ answering (map refusal (calls_of (replies_of held.old.items))) tokens.old.items }
+    ensures tokens { tokens.new.items ≡ after_answering (map refusal (calls_of (replies_of held.old.items))) tokens.old.items }
+    ensures held { held.new.items ≡ [] }
+    ensures room { vec_len out.new + vec_len tokens.new ≤ vec_capacity out.new }
+    ensures capacity { vec_capacity out.new ≡ vec_capacity out.old }
+{
+    while let Some(HeldStep { replies, .. }) = held.pop_front() {
+        refuse_calls(tokens, replies, out);
+    }
+}
+
+/// Refuses the calls that wait in the machine, by group and joining order, as many as there are tokens.
+pub fn refuse_waiting(tokens: &mut Vec<ReplyToken>, groups: &Groups, out: &mut Vec<Outgoing>)
+    requires { vec_len out.old + vec_len tokens.old ≤ vec_capacity out.old }
+    ensures out { out.new.items ≡ out.old.items ++ answering (map refusal (take (length tokens.old.items) (waiting_calls groups.now.groups))) tokens.old.items }
+    ensures tokens { tokens.new.items ≡ after_answering (map refusal (take (length tokens.old.items) (waiting_calls groups.now.groups))) tokens.old.items }
+    ensures room { vec_len out.new + vec_len tokens.new ≤ vec_capacity out.new }
+    ensures capacity { vec_capacity out.new ≡ vec_capacity out.old }
+{
+    for i in 0..tokens.len() as u64 {
+        let Some(ticket) = groups.parked(i) else {
+            break;
+        };
+        refuse_call(tokens, ticket, out);
+    }
+}
+
+/// Refuses the calls of the tokens that are left, in their order.
+pub fn refuse_rest(tokens: &mut VecDeque<ReplyToken>, out: &mut Vec<Outgoing>)
+    requires { vec_len out.old + deque_len tokens.old ≤ vec_capacity out.old }
+    ensures out { out.new.items ≡ out.old.items ++ map refused tokens.old.items }
+    ensures tokens { tokens.new.items ≡ [] }
+{
+    while let Some(token) = tokens.pop_front() {
+        out.push_reserved(token.refuse(Code::CoordinatorNotAvailable));
+    }
+}
