@@ -113,6 +113,7 @@ impl Serving {
         if let Some(copies) = copies_of_returned(self.alloc, &self.flight)? {
             return Ok(Some(leave_again(&mut self.flight, copies)));
         }
+        // A look at the number, for its range.
         let _numbered = self.numbered;
         match take_front(self.alloc, &mut self.queue, self.settled)? {
             None => Ok(None),

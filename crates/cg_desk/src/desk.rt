@@ -16,7 +16,7 @@ use std::alloc::{AllocError, Global};
 use std::mem;
 use uuid::Uuid;
 
-/// What a desk is about.
+/// What a desk is doing.
 pub enum Phase {
     /// Nothing is loaded yet.
     Loading,
@@ -85,6 +85,7 @@ impl Desk {
         let serving = Serving::new(self.alloc, groups, number);
         match mem::replace(&mut self.phase, Phase::Serving(serving)) {
             Phase::Loading => {}
+            // Neither of these is loading, so they do not come; but a desk that serves cannot be let go.
             Phase::Failed(_, _) => {}
             Phase::Serving(before) => {
                 let _ = before.fail();

@@ -20,7 +20,7 @@ pub enum SettleFault {
     /// No batch is in flight.
     #[error("no batch is in flight")]
     NotInFlight,
-    /// It has other commands than the batch in flight.
+    /// It has other commands than the batch in flight, or the same under another number.
     #[error("it is another batch than the one in flight")]
     Foreign,
 }

@@ -156,6 +156,7 @@ impl Serving {
         ensures err { OnErr result (books self.new ≡ books self.old) }
     {
         let out = self.reserve(0)?;
+        // A look at the number, for its range.
         let _numbered = self.numbered;
         let effects = self.groups.step(Event::Gone(session), now)?;
         Ok(self.finish(effects, out))

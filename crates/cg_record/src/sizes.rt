@@ -36,7 +36,7 @@ const GROUP_FIXED_BYTES: u64 = 6;
 // The bytes of a commit but for its group and its entries: a length of 1, a count of 1.
 const COMMITTED_FIXED_BYTES: u64 = 2;
 
-/// The bytes of a command at most.
+/// No command has more bytes than this. It is a bound for sums: the longest command, an Assigned of `MEMBERS_MAX` members, has fewer.
 pub const COMMAND_BYTES_MAX: u64 = 352_001;
 
 #[tactic(auto, using(crate::proofs::TextLens::entry_len, cg_names::proofs::Names::length_from_name))]
