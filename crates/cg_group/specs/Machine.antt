@@ -195,9 +195,9 @@ met s (Gone session) = everywhere (gone_in s.last session) s
 met s Tick = everywhere (ticked s.last) s
 
 -- the offsets are what the commands make of them
-abbrev pub keeping : Outcome → Outcome
-keeping o = record o { after = record o.after { offsets = offsets_after o.after.offsets o.effects.commands } }
+abbrev pub with_offsets : Outcome → Outcome
+with_offsets o = record o { after = record o.after { offsets = offsets_after o.after.offsets o.effects.commands } }
 
 -- the step: an event at a moment; an earlier moment counts as the last one
 unfoldable pub step : Machine → Event → ℕ → Outcome
-step s event now = keeping (met (record s { last = max s.last now }) event)
+step s event now = with_offsets (met (record s { last = max s.last now }) event)
