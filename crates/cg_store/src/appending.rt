@@ -95,6 +95,7 @@ impl<D: SectorDisk> Store<D> {
         ensures end { OnOk result (end_of self.new ≡ next_gate (end_of self.old) (length (spelling batch.now.commands))) }
         ensures serves { OnOk result (has_failed self.new ≡ has_failed self.old) }
         ensures same_number { IfErr result (λ fault. front_of self.new ≡ front_of self.old) }
+        ensures same_end { IfErr result (λ fault. end_of self.new ≡ end_of self.old) }
         ensures told { MatchResult result
             (λ _. refusal self.old batch.now ≡ None)
             (λ fault. IsToldOf (refusal self.old batch.now) fault) }
@@ -138,6 +139,7 @@ impl<D: SectorDisk> Store<D> {
         ensures end { OnOk result (end_of self.new ≡ next_gate (end_of self.old) (length (spelling batch.commands))) }
         ensures serves { OnOk result (has_failed self.new ≡ has_failed self.old) }
         ensures same_number { IfErr result (λ refused. front_of self.new ≡ front_of self.old) }
+        ensures same_end { IfErr result (λ refused. end_of self.new ≡ end_of self.old) }
         // Which refusal is told, and when.
         ensures told { MatchResult result
             (λ _. refusal self.old batch ≡ None)

@@ -7,6 +7,7 @@ mod appending;
 mod batch;
 mod commands;
 mod fault;
+mod fusing;
 mod loading;
 mod opening;
 mod receipt;
