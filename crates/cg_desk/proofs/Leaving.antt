@@ -1,17 +1,18 @@
 -- Replies that leave, one after the other.
-use Rattle.std.proofs.Common.{◌≡◌, ℕ, zero, suc, ◌+◌, ◌<◌, ◌≤◌, List, [], ◌∷◌, ◌++◌, length, get_or, map, take, drop, cond, refl, ap, sym, ◌∙◌, arith, leb, append_assoc, add-one, drop-cons, length-take}
+use Rattle.std.proofs.Common.{◌≡◌, ℕ, zero, suc, ◌+◌, ◌<◌, ◌≤◌, List, [], ◌∷◌, ◌++◌, length, get_or, map, take, drop, cond, true, false, refl, ap, sym, ◌∙◌, arith, leb, append_assoc, add-one, drop-cons, length-take}
 use Rattle.std.proofs.lemmas.List.{append-nil, get_or-take}
 use Rattle.std.proofs.lemmas.Option.{get_or_from_slice_get, slice_get_within}
 use Rattle.std.proofs.Math.ListN.{drop_of_length-le}
-use Rattle.std.specs.Prelude.{slice_get, Some, None}
-use Rattle.std.proofs.lemmas.Bool.{le-leb, lt-leb}
+use Rattle.std.specs.Prelude.{slice_get, nat_lt, Some, None}
+use Rattle.std.proofs.lemmas.Bool.{le-leb, lt-leb, ltb-true}
 use Rattle.cg_group.specs.declared.reply.Reply.{Reply}
 use Rattle.cg_group.specs.declared.ticket.Ticket.{Ticket}
 use Rattle.cg_desk.specs.declared.held.HeldStep.{HeldStep}
 use Rattle.cg_desk.specs.declared.outgoing.Outgoing.{Outgoing}
 use Rattle.cg_desk.specs.declared.token.ReplyToken.{ReplyToken}
 use Rattle.cg_desk.specs.Answering.{after_answering, answering, answering_one, refusal, refused}
-use Rattle.cg_desk.specs.Held.{calls_of, ready, released, replies_of, still_held}
+use Rattle.cg_desk.specs.Books.{Books, Served, letting_go}
+use Rattle.cg_desk.specs.Held.{calls_of, is_waiting, ready, released, replies_of, still_held}
 use Rattle.cg_desk.specs.Tokens.{without}
 
 pub answering-nil : (tokens : List ReplyToken) → answering [] tokens ≡ []
@@ -156,3 +157,24 @@ all_refused calls waiting t0 t1 t2 t3 out0 out1 out2 out3 empty o1 k1 o2 k2 k3 o
     ∙ ap (λ l. l ++ map refused t3) (o2 ∙ ap (λ l. l ++ answering (map refusal (take (length t1) waiting)) t1) (o1 ∙ ap (λ l. l ++ answering (map refusal calls) t0) empty))
     ∙ ap (λ t. (answering (map refusal calls) t0 ++ answering (map refusal (take (length t1) waiting)) t1) ++ map refused t) (k3 ∙ k2)
     ∙ ap (λ t. answering (map refusal calls) t0 ++ answering (map refusal (take (length t) waiting)) t ++ map refused (after_answering (map refusal (take (length t) waiting)) t)) k1
+
+pub front_waits : (settled : ℕ) (items : List HeldStep) (next : HeldStep) → 0 < length items → next ≡ get_or items 0 next → is_waiting settled items ≡ nat_lt settled next.need
+front_waits settled [] next some front = absurd (omega arith)
+front_waits settled (x ∷ xs) next some front = ap (λ (h : HeldStep). nat_lt settled h.need) (sym front)
+
+-- where those that are held do not wait with more behind them, they did not before
+pub was_waiting : (settled : ℕ) (items more : List HeldStep) → is_waiting settled (items ++ more) ≡ false → is_waiting settled items ≡ false
+was_waiting settled [] more free = refl
+was_waiting settled (x ∷ xs) more free = free
+
+waiting-ready : (settled : ℕ) (items : List HeldStep) → is_waiting settled items ≡ true → ready settled items ≡ 0
+waiting-ready settled [] waits = refl
+waiting-ready settled (x ∷ xs) waits = ap (λ b. cond b (1 + ready settled xs) 0) (lt-leb x.need settled (ltb-true settled x.need waits))
+
+-- where the front has to wait, the books stay and nothing leaves
+pub nothing_leaves : (b : Books) → is_waiting b.settled b.held ≡ true → letting_go b ≡ (let s : Served = record { books = b; out = [] } in s)
+unfolding letting_go answering after_answering
+nothing_leaves b waits =
+    let none = waiting-ready b.settled b.held waits in
+    ap (λ (rs : List (Ticket × Reply)). let s : Served = record { books = record b { held = still_held b.settled b.held; tokens = after_answering rs b.tokens }; out = answering rs b.tokens } in s) (none-released b.settled b.held none)
+    ∙ ap (λ (hs : List HeldStep). let s : Served = record { books = record b { held = hs }; out = [] } in s) (all-held b.settled b.held none)

@@ -1,5 +1,5 @@
 -- Replies that wait for their commands: those of one step wait together.
-use Rattle.std.specs.Prelude.{ℕ, List, [], ◌∷◌, take, drop, map, nat_le}
+use Rattle.std.specs.Prelude.{ℕ, List, [], ◌∷◌, take, drop, map, nat_le, nat_lt, Bool, false}
 use Rattle.std.specs.List.{flat_map, prefix_len}
 use Rattle.cg_group.specs.declared.reply.Reply.{Reply}
 use Rattle.cg_group.specs.declared.ticket.Ticket.{Ticket}
@@ -13,6 +13,11 @@ holding need (r ∷ rs) = record { need = need; replies = r ∷ rs } ∷ []
 -- how many of the held steps, from the front on, have all the commands that they need
 abbrev pub ready : ℕ → List HeldStep → ℕ
 ready settled held = prefix_len (λ (step : HeldStep). nat_le step.need settled) held
+
+-- the first held step wants a command, and so all that are held wait
+abbrev pub is_waiting : ℕ → List HeldStep → Bool
+is_waiting settled [] = false
+is_waiting settled (step ∷ steps) = nat_lt settled step.need
 
 -- the replies of held steps, in their order
 abbrev pub replies_of : List HeldStep → List (Ticket × Reply)

@@ -1,9 +1,10 @@
 -- What contracts see of a desk that serves, and the room that a step needs.
-use Rattle.std.specs.Prelude.{◌≡◌, ◌≤◌, ◌<◌, ◌+◌, ℕ, [], Vec, vec_len, vec_capacity}
+use Rattle.std.specs.Prelude.{◌≡◌, ◌≤◌, ◌<◌, ◌+◌, ℕ, false, [], Vec, vec_len, vec_capacity}
 use Rattle.std.specs.declared.alloc.Global.{Global}
 use Rattle.std.specs.VecDeque.{deque_capacity, deque_len}
 use Rattle.cg_desk.specs.Books.{Books}
 use Rattle.cg_desk.specs.Flights.{course_of}
+use Rattle.cg_desk.specs.Held.{is_waiting}
 use Rattle.cg_desk.specs.Queues.{commands_of, has_room}
 use Rattle.cg_desk.specs.declared.outgoing.Outgoing.{Outgoing}
 use Rattle.cg_desk.specs.declared.serving.Serving.{Serving}
@@ -19,11 +20,12 @@ books s = record {
   tokens = s.tokens.items;
 }
 
--- there is room for what a step makes, for as many more tokens, and in a list for every reply that may leave
+-- there is room for what a step makes, for as many more tokens, and in a list for every reply that may leave: for none where
+-- those that are held wait
 pub record HasRoom (s : Serving) (more : ℕ) (out : Vec Outgoing Global) : Type 0 where
-  pub tokens : vec_len s.tokens + more ≤ vec_capacity s.tokens
-  pub leaving : vec_len s.tokens + more ≤ vec_capacity s.leaving
+  pub tokens : deque_len s.tokens + more ≤ deque_capacity s.tokens
+  pub leaving : deque_len s.tokens + more ≤ vec_capacity s.leaving
   pub commands : has_room s.queue
   pub held : deque_len s.held < deque_capacity s.held
   pub empty : out.items ≡ []
-  pub room : vec_len out + (vec_len s.tokens + more) ≤ vec_capacity out
+  pub room : is_waiting s.settled s.held.items ≡ false → vec_len out + (deque_len s.tokens + more) ≤ vec_capacity out

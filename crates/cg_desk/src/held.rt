@@ -19,7 +19,7 @@ pub struct HeldStep {
 }
 
 impl HeldStep {
-    ghost use Rattle.cg_desk.specs.Held.{holding, released, still_held};
+    ghost use Rattle.cg_desk.specs.Held.{holding, is_waiting, released, still_held};
 
     /// Holds the replies of a step; a step without replies is not held.
     pub fn hold(held: &mut VecDeque<HeldStep>, need: u64, replies: Listed<(Ticket, Reply)>)
@@ -31,19 +31,30 @@ impl HeldStep {
         }
     }
 
+    /// Whether the replies in front wait for a command behind the number `settled`, so that no reply may leave.
+    #[tactic(auto, using(crate::proofs::Leaving::front_waits))]
+    pub fn are_waiting(held: &VecDeque<HeldStep>, settled: u64) -> bool
+        ensures { result ≡ is_waiting settled held.now.items }
+    {
+        match held.front() {
+            Some(next) => next.need > settled,
+            None => false,
+        }
+    }
+
     /// Lets the replies whose commands are settled leave, in the order in which they were made, up to the first whose are not.
     pub fn release(
         held: &mut VecDeque<HeldStep>,
-        tokens: &mut Vec<ReplyToken>,
+        tokens: &mut VecDeque<ReplyToken>,
         permit: &Permit,
         out: &mut Vec<Outgoing>,
     )
-        requires { vec_len out.old + vec_len tokens.old ≤ vec_capacity out.old }
+        requires { vec_len out.old + deque_len tokens.old ≤ vec_capacity out.old }
         ensures out { out.new.items ≡ out.old.items ++ answering (released (front_of permit.now) held.old.items) tokens.old.items }
         ensures tokens { tokens.new.items ≡ after_answering (released (front_of permit.now) held.old.items) tokens.old.items }
         ensures held { held.new.items ≡ still_held (front_of permit.now) held.old.items }
-        ensures room { vec_len out.new + vec_len tokens.new ≤ vec_capacity out.new }
-        ensures fewer { vec_len tokens.new ≤ vec_len tokens.old }
+        ensures room { vec_len out.new + deque_len tokens.new ≤ vec_capacity out.new }
+        ensures fewer { deque_len tokens.new ≤ deque_len tokens.old }
         ensures capacity { vec_capacity out.new ≡ vec_capacity out.old }
     {
         while let Some(next) = held.front() {

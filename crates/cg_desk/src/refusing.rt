@@ -15,11 +15,11 @@ use cg_names::Code;
 use std::collections::VecDeque;
 
 // Refuses the call of a reply that was held, in place of the reply.
-fn refuse_reply(tokens: &mut Vec<ReplyToken>, held: (Ticket, Reply), out: &mut Vec<Outgoing>)
-    requires { vec_len out.old + vec_len tokens.old ≤ vec_capacity out.old }
+fn refuse_reply(tokens: &mut VecDeque<ReplyToken>, held: (Ticket, Reply), out: &mut Vec<Outgoing>)
+    requires { vec_len out.old + deque_len tokens.old ≤ vec_capacity out.old }
     ensures out { out.new.items ≡ out.old.items ++ answering_one (refusal held.0) tokens.old.items }
     ensures tokens { tokens.new.items ≡ without held.0 tokens.old.items }
-    ensures room { vec_len out.new + vec_len tokens.new ≤ vec_capacity out.new }
+    ensures room { vec_len out.new + deque_len tokens.new ≤ vec_capacity out.new }
     ensures capacity { vec_capacity out.new ≡ vec_capacity out.old }
 {
     let (ticket, _reply) = held;
@@ -28,14 +28,14 @@ fn refuse_reply(tokens: &mut Vec<ReplyToken>, held: (Ticket, Reply), out: &mut V
 
 // Refuses the calls of replies that were held.
 fn refuse_calls(
-    tokens: &mut Vec<ReplyToken>,
+    tokens: &mut VecDeque<ReplyToken>,
     replies: Listed<(Ticket, Reply)>,
     out: &mut Vec<Outgoing>,
 )
-    requires { vec_len out.old + vec_len tokens.old ≤ vec_capacity out.old }
+    requires { vec_len out.old + deque_len tokens.old ≤ vec_capacity out.old }
     ensures out { out.new.items ≡ out.old.items ++ answering (map refusal (calls_of replies)) tokens.old.items }
     ensures tokens { tokens.new.items ≡ after_answering (map refusal (calls_of replies)) tokens.old.items }
-    ensures room { vec_len out.new + vec_len tokens.new ≤ vec_capacity out.new }
+    ensures room { vec_len out.new + deque_len tokens.new ≤ vec_capacity out.new }
     ensures capacity { vec_capacity out.new ≡ vec_capacity out.old }
 {
     for reply in replies.into_vec() {
@@ -45,15 +45,15 @@ fn refuse_calls(
 
 /// Refuses the call of each held reply in its order, in place of the reply.
 pub fn refuse_held(
-    tokens: &mut Vec<ReplyToken>,
+    tokens: &mut VecDeque<ReplyToken>,
     held: &mut VecDeque<HeldStep>,
     out: &mut Vec<Outgoing>,
 )
-    requires { vec_len out.old + vec_len tokens.old ≤ vec_capacity out.old }
+    requires { vec_len out.old + deque_len tokens.old ≤ vec_capacity out.old }
     ensures out { out.new.items ≡ out.old.items ++ answering (map refusal (calls_of (replies_of held.old.items))) tokens.old.items }
     ensures tokens { tokens.new.items ≡ after_answering (map refusal (calls_of (replies_of held.old.items))) tokens.old.items }
     ensures held { held.new.items ≡ [] }
-    ensures room { vec_len out.new + vec_len tokens.new ≤ vec_capacity out.new }
+    ensures room { vec_len out.new + deque_len tokens.new ≤ vec_capacity out.new }
     ensures capacity { vec_capacity out.new ≡ vec_capacity out.old }
 {
     while let Some(HeldStep { replies, .. }) = held.pop_front() {
@@ -62,11 +62,11 @@ pub fn refuse_held(
 }
 
 /// Refuses the calls that wait in the machine, by group and joining order, as many as there are tokens.
-pub fn refuse_waiting(tokens: &mut Vec<ReplyToken>, groups: &Groups, out: &mut Vec<Outgoing>)
-    requires { vec_len out.old + vec_len tokens.old ≤ vec_capacity out.old }
+pub fn refuse_waiting(tokens: &mut VecDeque<ReplyToken>, groups: &Groups, out: &mut Vec<Outgoing>)
+    requires { vec_len out.old + deque_len tokens.old ≤ vec_capacity out.old }
     ensures out { out.new.items ≡ out.old.items ++ answering (map refusal (take (length tokens.old.items) (waiting_calls groups.now.groups))) tokens.old.items }
     ensures tokens { tokens.new.items ≡ after_answering (map refusal (take (length tokens.old.items) (waiting_calls groups.now.groups))) tokens.old.items }
-    ensures room { vec_len out.new + vec_len tokens.new ≤ vec_capacity out.new }
+    ensures room { vec_len out.new + deque_len tokens.new ≤ vec_capacity out.new }
     ensures capacity { vec_capacity out.new ≡ vec_capacity out.old }
 {
     for i in 0..tokens.len() as u64 {

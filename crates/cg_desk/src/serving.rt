@@ -1,5 +1,6 @@
 //! A desk that serves.
 ghost use Rattle.std.specs.Prelude.{◌≡◌, ◌≤◌, ◌<◌, ◌+◌, ◌^◌, ◌∷◌, [], false, true, length, vec_len, vec_capacity, IfOk, IfErr, OnOk, OnErr, MatchOption, MatchResult};
+ghost use Rattle.std.specs.VecDeque.{deque_len};
 ghost use Rattle.cg_desk.specs.Flights.{course_of, first_of, is_away, unsettled};
 ghost use Rattle.cg_desk.specs.Queues.{commands_of};
 
@@ -32,19 +33,20 @@ pub struct Serving {
     /// The replies that wait for their commands.
     pub held: VecDeque<HeldStep>,
     /// The tokens of all calls that have no answer yet: a reply is held for them, or they wait in the machine.
-    pub tokens: Vec<ReplyToken>,
+    pub tokens: VecDeque<ReplyToken>,
     /// The list that a failure answers, with room for every token.
     pub leaving: Vec<Outgoing>,
     ghost counted: { settled + length (unsettled (course_of flight)) + length (commands_of queue) ≡ numbered },
     ghost first: { first_of flight (settled + 1) ≡ settled + 1 },
     ghost empty: { vec_len leaving ≡ 0 },
-    ghost room: { vec_len tokens ≤ vec_capacity leaving },
+    ghost room: { deque_len tokens ≤ vec_capacity leaving },
 }
 
 impl Serving {
     ghost use Rattle.cg_group.specs.Asking.{asked};
     ghost use Rattle.cg_group.specs.declared.event.Event.TheVariants as event;
     ghost use Rattle.cg_desk.specs.Books.{Books, failing, is_short, letting_go, numbering, served};
+    ghost use Rattle.cg_desk.specs.Held.{is_waiting};
     ghost use Rattle.cg_desk.specs.Serving.{HasRoom, books};
     ghost use Rattle.cg_desk.specs.Tokens.{call_of};
 
@@ -60,7 +62,7 @@ impl Serving {
             queue: Queue::new(alloc),
             flight: Flight::Idle,
             held: VecDeque::new(alloc),
-            tokens: Vec::new(alloc),
+            tokens: VecDeque::new(alloc),
             leaving: Vec::new(alloc),
         }
     }
@@ -74,8 +76,9 @@ impl Serving {
         left < per_groups.saturating_add(SPARE_NUMBERS)
     }
 
-    // Keeps room for all that a step makes, and makes the list of the replies that may leave. It is room for a reply to every
-    // call without an answer, since how many there are is known only after the step.
+    // Keeps room for all that a step makes, and makes the list of the replies that may leave. Where those that are held wait, none
+    // does, and the list takes no memory. Else it has room for a reply to every call without an answer, since how many leave is
+    // known only after the step.
     fn reserve(&mut self, more: usize) -> Result<Vec<Outgoing>, AllocError>
         requires { more ≤ 1 }
         ensures books { books self.new ≡ books self.old }
@@ -86,24 +89,40 @@ impl Serving {
         self.leaving.reserve(tokens)?;
         self.held.reserve(1)?;
         self.queue.reserve()?;
+        if HeldStep::are_waiting(&self.held, self.settled) {
+            return Ok(Vec::new(self.alloc));
+        }
         Vec::with_capacity(self.alloc, tokens)
     }
 
-    // Numbers the commands that a step made, holds its replies, and lets those go whose commands are settled.
+    // Lets the replies go whose commands are settled.
     #[tactic(auto, unfolding(crate::specs::Books::letting_go))]
+    fn let_go(&mut self, out: Vec<Outgoing>) -> Vec<Outgoing>
+        requires empty { out.items ≡ [] }
+        requires room { is_waiting self.old.settled self.old.held.items ≡ false → vec_len out + deque_len self.old.tokens ≤ vec_capacity out }
+        ensures { letting_go (books self.old) ≡ record { books = books self.new; out = result.items } }
+    {
+        if HeldStep::are_waiting(&self.held, self.settled) {
+            return out;
+        }
+        let mut out = out;
+        let permit = Permit::new(self.settled);
+        HeldStep::release(&mut self.held, &mut self.tokens, &permit, &mut out);
+        out
+    }
+
+    // Numbers the commands that a step made, holds its replies, and lets those go whose commands are settled.
+    #[tactic(auto, using(crate::proofs::Leaving::was_waiting))]
     fn finish(&mut self, effects: Effects, out: Vec<Outgoing>) -> Vec<Outgoing>
         requires room { HasRoom self.old 0 out }
         requires numbers { self.old.numbered + length effects.commands < 2 ^ 64 }
         ensures { letting_go (numbering (books self.old) effects) ≡ record { books = books self.new; out = result.items } }
     {
         let Effects { commands, replies } = effects;
-        let mut out = out;
         self.numbered += commands.len() as u64;
         self.queue.put(commands);
         HeldStep::hold(&mut self.held, self.numbered, replies);
-        let permit = Permit::new(self.settled);
-        HeldStep::release(&mut self.held, &mut self.tokens, &permit, &mut out);
-        out
+        self.let_go(out)
     }
 
     /// A request. Want of memory gives the token back, and nothing has changed.
@@ -129,7 +148,7 @@ impl Serving {
         match self.groups.step(event, now) {
             Err(error) => Err((error, token)),
             Ok(effects) => {
-                self.tokens.push_reserved(token);
+                self.tokens.push_back_reserved(token);
                 Ok(self.finish(effects, out))
             }
         }
@@ -182,9 +201,8 @@ impl Serving {
         let mut out = leaving;
         refuse_held(&mut tokens, &mut held, &mut out);
         refuse_waiting(&mut tokens, &groups, &mut out);
-        let mut rest = VecDeque::from_vec(tokens);
-        refuse_rest(&mut rest, &mut out);
-        rest.destroy_empty();
+        refuse_rest(&mut tokens, &mut out);
+        tokens.destroy_empty();
         out
     }
 }

@@ -8,7 +8,7 @@ use Rattle.cg_desk.proofs.refusing.refuse_held.Given as goal
 abbrev pub invariant-loop-replies : goal.invariant-loop-replies
 invariant-loop-replies l = record {
   told : Told (map refusal (calls_of (replies_of l.initial.held.items))) l.initial.tokens.items l.initial.out.items (map refusal (calls_of (replies_of l.held.items))) l.tokens.items l.out.items;
-  room : vec_len l.out + vec_len l.tokens ≤ vec_capacity l.out;
+  room : vec_len l.out + deque_len l.tokens ≤ vec_capacity l.out;
   capacity : vec_capacity l.out ≡ vec_capacity l.initial.out;
 }
 

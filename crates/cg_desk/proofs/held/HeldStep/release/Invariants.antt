@@ -9,8 +9,8 @@ abbrev pub invariant-loop-next : goal.invariant-loop-next
 invariant-loop-next l = record {
   told : Told (released (front_of l.permit) l.initial.held.items) l.initial.tokens.items l.initial.out.items (released (front_of l.permit) l.held.items) l.tokens.items l.out.items;
   held : still_held (front_of l.permit) l.held.items ≡ still_held (front_of l.permit) l.initial.held.items;
-  room : vec_len l.out + vec_len l.tokens ≤ vec_capacity l.out;
-  fewer : vec_len l.tokens ≤ vec_len l.initial.tokens;
+  room : vec_len l.out + deque_len l.tokens ≤ vec_capacity l.out;
+  fewer : deque_len l.tokens ≤ deque_len l.initial.tokens;
   capacity : vec_capacity l.out ≡ vec_capacity l.initial.out;
 }
 
