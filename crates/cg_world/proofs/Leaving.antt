@@ -1,0 +1,245 @@
+-- Replies leave in the first step after which their need is settled.
+use Rattle.std.proofs.Common.{◌≡◌, ℕ, ◌+◌, ◌≤◌, Bool, true, false, List, [], ◌∷◌, ◌++◌, append_assoc, append-nil, length, map, Option, None, Some, refl, sym, ap, ◌∙◌, subst, arith}
+use Rattle.std.specs.Prelude.{if◌then◌else◌, is_some}
+use Rattle.std.proofs.lemmas.Bool.{false≢true}
+use Rattle.cg_disk.specs.Disk.{Image}
+use Rattle.cg_fold.specs.Durable.{State as Durable}
+use Rattle.cg_group.specs.declared.asking.Request.{Request as Asked}
+use Rattle.cg_group.specs.declared.event.Event.{Event}
+use Rattle.cg_group.specs.declared.event.Event.TheVariants as event
+use Rattle.cg_group.specs.declared.reply.Reply.TheVariants.{Refused}
+use Rattle.cg_group.specs.declared.ticket.Ticket.{Ticket}
+use Rattle.cg_group.specs.Asking.{asked}
+use Rattle.cg_group.specs.Machine.{step}
+use Rattle.cg_group.specs.Reviving.{revive}
+use Rattle.cg_names.specs.declared.code.Code.TheVariants.{CoordinatorNotAvailable}
+use Rattle.cg_store.specs.Carried.{Carries}
+use Rattle.cg_desk.specs.Balanced.{IsBalanced}
+use Rattle.cg_desk.specs.Books.{Books, is_short, letting_go, returning, served, settling, taking}
+use Rattle.cg_desk.specs.Desks.{Answer, State, Loading, Serving, Failed, at_rest, gone_on, opened, request_on, return_to, serving, settle_on, settled_of, tick_on}
+use Rattle.cg_desk.specs.Held.{holding, replies_of}
+use Rattle.cg_desk.specs.Outgoings.{answer}
+use Rattle.cg_desk.specs.Owed.{KeepsCalls, sent}
+use Rattle.cg_desk.specs.Tokens.{call_of}
+use Rattle.cg_desk.specs.declared.held.HeldStep.{HeldStep}
+use Rattle.cg_desk.specs.declared.outgoing.Outgoing.{Outgoing}
+use Rattle.cg_desk.specs.declared.token.ReplyToken.{ReplyToken}
+use Rattle.cg_desk.proofs.Balanced.{desks_stay_balanced}
+use Rattle.cg_desk.proofs.CalledEverywhere.{gone-keeps, tick-keeps}
+use Rattle.cg_desk.proofs.Living.{events_keep_calls, made-step}
+use Rattle.cg_desk.proofs.Owing.{leave-served, leave-settled, owed-served, owed-settled}
+use Rattle.cg_world.specs.Agreeing.{is_serving}
+use Rattle.cg_world.specs.Replying.{AreInOrder, IsOrderly, IsOrderlyAt, IsOrderlyDesk, RepliesLeaveWhenSettled, due, held_in, left_by, replies_by, replies_in, replies_to}
+use Rattle.cg_world.specs.Runs.{AreNotes, after_run}
+use Rattle.cg_world.specs.Sights.{Sight}
+use Rattle.cg_world.specs.Turns.{IsNoteOf, Turn, answered, appended, event_at, in_flight, settled, take_from, taken, turn}
+use Rattle.cg_world.specs.declared.step.Step.{Step}
+use Rattle.cg_world.specs.declared.step.Step.TheVariants.{Request, Gone, Tick, Take, Append, Settle}
+use Rattle.cg_world.specs.declared.step.StepNote.{StepNote}
+use Rattle.cg_world.specs.declared.step.StepNote.TheVariants.{Done, Nothing, InFlight, Full, Device}
+use Rattle.cg_world.proofs.Ordered.{all-later, chain, due-front, later, later-back, none-left-due, order-holding, order-later}
+use Rattle.cg_world.proofs.Recorded.{carried-records}
+use Rattle.cg_world.proofs.Resting.{turn-stays-failed}
+
+-- what one step does to the replies
+pub record Leaves (s after : State) (made : List HeldStep) (left : List Outgoing) : Type 0 where
+  pub left_is : left ≡ map sent (replies_of (due (settled_of after) (held_in s ++ made)))
+  pub held_is : held_in after ≡ later (settled_of after) (held_in s ++ made)
+  pub orderly : IsOrderlyAt after
+  pub grows : settled_of s ≤ settled_of after
+  pub top : ℕ
+  pub in_order : AreInOrder 0 top (held_in s ++ made)
+
+-- a step that lets no reply go
+quiet-leaves : (b c : Books) → IsOrderlyDesk b → IsBalanced c → c.held ≡ b.held → c.numbered ≡ b.numbered → c.settled ≡ b.settled → Leaves (Serving b) (Serving c) [] []
+quiet-leaves b c h balanced held numbered settled = record {
+  left_is = ap (λ (l : List HeldStep). map sent (replies_of l)) (sym (ap (λ (l : List HeldStep). due c.settled l) (append-nil b.held) ∙ none));
+  held_is = held ∙ sym (ap (λ (l : List HeldStep). later c.settled l) (append-nil b.held) ∙ all-later c.settled b.held none);
+  orderly = record {
+    balanced = balanced;
+    in_order = subst (λ (n : ℕ). AreInOrder 0 n c.held) (sym numbered) (subst (λ (l : List HeldStep). AreInOrder 0 b.numbered l) (sym held) h.in_order);
+    none_due = ap (λ (l : List HeldStep). due c.settled l) held ∙ none;
+  };
+  grows = omega (arith, settled);
+  top = b.numbered;
+  in_order = subst (λ (l : List HeldStep). AreInOrder 0 b.numbered l) (sym (append-nil b.held)) h.in_order;
+}
+  where
+    none : due c.settled b.held ≡ []
+    none = ap (λ (n : ℕ). due n b.held) settled ∙ h.none_due
+
+-- an event is met
+served-leaves : (b : Books) (handed : List ReplyToken) (e : Event) (now : ℕ) → KeepsCalls b.machine handed e now → IsOrderlyDesk b
+    → Leaves (Serving b) (Serving (served b handed e now).books) (replies_to (Some (e, now)) b) (served b handed e now).out
+unfolding served letting_go
+served-leaves b handed e now keeps h = record {
+  left_is = leave-served b handed e now h.balanced.owed keeps ∙ ap (λ (l : List HeldStep). map sent (replies_of l)) (due-front b.settled 0 number all ordered);
+  held_is = later-back b.settled 0 number all ordered;
+  orderly = record {
+    balanced = record { made = made-step b.machine e now h.balanced.made; owed = owed-served b handed e now h.balanced.owed keeps };
+    in_order = subst (λ (l : List HeldStep). AreInOrder 0 number l) (sym (later-back b.settled 0 number all ordered)) (order-later b.settled 0 number all ordered);
+    none_due = ap (λ (l : List HeldStep). due b.settled l) (later-back b.settled 0 number all ordered) ∙ none-left-due b.settled all;
+  };
+  grows = omega arith;
+  top = number;
+  in_order = ordered;
+}
+  where
+    number : ℕ
+    number = b.numbered + length (step b.machine e now).effects.commands
+
+    all : List HeldStep
+    all = b.held ++ holding number (step b.machine e now).effects.replies
+
+    ordered : AreInOrder 0 number all
+    ordered = order-holding 0 b.numbered number b.held (step b.machine e now).effects.replies (omega arith) (omega arith) h.in_order
+
+-- a batch is settled
+settled-leaves : (b : Books) (count : ℕ) → IsOrderlyDesk b → Leaves (Serving b) (Serving (settling b count).books) [] (settling b count).out
+unfolding settling letting_go
+settled-leaves b count h = record {
+  left_is = leave-settled b count h.balanced.owed ∙ ap (λ (l : List HeldStep). map sent (replies_of l)) (due-front (b.settled + count) 0 b.numbered b.held h.in_order ∙ ap (λ (l : List HeldStep). due (b.settled + count) l) (sym (append-nil b.held)));
+  held_is = later-back (b.settled + count) 0 b.numbered b.held h.in_order ∙ ap (λ (l : List HeldStep). later (b.settled + count) l) (sym (append-nil b.held));
+  orderly = record {
+    balanced = record { made = h.balanced.made; owed = owed-settled b count h.balanced.owed };
+    in_order = subst (λ (l : List HeldStep). AreInOrder 0 b.numbered l) (sym (later-back (b.settled + count) 0 b.numbered b.held h.in_order)) (order-later (b.settled + count) 0 b.numbered b.held h.in_order);
+    none_due = ap (λ (l : List HeldStep). due (b.settled + count) l) (later-back (b.settled + count) 0 b.numbered b.held h.in_order) ∙ none-left-due (b.settled + count) b.held;
+  };
+  grows = omega arith;
+  top = b.numbered;
+  in_order = subst (λ (l : List HeldStep). AreInOrder 0 b.numbered l) (sym (append-nil b.held)) h.in_order;
+}
+
+same-leaves : (b : Books) → IsOrderlyDesk b → Leaves (Serving b) (Serving b) [] []
+same-leaves b h = quiet-leaves b b h h.balanced refl refl refl
+
+-- each step of a world that serves, up to a failure of its disk
+request-leaves : (short : Bool) (b : Books) (stored : Bool) (end : ℕ) (ticket : Ticket) (r : Asked) (now : ℕ) (fresh : List ℕ) → KeepsCalls b.machine (record { ticket = ticket } ∷ []) (asked r ticket fresh) now → IsOrderlyDesk b
+    → let o : Option (Event × ℕ) = if short then None else Some (asked r ticket fresh, now) in
+    let a : Answer = if short then record { after = Serving b; out = answer ticket (Refused CoordinatorNotAvailable) ∷ [] } else serving (served b (record { ticket = ticket } ∷ []) (asked r ticket fresh) now) in
+    let t : Turn = answered (is_some o) (record { desk = Serving b; appended = stored; end = end }) a in
+    Leaves (Serving b) t.after.desk (replies_to o b) t.left
+request-leaves true b stored end ticket r now fresh keeps h = same-leaves b h
+request-leaves false b stored end ticket r now fresh keeps h = served-leaves b (record { ticket = ticket } ∷ []) (asked r ticket fresh) now keeps h
+
+tick-leaves : (short : Bool) (b : Books) (now : ℕ) → IsOrderlyDesk b
+    → let o : Option (Event × ℕ) = if short then None else Some (event.Tick, now) in
+    let a : Answer = if short then at_rest (Serving b) else serving (served b [] event.Tick now) in
+    Leaves (Serving b) a.after (replies_to o b) a.out
+tick-leaves true b now h = same-leaves b h
+tick-leaves false b now h = served-leaves b [] event.Tick now (tick-keeps b.machine now) h
+
+taking-leaves : (b : Books) → IsOrderlyDesk b → Leaves (Serving b) (Serving (taking b)) [] []
+unfolding taking
+taking-leaves b h = quiet-leaves b (taking b) h (record { made = h.balanced.made; owed = h.balanced.owed }) refl refl refl
+
+returning-leaves : (b : Books) → IsOrderlyDesk b → Leaves (Serving b) (Serving (returning b)) [] []
+returning-leaves b h = quiet-leaves b (returning b) h (record { made = h.balanced.made; owed = h.balanced.owed }) refl refl refl
+
+pub turn-leaves : (s : Step) (note : StepNote) (b : Books) (stored : Bool) (end : ℕ) → IsOrderlyDesk b
+    → let w : Sight = record { desk = Serving b; appended = stored; end = end } in
+    is_serving (turn s note w).after.desk ≡ true → Leaves (Serving b) (turn s note w).after.desk (replies_in s (Serving b)) (turn s note w).left
+unfolding turn request_on tick_on gone_on settle_on
+turn-leaves (Request ticket r now fresh) note b stored end h is =
+    request-leaves (is_short b) b stored end ticket r now fresh (events_keep_calls.request b.machine r (record { ticket = ticket }) fresh now h.balanced.made) h
+turn-leaves (Gone session now) note b stored end h is = served-leaves b [] (event.Gone session) now (gone-keeps b.machine session now) h
+turn-leaves (Tick now) note b stored end h is = tick-leaves (is_short b) b now h
+turn-leaves Take Done b stored end h is = taking-leaves b h
+turn-leaves Take Nothing b stored end h is = same-leaves b h
+turn-leaves Take InFlight b stored end h is = same-leaves b h
+turn-leaves Take Full b stored end h is = same-leaves b h
+turn-leaves Take Device b stored end h is = same-leaves b h
+turn-leaves Append Done b stored end h is = same-leaves b h
+turn-leaves Append Nothing b stored end h is = same-leaves b h
+turn-leaves Append InFlight b stored end h is = same-leaves b h
+turn-leaves Append Full b stored end h is = returning-leaves b h
+turn-leaves Append Device b stored end h is = absurd (false≢true is)
+turn-leaves Settle Done b stored end h is = settled-leaves b (length (in_flight (Serving b))) h
+turn-leaves Settle Nothing b stored end h is = same-leaves b h
+turn-leaves Settle InFlight b stored end h is = same-leaves b h
+turn-leaves Settle Full b stored end h is = same-leaves b h
+turn-leaves Settle Device b stored end h is = same-leaves b h
+
+-- a desk that does not serve is orderly
+rests-orderly : (s : State) → is_serving s ≡ false → IsOrderlyAt s
+rests-orderly Loading is = tt
+rests-orderly (Failed n m) is = tt
+rests-orderly (Serving b) is = absurd (false≢true (sym is))
+
+turn-orderly : (s : Step) (note : StepNote) (w : Sight) → IsOrderly w → IsOrderly (turn s note w).after
+turn-orderly s note w h = by-state w.desk refl
+  where
+    by-after : (b : Books) → w.desk ≡ Serving b → (serves : Bool) → is_serving (turn s note w).after.desk ≡ serves → IsOrderly (turn s note w).after
+    by-after b is false rests = rests-orderly (turn s note w).after.desk rests
+    by-after b is true serves =
+        let same : w ≡ (let v : Sight = record { desk = Serving b; appended = w.appended; end = w.end } in v) = ap (λ (d : State). let v : Sight = record { desk = d; appended = w.appended; end = w.end } in v) is in
+        subst (λ (v : Sight). IsOrderly (turn s note v).after) (sym same)
+        (turn-leaves s note b w.appended w.end (subst (λ (d : State). IsOrderlyAt d) is h) (subst (λ (v : Sight). is_serving (turn s note v).after.desk ≡ true) same serves)).orderly
+
+    by-state : (d : State) → w.desk ≡ d → IsOrderly (turn s note w).after
+    by-state Loading is = rests-orderly (turn s note w).after.desk (turn-stays-failed s note w (ap is_serving is))
+    by-state (Failed n m) is = rests-orderly (turn s note w).after.desk (turn-stays-failed s note w (ap is_serving is))
+    by-state (Serving b) is = by-after b is (is_serving (turn s note w).after.desk) refl
+
+stays : (ps : List (Step × StepNote)) (w : Sight) → IsOrderly w → AreNotes ps w → IsOrderly (after_run ps w)
+unfolding after_run AreNotes
+stays [] w h noted = h
+stays (p ∷ ps) w h noted = stays ps (turn p.0 p.1 w).after (turn-orderly p.0 p.1 w h) noted.1
+
+run-rests : (ps : List (Step × StepNote)) (w : Sight) → is_serving w.desk ≡ false → is_serving (after_run ps w).desk ≡ false
+unfolding after_run
+run-rests [] w is = is
+run-rests (p ∷ ps) w is = run-rests ps (turn p.0 p.1 w).after (turn-stays-failed p.0 p.1 w is)
+
+serves-before : (ps : List (Step × StepNote)) (w : Sight) → is_serving (after_run ps w).desk ≡ true → is_serving w.desk ≡ true
+serves-before ps w is = by-case (is_serving w.desk) refl
+  where
+    by-case : (b : Bool) → is_serving w.desk ≡ b → is_serving w.desk ≡ true
+    by-case true e = e
+    by-case false e = absurd (false≢true (sym (run-rests ps w e) ∙ is))
+
+-- one step of a world that serves after it
+step-leaves : (s : Step) (note : StepNote) (w : Sight) → IsOrderly w → is_serving (turn s note w).after.desk ≡ true → Leaves w.desk (turn s note w).after.desk (replies_in s w.desk) (turn s note w).left
+step-leaves s note w h serves = by-state w.desk refl
+  where
+    by-state : (d : State) → w.desk ≡ d → Leaves w.desk (turn s note w).after.desk (replies_in s w.desk) (turn s note w).left
+    by-state Loading is = absurd (false≢true (sym (turn-stays-failed s note w (ap is_serving is)) ∙ serves))
+    by-state (Failed n m) is = absurd (false≢true (sym (turn-stays-failed s note w (ap is_serving is)) ∙ serves))
+    by-state (Serving b) is =
+        let same : w ≡ (let v : Sight = record { desk = Serving b; appended = w.appended; end = w.end } in v) = ap (λ (d : State). let v : Sight = record { desk = d; appended = w.appended; end = w.end } in v) is in
+        subst (λ (v : Sight). Leaves v.desk (turn s note v).after.desk (replies_in s v.desk) (turn s note v).left) (sym same)
+        (turn-leaves s note b w.appended w.end (subst (λ (d : State). IsOrderlyAt d) is h) (subst (λ (v : Sight). is_serving (turn s note v).after.desk ≡ true) same serves))
+
+grows : (ps : List (Step × StepNote)) (w : Sight) → IsOrderly w → is_serving (after_run ps w).desk ≡ true → settled_of w.desk ≤ settled_of (after_run ps w).desk
+unfolding after_run
+grows [] w h serves = omega arith
+grows (p ∷ ps) w h serves =
+    let one = step-leaves p.0 p.1 w h (serves-before ps (turn p.0 p.1 w).after serves) in
+    omega (arith, one.grows, grows ps (turn p.0 p.1 w).after one.orderly serves)
+
+none-at-end : (s : State) → is_serving s ≡ true → IsOrderlyAt s → [] ≡ map sent (replies_of (due (settled_of s) (held_in s ++ [])))
+none-at-end Loading serves h = absurd (false≢true serves)
+none-at-end (Failed n m) serves h = absurd (false≢true serves)
+none-at-end (Serving b) serves h = ap (λ (l : List HeldStep). map sent (replies_of l)) (sym (ap (λ (l : List HeldStep). due b.settled l) (append-nil b.held) ∙ h.none_due))
+
+leave : (ps : List (Step × StepNote)) (w : Sight) → IsOrderly w → AreNotes ps w → is_serving (after_run ps w).desk ≡ true
+    → left_by ps w ≡ map sent (replies_of (due (settled_of (after_run ps w).desk) (held_in w.desk ++ replies_by ps w)))
+unfolding after_run AreNotes left_by replies_by
+leave [] w h noted serves = none-at-end w.desk serves h
+leave (p ∷ ps) w h noted serves =
+    let next : Sight = (turn p.0 p.1 w).after in
+    let last : ℕ = settled_of (after_run ps next).desk in
+    let one = step-leaves p.0 p.1 w h (serves-before ps next serves) in
+    let hs : List HeldStep = held_in w.desk ++ replies_in p.0 w.desk in
+    ap (λ (l : List Outgoing). l ++ left_by ps next) one.left_is
+    ∙ ap (λ (l : List Outgoing). map sent (replies_of (due (settled_of next.desk) hs)) ++ l) (leave ps next one.orderly noted.1 serves)
+    ∙ ap (λ (l : List HeldStep). map sent (replies_of (due (settled_of next.desk) hs)) ++ map sent (replies_of (due last (l ++ replies_by ps next)))) one.held_is
+    ∙ chain (settled_of next.desk) last 0 one.top hs (replies_by ps next) (grows ps next one.orderly serves) one.in_order
+    ∙ ap (λ (l : List HeldStep). map sent (replies_of (due last l))) (append_assoc (held_in w.desk) (replies_in p.0 w.desk) (replies_by ps next))
+
+opened-orderly : (image : Image) (n : ℕ) (state : Durable) (now : ℕ) → Carries image n state → IsOrderlyAt (Serving (opened n (revive state now)))
+unfolding AreInOrder
+opened-orderly image n state now carries = record { balanced = desks_stay_balanced.loaded n state now (carried-records image n state carries); in_order = tt; none_due = refl }
+
+pub replies_leave_when_settled : RepliesLeaveWhenSettled
+replies_leave_when_settled = record { opened = opened-orderly; stays = stays; leave = leave }

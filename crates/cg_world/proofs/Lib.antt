@@ -1,0 +1,13 @@
+pub mod Agreeing
+pub mod Moving
+pub mod Unstored
+pub mod Carrying
+pub mod Steps
+pub mod Going
+pub mod Resting
+pub mod Runs
+pub mod Opened
+pub mod Ordered
+pub mod Leaving
+pub mod Histories
+pub mod Recorded

@@ -1,0 +1,367 @@
+-- The batch on its way between the desk and the store.
+use Rattle.std.proofs.Common.{◌≡◌, ◌≢◌, ◌⊎◌, inl, inr, ℕ, ◌+◌, ◌≤◌, Bool, true, false, List, [], ◌∷◌, ◌++◌, length, Option, None, Some, refl, sym, ap, ◌∙◌, subst, arith}
+use Rattle.std.proofs.lemmas.Bool.{eqb-false, false≢true}
+use Rattle.std.specs.Prelude.{if◌then◌else◌, nat_eq}
+use Rattle.cg_record.specs.declared.command.Command.{Command}
+use Rattle.cg_store.specs.declared.batch.Batch.{Batch}
+use Rattle.cg_store.specs.declared.receipt.Receipt.{Receipt}
+use Rattle.cg_store.specs.declared.fault.StoreFault.{StoreFault}
+use Rattle.cg_store.specs.declared.fault.StoreFault.TheVariants as store_fault
+use Rattle.cg_store.specs.Batches.{has_room, refusal_of}
+use Rattle.cg_store.specs.Faults.{IsToldOf}
+use Rattle.cg_store.specs.Receipts.{batch_of}
+use Rattle.cg_desk.specs.Books.{Books, IsFlying, IsTake, IsWhy, letting_go, next_batch, settling, taking}
+use Rattle.cg_desk.specs.Desks.{Answer, State, Loading, Serving, Failed, IsOut, IsReasonAt, IsTakenFrom, failing_on, is_out, numbered_of, return_to, settle_on, settled_of}
+use Rattle.cg_desk.specs.Flights.{Course, Idle, Away, Returned, is_away, unsettled}
+use Rattle.cg_desk.specs.Fronts.{fitting}
+use Rattle.cg_desk.specs.declared.fault.SettleFault.{SettleFault}
+use Rattle.cg_desk.specs.declared.fault.SettleFault.TheVariants as settle_fault
+use Rattle.cg_desk.specs.declared.outgoing.Outgoing.{Outgoing}
+use Rattle.cg_world.specs.Agreeing.{Agree, flying, flying_in, is_serving, moving, seen, stored_in}
+use Rattle.cg_world.specs.Sights.{Sight, sight}
+use Rattle.cg_world.specs.declared.world.World.{World}
+use Rattle.cg_world.specs.Transits.{batch_in, is_appended, receipt_in, without_batch, without_receipt}
+use Rattle.cg_world.specs.Turns.{IsIdle, Turn, appended, in_flight, is_taken, take_from}
+use Rattle.cg_world.specs.declared.step.StepNote.TheVariants as note
+use Rattle.cg_world.specs.declared.transit.Transit.{Transit}
+use Rattle.cg_world.specs.declared.transit.Transit.TheVariants.{Empty, Taken, Appended}
+
+-- What the way says of the desk.
+
+-- a batch is in flight, of which the store has so many commands more than are settled
+pub record Flies (s : State) (batch : Batch) (failed : Bool) : Type 0 where
+  pub out : IsOut s batch
+  pub is_out_of : is_out s ≡ true
+  pub first : batch.first ≡ settled_of s + 1
+  pub commands : in_flight s ≡ batch.commands
+  pub serving : is_serving s ≡ true
+  pub serves : failed ≡ false
+
+course-away : (c : Course) (settled : ℕ) (p : ℕ × List Command) → Some p ≡ flying_in c settled → (c ≡ Away p.1) × (p.0 ≡ settled + 1)
+course-away Idle settled p is = absurd (cc)
+course-away (Away commands) settled p is =
+    let same : p ≡ (settled + 1, commands) = cc in
+    (ap Away (sym (ap (λ (q : ℕ × List Command). q.1) same)), ap (λ (q : ℕ × List Command). q.0) same)
+course-away (Returned commands) settled p is = absurd (cc)
+
+away-flies : (b : Books) (batch : Batch) (failed : Bool) → (b.course ≡ Away batch.commands) × (batch.first ≡ b.settled + 1) → failed ≡ false → Flies (Serving b) batch failed
+away-flies b batch failed away serves = record {
+  out = away;
+  is_out_of = ap is_away away.0;
+  first = away.1;
+  commands = ap unsettled away.0;
+  serving = refl;
+  serves = serves;
+}
+
+pub flies : (s : State) (t : Transit) (batch : Batch) (front : ℕ) (failed : Bool) → moving t ≡ Some (seen batch) → Agree s t front failed → Flies s batch failed
+flies Loading t batch front failed is h = absurd (nothing-moves t batch is h.way)
+  where
+    nothing-moves : (t : Transit) (batch : Batch) → moving t ≡ Some (seen batch) → moving t ≡ None → ⊥
+    nothing-moves t batch a b = cc
+flies (Failed n m) t batch front failed is h = absurd (nothing-moves t batch is h.way)
+  where
+    nothing-moves : (t : Transit) (batch : Batch) → moving t ≡ Some (seen batch) → moving t ≡ None → ⊥
+    nothing-moves t batch a b = cc
+flies (Serving b) t batch front failed is h = away-flies b batch failed (course-away b.course b.settled (seen batch) (sym is ∙ h.way)) (h.serves refl)
+
+-- Taking.
+
+home-empty : (s : State) (t : Transit) → is_out s ≡ false → moving t ≡ flying s → t ≡ Empty
+home-empty s Empty home way = refl
+home-empty Loading (Taken batch) home way = absurd (cc)
+home-empty Loading (Appended receipt) home way = absurd (cc)
+home-empty (Failed n m) (Taken batch) home way = absurd (cc)
+home-empty (Failed n m) (Appended receipt) home way = absurd (cc)
+home-empty (Serving b) (Taken batch) home way = absurd (false≢true (sym home ∙ ap is_away (course-away b.course b.settled (seen batch) way).0))
+home-empty (Serving b) (Appended receipt) home way = absurd (false≢true (sym home ∙ ap is_away (course-away b.course b.settled (seen (batch_of receipt)) way).0))
+
+-- a batch was taken from a desk that had none out
+pub record Took (s after : State) (t : Transit) (batch : Batch) (front : ℕ) (failed : Bool) : Type 0 where
+  pub agree : Agree after (Taken batch) front failed
+  pub taken : take_from s ≡ after
+  pub home : is_appended t ≡ false
+  pub idle : ¬ IsIdle s
+
+some-commands : (b : Books) (batch : Batch) → batch.commands ≡ next_batch b.course b.queue → (b.course ≡ Idle) × (b.queue ≡ []) → ⊥
+unfolding fitting
+some-commands b batch is idle =
+    let none : batch.commands ≡ [] = is ∙ ap (λ (c : Course). next_batch c b.queue) idle.0 ∙ ap (λ (q : List Command). next_batch Idle q) idle.1 in
+    omega (arith, batch.whole.some, ap length none)
+
+taking-took : (b c : Books) (t : Transit) (batch : Batch) (front : ℕ) (failed : Bool) → is_out (Serving b) ≡ false → IsTake b (Some batch) c → Agree (Serving b) t front failed → Took (Serving b) (Serving c) t batch front failed
+unfolding taking
+taking-took b c t batch front failed home is h =
+    let empty : t ≡ Empty = home-empty (Serving b) t home h.way in
+    let stored : front ≡ b.settled + length (stored_in t) = h.stored refl in
+    record {
+      agree = subst (λ (d : Books). Agree (Serving d) (Taken batch) front failed) (sym is.2) (record {
+        way = ap Some (pair is.0 is.1);
+        stored = λ _. stored ∙ ap (λ (u : Transit). b.settled + length (stored_in u)) empty;
+        enough = h.enough;
+        serves = h.serves;
+      });
+      taken = ap Serving (sym is.2);
+      home = ap is_appended empty;
+      idle = some-commands b batch is.1;
+    }
+  where
+    pair : {x y : ℕ} {xs ys : List Command} → x ≡ y → xs ≡ ys → (let p : ℕ × List Command = (x, xs) in p) ≡ (y, ys)
+    pair p q = cc
+
+not-out : (b : Bool) → (b ≡ true → ⊥) → b ≡ false
+not-out true h = absurd (h refl)
+not-out false h = refl
+
+pub took : (s after : State) (t : Transit) (batch : Batch) (front : ℕ) (failed : Bool) (o : Option Batch) → o ≡ Some batch → (is_out s ≡ true → ⊥) → IsTakenFrom s o after → Agree s t front failed → Took s after t batch front failed
+took s after t batch front failed o some home is h = from-some s after (subst (λ (x : Option Batch). IsTakenFrom s x after) some is) h (not-out (is_out s) home)
+  where
+    from-some : (s after : State) → IsTakenFrom s (Some batch) after → Agree s t front failed → is_out s ≡ false → Took s after t batch front failed
+    from-some Loading after is h home = absurd (cc is.0)
+    from-some (Failed n m) after is h home = absurd (cc is.0)
+    from-some (Serving b) Loading is h home = absurd is
+    from-some (Serving b) (Failed n m) is h home = absurd is
+    from-some (Serving b) (Serving c) is h home = taking-took b c t batch front failed home is h
+
+-- Appending.
+
+-- with this in flight a store refuses only where it has no room
+pub refuses : (failed : Bool) (end front first : ℕ) (commands : List Command) → failed ≡ false → first ≡ front + 1
+    → refusal_of failed end front first commands ≡ (if has_room end front commands then None else Some store_fault.Full)
+unfolding refusal_of
+refuses failed end front first commands serves next =
+    let order : nat_eq first (front + 1) ≡ true = ap (λ (k : ℕ). nat_eq k (front + 1)) next ∙ nat_eq-same (front + 1) in
+    by-cases failed (nat_eq first (front + 1)) serves order
+  where
+    by-cases : (f o : Bool) → f ≡ false → o ≡ true
+        → (if f then Some store_fault.Failed else (if o then (if has_room end front commands then None else Some store_fault.Full) else Some store_fault.OutOfOrder))
+        ≡ (if has_room end front commands then None else Some store_fault.Full)
+    by-cases true o serves order = absurd (false≢true (sym serves))
+    by-cases false true serves order = refl
+    by-cases false false serves order = absurd (false≢true order)
+
+    nat_eq-same : (n : ℕ) → nat_eq n n ≡ true
+    nat_eq-same n = decided (nat_eq n n) refl
+      where
+        decided : (b : Bool) → nat_eq n n ≡ b → nat_eq n n ≡ true
+        decided true e = e
+        decided false e = absurd (eqb-false n n e refl)
+
+-- what such a refusal tells of the room
+pub Means : Bool → StoreFault → Type 0
+Means room store_fault.Memory = room ≡ true
+Means room store_fault.Device = room ≡ true
+Means room store_fault.Full = room ≡ false
+Means room store_fault.OutOfOrder = ⊥
+Means room store_fault.Failed = ⊥
+
+told-means : (room : Bool) (fault : StoreFault) → IsToldOf (if room then None else Some store_fault.Full) fault → Means room fault
+unfolding Means
+told-means true fault (inl is) = subst (λ (f : StoreFault). Means true f) (sym is) refl
+told-means true fault (inr is) = subst (λ (f : StoreFault). Means true f) (sym is) refl
+told-means false fault is = subst (λ (f : StoreFault). Means false f) (sym is) refl
+
+pub refusal-means : (failed : Bool) (end front first : ℕ) (commands : List Command) (fault : StoreFault) → failed ≡ false → first ≡ front + 1
+    → IsToldOf (refusal_of failed end front first commands) fault → Means (has_room end front commands) fault
+refusal-means failed end front first commands fault serves next told =
+    told-means (has_room end front commands) fault (subst (λ (o : Option StoreFault). IsToldOf o fault) (refuses failed end front first commands serves next) told)
+
+pub none-means : (failed : Bool) (end front first : ℕ) (commands : List Command) → failed ≡ false → first ≡ front + 1
+    → refusal_of failed end front first commands ≡ None → has_room end front commands ≡ true
+none-means failed end front first commands serves next none = room (has_room end front commands) (sym (refuses failed end front first commands serves next) ∙ none)
+  where
+    room : (r : Bool) → (if r then None else Some store_fault.Full) ≡ None → r ≡ true
+    room true is = refl
+    room false is = absurd (cc is)
+
+-- the batch that waits for the store
+pub waiting-moves : (t : Transit) (batch : Batch) → batch_in t ≡ Some batch → (moving t ≡ Some (seen batch)) × (stored_in t ≡ []) × (is_appended t ≡ false)
+waiting-moves Empty batch is = absurd (cc is)
+waiting-moves (Taken b) batch is = (let same : b ≡ batch = cc in ap (λ (x : Batch). Some (seen x)) same, refl, refl)
+waiting-moves (Appended receipt) batch is = absurd (cc is)
+
+-- none waits for the store
+pub none-waiting : (s : State) (t : Transit) (front : ℕ) (failed : Bool) → batch_in t ≡ None → Agree s t front failed → (if is_appended t then false else is_out s) ≡ false
+none-waiting s Empty front failed none h = stays s h.way
+  where
+    stays : (s : State) → None ≡ flying s → is_out s ≡ false
+    stays Loading way = refl
+    stays (Failed n m) way = refl
+    stays (Serving b) way = at-home b.course b.settled way
+      where
+        at-home : (c : Course) (settled : ℕ) → None ≡ flying_in c settled → is_away c ≡ false
+        at-home Idle settled way = refl
+        at-home (Away commands) settled way = absurd (cc)
+        at-home (Returned commands) settled way = refl
+none-waiting s (Taken batch) front failed none h = absurd (cc none)
+none-waiting s (Appended receipt) front failed none h = refl
+
+-- the batch that is to be appended, with what the store says of it
+pub record Goes (s : State) (t : Transit) (batch : Batch) (front : ℕ) (failed : Bool) : Type 0 where
+  pub flight : Flies s batch failed
+  pub waits : is_appended t ≡ false
+  pub next : batch.first ≡ front + 1
+  pub front_is : front ≡ settled_of s
+  pub taken : (if is_appended t then false else is_out s) ≡ true
+
+pub goes : (s : State) (t : Transit) (batch : Batch) (front : ℕ) (failed : Bool) → batch_in t ≡ Some batch → Agree s t front failed → Goes s t batch front failed
+goes s t batch front failed is h =
+    let moved : (moving t ≡ Some (seen batch)) × (stored_in t ≡ []) × (is_appended t ≡ false) = waiting-moves t batch is in
+    let f : Flies s batch failed = flies s t batch front failed moved.0 h in
+    let front_is : front ≡ settled_of s = omega (arith, h.stored f.serving, ap length moved.1) in
+    record {
+      flight = f;
+      waits = moved.2;
+      next = f.first ∙ ap (λ (k : ℕ). k + 1) (sym front_is);
+      front_is = front_is;
+      taken = ap (λ (b : Bool). if b then false else is_out s) moved.2 ∙ f.is_out_of;
+    }
+
+-- it was appended
+pub appended-agrees : (s : State) (batch : Batch) (front later : ℕ) (failed failed_now : Bool) (receipt : Receipt) → Flies s batch failed → front ≡ settled_of s
+    → batch_of receipt ≡ batch → later ≡ front + length batch.commands → failed_now ≡ failed → flying s ≡ Some (seen batch) → Agree s (Appended receipt) later failed_now
+appended-agrees s batch front later failed failed_now receipt f front_is same more now way = record {
+  way = ap (λ (b : Batch). Some (seen b)) same ∙ sym way;
+  stored = λ _. more ∙ ap (λ (k : ℕ). k + length batch.commands) front_is ∙ ap (λ (b : Batch). settled_of s + length b.commands) (sym same);
+  enough = omega (arith, more, front_is);
+  serves = λ _. now ∙ f.serves;
+}
+
+-- it was given back
+pub returned-agrees : (s : State) (front : ℕ) (failed : Bool) → front ≡ settled_of s → failed ≡ false → Agree (return_to s) Empty front failed
+returned-agrees Loading front failed front_is serves = record { way = refl; stored = λ h. absurd (false≢true h); enough = omega (arith, front_is); serves = λ h. absurd (false≢true h) }
+returned-agrees (Failed n m) front failed front_is serves = record { way = refl; stored = λ h. absurd (false≢true h); enough = omega (arith, front_is); serves = λ h. absurd (false≢true h) }
+returned-agrees (Serving b) front failed front_is serves = record { way = refl; stored = λ h. omega (arith, front_is); enough = omega (arith, front_is); serves = λ h. serves }
+
+-- the desk takes the batch in flight back, and settles it, unless memory is wanting
+not-why : (c : Course) (settled : ℕ) (batch : Batch) (fault : SettleFault) → IsFlying c settled batch → fault ≢ settle_fault.Memory → IsWhy c settled batch fault → ⊥
+not-why c settled batch settle_fault.Memory flying other why = other refl
+not-why c settled batch settle_fault.NotInFlight flying other why = false≢true (sym why ∙ ap is_away flying.0)
+not-why c settled batch settle_fault.Foreign flying other why = why.1 flying
+
+pub not-refused : (s : State) (batch : Batch) (fault : SettleFault) → IsOut s batch → fault ≢ settle_fault.Memory → IsReasonAt s batch fault → ⊥
+not-refused Loading batch fault out other why = out
+not-refused (Failed n m) batch fault out other why = out
+not-refused (Serving b) batch fault out other why = not-why b.course b.settled batch fault out other why
+
+-- the disk failed
+pub failed-agrees : (s : State) (t : Transit) (front : ℕ) (failed failed_now : Bool) → Agree s t front failed → Agree (Failed (numbered_of s) (settled_of s)) Empty front failed_now
+failed-agrees s t front failed failed_now h = record { way = refl; stored = λ h. absurd (false≢true h); enough = h.enough; serves = λ h. absurd (false≢true h) }
+
+-- Settling.
+
+pub receipt-moves : (t : Transit) (receipt : Receipt) → receipt_in t ≡ Some receipt → (moving t ≡ Some (seen (batch_of receipt))) × (stored_in t ≡ (batch_of receipt).commands) × (is_appended t ≡ true)
+receipt-moves Empty receipt is = absurd (cc is)
+receipt-moves (Taken b) receipt is = absurd (cc is)
+receipt-moves (Appended r) receipt is =
+    let same : r ≡ receipt = cc in
+    (ap (λ (x : Receipt). Some (seen (batch_of x))) same, ap (λ (x : Receipt). (batch_of x).commands) same, refl)
+
+pub no-receipt : (t : Transit) → receipt_in t ≡ None → is_appended t ≡ false
+no-receipt Empty none = refl
+no-receipt (Taken batch) none = refl
+no-receipt (Appended receipt) none = absurd (cc none)
+
+settled-at : (s : State) (count front : ℕ) (failed : Bool) → is_serving s ≡ true → front ≡ settled_of s + count → failed ≡ false → Agree (settle_on s count).after Empty front failed
+unfolding settle_on settling letting_go
+settled-at Loading count front failed serving front_is serves = absurd (false≢true serving)
+settled-at (Failed n m) count front failed serving front_is serves = absurd (false≢true serving)
+settled-at (Serving b) count front failed serving front_is serves = record { way = refl; stored = λ _. omega (arith, front_is); enough = omega (arith, front_is); serves = λ _. serves }
+
+pub settled-agrees : (s after : State) (out : List Outgoing) (t : Transit) (receipt : Receipt) (front : ℕ) (failed : Bool) → receipt_in t ≡ Some receipt → Agree s t front failed
+    → settle_on s (length (batch_of receipt).commands) ≡ record { after = after; out = out } → Agree after Empty front failed
+settled-agrees s after out t receipt front failed is h answers =
+    let moved : (moving t ≡ Some (seen (batch_of receipt))) × (stored_in t ≡ (batch_of receipt).commands) × (is_appended t ≡ true) = receipt-moves t receipt is in
+    let f : Flies s (batch_of receipt) failed = flies s t (batch_of receipt) front failed moved.0 h in
+    subst (λ (a : Answer). Agree a.after Empty front failed) answers
+    (settled-at s (length (batch_of receipt).commands) front failed f.serving (h.stored f.serving ∙ ap (λ (l : List Command). settled_of s + length l) moved.1) f.serves)
+
+-- the commands of a receipt are those in flight
+pub receipt-flies : (s : State) (t : Transit) (receipt : Receipt) (front : ℕ) (failed : Bool) → receipt_in t ≡ Some receipt → Agree s t front failed → Flies s (batch_of receipt) failed
+receipt-flies s t receipt front failed is h = flies s t (batch_of receipt) front failed (receipt-moves t receipt is).0 h
+
+-- what a store says of the batch that waits for it
+module _ (s : State) (t : Transit) (batch : Batch) (end front : ℕ) (failed : Bool) (waits : batch_in t ≡ Some batch) (h : Agree s t front failed) where
+  goes-now : Goes s t batch front failed
+  goes-now = goes s t batch front failed waits h
+
+  pub its-commands : in_flight s ≡ batch.commands
+  its-commands = goes-now.flight.commands
+
+  pub it-is-out : IsOut s batch
+  it-is-out = goes-now.flight.out
+
+  pub it-was-taken : (if is_appended t then false else is_out s) ≡ true
+  it-was-taken = goes-now.taken
+
+  pub not-appended : is_appended t ≡ false
+  not-appended = goes-now.waits
+
+  told-of : (fault : StoreFault) → IsToldOf (refusal_of failed end front batch.first batch.commands) fault → Means (has_room end (settled_of s) (in_flight s)) fault
+  told-of fault told =
+      subst (λ (cs : List Command). Means (has_room end (settled_of s) cs) fault) (sym goes-now.flight.commands)
+      (subst (λ (n : ℕ). Means (has_room end n batch.commands) fault) goes-now.front_is
+      (refusal-means failed end front batch.first batch.commands fault goes-now.flight.serves goes-now.next told))
+
+  pub never-out-of-order : (fault : StoreFault) → fault ≡ store_fault.OutOfOrder → IsToldOf (refusal_of failed end front batch.first batch.commands) fault → ⊥
+  unfolding Means
+  never-out-of-order fault is told = subst (λ (f : StoreFault). Means (has_room end (settled_of s) (in_flight s)) f) is (told-of fault told)
+
+  pub never-failed : (fault : StoreFault) → fault ≡ store_fault.Failed → IsToldOf (refusal_of failed end front batch.first batch.commands) fault → ⊥
+  unfolding Means
+  never-failed fault is told = subst (λ (f : StoreFault). Means (has_room end (settled_of s) (in_flight s)) f) is (told-of fault told)
+
+  pub full-for : (fault : StoreFault) → fault ≡ store_fault.Full → IsToldOf (refusal_of failed end front batch.first batch.commands) fault
+      → ((if is_appended t then false else is_out s) ≡ true) × (has_room end (settled_of s) (in_flight s) ≡ false)
+  unfolding Means
+  full-for fault is told = (goes-now.taken, subst (λ (f : StoreFault). Means (has_room end (settled_of s) (in_flight s)) f) is (told-of fault told))
+
+  pub room-for : (fault : StoreFault) → fault ≡ store_fault.Device → IsToldOf (refusal_of failed end front batch.first batch.commands) fault
+      → ((if is_appended t then false else is_out s) ≡ true) × (has_room end (settled_of s) (in_flight s) ≡ true)
+  unfolding Means
+  room-for fault is told = (goes-now.taken, subst (λ (f : StoreFault). Means (has_room end (settled_of s) (in_flight s)) f) is (told-of fault told))
+
+-- nothing is on its way once it was taken out
+pub batch-out : (t t_now : Transit) (batch : Batch) → batch_in t ≡ Some batch → t_now ≡ without_batch t → t_now ≡ Empty
+batch-out Empty t_now batch is now = absurd (cc is)
+batch-out (Taken b) t_now batch is now = now
+batch-out (Appended receipt) t_now batch is now = absurd (cc is)
+
+pub receipt-out : (t t_now : Transit) (receipt : Receipt) → receipt_in t ≡ Some receipt → t_now ≡ without_receipt t → t_now ≡ Empty
+receipt-out Empty t_now receipt is now = absurd (cc is)
+receipt-out (Taken b) t_now receipt is now = absurd (cc is)
+receipt-out (Appended r) t_now receipt is now = now
+
+-- a world whose disk failed
+pub failed-turn : (s after : State) (t t_now : Transit) (end end_now : ℕ) (out : List Outgoing) → is_appended t ≡ false → t_now ≡ Empty → after ≡ Failed (numbered_of s) (settled_of s) → end_now ≡ end → out ≡ failing_on s
+    → appended note.Device (record { desk = s; appended = is_appended t; end = end }) ≡ record { after = record { desk = after; appended = is_appended t_now; end = end_now }; at_once = out; left = [] }
+failed-turn s after t t_now end end_now out waits empty is same left =
+    let home : is_appended t_now ≡ false = ap is_appended empty in
+    cc
+
+-- a world whose batch was settled
+pub settled-world : (s after : State) (out : List Outgoing) (t t_now : Transit) (receipt : Receipt) (front : ℕ) (failed : Bool) → receipt_in t ≡ Some receipt → t_now ≡ without_receipt t → Agree s t front failed
+    → settle_on s (length (batch_of receipt).commands) ≡ record { after = after; out = out } → Agree after t_now front failed
+settled-world s after out t t_now receipt front failed is now h answers =
+    subst (λ (x : Transit). Agree after x front failed) (sym (receipt-out t t_now receipt is now)) (settled-agrees s after out t receipt front failed is h answers)
+
+-- a batch that was appended is in flight
+way-out : (s : State) (t : Transit) → moving t ≡ flying s → is_appended t ≡ true → is_out s ≡ true
+way-out s Empty way is = absurd (false≢true is)
+way-out s (Taken batch) way is = absurd (false≢true is)
+way-out Loading (Appended receipt) way is = absurd (cc)
+way-out (Failed n m) (Appended receipt) way is = absurd (cc)
+way-out (Serving b) (Appended receipt) way is = ap is_away (course-away b.course b.settled (seen (batch_of receipt)) way).0
+
+pub sound-world : {D : Type 0} {g : _} (w : World D g) → (sight w).appended ≡ true → is_out (sight w).desk ≡ true
+sound-world w is = way-out (sight w).desk w.transit w.agree.way is
+
+-- nothing is on its way where the desk does not serve
+pub failed-rests : {D : Type 0} {g : _} (w : World D g) → is_serving (sight w).desk ≡ false → (if (sight w).appended then false else is_out (sight w).desk) ≡ false
+failed-rests w is = rests (is_appended w.transit) (sight w).desk is
+  where
+    rests : (stored : Bool) (s : State) → is_serving s ≡ false → (if stored then false else is_out s) ≡ false
+    rests true s is = refl
+    rests false Loading is = refl
+    rests false (Failed n m) is = refl
+    rests false (Serving b) is = absurd (false≢true (sym is))

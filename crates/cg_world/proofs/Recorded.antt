@@ -1,0 +1,93 @@
+-- What lawful commands make are lawful records.
+use Rattle.std.proofs.Common.{◌≡◌, ℕ, Bool, true, false, ◌&&◌, cond, not, List, [], ◌∷◌, ◌++◌, map, Option, None, Some, IfSome, refl, sym, ap, ◌∙◌, subst}
+use Rattle.std.specs.List.{AllByRecursion, flat_map, fold, list_any}
+use Rattle.std.specs.Option.{option_map}
+use Rattle.std.specs.Ordering.{eq_by_cmp}
+use Rattle.std.specs.FinMap as finmap
+use Rattle.std.proofs.lemmas.Bool.{false≢true}
+use Rattle.cg_disk.specs.Disk.{Image}
+use Rattle.cg_fold.specs.declared.record.GroupRecord.{GroupRecord}
+use Rattle.cg_fold.specs.Durable.{State, after, effect, empty, folded, with_member, with_record}
+use Rattle.cg_fold.specs.Grouped.{is_another}
+use Rattle.cg_fold.specs.Key.{name_cmp}
+use Rattle.cg_fold.specs.Record.{assigned_record, emptied_record, replaced_record}
+use Rattle.cg_fold.proofs.KeyOrder.{name_same, name_total}
+use Rattle.cg_group.specs.Kept.{AreRecords, IsRecord, kept_in}
+use Rattle.cg_record.specs.declared.command.Command.{Command}
+use Rattle.cg_record.specs.declared.command.Command.TheVariants.{Assigned, Emptied, Replaced, Committed, Deleted}
+use Rattle.cg_record.specs.declared.member.Member.{Member}
+use Rattle.cg_record.specs.Lawful.{AreCommands, IsCommand}
+use Rattle.cg_record.specs.Rosters.{IsRoster, RosterParts, has_id_of_other, leader_after, may_replace, replaced_in, roster_of, seated, takes_place_of}
+use Rattle.cg_record.proofs.Replacing.{seated_roster}
+use Rattle.cg_store.specs.Carried.{Carries, Spell, joined}
+
+-- a member may take the place of another
+roster-at : (may : Bool) (new : Member) (roster : RosterParts) → may_replace new roster.members ≡ may → IsRoster roster
+    → IsRoster (cond may (roster_of roster.protocol (leader_after new roster) (map (seated new) roster.members)) roster)
+roster-at true new roster is h = seated_roster new roster h (and-first (list_any (takes_place_of new) roster.members) (not (list_any (has_id_of_other new) roster.members)) is)
+    (not-false (list_any (has_id_of_other new) roster.members) (and-second (list_any (takes_place_of new) roster.members) (not (list_any (has_id_of_other new) roster.members)) is))
+  where
+    and-first : (a b : Bool) → (a && b) ≡ true → a ≡ true
+    and-first true b e = refl
+    and-first false b e = absurd (false≢true e)
+    and-second : (a b : Bool) → (a && b) ≡ true → b ≡ true
+    and-second true b e = e
+    and-second false b e = absurd (false≢true e)
+    not-false : (b : Bool) → not b ≡ true → b ≡ false
+    not-false true e = absurd (false≢true e)
+    not-false false e = refl
+roster-at false new roster is h = h
+
+replaced-roster : (new : Member) (o : Option RosterParts) → IfSome o IsRoster → IfSome (option_map (replaced_in new) o) IsRoster
+unfolding replaced_in
+replaced-roster new None h = tt
+replaced-roster new (Some roster) h = roster-at (may_replace new roster.members) new roster refl h
+
+-- a record that is set
+set-lawful : (state : State) (group : List ℕ) (r : GroupRecord) → AreRecords state → IsRecord r → AreRecords (with_record state group r)
+set-lawful state group r h is q =
+    subst (λ (o : Option GroupRecord). IfSome o IsRecord) (sym (finmap.get-insert name_total state.records group r q)) (either (eq_by_cmp name_cmp q group))
+  where
+    either : (b : Bool) → IfSome (cond b (Some r) (kept_in state q)) IsRecord
+    either true = is
+    either false = h q
+
+member-lawful : (state : State) (group : List ℕ) (new : Member) (o : Option GroupRecord) → IfSome o IsRecord → AreRecords state → AreRecords (with_member state group new o)
+member-lawful state group new None is h = h
+member-lawful state group new (Some r) is h = set-lawful state group (replaced_record new r) h (replaced-roster new r.roster is)
+
+gone-lawful : (state : State) (group : List ℕ) → AreRecords state → (q : List ℕ) → IfSome (finmap.get (finmap.retain_keys state.records (is_another group)) q) IsRecord
+gone-lawful state group h q =
+    subst (λ (o : Option GroupRecord). IfSome o IsRecord)
+      (sym (finmap.get-retain_keys state.records (is_another group) q (λ x tie. ap (is_another group) (sym (name_same q x tie))))) (either (is_another group q))
+  where
+    either : (b : Bool) → IfSome (cond b (kept_in state q) None) IsRecord
+    either true = h q
+    either false = tt
+
+effect-lawful : (state : State) (c : Command) → IsCommand c → AreRecords state → AreRecords (effect state c)
+unfolding effect
+effect-lawful state (Assigned a) is h = set-lawful state a.group (assigned_record a) h is.roster.together
+effect-lawful state (Emptied e) is h = set-lawful state e.group (emptied_record e) h tt
+effect-lawful state (Replaced r) is h = member-lawful state r.group r.member (finmap.get state.records r.group) (h r.group) h
+effect-lawful state (Committed c) is h = h
+effect-lawful state (Deleted d) is h = gone-lawful state d.group h
+
+after-lawful : (commands : List Command) (state : State) → AreCommands commands → AreRecords state → AreRecords (after state commands)
+after-lawful [] state lawful h = h
+after-lawful (c ∷ cs) state lawful h = after-lawful cs (effect state c) lawful.1 (effect-lawful state c lawful.0 h)
+
+empty-lawful : AreRecords empty
+empty-lawful q = subst (λ (o : Option GroupRecord). IfSome o IsRecord) (sym (finmap.get-empty name_cmp q)) tt
+
+both-lawful : (xs ys : List Command) → AreCommands xs → AreCommands ys → AreCommands (xs ++ ys)
+both-lawful [] ys a b = b
+both-lawful (x ∷ xs) ys a b = (a.0, both-lawful xs ys a.1 b)
+
+joined-lawful : (batches : List (List Command)) → AllByRecursion AreCommands batches → AreCommands (joined batches)
+joined-lawful [] lawful = tt
+joined-lawful (b ∷ bs) lawful = both-lawful b (joined bs) lawful.0 (joined-lawful bs lawful.1)
+
+pub carried-records : (image : Image) (n : ℕ) (state : State) → Carries image n state → AreRecords state
+carried-records image n state carries =
+    subst AreRecords (sym carries.spelled.state_is) (after-lawful (joined carries.spelled.batches) empty (joined-lawful carries.spelled.batches carries.spelled.lawful) empty-lawful)

@@ -1,0 +1,81 @@
+-- A desk that has failed stays so.
+use Rattle.std.proofs.Common.{◌≡◌, ℕ, Bool, true, false, length, refl, sym}
+use Rattle.std.proofs.lemmas.Bool.{false≢true}
+use Rattle.std.specs.Prelude.{is_some}
+use Rattle.cg_group.specs.Asking.{asked}
+use Rattle.cg_group.specs.declared.event.Event.{Event}
+use Rattle.cg_desk.specs.Desks.{Answer, State, Loading, Serving, Failed, gone_on, request_on, return_to, settle_on, tick_on}
+use Rattle.cg_desk.specs.declared.token.ReplyToken.{ReplyToken}
+use Rattle.cg_world.specs.Agreeing.{is_serving}
+use Rattle.cg_world.specs.Sights.{Sight}
+use Rattle.cg_world.specs.Turns.{answered, appended, event_at, in_flight, settled, take_from, taken, turn}
+use Rattle.cg_world.specs.declared.step.Step.{Step}
+use Rattle.cg_world.specs.declared.step.Step.TheVariants.{Request, Gone, Tick, Take, Append, Settle}
+use Rattle.cg_world.specs.declared.step.StepNote.{StepNote}
+use Rattle.cg_world.specs.declared.step.StepNote.TheVariants.{Done, Nothing, InFlight, Full, Device}
+
+asked-stays : (s : State) (token : ReplyToken) (e : Event) (now : ℕ) → is_serving s ≡ false → is_serving (request_on s token e now).after ≡ false
+unfolding request_on
+asked-stays Loading token e now is = refl
+asked-stays (Failed n m) token e now is = refl
+asked-stays (Serving b) token e now is = absurd (false≢true (sym is))
+
+answered-stays : (met : Bool) (w : Sight) (a : Answer) → is_serving a.after ≡ false → is_serving (answered met w a).after.desk ≡ false
+answered-stays true w a is = is
+answered-stays false w a is = is
+
+pub turn-stays-failed : (s : Step) (note : StepNote) (w : Sight) → is_serving w.desk ≡ false → is_serving (turn s note w).after.desk ≡ false
+unfolding turn gone_on tick_on settle_on
+turn-stays-failed (Request ticket r now fresh) note w is =
+    answered-stays (is_some (event_at (Request ticket r now fresh) w.desk)) w (request_on w.desk (record { ticket = ticket }) (asked r ticket fresh) now) (asked-stays w.desk (record { ticket = ticket }) (asked r ticket fresh) now is)
+turn-stays-failed (Gone session now) note w is = stays w.desk is
+  where
+    stays : (s : State) → is_serving s ≡ false → is_serving (gone_on s session now).after ≡ false
+    stays Loading is = refl
+    stays (Failed n m) is = refl
+    stays (Serving b) is = absurd (false≢true (sym is))
+turn-stays-failed (Tick now) note w is = stays w.desk is
+  where
+    stays : (s : State) → is_serving s ≡ false → is_serving (tick_on s now).after ≡ false
+    stays Loading is = refl
+    stays (Failed n m) is = refl
+    stays (Serving b) is = absurd (false≢true (sym is))
+turn-stays-failed Take note w is = by-note note
+  where
+    taken-stays : (s : State) → is_serving s ≡ false → is_serving (take_from s) ≡ false
+    taken-stays Loading is = refl
+    taken-stays (Failed n m) is = refl
+    taken-stays (Serving b) is = absurd (false≢true (sym is))
+
+    by-note : (note : StepNote) → is_serving (taken note w).after.desk ≡ false
+    by-note Done = taken-stays w.desk is
+    by-note Nothing = is
+    by-note InFlight = is
+    by-note Full = is
+    by-note Device = is
+turn-stays-failed Append note w is = by-note note
+  where
+    returned-stays : (s : State) → is_serving s ≡ false → is_serving (return_to s) ≡ false
+    returned-stays Loading is = refl
+    returned-stays (Failed n m) is = refl
+    returned-stays (Serving b) is = absurd (false≢true (sym is))
+
+    by-note : (note : StepNote) → is_serving (appended note w).after.desk ≡ false
+    by-note Done = is
+    by-note Nothing = is
+    by-note InFlight = is
+    by-note Full = returned-stays w.desk is
+    by-note Device = refl
+turn-stays-failed Settle note w is = by-note note
+  where
+    settled-stays : (s : State) (count : ℕ) → is_serving s ≡ false → is_serving (settle_on s count).after ≡ false
+    settled-stays Loading count is = refl
+    settled-stays (Failed n m) count is = refl
+    settled-stays (Serving b) count is = absurd (false≢true (sym is))
+
+    by-note : (note : StepNote) → is_serving (settled note w).after.desk ≡ false
+    by-note Done = settled-stays w.desk (length (in_flight w.desk)) is
+    by-note Nothing = is
+    by-note InFlight = is
+    by-note Full = is
+    by-note Device = is

@@ -1,0 +1,269 @@
+-- A run before its end, and how it ends.
+use Rattle.std.proofs.Common.{◌≡◌, ◌≢◌, ℕ, ◌+◌, ◌≤◌, Bool, true, false, List, [], ◌∷◌, ◌++◌, append_assoc, append-nil, length, drop, Option, None, Some, refl, sym, ap, ◌∙◌, subst, arith}
+use Rattle.std.specs.List.{list_any, zip}
+use Rattle.std.proofs.lemmas.Bool.{false≢true}
+use Rattle.cg_disk.specs.Disk.{History, Image, IsImage, LeavesOnly, present}
+use Rattle.cg_disk.proofs.Moments.{LeavesOnly-then, LeavesOnly-weaker}
+use Rattle.cg_fold.specs.Durable.{State as Durable, after}
+use Rattle.cg_record.specs.declared.command.Command.{Command}
+use Rattle.cg_store.specs.Carried.{Carries}
+use Rattle.cg_store.specs.Store.{IsUnchanged, StandsAt, disk_of, front_of}
+use Rattle.cg_store.proofs.Standing.{StandsAt-unchanged}
+use Rattle.cg_desk.specs.Desks.{settled_of}
+use Rattle.cg_desk.specs.declared.outgoing.Outgoing.{Outgoing}
+use Rattle.cg_world.specs.Agreeing.{is_serving}
+use Rattle.cg_world.specs.Carrying.{CarriesAtLeast, CarriesFront, HasStored, HoldsAtLeast}
+use Rattle.cg_world.specs.Faults.{is_failure, refusal_of, stopped_by_device}
+use Rattle.cg_world.specs.Running.{IsRun, refusal_of_first, went}
+use Rattle.cg_world.specs.Runs.{AreNotes, after_run, made_in, outs_of, to_store, unstored}
+use Rattle.cg_world.specs.Sights.{Sight, sight, store_of}
+use Rattle.cg_world.specs.Steps.{IsTaken}
+use Rattle.cg_world.specs.Turns.{IsNoteOf, is_taken, out_of, turn}
+use Rattle.cg_world.specs.declared.step.Step.{Step}
+use Rattle.cg_world.specs.declared.step.StepNote.{StepNote}
+use Rattle.cg_world.specs.declared.step.StepNote.TheVariants.{Done, Nothing, InFlight, Full, Device}
+use Rattle.cg_world.specs.declared.step.StopCause.TheVariants as cause
+use Rattle.cg_world.specs.declared.trace.Trace.{Trace}
+use Rattle.cg_world.specs.declared.world.World.{World}
+use Rattle.cg_world.proofs.Carrying.{carries-none, holds-at, images-stay}
+use Rattle.cg_world.proofs.Going.{after-snoc, all-taken, carries-behind, carries-more, drop-snoc, few-snoc, notes-snoc, nothing-yet, outs-snoc, pair-moves, sound-snoc, stored-grows, stored-parts, zip-none, zip-snoc}
+use Rattle.cg_world.proofs.Moving.{failed-rests}
+use Rattle.cg_world.proofs.Resting.{turn-stays-failed}
+
+module _ {D : Type 0} {g : _} (honest : D → Bool) (history : D → History) where
+  -- what stands after some steps, while the disk has not failed
+  pub record Going (steps rest : List Step) (notes : List StepNote) (outs : List (List Outgoing)) (old now : World D g) : Type 0 where
+    pub rest_is : rest ≡ drop (length notes) steps
+    pub few : length notes ≤ length steps
+    pub noted : AreNotes (zip steps notes) (sight old)
+    pub out : outs ≡ outs_of (zip steps notes) (sight old)
+    pub after : sight now ≡ after_run (zip steps notes) (sight old)
+    pub sound : list_any is_failure notes ≡ false
+    pub images : (n : ℕ) (state : Durable) → StandsAt honest history (store_of old) n state → LeavesOnly (history (disk_of (store_of old))) (history (disk_of (store_of now))) (CarriesFront n state (to_store (zip steps notes) (sight old)))
+    pub stored : (n : ℕ) (state : Durable) → StandsAt honest history (store_of old) n state → HasStored honest history (store_of now) n state (to_store (zip steps notes) (sight old)) (unstored (sight now))
+    pub failed : is_serving (sight old).desk ≡ false → (disk_of (store_of now) ≡ disk_of (store_of old)) × (is_serving (sight now).desk ≡ false)
+
+  pub going-start : (steps : List Step) (old : World D g) → Going steps steps [] [] old old
+  unfolding AreNotes outs_of after_run
+  going-start steps old = record {
+    rest_is = refl;
+    few = omega (arith);
+    noted = subst (λ ps. AreNotes ps (sight old)) (sym (zip-none steps)) tt;
+    out = ap (λ ps. outs_of ps (sight old)) (sym (zip-none steps));
+    after = ap (λ ps. after_run ps (sight old)) (sym (zip-none steps));
+    sound = refl;
+    images = images-stay honest history (store_of old) (store_of old) (to_store (zip steps []) (sight old)) refl;
+    stored = λ n state stands. record {
+      front = [];
+      whole = ap (λ ps. to_store ps (sight old)) (zip-none steps) ∙ nothing-yet (sight old);
+      stands = subst (λ (k : ℕ). StandsAt honest history (store_of old) k state) (sym (omega arith)) stands;
+    };
+    failed = λ is. (refl, is);
+  }
+
+  -- one more step
+  module _ (steps rest : List Step) (s : Step) (notes : List StepNote) (outs : List (List Outgoing)) (old now new : World D g) (note : StepNote) (out : List Outgoing)
+      (so_far : Going steps (s ∷ rest) notes outs old now) (step : IsTaken honest history s note out now new)
+      (idle : is_taken (sight now) ≡ false → store_of new ≡ store_of now) where
+    ps : List (Step × StepNote)
+    ps = zip steps notes
+
+    longer : zip steps (notes ++ note ∷ []) ≡ ps ++ (s, note) ∷ []
+    unfolding ps
+    longer = zip-snoc steps rest s notes note so_far.rest_is
+
+    pub more-noted : AreNotes (zip steps (notes ++ note ∷ [])) (sight old)
+    unfolding ps
+    more-noted =
+        subst (λ qs. AreNotes qs (sight old)) (sym longer)
+        (notes-snoc ps (s, note) (sight old) so_far.noted (subst (λ (w : Sight). IsNoteOf s w note) so_far.after step.noted))
+
+    pub more-out : outs ++ out ∷ [] ≡ outs_of (zip steps (notes ++ note ∷ [])) (sight old)
+    unfolding ps
+    more-out =
+        ap (λ (l : List (List Outgoing)). l ++ out ∷ []) so_far.out
+        ∙ ap (λ (o : List Outgoing). outs_of ps (sight old) ++ o ∷ []) (sym step.left ∙ ap (λ (w : Sight). out_of (turn s note w)) so_far.after)
+        ∙ sym (outs-snoc ps (s, note) (sight old))
+        ∙ ap (λ qs. outs_of qs (sight old)) (sym longer)
+
+    pub more-after : sight new ≡ after_run (zip steps (notes ++ note ∷ [])) (sight old)
+    unfolding ps
+    more-after =
+        sym step.after ∙ ap (λ (w : Sight). (turn s note w).after) so_far.after ∙ sym (after-snoc ps (s, note) (sight old)) ∙ ap (λ qs. after_run qs (sight old)) (sym longer)
+
+    module _ (n : ℕ) (state : Durable) (stands : StandsAt honest history (store_of old) n state) where
+      before : HasStored honest history (store_of now) n state (to_store ps (sight old)) (unstored (sight now))
+      unfolding ps
+      before = so_far.stored n state stands
+
+      parts : to_store (ps ++ (s, note) ∷ []) (sight old) ≡ before.front ++ to_store ((s, note) ∷ []) (sight now)
+      unfolding ps
+      parts =
+          stored-parts ps (s, note) (sight old) before.front (before.whole ∙ ap (λ (w : Sight). before.front ++ unstored w) (after-now))
+          ∙ ap (λ (w : Sight). before.front ++ to_store ((s, note) ∷ []) w) (sym after-now)
+        where
+          after-now : sight now ≡ after_run ps (sight old)
+          after-now = so_far.after
+
+      pub more-images : LeavesOnly (history (disk_of (store_of old))) (history (disk_of (store_of new))) (CarriesFront n state (to_store (zip steps (notes ++ note ∷ [])) (sight old)))
+      unfolding ps
+      more-images =
+          subst (λ qs. LeavesOnly (history (disk_of (store_of old))) (history (disk_of (store_of new))) (CarriesFront n state (to_store qs (sight old)))) (sym longer)
+          (LeavesOnly-then (history (disk_of (store_of old))) (history (disk_of (store_of now))) (history (disk_of (store_of new))) (CarriesFront n state (to_store (ps ++ (s, note) ∷ []) (sight old)))
+          (LeavesOnly-weaker (history (disk_of (store_of old))) (history (disk_of (store_of now))) (CarriesFront n state (to_store ps (sight old))) (CarriesFront n state (to_store (ps ++ (s, note) ∷ []) (sight old)))
+          (carries-more n state (to_store ps (sight old)) (made_in s (after_run ps (sight old)).desk) (to_store (ps ++ (s, note) ∷ []) (sight old)) (stored-grows ps (s, note) (sight old)))
+          (so_far.images n state stands))
+          (LeavesOnly-weaker (history (disk_of (store_of now))) (history (disk_of (store_of new)))
+          (CarriesFront (n + length before.front) (after state before.front) (to_store ((s, note) ∷ []) (sight now))) (CarriesFront n state (to_store (ps ++ (s, note) ∷ []) (sight old)))
+          (carries-behind n state before.front (to_store ((s, note) ∷ []) (sight now)) (to_store (ps ++ (s, note) ∷ []) (sight old)) parts)
+          (step.images (n + length before.front) (after state before.front) before.stands)))
+
+      pub more-stored : note ≢ Device → HasStored honest history (store_of new) n state (to_store (zip steps (notes ++ note ∷ [])) (sight old)) (unstored (sight new))
+      unfolding ps
+      more-stored serves =
+          let then = step.stored (n + length before.front) (after state before.front) before.stands serves in
+          record {
+            front = before.front ++ then.front;
+            whole = ap (λ qs. to_store qs (sight old)) longer ∙ parts ∙ ap (λ (l : List Command). before.front ++ l) then.whole ∙ sym (append_assoc before.front then.front (unstored (sight new)));
+            stands = pair-moves (λ k st. StandsAt honest history (store_of new) k st) n state before.front then.front then.stands;
+          }
+
+      pub more-left : HoldsAtLeast (settled_of (sight new).desk) (history (disk_of (store_of new)))
+      more-left = step.holds (n + length before.front) (after state before.front) before.stands
+
+    pub more-failed : is_serving (sight old).desk ≡ false → (disk_of (store_of new) ≡ disk_of (store_of old)) × (is_serving (sight new).desk ≡ false)
+    more-failed is =
+        let was = so_far.failed is in (
+          ap disk_of (idle (failed-rests now was.1)) ∙ was.0,
+          ap (λ (w : Sight). is_serving w.desk) (sym step.after) ∙ turn-stays-failed s note (sight now) was.1,
+        )
+
+  pub going-on : (steps rest : List Step) (s : Step) (notes : List StepNote) (outs : List (List Outgoing)) (old now new : World D g) (note : StepNote) (out : List Outgoing)
+      → Going steps (s ∷ rest) notes outs old now → IsTaken honest history s note out now new → (is_taken (sight now) ≡ false → store_of new ≡ store_of now) → is_failure note ≡ false
+      → Going steps rest (notes ++ note ∷ []) (outs ++ out ∷ []) old new
+  going-on steps rest s notes outs old now new note out so_far step idle sound = record {
+    rest_is = drop-snoc steps rest s notes note so_far.rest_is;
+    few = few-snoc steps rest s notes note so_far.rest_is;
+    noted = more-noted steps rest s notes outs old now new note out so_far step idle;
+    out = more-out steps rest s notes outs old now new note out so_far step idle;
+    after = more-after steps rest s notes outs old now new note out so_far step idle;
+    sound = sound-snoc notes note so_far.sound sound;
+    images = more-images steps rest s notes outs old now new note out so_far step idle;
+    stored = λ n state stands. more-stored steps rest s notes outs old now new note out so_far step idle n state stands (λ is. false≢true (sym sound ∙ ap is_failure is));
+    failed = more-failed steps rest s notes outs old now new note out so_far step idle;
+  }
+
+  -- What images carry since the beginning has all that was settled then.
+  entered : (old now : World D g) (commands : List Command) → ((n : ℕ) (state : Durable) → StandsAt honest history (store_of old) n state → LeavesOnly (history (disk_of (store_of old))) (history (disk_of (store_of now))) (CarriesFront n state commands))
+      → (n : ℕ) (state : Durable) → StandsAt honest history (store_of old) n state → LeavesOnly (history (disk_of (store_of old))) (history (disk_of (store_of now))) (CarriesAtLeast (settled_of (sight old).desk))
+  entered old now commands images n state stands =
+      LeavesOnly-weaker (history (disk_of (store_of old))) (history (disk_of (store_of now))) (CarriesFront n state commands) (CarriesAtLeast (settled_of (sight old).desk))
+      (λ image carries. record { number = n + length carries.front; state = after state carries.front; enough = omega (arith, old.agree.enough, stands.front_is); carried = carries.carried })
+      (images n state stands)
+
+  held-now : (old now : World D g) (commands rest : List Command) → ((n : ℕ) (state : Durable) → StandsAt honest history (store_of old) n state → HasStored honest history (store_of now) n state commands rest)
+      → (n : ℕ) (state : Durable) → StandsAt honest history (store_of old) n state → HoldsAtLeast (settled_of (sight now).desk) (history (disk_of (store_of now)))
+  held-now old now commands rest stored n state stands =
+      let there = stored n state stands in
+      holds-at honest history (store_of now) (settled_of (sight now).desk) (n + length there.front) (after state there.front) now.agree.enough there.stands
+
+  -- all steps were taken
+  pub run-done : (steps : List Step) (notes : List StepNote) (outs : List (List Outgoing)) (old now : World D g) (trace : Trace) → Going steps [] notes outs old now
+      → trace ≡ record { out = outs; notes = notes; last = None; stopped = None } → IsRun honest history steps old now trace
+  run-done steps notes outs old now trace going is = subst (λ (t : Trace). IsRun honest history steps old now t) (sym is) (record {
+    noted = going.noted;
+    out = going.out;
+    after = going.after;
+    ends = (going.sound, all-taken steps notes going.rest_is going.few);
+    last = refl;
+    images = going.images;
+    stored = λ n state stands _. going.stored n state stands;
+    entered = entered old now (to_store (zip steps notes) (sight old)) going.images;
+    left = held-now old now (to_store (zip steps notes) (sight old)) (unstored (sight now)) going.stored;
+    settled = now.agree.enough;
+    failed = λ f. (going.failed f).0;
+  })
+
+  -- memory was wanting for the next
+  pub run-wanting : (steps rest : List Step) (notes : List StepNote) (outs : List (List Outgoing)) (old now new : World D g) (last : Option Outgoing) (trace : Trace) → Going steps rest notes outs old now
+      → sight new ≡ sight now → IsUnchanged (store_of now) (store_of new) → last ≡ refusal_of_first rest
+      → trace ≡ record { out = outs; notes = notes; last = last; stopped = Some cause.Memory } → IsRun honest history steps old new trace
+  run-wanting steps rest notes outs old now new last trace going same store told is =
+      let stored-new : (n : ℕ) (state : Durable) → StandsAt honest history (store_of old) n state → HasStored honest history (store_of new) n state (to_store (zip steps notes) (sight old)) (unstored (sight new)) = λ n state stands.
+      let there = going.stored n state stands in
+      record {
+        front = there.front;
+        whole = there.whole ∙ ap (λ (w : Sight). there.front ++ unstored w) (sym same);
+        stands = StandsAt-unchanged honest history (store_of now) (store_of new) (n + length there.front) (after state there.front) store there.stands;
+      } in
+      let images-new : (n : ℕ) (state : Durable) → StandsAt honest history (store_of old) n state → LeavesOnly (history (disk_of (store_of old))) (history (disk_of (store_of new))) (CarriesFront n state (to_store (zip steps notes) (sight old))) = λ n state stands.
+      subst (λ (d : D). LeavesOnly (history (disk_of (store_of old))) (history d) (CarriesFront n state (to_store (zip steps notes) (sight old)))) (sym store.disk) (going.images n state stands) in
+      subst (λ (t : Trace). IsRun honest history steps old new t) (sym is) (record {
+        noted = going.noted;
+        out = going.out;
+        after = same ∙ going.after;
+        ends = (going.sound, going.few);
+        last = told ∙ ap refusal_of_first going.rest_is;
+        images = images-new;
+        stored = λ n state stands _. stored-new n state stands;
+        entered = entered old new (to_store (zip steps notes) (sight old)) images-new;
+        left = held-now old new (to_store (zip steps notes) (sight old)) (unstored (sight new)) stored-new;
+        settled = new.agree.enough;
+        failed = λ f. store.disk ∙ (going.failed f).0;
+      })
+
+  -- the disk failed in a step
+  pub run-broken : (steps rest : List Step) (s : Step) (notes : List StepNote) (outs : List (List Outgoing)) (old now new : World D g) (note : StepNote) (out : List Outgoing) (trace : Trace)
+      → Going steps (s ∷ rest) notes outs old now → IsTaken honest history s note out now new → (is_taken (sight now) ≡ false → store_of new ≡ store_of now) → is_failure note ≡ true
+      → trace ≡ record { out = outs ++ out ∷ []; notes = notes ++ note ∷ []; last = None; stopped = Some cause.Device } → IsRun honest history steps old new trace
+  run-broken steps rest s notes outs old now new note out trace going step idle broken is = subst (λ (t : Trace). IsRun honest history steps old new t) (sym is) (record {
+    noted = more-noted steps rest s notes outs old now new note out going step idle;
+    out = more-out steps rest s notes outs old now new note out going step idle;
+    after = more-after steps rest s notes outs old now new note out going step idle;
+    ends = (record { front = notes; sound = going.sound; is = ap (λ (k : StepNote). notes ++ k ∷ []) (device note broken) }, few-snoc steps rest s notes note going.rest_is);
+    last = refl;
+    images = more-images steps rest s notes outs old now new note out going step idle;
+    stored = λ n state stands serves. absurd (false≢true (sym serves));
+    entered = entered old new (to_store (zip steps (notes ++ note ∷ [])) (sight old)) (more-images steps rest s notes outs old now new note out going step idle);
+    left = more-left steps rest s notes outs old now new note out going step idle;
+    settled = new.agree.enough;
+    failed = λ f. (more-failed steps rest s notes outs old now new note out going step idle f).0;
+  })
+    where
+      device : (k : StepNote) → is_failure k ≡ true → k ≡ Device
+      device Done is = absurd (false≢true is)
+      device Nothing is = absurd (false≢true is)
+      device InFlight is = absurd (false≢true is)
+      device Full is = absurd (false≢true is)
+      device Device is = refl
+
+  -- The same, as the loop of a run meets them.
+  pub begins : (steps rest : List Step) (notes : List StepNote) (outs : List (List Outgoing)) (old : World D g) → rest ≡ steps → notes ≡ [] → outs ≡ [] → Going steps rest notes outs old old
+  begins steps rest notes outs old same none silent =
+      subst (λ (r : List Step). Going steps r notes outs old old) (sym same)
+      (subst (λ (ns : List StepNote). Going steps steps ns outs old old) (sym none)
+      (subst (λ (os : List (List Outgoing)). Going steps steps [] os old old) (sym silent) (going-start steps old)))
+
+  pub goes-on : (steps before rest : List Step) (s : Step) (notes notes_now : List StepNote) (outs outs_now : List (List Outgoing)) (old now new : World D g) (note : StepNote) (out : List Outgoing)
+      → before ≡ s ∷ rest → notes_now ≡ notes ++ note ∷ [] → outs_now ≡ outs ++ out ∷ []
+      → Going steps before notes outs old now → IsTaken honest history s note out now new → (is_taken (sight now) ≡ false → store_of new ≡ store_of now) → is_failure note ≡ false
+      → Going steps rest notes_now outs_now old new
+  goes-on steps before rest s notes notes_now outs outs_now old now new note out next noted told so_far step idle sound =
+      subst (λ (ns : List StepNote). Going steps rest ns outs_now old new) (sym noted)
+      (subst (λ (os : List (List Outgoing)). Going steps rest (notes ++ note ∷ []) os old new) (sym told)
+      (going-on steps rest s notes outs old now new note out (subst (λ (l : List Step). Going steps l notes outs old now) next so_far) step idle sound))
+
+  pub breaks : (steps before rest : List Step) (s : Step) (notes notes_now : List StepNote) (outs outs_now : List (List Outgoing)) (old now new : World D g) (note : StepNote) (out : List Outgoing) (trace : Trace)
+      → before ≡ s ∷ rest → notes_now ≡ notes ++ note ∷ [] → outs_now ≡ outs ++ out ∷ []
+      → Going steps before notes outs old now → IsTaken honest history s note out now new → (is_taken (sight now) ≡ false → store_of new ≡ store_of now) → is_failure note ≡ true
+      → trace ≡ record { out = outs_now; notes = notes_now; last = None; stopped = Some cause.Device } → IsRun honest history steps old new trace
+  breaks steps before rest s notes notes_now outs outs_now old now new note out trace next noted told so_far step idle broken is =
+      run-broken steps rest s notes outs old now new note out trace (subst (λ (l : List Step). Going steps l notes outs old now) next so_far) step idle broken
+      (is
+      ∙ ap (λ (ns : List StepNote). let t : Trace = record { out = outs_now; notes = ns; last = None; stopped = Some cause.Device } in t) noted
+      ∙ ap (λ (os : List (List Outgoing)). let t : Trace = record { out = os; notes = notes ++ note ∷ []; last = None; stopped = Some cause.Device } in t) told)
+
+  -- no room for the trace
+  pub run-none : (steps : List Step) (old : World D g) (last : Option Outgoing) (trace : Trace) → last ≡ refusal_of_first steps → trace ≡ record { out = []; notes = []; last = last; stopped = Some cause.Memory } → IsRun honest history steps old old trace
+  run-none steps old last trace told is =
+      run-wanting steps steps [] [] old old old last trace (going-start steps old) refl (record { disk = refl; end = refl; front = refl; failed = refl }) told is

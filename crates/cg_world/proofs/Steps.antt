@@ -1,0 +1,159 @@
+-- Each step of a world, by its kind.
+use Rattle.std.proofs.Common.{◌≡◌, ◌≢◌, ◌⊎◌, inl, inr, ℕ, ◌+◌, ◌≤◌, Bool, true, false, List, [], ◌∷◌, ◌++◌, append-nil, length, refl, sym, ap, ◌∙◌, subst, arith}
+use Rattle.std.specs.Prelude.{if◌then◌else◌, is_some}
+use Rattle.std.proofs.lemmas.Bool.{false≢true}
+use Rattle.cg_disk.specs.Disk.{History, Image, IsImage, LeavesOnly, present}
+use Rattle.cg_disk.proofs.Moments.{LeavesOnly-present, LeavesOnly-weaker}
+use Rattle.cg_fold.specs.Durable.{State as Durable, after}
+use Rattle.cg_group.specs.declared.asking.Request.{Request as Asked}
+use Rattle.cg_group.specs.declared.ticket.Ticket.{Ticket}
+use Rattle.cg_group.specs.Asking.{asked}
+use Rattle.cg_record.specs.declared.command.Command.{Command}
+use Rattle.cg_store.specs.Carried.{Carries, CarriesBeforeOrAfter}
+use Rattle.cg_store.specs.Store.{IsUnchanged, StandsAt, disk_of, front_of}
+use Rattle.cg_store.specs.declared.store.Store.{Store}
+use Rattle.cg_store.proofs.Standing.{StandsAt-unchanged}
+use Rattle.cg_desk.specs.Desks.{Answer, State, gone_on, is_out, request_on, settled_of, tick_on}
+use Rattle.cg_desk.specs.declared.outgoing.Outgoing.{Outgoing}
+use Rattle.cg_world.specs.Carrying.{CarriesAtLeast, CarriesFront, HasStored, HoldsAtLeast}
+use Rattle.cg_world.specs.Runs.{to_store, unstored, unstored_at}
+use Rattle.cg_world.specs.Sights.{Sight, sight, store_of}
+use Rattle.cg_world.specs.Steps.{IsTaken}
+use Rattle.cg_world.specs.Turns.{IsAppendNote, IsNoteOf, IsSettleNote, IsTakeNote, Turn, answered, appended, event_at, in_flight, is_taken, out_of, quiet, settled, taken, turn}
+use Rattle.cg_world.specs.declared.step.Step.{Step}
+use Rattle.cg_world.specs.declared.step.Step.TheVariants.{Request, Gone, Tick, Take, Append, Settle}
+use Rattle.cg_world.specs.declared.step.StepNote.{StepNote}
+use Rattle.cg_world.specs.declared.step.StepNote.TheVariants.{Done, Nothing, InFlight, Full, Device}
+use Rattle.cg_world.specs.declared.world.World.{World}
+use Rattle.cg_world.proofs.Carrying.{carries-either, holds-at, images-stay, stored-none}
+use Rattle.cg_world.proofs.Unstored.{IsSound, after-full, after-gone, after-nothing, after-request, after-settle, after-take, after-tick, flight-first, to-append}
+use Rattle.cg_world.proofs.Moving.{sound-world}
+
+module _ {D : Type 0} {g : _} (honest : D → Bool) (history : D → History) (old new : World D g) where
+  -- a step that leaves the store as it is
+  at-rest : (step : Step) (note : StepNote) (out : List Outgoing) → IsNoteOf step (sight old) note → (turn step note (sight old)).after ≡ sight new → out_of (turn step note (sight old)) ≡ out
+      → IsUnchanged (store_of old) (store_of new) → to_store ((step, note) ∷ []) (sight old) ≡ unstored (turn step note (sight old)).after → IsTaken honest history step note out old new
+  at-rest step note out noted now left same rest = record {
+    noted = noted;
+    after = now;
+    left = left;
+    images = images-stay honest history (store_of old) (store_of new) (to_store ((step, note) ∷ []) (sight old)) same.disk;
+    stored = λ n state stands _. stored-none honest history (store_of new) (to_store ((step, note) ∷ []) (sight old)) (unstored (sight new)) (rest ∙ ap unstored now) n state
+        (StandsAt-unchanged honest history (store_of old) (store_of new) n state same stands);
+    holds = λ n state stands. holds-at honest history (store_of new) (settled_of (sight new).desk) n state new.agree.enough (StandsAt-unchanged honest history (store_of old) (store_of new) n state same stands);
+  }
+
+  unchanged : store_of new ≡ store_of old → IsUnchanged (store_of old) (store_of new)
+  unchanged same = record { disk = ap disk_of same; end = ap (λ s. s.end) same; front = ap front_of same; failed = ap (λ s. s.has_failed) same }
+
+  same-sight : (desk : State) → desk ≡ (sight new).desk → (sight new).appended ≡ (sight old).appended → (sight new).end ≡ (sight old).end
+      → (let w : Sight = record { desk = desk; appended = (sight old).appended; end = (sight old).end } in w) ≡ sight new
+  same-sight desk a b c =
+      ap (λ (d : State). let w : Sight = record { desk = d; appended = (sight old).appended; end = (sight old).end } in w) a
+      ∙ ap (λ (f : Bool). let w : Sight = record { desk = (sight new).desk; appended = f; end = (sight old).end } in w) (sym b)
+      ∙ ap (λ (e : ℕ). let w : Sight = record { desk = (sight new).desk; appended = (sight new).appended; end = e } in w) (sym c)
+
+  -- the desk was asked, and its world is as it was but for that
+  answered-after : (met : Bool) (a : Answer) (out : List Outgoing) → a ≡ record { after = (sight new).desk; out = out } → (sight new).appended ≡ (sight old).appended → store_of new ≡ store_of old
+      → ((answered met (sight old) a).after ≡ sight new) × (out_of (answered met (sight old) a) ≡ out)
+  answered-after true a out is same store = (same-sight a.after (ap (λ (x : Answer). x.after) is) same (ap (λ s. s.end) store), ap (λ (x : Answer). x.out) is)
+  answered-after false a out is same store = (same-sight a.after (ap (λ (x : Answer). x.after) is) same (ap (λ s. s.end) store), append-nil a.out ∙ ap (λ (x : Answer). x.out) is)
+
+  pub request-step : (step : Step) (ticket : Ticket) (r : Asked) (now : ℕ) (fresh : List ℕ) (out : List Outgoing) → step ≡ Request ticket r now fresh
+      → request_on (sight old).desk (record { ticket = ticket }) (asked r ticket fresh) now ≡ record { after = (sight new).desk; out = out }
+      → (sight new).appended ≡ (sight old).appended → store_of new ≡ store_of old → IsTaken honest history step Done out old new
+  unfolding IsNoteOf turn
+  request-step step ticket r now fresh out is answers same store =
+      let told = answered-after (is_some (event_at (Request ticket r now fresh) (sight old).desk)) (request_on (sight old).desk (record { ticket = ticket }) (asked r ticket fresh) now) out answers same store in
+      subst (λ (s : Step). IsTaken honest history s Done out old new) (sym is)
+      (at-rest (Request ticket r now fresh) Done out refl told.0 told.1 (unchanged store) (after-request (sight old) Done ticket r now fresh))
+
+  pub gone-step : (step : Step) (session now : ℕ) (out : List Outgoing) → step ≡ Gone session now → gone_on (sight old).desk session now ≡ record { after = (sight new).desk; out = out }
+      → (sight new).appended ≡ (sight old).appended → store_of new ≡ store_of old → IsTaken honest history step Done out old new
+  unfolding IsNoteOf turn
+  gone-step step session now out is answers same store =
+      let told = answered-after true (gone_on (sight old).desk session now) out answers same store in
+      subst (λ (s : Step). IsTaken honest history s Done out old new) (sym is)
+      (at-rest (Gone session now) Done out refl told.0 told.1 (unchanged store) (after-gone (sight old) Done session now))
+
+  pub tick-step : (step : Step) (now : ℕ) (out : List Outgoing) → step ≡ Tick now → tick_on (sight old).desk now ≡ record { after = (sight new).desk; out = out }
+      → (sight new).appended ≡ (sight old).appended → store_of new ≡ store_of old → IsTaken honest history step Done out old new
+  unfolding IsNoteOf turn
+  tick-step step now out is answers same store =
+      let told = answered-after true (tick_on (sight old).desk now) out answers same store in
+      subst (λ (s : Step). IsTaken honest history s Done out old new) (sym is)
+      (at-rest (Tick now) Done out refl told.0 told.1 (unchanged store) (after-tick (sight old) Done now))
+
+  pub take-step : (step : Step) (note : StepNote) (out : List Outgoing) → step ≡ Take → IsTakeNote (sight old) note → taken note (sight old) ≡ quiet (sight new) → out ≡ []
+      → store_of new ≡ store_of old → IsTaken honest history step note out old new
+  unfolding IsNoteOf turn
+  take-step step note out is noted now none store =
+      subst (λ (s : Step). IsTaken honest history s note out old new) (sym is)
+      (at-rest Take note out noted (ap (λ (t : Turn). t.after) now) (ap out_of now ∙ sym none) (unchanged store) (after-take (sight old) note (sound-world old) noted))
+
+  pub settle-step : (step : Step) (note : StepNote) (out : List Outgoing) → step ≡ Settle → IsSettleNote (sight old) note → settled note (sight old) ≡ record { after = sight new; at_once = []; left = out }
+      → store_of new ≡ store_of old → IsTaken honest history step note out old new
+  unfolding IsNoteOf turn
+  settle-step step note out is noted now store =
+      subst (λ (s : Step). IsTaken honest history s note out old new) (sym is)
+      (at-rest Settle note out noted (ap (λ (t : Turn). t.after) now) (ap out_of now) (unchanged store) (after-settle (sight old) note noted))
+
+  -- the batch that was taken goes to the disk
+  module _ (images : (n : ℕ) (state : Durable) → StandsAt honest history (store_of old) n state → LeavesOnly (history (disk_of (store_of old))) (history (disk_of (store_of new))) (CarriesBeforeOrAfter n state (in_flight (sight old).desk))) where
+    goes-to : (note : StepNote) → is_taken (sight old) ≡ true → (n : ℕ) (state : Durable) → StandsAt honest history (store_of old) n state
+        → LeavesOnly (history (disk_of (store_of old))) (history (disk_of (store_of new))) (CarriesFront n state (to_store ((Append, note) ∷ []) (sight old)))
+    goes-to note taken n state stands =
+        LeavesOnly-weaker (history (disk_of (store_of old))) (history (disk_of (store_of new))) (CarriesBeforeOrAfter n state (in_flight (sight old).desk)) (CarriesFront n state (to_store ((Append, note) ∷ []) (sight old)))
+        (carries-either n state (in_flight (sight old).desk) (unstored_at true (sight old).desk) (to_store ((Append, note) ∷ []) (sight old)) (to-append (sight old) note ∙ flight-first (sight old) taken))
+        (images n state stands)
+
+    appended-step : (out : List Outgoing) → IsAppendNote (sight old) Done → appended Done (sight old) ≡ record { after = sight new; at_once = out; left = [] }
+        → ((n : ℕ) (state : Durable) → StandsAt honest history (store_of old) n state → StandsAt honest history (store_of new) (n + length (in_flight (sight old).desk)) (after state (in_flight (sight old).desk)))
+        → IsTaken honest history Append Done out old new
+    unfolding IsNoteOf turn
+    appended-step out noted now stands-now = record {
+      noted = noted;
+      after = ap (λ (t : Turn). t.after) now;
+      left = ap out_of now ∙ append-nil out;
+      images = goes-to Done noted.0;
+      stored = λ n state stands _. record {
+        front = in_flight (sight old).desk;
+        whole = to-append (sight old) Done ∙ flight-first (sight old) noted.0 ∙ ap (λ (l : List Command). in_flight (sight old).desk ++ l) (ap (λ (t : Turn). unstored t.after) now);
+        stands = stands-now n state stands;
+      };
+      holds = λ n state stands. holds-at honest history (store_of new) (settled_of (sight new).desk) (n + length (in_flight (sight old).desk)) (after state (in_flight (sight old).desk)) new.agree.enough (stands-now n state stands);
+    }
+
+    failed-step : (out : List Outgoing) → IsAppendNote (sight old) Device → appended Device (sight old) ≡ record { after = sight new; at_once = out; left = [] } → IsTaken honest history Append Device out old new
+    unfolding IsNoteOf turn
+    failed-step out noted now = record {
+      noted = noted;
+      after = ap (λ (t : Turn). t.after) now;
+      left = ap out_of now ∙ append-nil out;
+      images = goes-to Device noted.0;
+      stored = λ n state stands serves. absurd (serves refl);
+      holds = λ n state stands image left. at-least n state (settled_of (sight new).desk) image
+          (subst (λ (k : ℕ). k ≤ n) (ap (λ (t : Turn). settled_of t.after.desk) now) (omega (arith, old.agree.enough, stands.front_is)))
+          (LeavesOnly-present (history (disk_of (store_of old))) (history (disk_of (store_of new))) (CarriesBeforeOrAfter n state (in_flight (sight old).desk)) (images n state stands) image left);
+    }
+      where
+        at-least : (n : ℕ) (state : Durable) (count : ℕ) (image : Image) → count ≤ n → CarriesBeforeOrAfter n state (in_flight (sight old).desk) image → CarriesAtLeast count image
+        at-least n state count image enough (inl carries) = record { number = n; state = state; enough = enough; carried = carries }
+        at-least n state count image enough (inr carries) = record { number = n + length (in_flight (sight old).desk); state = after state (in_flight (sight old).desk); enough = omega (arith, enough); carried = carries }
+
+    pub append-step : (step : Step) (note : StepNote) (out : List Outgoing) → step ≡ Append → IsAppendNote (sight old) note → appended note (sight old) ≡ record { after = sight new; at_once = out; left = [] }
+        → ((n : ℕ) (state : Durable) → StandsAt honest history (store_of old) n state → note ≡ Done → StandsAt honest history (store_of new) (n + length (in_flight (sight old).desk)) (after state (in_flight (sight old).desk)))
+        → (note ≢ Done → note ≢ Device → IsUnchanged (store_of old) (store_of new)) → IsTaken honest history step note out old new
+    unfolding IsNoteOf turn
+    append-step step note out is noted now stands-now same = subst (λ (s : Step). IsTaken honest history s note out old new) (sym is) (by-note note noted now stands-now same)
+      where
+        by-note : (note : StepNote) → IsAppendNote (sight old) note → appended note (sight old) ≡ record { after = sight new; at_once = out; left = [] }
+            → ((n : ℕ) (state : Durable) → StandsAt honest history (store_of old) n state → note ≡ Done → StandsAt honest history (store_of new) (n + length (in_flight (sight old).desk)) (after state (in_flight (sight old).desk)))
+            → (note ≢ Done → note ≢ Device → IsUnchanged (store_of old) (store_of new)) → IsTaken honest history Append note out old new
+        by-note Done noted now stands-now same = appended-step out noted now (λ n state stands. stands-now n state stands refl)
+        by-note Nothing noted now stands-now same =
+            at-rest Append Nothing out noted (ap (λ (t : Turn). t.after) now) (ap out_of now ∙ append-nil out) (same (λ is. absurd (cc is)) (λ is. absurd (cc is))) (after-nothing (sight old))
+        by-note InFlight noted now stands-now same = absurd noted
+        by-note Full noted now stands-now same =
+            at-rest Append Full out noted (ap (λ (t : Turn). t.after) now) (ap out_of now ∙ append-nil out) (same (λ is. absurd (cc is)) (λ is. absurd (cc is))) (after-full (sight old))
+        by-note Device noted now stands-now same = failed-step out noted now

@@ -1,0 +1,35 @@
+use Rattle.std.proofs.Common.{◌≡◌, ◌∙◌, sym, ap, refl, subst, rules}
+use Rattle.cg_store.specs.Store.{end_of, front_of, has_failed}
+use Rattle.cg_desk.specs.Desks.{state_of}
+use Rattle.cg_world.proofs.Moving.{batch-out, failed-turn, full-for, its-commands, never-failed, never-out-of-order, not-appended, room-for}
+use Rattle.cg_world.proofs.world.World.append.Goals as goal
+
+pub unreachable-requires-in-Err-OutOfOrder-default : goal.unreachable-requires-in-Err-OutOfOrder-default
+unreachable-requires-in-Err-OutOfOrder-default g c = never-out-of-order (state_of c.args.self.now.desk) c.args.self.now.transit c.in-Some.batch (end_of c.args.self.now.store) (front_of c.args.self.now.store) (has_failed c.args.self.now.store) (sym c.take_batch.ensures.value ∙ c.in-Some.is) c.args.self.now.agree c.in-Err-OutOfOrder-default.field-0-0 c.in-Err-OutOfOrder-default.field-0-0-is c.in-Err-OutOfOrder-default.ensures.told
+
+pub unreachable-requires-in-Err-Failed-default : goal.unreachable-requires-in-Err-Failed-default
+unreachable-requires-in-Err-Failed-default g c = never-failed (state_of c.args.self.now.desk) c.args.self.now.transit c.in-Some.batch (end_of c.args.self.now.store) (front_of c.args.self.now.store) (has_failed c.args.self.now.store) (sym c.take_batch.ensures.value ∙ c.in-Some.is) c.args.self.now.agree c.in-Err-Failed-default.field-0-0 c.in-Err-Failed-default.field-0-0-is c.in-Err-Failed-default.ensures.told
+
+pub returns-in-Ok-clause-images : goal.returns-in-Ok-clause-images
+returns-in-Ok-clause-images g c = λ n state stands. rw (sym (its-commands (state_of c.args.self.now.desk) c.args.self.now.transit c.in-Some.batch (end_of c.args.self.now.store) (front_of c.args.self.now.store) (has_failed c.args.self.now.store) (sym c.take_batch.ensures.value ∙ c.in-Some.is) c.args.self.now.agree)) at c.append.ensures.images n state stands
+
+pub returns-in-Err-Memory-default-clause-images : goal.returns-in-Err-Memory-default-clause-images
+returns-in-Err-Memory-default-clause-images g c = λ n state stands. rw (sym (its-commands (state_of c.args.self.now.desk) c.args.self.now.transit c.in-Some.batch (end_of c.args.self.now.store) (front_of c.args.self.now.store) (has_failed c.args.self.now.store) (sym c.take_batch.ensures.value ∙ c.in-Some.is) c.args.self.now.agree)) at c.append.ensures.images n state stands
+
+pub returns-in-Ok-give_back-clause-images : goal.returns-in-Ok-give_back-clause-images
+returns-in-Ok-give_back-clause-images g c = λ n state stands. rw (sym (its-commands (state_of c.args.self.now.desk) c.args.self.now.transit c.in-Some.batch (end_of c.args.self.now.store) (front_of c.args.self.now.store) (has_failed c.args.self.now.store) (sym c.take_batch.ensures.value ∙ c.in-Some.is) c.args.self.now.agree)) at c.append.ensures.images n state stands
+
+pub returns-in-Err-Device-default-clause-images : goal.returns-in-Err-Device-default-clause-images
+returns-in-Err-Device-default-clause-images g c = λ n state stands. rw (sym (its-commands (state_of c.args.self.now.desk) c.args.self.now.transit c.in-Some.batch (end_of c.args.self.now.store) (front_of c.args.self.now.store) (has_failed c.args.self.now.store) (sym c.take_batch.ensures.value ∙ c.in-Some.is) c.args.self.now.agree)) at c.append.ensures.images n state stands
+
+pub returns-in-Ok-give_back-clause-note : goal.returns-in-Ok-give_back-clause-note
+returns-in-Ok-give_back-clause-note g c = full-for (state_of c.args.self.now.desk) c.args.self.now.transit c.in-Some.batch (end_of c.args.self.now.store) (front_of c.args.self.now.store) (has_failed c.args.self.now.store) (sym c.take_batch.ensures.value ∙ c.in-Some.is) c.args.self.now.agree c.in-Err-Full-default.field-0-0 c.in-Err-Full-default.field-0-0-is c.in-Err-Full-default.ensures.told
+
+pub returns-in-Err-Device-default-clause-note : goal.returns-in-Err-Device-default-clause-note
+returns-in-Err-Device-default-clause-note g c = room-for (state_of c.args.self.now.desk) c.args.self.now.transit c.in-Some.batch (end_of c.args.self.now.store) (front_of c.args.self.now.store) (has_failed c.args.self.now.store) (sym c.take_batch.ensures.value ∙ c.in-Some.is) c.args.self.now.agree c.in-Err-Device-default.field-0-0 c.in-Err-Device-default.field-0-0-is c.in-Err-Device-default.ensures.told
+
+pub returns-in-Err-Device-default-clause-after : goal.returns-in-Err-Device-default-clause-after
+returns-in-Err-Device-default-clause-after g c =
+    failed-turn (state_of c.args.self.now.desk) (state_of c.fail.new.self) c.args.self.now.transit c.take_batch.new.self (end_of c.args.self.now.store) (end_of c.append.new.self) c.fail.result.items
+    (not-appended (state_of c.args.self.now.desk) c.args.self.now.transit c.in-Some.batch (end_of c.args.self.now.store) (front_of c.args.self.now.store) (has_failed c.args.self.now.store) (sym c.take_batch.ensures.value ∙ c.in-Some.is) c.args.self.now.agree)
+    (batch-out c.args.self.now.transit c.take_batch.new.self c.in-Some.batch (sym c.take_batch.ensures.value ∙ c.in-Some.is) c.take_batch.ensures.rest) c.fail.ensures.state c.in-Err-Device-default.ensures.same_end c.fail.ensures.out

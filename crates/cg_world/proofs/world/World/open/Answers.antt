@@ -1,0 +1,25 @@
+use Rattle.std.proofs.Common.{◌≡◌, ◌∙◌, sym, ap, refl, ℕ}
+use Rattle.cg_world.proofs.Opened.{same-opened}
+use Rattle.cg_world.proofs.world.World.open.Goals as goal
+
+pub returns-clause-opened : goal.returns-clause-opened
+returns-clause-opened g c = (
+  c.in-Ok.found.1,
+  c.in-Ok.found.2,
+  record {
+    desk = c.in-Ok-serve.ensures;
+    fresh = refl;
+    found = ap (λ (p : ℕ × ℕ). let t : ℕ × ℕ × ℕ = (c.in-Ok.found.1, p.0, p.1) in t) c.counts-records.ensures;
+    stands = λ honest. c.in-Ok.ensures.stands (sym c.in-Ok.ensures.same_honesty ∙ honest);
+  },
+)
+
+pub returns-clause-carried : goal.returns-clause-carried
+returns-clause-carried g c = λ honest n state carries.
+    let same = c.in-Ok.ensures.carried honest n state carries in
+    same-opened g.D.SectorDisk.is_honest g.D.SectorDisk.history c.args.now _ c.in-Ok.found.1 n c.in-Ok.found.2 state same.0 same.1 (record {
+      desk = c.in-Ok-serve.ensures;
+      fresh = refl;
+      found = ap (λ (p : ℕ × ℕ). let t : ℕ × ℕ × ℕ = (c.in-Ok.found.1, p.0, p.1) in t) c.counts-records.ensures;
+      stands = λ honest. c.in-Ok.ensures.stands (sym c.in-Ok.ensures.same_honesty ∙ honest);
+    })

@@ -1,0 +1,42 @@
+-- When a step or a run says that the disk failed.
+use Rattle.std.specs.Prelude.{Bool, true, false, Result, Ok, Err, Option, Some, None}
+use Rattle.cg_world.specs.declared.step.StepNote.{StepNote}
+use Rattle.cg_world.specs.declared.step.StepNote.TheVariants as note
+use Rattle.cg_names.specs.declared.code.Code.TheVariants.{UnknownServerError}
+use Rattle.cg_group.specs.declared.reply.Reply.TheVariants.{Refused}
+use Rattle.cg_desk.specs.Outgoings.{answer}
+use Rattle.cg_desk.specs.declared.outgoing.Outgoing.{Outgoing}
+use Rattle.cg_world.specs.declared.step.Step.{Step}
+use Rattle.cg_world.specs.declared.step.Step.TheVariants.{Request, Gone, Tick, Take, Append, Settle}
+use Rattle.cg_world.specs.declared.stepping.Taken.{Taken}
+use Rattle.cg_world.specs.declared.step.StopCause.{StopCause}
+use Rattle.cg_world.specs.declared.step.StopCause.TheVariants as cause
+
+abbrev pub is_failure : StepNote → Bool
+is_failure note.Done = false
+is_failure note.Nothing = false
+is_failure note.InFlight = false
+is_failure note.Full = false
+is_failure note.Device = true
+
+abbrev pub failed_append : {T E : Type 0} → Result (StepNote × T) E → Bool
+failed_append (Ok told) = is_failure told.0
+failed_append (Err e) = false
+
+abbrev pub failed_step : {E : Type 0} → Result Taken E → Bool
+failed_step (Ok taken) = is_failure taken.note
+failed_step (Err e) = false
+
+abbrev pub stopped_by_device : Option StopCause → Bool
+stopped_by_device None = false
+stopped_by_device (Some cause.Memory) = false
+stopped_by_device (Some cause.Device) = true
+
+-- the refusal of a step for want of memory: a request is refused by -1
+abbrev pub refusal_of : Step → Option Outgoing
+refusal_of (Request ticket r now fresh) = Some (answer ticket (Refused UnknownServerError))
+refusal_of (Gone session now) = None
+refusal_of (Tick now) = None
+refusal_of Take = None
+refusal_of Append = None
+refusal_of Settle = None

@@ -1,0 +1,11 @@
+pub mod Transits
+pub mod Agreeing
+pub mod Sights
+pub mod Turns
+pub mod Faults
+pub mod Runs
+pub mod Carrying
+pub mod Steps
+pub mod Running
+pub mod Opening
+pub mod Replying

@@ -1,0 +1,28 @@
+-- What the opening of a world gives.
+use Rattle.std.specs.Prelude.{◌≡◌, ℕ, Bool, true, false, Result, Ok, Err}
+use Rattle.cg_disk.specs.Disk.{History, Image}
+use Rattle.cg_fold.specs.Durable.{State, counts_of}
+use Rattle.cg_group.specs.Kept.{AreRecords}
+use Rattle.cg_group.specs.Reviving.{revive}
+use Rattle.cg_store.specs.Carried.{Carries}
+use Rattle.cg_store.specs.Store.{StandsAt, disk_of}
+use Rattle.cg_store.specs.declared.fault.OpenFault.{OpenFault}
+use Rattle.cg_desk.specs.Desks.{Serving, opened}
+use Rattle.cg_world.specs.Sights.{opening_of, sight, store_of}
+use Rattle.cg_world.specs.declared.world.World.{World}
+
+-- a world that was opened at this moment has found n commands, which make the state: its desk serves what that state revives
+pub record IsOpened {D : Type 0} {g : _} (honest : D → Bool) (history : D → History) (now : ℕ) (world : World D g) (n : ℕ) (state : State) : Type 0 where
+  pub desk : (sight world).desk ≡ Serving (opened n (revive state now))
+  pub fresh : (sight world).appended ≡ false
+  pub found : opening_of world ≡ (n, (counts_of state).0, (counts_of state).1)
+  pub stands : honest (disk_of (store_of world)) ≡ true → StandsAt honest history (store_of world) n state
+
+-- the disk after an opening
+abbrev pub disk_after : {D : Type 0} {g : _} → Result (World D g) (OpenFault × D) → D
+disk_after (Ok world) = disk_of (store_of world)
+disk_after (Err refused) = refused.1
+
+-- the records of what an image carries are such as commands make
+abbrev pub LoadingsAreLawful : Type 0
+LoadingsAreLawful = (image : Image) (n : ℕ) (state : State) → Carries image n state → AreRecords state

@@ -1,0 +1,144 @@
+-- What each step does to a world.
+use Rattle.std.specs.Prelude.{◌≡◌, ℕ, Bool, true, false, ◌++◌, List, [], ◌∷◌, length, Option, Some, None, is_some, if◌then◌else◌}
+use Rattle.cg_frame.specs.Frames.{next_gate}
+use Rattle.cg_group.specs.declared.asking.Request.{Request as Asked}
+use Rattle.cg_group.specs.declared.event.Event.{Event}
+use Rattle.cg_group.specs.declared.event.Event.TheVariants as event
+use Rattle.cg_group.specs.Asking.{asked}
+use Rattle.cg_record.specs.declared.command.Command.{Command}
+use Rattle.cg_record.specs.Spelling.{spelling}
+use Rattle.cg_store.specs.Batches.{has_room}
+use Rattle.cg_desk.specs.Books.{Books, is_short, taking}
+use Rattle.cg_desk.specs.Desks.{Answer, State, Loading, Serving, Failed, failing_on, gone_on, is_out, numbered_of, request_on, return_to, settle_on, settled_of, tick_on}
+use Rattle.cg_desk.specs.Flights.{Idle, unsettled}
+use Rattle.cg_desk.specs.declared.outgoing.Outgoing.{Outgoing}
+use Rattle.cg_world.specs.Sights.{Sight}
+use Rattle.cg_world.specs.declared.step.Step.{Step}
+use Rattle.cg_world.specs.declared.step.Step.TheVariants.{Request, Gone, Tick, Take, Append, Settle}
+use Rattle.cg_world.specs.declared.step.StepNote.{StepNote}
+use Rattle.cg_world.specs.declared.step.StepNote.TheVariants.{Done, Nothing, InFlight, Full, Device}
+
+-- Which steps are events of the machine.
+
+-- the event that a step brings to a desk that serves: a Request and a Tick are none where command numbers are short
+abbrev pub event_of : Step → Books → Option (Event × ℕ)
+event_of (Request ticket r now fresh) b = if is_short b then None else Some (asked r ticket fresh, now)
+event_of (Gone session now) b = Some (event.Gone session, now)
+event_of (Tick now) b = if is_short b then None else Some (event.Tick, now)
+event_of Take b = None
+event_of Append b = None
+event_of Settle b = None
+
+-- no event reaches a desk that does not serve
+abbrev pub event_at : Step → State → Option (Event × ℕ)
+event_at step Loading = None
+event_at step (Failed n s) = None
+event_at step (Serving b) = event_of step b
+
+-- The batch in flight.
+
+-- its commands
+abbrev pub in_flight : State → List Command
+in_flight Loading = []
+in_flight (Failed n s) = []
+in_flight (Serving b) = unsettled b.course
+
+-- it was taken, and not appended yet
+abbrev pub is_taken : Sight → Bool
+is_taken w = if w.appended then false else is_out w.desk
+
+-- the next batch is taken
+abbrev pub take_from : State → State
+take_from Loading = Loading
+take_from (Failed n s) = Failed n s
+take_from (Serving b) = Serving (taking b)
+
+-- What a step does.
+
+-- the world after a step; the refusals that the desk gives by itself; and the replies whose commands are settled
+pub record Turn : Type 0 where
+  pub after : Sight
+  pub at_once : List Outgoing
+  pub left : List Outgoing
+
+-- nothing leaves
+abbrev pub quiet : Sight → Turn
+quiet w = record { after = w; at_once = []; left = [] }
+
+-- the desk met an event, or refused what was none
+abbrev pub answered : Bool → Sight → Answer → Turn
+answered true w a = record { after = record w { desk = a.after }; at_once = []; left = a.out }
+answered false w a = record { after = record w { desk = a.after }; at_once = a.out; left = [] }
+
+-- a batch is taken
+abbrev pub taken : StepNote → Sight → Turn
+taken Done w = quiet (record w { desk = take_from w.desk })
+taken note w = quiet w
+
+-- the batch is appended; it is given back; or the disk fails
+abbrev pub appended : StepNote → Sight → Turn
+appended Done w = quiet (record w { appended = true; end = next_gate w.end (length (spelling (in_flight w.desk))) })
+appended Nothing w = quiet w
+appended InFlight w = quiet w
+appended Full w = quiet (record w { desk = return_to w.desk })
+appended Device w = record { after = record w { desk = Failed (numbered_of w.desk) (settled_of w.desk) }; at_once = failing_on w.desk; left = [] }
+
+-- the batch is settled
+abbrev pub settled : StepNote → Sight → Turn
+settled Done w = answered true (record w { appended = false }) (settle_on w.desk (length (in_flight w.desk)))
+settled note w = quiet w
+
+-- what a step does where this is noted of it
+unfoldable pub turn : Step → StepNote → Sight → Turn
+turn (Request ticket r now fresh) note w = answered (is_some (event_at (Request ticket r now fresh) w.desk)) w (request_on w.desk (record { ticket = ticket }) (asked r ticket fresh) now)
+turn (Gone session now) note w = answered true w (gone_on w.desk session now)
+turn (Tick now) note w = answered true w (tick_on w.desk now)
+turn Take note w = taken note w
+turn Append note w = appended note w
+turn Settle note w = settled note w
+
+-- all that leaves in a step
+abbrev pub out_of : Turn → List Outgoing
+out_of t = t.at_once ++ t.left
+
+-- What is noted of a step.
+
+-- no command waits for a batch
+abbrev pub IsIdle : State → Type 0
+IsIdle Loading = Unit {0}
+IsIdle (Failed n s) = Unit {0}
+IsIdle (Serving b) = (b.course ≡ Idle) × (b.queue ≡ [])
+
+-- the store has room for the batch
+abbrev pub fits : Sight → Bool
+fits w = has_room w.end (settled_of w.desk) (in_flight w.desk)
+
+abbrev pub IsTakeNote : Sight → StepNote → Type 0
+IsTakeNote w Done = (is_out w.desk ≡ false) × (¬ IsIdle w.desk)
+IsTakeNote w Nothing = IsIdle w.desk
+IsTakeNote w InFlight = is_out w.desk ≡ true
+IsTakeNote w Full = ⊥
+IsTakeNote w Device = ⊥
+
+abbrev pub IsAppendNote : Sight → StepNote → Type 0
+IsAppendNote w Done = (is_taken w ≡ true) × (fits w ≡ true)
+IsAppendNote w Nothing = is_taken w ≡ false
+IsAppendNote w InFlight = ⊥
+IsAppendNote w Full = (is_taken w ≡ true) × (fits w ≡ false)
+IsAppendNote w Device = (is_taken w ≡ true) × (fits w ≡ true)
+
+abbrev pub IsSettleNote : Sight → StepNote → Type 0
+IsSettleNote w Done = w.appended ≡ true
+IsSettleNote w Nothing = w.appended ≡ false
+IsSettleNote w InFlight = ⊥
+IsSettleNote w Full = ⊥
+IsSettleNote w Device = ⊥
+
+-- when this is noted of a step; whether an append that fits is Done or fails is the disk's alone
+unfoldable pub IsNoteOf : Step → Sight → StepNote → Type 0
+IsNoteOf (Request ticket r now fresh) w note = note ≡ Done
+IsNoteOf (Gone session now) w note = note ≡ Done
+IsNoteOf (Tick now) w note = note ≡ Done
+IsNoteOf Take w note = IsTakeNote w note
+IsNoteOf Append w note = IsAppendNote w note
+IsNoteOf Settle w note = IsSettleNote w note

@@ -1,0 +1,99 @@
+//! The steps between the desk and the store.
+ghost use Rattle.std.specs.Prelude.{◌≡◌, ◌≢◌, ◌+◌, ℕ, [], false, true, length, None, OnErr, OnOk, IfOk, IfErr};
+ghost use Rattle.cg_disk.specs.Disk.{Counts, LeavesOnly};
+ghost use Rattle.cg_fold.specs.Durable.{State, after};
+ghost use Rattle.cg_store.specs.Carried.{CarriesBeforeOrAfter};
+ghost use Rattle.cg_store.specs.Store.{IsUnchanged, StandsAt, disk_of};
+ghost use Rattle.cg_world.specs.Turns.{appended, in_flight, is_taken, settled, taken, IsAppendNote, IsSettleNote, IsTakeNote, quiet};
+ghost use Rattle.cg_world.specs.Faults.{failed_append};
+
+use crate::step::StepNote;
+use crate::transit::Transit;
+use crate::wanting::Wanting;
+use crate::world::World;
+use cg_desk::{Outgoing, SettleFault, TakeFault};
+use cg_disk::SectorDisk;
+use cg_store::StoreFault;
+
+impl<D: SectorDisk> World<D> {
+    ghost use Rattle.cg_world.specs.Sights.{sight, store_of};
+
+    /// The desk hands the next batch out, where it has one.
+    pub(crate) fn take(&mut self) -> Result<StepNote, Wanting>
+        ensures note { IfOk result (λ note. IsTakeNote (sight self.old) note) }
+        ensures after { IfOk result (λ note. taken note (sight self.old) ≡ quiet (sight self.new)) }
+        ensures err { IfErr result (λ wanting. (sight self.new ≡ sight self.old) × (wanting.last ≡ None)) }
+        ensures store { store_of self.new ≡ store_of self.old }
+    {
+        match self.desk.take_batch() {
+            Ok(Some(batch)) => {
+                self.transit = Transit::Taken(batch);
+                Ok(StepNote::Done)
+            }
+            Ok(None) => Ok(StepNote::Nothing),
+            Err(TakeFault::InFlight) => Ok(StepNote::InFlight),
+            Err(TakeFault::Memory) => Err(Wanting { last: None }),
+        }
+    }
+
+    /// The store appends the batch that was taken. Where it is full the desk takes the batch back; where its disk fails the desk
+    /// fails too.
+    pub(crate) fn append(&mut self) -> Result<(StepNote, Vec<Outgoing>), Wanting>
+        ensures note { IfOk result (λ told. IsAppendNote (sight self.old) told.0) }
+        ensures after { IfOk result (λ told. appended told.0 (sight self.old) ≡ record { after = sight self.new; at_once = told.1.items; left = [] }) }
+        ensures err { IfErr result (λ wanting. (sight self.new ≡ sight self.old) × (wanting.last ≡ None)) }
+        // What the disk has.
+        ensures images { (n : ℕ) (state : State) → StandsAt D.is_honest D.history (store_of self.old) n state
+            → LeavesOnly (D.history (disk_of (store_of self.old))) (D.history (disk_of (store_of self.new))) (CarriesBeforeOrAfter n state (in_flight (sight self.old).desk)) }
+        ensures stored { (n : ℕ) (state : State) → StandsAt D.is_honest D.history (store_of self.old) n state
+            → IfOk result (λ told. told.0 ≡ StepNote.Done → StandsAt D.is_honest D.history (store_of self.new) (n + length (in_flight (sight self.old).desk)) (after state (in_flight (sight self.old).desk))) }
+        ensures unchanged { IfOk result (λ told. told.0 ≢ StepNote.Done → told.0 ≢ StepNote.Device → IsUnchanged (store_of self.old) (store_of self.new)) }
+        ensures wanting { OnErr result (IsUnchanged (store_of self.old) (store_of self.new)) }
+        ensures nothing { is_taken (sight self.old) ≡ false → store_of self.new ≡ store_of self.old }
+        ensures device { Counts (D.failures (disk_of (store_of self.old))) (D.failures (disk_of (store_of self.new))) (failed_append result) }
+        ensures same_size { D.size (disk_of (store_of self.new)) ≡ D.size (disk_of (store_of self.old)) }
+        ensures same_honesty { D.is_honest (disk_of (store_of self.new)) ≡ D.is_honest (disk_of (store_of self.old)) }
+    {
+        let Some(batch) = self.transit.take_batch() else {
+            return Ok((StepNote::Nothing, Vec::new(self.alloc)));
+        };
+        match self.store.append(self.alloc, batch) {
+            Ok(receipt) => {
+                self.transit = Transit::Appended(receipt);
+                Ok((StepNote::Done, Vec::new(self.alloc)))
+            }
+            Err((StoreFault::Memory, batch)) => {
+                self.transit = Transit::Taken(batch);
+                Err(Wanting { last: None })
+            }
+            Err((StoreFault::Full, batch)) => match self.desk.give_back(batch) {
+                Ok(()) => Ok((StepNote::Full, Vec::new(self.alloc))),
+                Err(_) => unreachable!(),
+            },
+            Err((StoreFault::Device, _)) => Ok((StepNote::Device, self.desk.fail())),
+            Err((StoreFault::OutOfOrder, _)) => unreachable!(),
+            Err((StoreFault::Failed, _)) => unreachable!(),
+        }
+    }
+
+    /// The desk settles the batch that was appended.
+    pub(crate) fn settle(&mut self) -> Result<(StepNote, Vec<Outgoing>), Wanting>
+        ensures note { IfOk result (λ told. IsSettleNote (sight self.old) told.0) }
+        ensures after { IfOk result (λ told. settled told.0 (sight self.old) ≡ record { after = sight self.new; at_once = []; left = told.1.items }) }
+        ensures err { IfErr result (λ wanting. (sight self.new ≡ sight self.old) × (wanting.last ≡ None)) }
+        ensures store { store_of self.new ≡ store_of self.old }
+    {
+        let Some(receipt) = self.transit.take_receipt() else {
+            return Ok((StepNote::Nothing, Vec::new(self.alloc)));
+        };
+        match self.desk.settle(receipt) {
+            Ok(out) => Ok((StepNote::Done, out)),
+            Err((SettleFault::Memory, receipt)) => {
+                self.transit = Transit::Appended(receipt);
+                Err(Wanting { last: None })
+            }
+            Err((SettleFault::NotInFlight, _)) => unreachable!(),
+            Err((SettleFault::Foreign, _)) => unreachable!(),
+        }
+    }
+}

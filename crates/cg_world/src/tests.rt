@@ -1,0 +1,7 @@
+mod asking;
+mod lines;
+mod lives;
+mod rows;
+mod stops;
+
+use super::*;
