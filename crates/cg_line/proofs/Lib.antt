@@ -1,0 +1,17 @@
+pub mod Answered
+pub mod Complete
+pub mod Cutting
+pub mod Decimals
+pub mod Digits
+pub mod Each
+pub mod Generations
+pub mod Hexed
+pub mod Joined
+pub mod Keyed
+pub mod Lists
+pub mod Optionals
+pub mod Placed
+pub mod Sound
+pub mod Spaced
+pub mod Streams
+pub mod Value

@@ -1,0 +1,10 @@
+pub mod Fields
+pub mod Lines
+pub mod Numbers
+pub mod Parsing
+pub mod Replies
+pub mod Requests
+pub mod Running
+pub mod Splitting
+pub mod Stream
+pub mod Words

@@ -1,0 +1,21 @@
+//! The line protocol: requests and replies as lines of text, and serving a stream of them.
+//! Stands on the requests and replies of `cg_group`.
+#![tactic(auto)]
+
+mod backend;
+mod ending;
+mod line_fault;
+mod parsing;
+mod printing;
+mod running;
+#[cfg(test)]
+mod tests;
+mod words;
+
+pub use backend::Backend;
+pub use ending::{RunEnd, RunFault};
+pub use line_fault::LineFault;
+pub use parsing::parse;
+pub use printing::{print, print_into};
+pub use running::{READS_MAX, run};
+pub use words::LINE_BYTES_MAX;

@@ -1,0 +1,114 @@
+//! Reading a request from its line.
+ghost use Rattle.std.specs.Prelude.{◌≡◌, ◌↔◌, ◌<◌, ◌≤◌, ◌⊎◌, map, length, Ok, Err, IfOk};
+ghost use Rattle.cg_group.specs.declared.asking.Request.{Request};
+ghost use Rattle.cg_line.specs.Parsing.{Reads, group_call_of, is_member_call, member_call_of, request_of};
+ghost use Rattle.cg_line.specs.Requests.{IsRequest, Spells};
+ghost use Rattle.cg_line.specs.Splitting.{words_of};
+
+mod bytes;
+mod calls;
+mod commits;
+mod groups;
+mod joining;
+mod keys;
+mod names;
+mod numbers;
+mod partitions;
+mod places;
+mod protocols;
+mod splitting;
+mod sync_entries;
+
+use crate::line_fault::LineFault::{self, Malformed, TooLong};
+use crate::words::LINE_BYTES_MAX;
+use cg_group::Request;
+use std::alloc::Global;
+
+/// The greatest session time-out that a line spells, in milliseconds: the protocol writes it in an `INT32`.
+pub const SESSION_LINE_MS_MAX: u32 = 2_147_483_647;
+
+fn is_member_call(kind: &[u8]) -> bool
+    ensures { result ≡ is_member_call kind.now }
+{
+    kind == b"JOIN".as_slice()
+        || kind == b"SYNC".as_slice()
+        || kind == b"BEAT".as_slice()
+        || kind == b"LEAVE".as_slice()
+}
+
+// The call of a member that the words spell.
+#[tactic(auto, unfolding(crate::specs::Parsing::member_call_of))]
+fn member_call(alloc: Global, kind: &[u8], words: &[&[u8]]) -> Result<Request, LineFault>
+    ensures { Reads result (member_call_of kind.now (map (λ w. w.now) words.now)) }
+{
+    if kind == b"JOIN".as_slice() {
+        return Ok(Request::Join(joining::join(alloc, words)?));
+    }
+    if kind == b"SYNC".as_slice() {
+        return Ok(Request::Sync(calls::sync(alloc, words)?));
+    }
+    if kind == b"BEAT".as_slice() {
+        return Ok(Request::Beat(calls::beat(alloc, words)?));
+    }
+    if kind == b"LEAVE".as_slice() {
+        return Ok(Request::Leave(calls::leave(alloc, words)?));
+    }
+    Err(Malformed)
+}
+
+// The call about offsets or groups that the words spell.
+#[tactic(auto, unfolding(crate::specs::Parsing::group_call_of))]
+fn group_call(alloc: Global, kind: &[u8], words: &[&[u8]]) -> Result<Request, LineFault>
+    ensures { Reads result (group_call_of kind.now (map (λ w. w.now) words.now)) }
+{
+    if kind == b"COMMIT".as_slice() {
+        return Ok(Request::Commit(calls::commit(alloc, words)?));
+    }
+    if kind == b"FETCH".as_slice() {
+        return Ok(Request::Fetch(groups::fetch(alloc, words)?));
+    }
+    if kind == b"DESCRIBE".as_slice() {
+        return Ok(Request::Describe(groups::group(alloc, words)?));
+    }
+    if kind == b"DELETE".as_slice() {
+        return Ok(Request::Delete(groups::group(alloc, words)?));
+    }
+    if kind == b"LIST".as_slice() {
+        return groups::list(words);
+    }
+    Err(Malformed)
+}
+
+// The request that the words spell.
+#[tactic(auto, unfolding(crate::specs::Parsing::request_of))]
+fn request(alloc: Global, words: &[&[u8]]) -> Result<Request, LineFault>
+    ensures { Reads result (request_of (map (λ w. w.now) words.now)) }
+{
+    let [kind, words @ ..] = words else {
+        return Err(Malformed);
+    };
+    if is_member_call(kind) {
+        member_call(alloc, kind, words)
+    } else {
+        group_call(alloc, kind, words)
+    }
+}
+
+/// The request that a line spells. The line comes without its line feed. A line that no request spells is told `Malformed`
+/// also where memory is wanting. Reads the line a few times, and compares each of at most 64 entries with each by what it is
+/// of; takes as much memory as the request.
+pub fn parse(alloc: Global, line: &[u8]) -> Result<Request, LineFault>
+    ensures ok { IfOk result (λ request. Spells line.now request) }
+    ensures complete { (r : Request) → Spells line.now r → (length line.now ≤ LINE_BYTES_MAX) → (result ≡ Ok r) ⊎ (result ≡ Err LineFault.Memory) }
+    ensures malformed { result ≡ Err LineFault.Malformed → (r : Request) → Spells line.now r → ⊥ }
+    ensures memory { result ≡ Err LineFault.Memory → (r : Request) × Spells line.now r }
+    ensures too_long { (result ≡ Err LineFault.TooLong) ↔ (LINE_BYTES_MAX < length line.now) }
+{
+    if line.len() > LINE_BYTES_MAX {
+        return Err(TooLong);
+    }
+    let Some(words) = splitting::words(line) else {
+        return Err(Malformed);
+    };
+    request(alloc, words.as_slice())
+}

@@ -1,0 +1,51 @@
+//! FETCH, DESCRIBE, DELETE and LIST, behind their first words.
+ghost use Rattle.std.specs.Prelude.{map};
+ghost use Rattle.cg_line.specs.Parsing.{Reads, fetch_of, group_of, nothing_of};
+
+use crate::line_fault::LineFault::{self, Malformed};
+use crate::parsing::names::{is_optional, optional_in};
+use crate::parsing::partitions::{are_partitions, partitions_in};
+use cg_group::{FetchRequest, Request};
+use cg_names::{GroupId, NAME_BYTES_MAX};
+use std::alloc::Global;
+
+/// The FETCH that the words spell.
+#[tactic(auto, unfolding(crate::specs::Parsing::fetch_of))]
+pub fn fetch(alloc: Global, words: &[&[u8]]) -> Result<FetchRequest, LineFault>
+    ensures { Reads result (fetch_of (map (λ w. w.now) words.now)) }
+{
+    let [group, partitions @ ..] = words else {
+        return Err(Malformed);
+    };
+    if !is_optional::<NAME_BYTES_MAX>(group) || !are_partitions(partitions) {
+        return Err(Malformed);
+    }
+    let group = optional_in(alloc, group)?;
+    let partitions = partitions_in(alloc, partitions)?;
+    Ok(FetchRequest { group, partitions })
+}
+
+/// The one group that the words spell.
+#[tactic(auto, unfolding(crate::specs::Parsing::group_of))]
+pub fn group(alloc: Global, words: &[&[u8]]) -> Result<Option<GroupId>, LineFault>
+    ensures { Reads result (group_of (map (λ w. w.now) words.now)) }
+{
+    let [group] = words else {
+        return Err(Malformed);
+    };
+    if !is_optional::<NAME_BYTES_MAX>(group) {
+        return Err(Malformed);
+    }
+    let group = optional_in(alloc, group)?;
+    Ok(group)
+}
+
+/// LIST, which has nothing behind it.
+pub fn list(words: &[&[u8]]) -> Result<Request, LineFault>
+    ensures { Reads result (nothing_of (map (λ w. w.now) words.now)) }
+{
+    match words {
+        [] => Ok(Request::List),
+        _ => Err(Malformed),
+    }
+}

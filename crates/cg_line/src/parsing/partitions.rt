@@ -1,0 +1,75 @@
+//! What a FETCH asks for: `topic:partition` words.
+ghost use Rattle.std.specs.Prelude.{◌≡◌, map, IsTrue, IfOk};
+ghost use Rattle.std.specs.List.{list_all};
+ghost use Rattle.cg_line.specs.Parsing.{are_partitions, is_partition, partition_in};
+
+use crate::parsing::commits::partition_number_in;
+use crate::parsing::names::{is_name, name_in};
+use crate::parsing::numbers::is_number;
+use crate::parsing::places::{have_own_places, topic_field};
+use crate::parsing::splitting::behind;
+use cg_group::{Partitions, TopicPartition};
+use cg_names::NAME_BYTES_MAX;
+use cg_record::{ENTRIES_MAX, PARTITION_MAX};
+use std::alloc::{AllocError, Global};
+
+#[tactic(auto, unfolding(crate::specs::Parsing::is_partition))]
+fn is_partition(word: &[u8]) -> bool
+    ensures { result ≡ is_partition word.now }
+{
+    is_name::<NAME_BYTES_MAX>(topic_field(word))
+        && is_number(behind(word, b':'), u64::from(PARTITION_MAX))
+}
+
+fn pass_each(words: &[&[u8]]) -> bool
+    ensures { result ≡ list_all (λ w. is_partition w.now) words.now }
+{
+    words.iter().all(|word| is_partition(word))
+}
+
+// Whether each word is one.
+fn are_each(words: &[&[u8]]) -> bool
+    ensures { result ≡ list_all is_partition (map (λ w. w.now) words.now) }
+{
+    pass_each(words)
+}
+
+/// Whether the words are what one FETCH can ask for. Takes no memory.
+#[tactic(auto, unfolding(crate::specs::Parsing::are_partitions))]
+pub fn are_partitions(words: &[&[u8]]) -> bool
+    ensures { result ≡ are_partitions (map (λ w. w.now) words.now) }
+{
+    1 <= words.len() && words.len() <= ENTRIES_MAX && are_each(words) && have_own_places(words)
+}
+
+#[tactic(auto, unfolding(crate::specs::Parsing::is_partition, crate::specs::Parsing::partition_in))]
+fn partition_in(alloc: Global, word: &[u8]) -> Result<TopicPartition, AllocError>
+    requires { IsTrue (is_partition word.now) }
+    ensures { IfOk result (λ partition. partition ≡ partition_in word.now) }
+{
+    let partition = partition_number_in(behind(word, b':'));
+    let topic = name_in(alloc, topic_field(word))?;
+    Ok(TopicPartition { topic, partition })
+}
+
+fn each_in(alloc: Global, words: &[&[u8]]) -> Result<Vec<TopicPartition>, AllocError>
+    requires { IsTrue (list_all is_partition (map (λ w. w.now) words.now)) }
+    ensures { IfOk result (λ partitions. partitions.items ≡ map partition_in (map (λ w. w.now) words.now)) }
+{
+    let mut partitions = Vec::with_capacity(alloc, words.len())?;
+    for word in words {
+        partitions.push(partition_in(alloc, word)?)?;
+    }
+    Ok(partitions)
+}
+
+/// The partitions that the words spell.
+pub fn partitions_in(alloc: Global, words: &[&[u8]]) -> Result<Partitions, AllocError>
+    requires { IsTrue (are_partitions (map (λ w. w.now) words.now)) }
+    ensures { IfOk result (λ partitions. partitions ≡ map partition_in (map (λ w. w.now) words.now)) }
+{
+    match Partitions::from_vec(each_in(alloc, words)?) {
+        Ok(partitions) => Ok(partitions),
+        Err(_) => unreachable!(),
+    }
+}

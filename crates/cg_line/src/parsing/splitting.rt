@@ -1,0 +1,72 @@
+//! Texts cut at marks where they stand: nothing here takes memory.
+ghost use Rattle.std.specs.Prelude.{◌≡◌, ◌+◌, ◌<◌, ◌≤◌, [], ◌∷◌, map, length, MatchOption, IfSome};
+ghost use Rattle.cg_line.specs.Splitting.{before, behind, words_of};
+
+use arrayvec::ArrayVec;
+use memchr::memchr;
+
+/// The greatest number of words of a request: a SYNC or a COMMIT with 64 entries behind its kind and four words.
+pub const WORDS_MAX: usize = 69;
+
+// The text before the first mark and the text behind it, where there is one.
+fn cut(text: &[u8], mark: u8) -> Option<(&[u8], &[u8])>
+    ensures { MatchOption result
+        ((before mark text.now ≡ text.now) × (behind mark text.now ≡ []))
+        (λ parts. (parts.0.now ≡ before mark text.now) × (parts.1.now ≡ behind mark text.now)) }
+{
+    let at = memchr(mark, text)?;
+    Some((&text[..at], &text[at + 1..]))
+}
+
+/// The text before the first mark, or the whole where there is none.
+pub fn before(text: &[u8], mark: u8) -> &[u8]
+    ensures { result.now ≡ before mark text.now }
+{
+    match cut(text, mark) {
+        Some((front, _)) => front,
+        None => text,
+    }
+}
+
+/// The text behind the first mark, or nothing where there is none.
+pub fn behind(text: &[u8], mark: u8) -> &[u8]
+    ensures { result.now ≡ behind mark text.now }
+{
+    match cut(text, mark) {
+        Some((_, rest)) => rest,
+        None => b"".as_slice(),
+    }
+}
+
+// The first of several words and the text of the others; None where the text is one word.
+fn first_word(text: &[u8]) -> Option<(&[u8], &[u8])>
+    ensures words { MatchOption result
+        (words_of text.now ≡ text.now ∷ [])
+        (λ parts. words_of text.now ≡ parts.0.now ∷ words_of parts.1.now) }
+    ensures shorter { IfSome result (λ parts. length parts.1.now < length text.now) }
+{
+    let at = memchr(b' ', text)?;
+    Some((&text[..at], &text[at + 1..]))
+}
+
+/// The words between the spaces of a line, or None where they are more than `WORDS_MAX`.
+pub fn words(line: &[u8]) -> Option<ArrayVec<&[u8], WORDS_MAX>>
+    ensures { MatchOption result
+        (WORDS_MAX < length (words_of line.now))
+        (λ words. map (λ w. w.now) words.items ≡ words_of line.now) }
+{
+    let mut words = ArrayVec::new();
+    let mut rest = line;
+    while let Some((word, others)) = first_word(rest) {
+        if words.is_full() {
+            return None;
+        }
+        words.push(word);
+        rest = others;
+    }
+    if words.is_full() {
+        return None;
+    }
+    words.push(rest);
+    Some(words)
+}

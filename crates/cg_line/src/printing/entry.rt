@@ -1,0 +1,122 @@
+//! The words of reply lines that have several parts, and lists of them: each word stands behind a space.
+ghost use Rattle.std.specs.Prelude.{◌≡◌, ◌++◌, OnOk, codes};
+ghost use Rattle.std.specs.List.{flat_map};
+ghost use Rattle.cg_line.specs.Replies.{described_word, fetched_word, joined_word, listing_word, stored_word};
+
+use crate::printing::word::{put_bytes, put_name, put_number, state_name};
+use cg_fold::StoredOffset;
+use cg_group::{DescribedMember, FetchedPartition, JoinedMember, Listing};
+use std::alloc::AllocError;
+
+#[tactic(auto, unfolding(crate::specs::Replies::joined_word))]
+fn put_joined_member(out: &mut Vec<u8>, member: &JoinedMember) -> Result<(), AllocError>
+    ensures { OnOk result (out.new.items ≡ out.old.items ++ codes " " ++ joined_word member.now) }
+{
+    out.push(b' ')?;
+    out.extend_from_slice(member.id.as_bytes())?;
+    out.push(b':')?;
+    put_name(out, &member.instance)?;
+    out.push(b':')?;
+    put_bytes(out, member.subscription.as_bytes())?;
+    Ok(())
+}
+
+/// The members that a JOIN's answer lists.
+pub fn put_joined_members(out: &mut Vec<u8>, members: &[JoinedMember]) -> Result<(), AllocError>
+    ensures { OnOk result (out.new.items ≡ out.old.items ++ flat_map (λ m. codes " " ++ joined_word m) members.now) }
+{
+    for member in members {
+        put_joined_member(out, member)?;
+    }
+    Ok(())
+}
+
+fn put_stored(out: &mut Vec<u8>, stored: &Option<StoredOffset>) -> Result<(), AllocError>
+    ensures { OnOk result (out.new.items ≡ out.old.items ++ stored_word stored.now) }
+{
+    match stored {
+        None => out.extend_from_slice(b"-1:x")?,
+        Some(stored) => {
+            put_number(out, stored.offset.get())?;
+            out.push(b':')?;
+            put_bytes(out, stored.metadata.as_bytes())?;
+        }
+    }
+    Ok(())
+}
+
+#[tactic(auto, unfolding(crate::specs::Replies::fetched_word))]
+fn put_fetched_partition(out: &mut Vec<u8>, fetched: &FetchedPartition) -> Result<(), AllocError>
+    ensures { OnOk result (out.new.items ≡ out.old.items ++ codes " " ++ fetched_word fetched.now) }
+{
+    out.push(b' ')?;
+    out.extend_from_slice(fetched.topic.as_bytes())?;
+    out.push(b':')?;
+    put_number(out, u64::from(fetched.partition.get()))?;
+    out.push(b':')?;
+    put_stored(out, &fetched.stored)?;
+    Ok(())
+}
+
+/// The partitions that a FETCH asked for.
+pub fn put_fetched(out: &mut Vec<u8>, partitions: &[FetchedPartition]) -> Result<(), AllocError>
+    ensures { OnOk result (out.new.items ≡ out.old.items ++ flat_map (λ p. codes " " ++ fetched_word p) partitions.now) }
+{
+    for partition in partitions {
+        put_fetched_partition(out, partition)?;
+    }
+    Ok(())
+}
+
+#[tactic(auto, unfolding(crate::specs::Replies::described_word))]
+fn put_described_member(out: &mut Vec<u8>, member: &DescribedMember) -> Result<(), AllocError>
+    ensures { OnOk result (out.new.items ≡ out.old.items ++ codes " " ++ described_word member.now) }
+{
+    out.push(b' ')?;
+    out.extend_from_slice(member.id.as_bytes())?;
+    out.push(b':')?;
+    put_name(out, &member.instance)?;
+    out.push(b':')?;
+    out.extend_from_slice(member.client.as_bytes())?;
+    out.push(b':')?;
+    put_bytes(out, member.subscription.as_bytes())?;
+    out.push(b':')?;
+    put_bytes(out, member.assignment.as_bytes())?;
+    Ok(())
+}
+
+/// The members of a group that is described.
+pub fn put_described_members(
+    out: &mut Vec<u8>,
+    members: &[DescribedMember],
+) -> Result<(), AllocError>
+    ensures { OnOk result (out.new.items ≡ out.old.items ++ flat_map (λ m. codes " " ++ described_word m) members.now) }
+{
+    for member in members {
+        put_described_member(out, member)?;
+    }
+    Ok(())
+}
+
+#[tactic(auto, unfolding(crate::specs::Replies::listing_word))]
+fn put_listing(out: &mut Vec<u8>, listing: &Listing) -> Result<(), AllocError>
+    ensures { OnOk result (out.new.items ≡ out.old.items ++ codes " " ++ listing_word listing.now) }
+{
+    out.push(b' ')?;
+    out.extend_from_slice(listing.id.as_bytes())?;
+    out.push(b':')?;
+    put_name(out, &listing.kind)?;
+    out.push(b':')?;
+    out.extend_from_slice(state_name(listing.phase))?;
+    Ok(())
+}
+
+/// The groups of a list.
+pub fn put_listings(out: &mut Vec<u8>, groups: &[Listing]) -> Result<(), AllocError>
+    ensures { OnOk result (out.new.items ≡ out.old.items ++ flat_map (λ l. codes " " ++ listing_word l) groups.now) }
+{
+    for listing in groups {
+        put_listing(out, listing)?;
+    }
+    Ok(())
+}

@@ -1,0 +1,153 @@
+//! Serving a stream of lines.
+ghost use Rattle.std.specs.Prelude.{◌≡◌, ◌∷◌, ◌++◌, ℕ, List, Option, Ok, [], IfErr, MatchOption, OnOk};
+ghost use Rattle.std.specs.Io.KnownBytes.{Appends, Consumes, IsAtEnd};
+ghost use Rattle.cg_line.specs.Running.{EndsAs, HasNoEnd, Ran, ended, line_feed, malformed_line};
+ghost use Rattle.cg_line.specs.Stream.{Far, Goes, Stopped};
+
+use crate::backend::Backend;
+use crate::ending::{RunEnd, RunFault};
+use crate::words::LINE_BYTES_MAX;
+use memchr::memchr;
+use std::alloc::Global;
+use std::io::{Read, Write};
+
+mod begun;
+mod reading;
+mod serving;
+mod stop;
+mod writing;
+
+use begun::Begun;
+use reading::read;
+use serving::{Refusal, serve_begun, serve_line};
+use stop::Stop;
+use writing::{flush, put};
+
+/// The greatest number of reads of a run, those that are interrupted among them.
+pub const READS_MAX: u64 = 4_294_967_296;
+
+/// How many bytes a read asks for.
+const BUFFER_BYTES: usize = 8_192;
+
+// The bytes before the first line feed, and those behind it.
+fn cut(bytes: &[u8]) -> Option<(&[u8], &[u8])>
+    ensures { MatchOption result (HasNoEnd bytes.now)
+        (λ parts. (bytes.now ≡ parts.0.now ++ (line_feed ∷ parts.1.now)) × HasNoEnd parts.0.now) }
+{
+    let at = memchr(b'\n', bytes)?;
+    Some((&bytes[..at], &bytes[at + 1..]))
+}
+
+// Serves the line that ends with these bytes. One that stands whole in the buffer is served where it stands.
+fn end_line<W: Write, B: Backend>(
+    alloc: Global,
+    begun: &mut Begun,
+    front: &[u8],
+    text: &mut Vec<u8>,
+    writer: &mut W,
+    backend: &mut B,
+) -> Result<(), Stop>
+    ensures { (bytes left : List ℕ) → (before : B) → (old : Option (List ℕ)) → HasNoEnd front.now
+        → Far B.gives bytes before backend.old old (W.contents writer.old) (front.now ++ (line_feed ∷ left)) begun.old
+        → Goes B.gives result bytes before backend.new old (W.contents writer.new) left begun.new }
+{
+    if begun.is_empty() && front.len() <= LINE_BYTES_MAX {
+        serve_line(alloc, front, text, writer, backend)?;
+        return Ok(());
+    }
+    begun.add(front)?;
+    serve_begun(alloc, begun, text, writer, backend)?;
+    begun.clear(alloc);
+    Ok(())
+}
+
+// Serves the lines that end in these bytes, and begins the one behind them.
+fn serve_bytes<W: Write, B: Backend>(
+    alloc: Global,
+    begun: &mut Begun,
+    bytes: &[u8],
+    text: &mut Vec<u8>,
+    writer: &mut W,
+    backend: &mut B,
+) -> Result<(), Stop>
+    ensures { (all : List ℕ) → (before : B) → (old : Option (List ℕ))
+        → Far B.gives all before backend.old old (W.contents writer.old) bytes.now begun.old
+        → Goes B.gives result all before backend.new old (W.contents writer.new) [] begun.new }
+{
+    let mut rest = bytes;
+    while let Some((front, behind)) = cut(rest) {
+        end_line(alloc, begun, front, text, writer, backend)?;
+        rest = behind;
+    }
+    begun.add(rest)?;
+    Ok(())
+}
+
+// Serves lines until the stream ends or is left.
+fn serve_stream<R: Read, W: Write, B: Backend>(
+    alloc: Global,
+    reader: &mut R,
+    writer: &mut W,
+    backend: &mut B,
+) -> Result<(), Stop>
+    ensures served { (bytes : List ℕ) × Consumes (R.remaining reader.old) (R.remaining reader.new) bytes
+        × Stopped B.gives result bytes backend.old backend.new (W.contents writer.old) (W.contents writer.new) }
+    ensures end { result ≡ Ok tt → IsAtEnd (R.remaining reader.new) }
+{
+    let mut room = vec![in alloc; 0; BUFFER_BYTES]?;
+    let buffer = room.as_mut_slice();
+    let mut begun = Begun::new(alloc);
+    let mut text = Vec::new(alloc);
+    for _ in 0..READS_MAX {
+        flush(writer)?;
+        let Some(count) = read(reader, buffer)? else {
+            continue;
+        };
+        if count == 0 {
+            return Ok(());
+        }
+        serve_bytes(
+            alloc,
+            &mut begun,
+            &buffer[..count],
+            &mut text,
+            writer,
+            backend,
+        )?;
+    }
+    Err(Stop::Fault(RunFault::Read))
+}
+
+// Refuses a line that is too long.
+fn refuse_too_long<W: Write>(writer: &mut W) -> Result<(), RunFault>
+    ensures written { (part : List ℕ) × Appends (W.contents writer.old) (W.contents writer.new) part × OnOk result (part ≡ ended malformed_line) }
+    ensures fault { IfErr result (λ fault. fault ≡ RunFault.Write) }
+{
+    put(writer, Refusal::Malformed.line())?;
+    flush(writer)?;
+    Ok(())
+}
+
+/// Serves a stream of request lines: each line is answered by one line, in order, and the writer is flushed before each read. A line that no request spells
+/// is answered `ERR 42 INVALID_REQUEST`, one for which memory was wanting `ERR -1 UNKNOWN_SERVER_ERROR`. A line of more than `LINE_BYTES_MAX` bytes, whole or
+/// not, is answered `ERR 42 INVALID_REQUEST` and ends the run; a shorter last line without its line feed is dropped. At most `LINE_BYTES_MAX` bytes of a line
+/// are held, at most `READS_MAX` reads are made, and what a line costs is linear in it but for what the backend does.
+pub fn run<R: Read, W: Write, B: Backend>(
+    alloc: Global,
+    reader: &mut R,
+    writer: &mut W,
+    backend: &mut B,
+) -> Result<RunEnd, RunFault>
+    ensures served { (bytes text : List ℕ) × Consumes (R.remaining reader.old) (R.remaining reader.new) bytes × Appends (W.contents writer.old) (W.contents writer.new) text
+        × Ran B.gives (EndsAs result text) bytes backend.old backend.new }
+    ensures end { result ≡ Ok RunEnd.End → IsAtEnd (R.remaining reader.new) }
+{
+    match serve_stream(alloc, reader, writer, backend) {
+        Ok(()) => Ok(RunEnd::End),
+        Err(Stop::TooLong) => {
+            refuse_too_long(writer)?;
+            Ok(RunEnd::TooLong)
+        }
+        Err(Stop::Fault(fault)) => Err(fault),
+    }
+}

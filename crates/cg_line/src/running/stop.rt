@@ -1,0 +1,46 @@
+//! Why serving lines stops.
+ghost use Rattle.std.specs.Prelude.{◌≡◌};
+
+use crate::ending::RunFault;
+use crate::running::begun::TooLong;
+use std::alloc::AllocError;
+
+/// Why lines are served no further.
+#[derive(Clone, Copy)]
+pub enum Stop {
+    /// A line is too long. It has no answer yet.
+    TooLong,
+    /// The run ends with this fault.
+    Fault(RunFault),
+}
+
+impl From<TooLong> for Stop {
+    ghost use Rattle.cg_line.specs.declared.running.stop.Stop.TheVariants as stops;
+
+    ghost from_gives = { λ _ stop. stop ≡ stops.TooLong };
+
+    fn from(_: TooLong) -> Self {
+        Stop::TooLong
+    }
+}
+
+impl From<RunFault> for Stop {
+    ghost use Rattle.cg_line.specs.declared.running.stop.Stop.TheVariants as stops;
+
+    ghost from_gives = { λ fault stop. stop ≡ stops.Fault fault };
+
+    fn from(fault: RunFault) -> Self {
+        Stop::Fault(fault)
+    }
+}
+
+impl From<AllocError> for Stop {
+    ghost use Rattle.cg_line.specs.declared.running.stop.Stop.TheVariants as stops;
+    ghost use Rattle.cg_line.specs.declared.ending.RunFault.TheVariants.{Memory};
+
+    ghost from_gives = { λ _ stop. stop ≡ stops.Fault Memory };
+
+    fn from(_: AllocError) -> Self {
+        Stop::Fault(RunFault::Memory)
+    }
+}
