@@ -20,26 +20,42 @@ count() {
 }
 
 log=$(mktemp)
-trap 'rm -f "$log"' EXIT
+cases=$(mktemp -d)
+trap 'rm -rf "$log" "$cases"' EXIT
 
 rt ci 2>&1 | tee "$log"
 gate=${PIPESTATUS[0]}
 count "$log"
 [ "$gate" = 0 ] || [ "$failed" -gt 0 ] || failed=1
 
-# Each script of cases/ beside the program: NAME is the input, NAME.stdout what it must print.
-for expected in crates/cg_sim/cases/*.stdout; do
-    case=${expected%.stdout}
-    [ -e "$case" ] || { echo "no script for $expected"; failed=$((failed + 1)); }
+# Each script of cases/ beside the program: NAME is the input, NAME.stdout what it must print, both packed where they are large.
+for file in crates/cg_sim/cases/*; do
+    name=${file##*/}
+    case $name in
+    *.gz) zcat "$file" >"$cases/${name%.gz}" ;;
+    *) cp "$file" "$cases/$name" ;;
+    esac
 done
-(cd crates/cg_sim && rt try --cases cases) 2>&1 | tee "$log"
-scripts=${PIPESTATUS[0]}
-ran=$(find crates/cg_sim/cases -name '*.stdout' | wc -l)
-if [ "$scripts" = 0 ]; then
-    passed=$((passed + ran))
-else
-    failed=$((failed + 1))
-fi
+(cd crates/cg_sim && rt try --cases "$cases") 2>&1 | tee "$log"
+
+# A script whose output ends in a bad line has to end with status 1, any other with 0.
+for file in "$cases"/*; do
+    name=${file##*/}
+    case $name in
+    *.stdout)
+        [ -e "${file%.stdout}" ] || { echo "no script for $name"; failed=$((failed + 1)); }
+        continue
+        ;;
+    esac
+    status=0
+    tail -n 1 "$file.stdout" | grep -q '^BAD SCRIPT LINE ' && status=1
+    if grep -q "^case=$name run=ended status=$status .*output=expected " "$log"; then
+        passed=$((passed + 1))
+    else
+        echo "$name: not what it must print, or not with status $status"
+        failed=$((failed + 1))
+    fi
+done
 
 echo "$passed passed, $failed failed"
 [ "$failed" = 0 ]

@@ -1,16 +1,4 @@
 pub mod Cut
 pub mod Value
 pub mod Front
-pub mod Singles
-pub mod Leaving
-pub mod Kept
-pub mod Progress
-pub mod Settling
-pub mod Synced
-pub mod Phases
-pub mod Flushing
-pub mod Lines
-pub mod Telling
-pub mod Digits
-pub mod Staying
-pub mod Cases
+pub mod Known

@@ -1,11 +1,6 @@
 pub mod Text
 pub mod Line
-pub mod Reply
-pub mod Program
-pub mod Phase
-pub mod Desk
-pub mod Log
-pub mod Meaning
-pub mod Durability
-pub mod Running
+pub mod Reading
 pub mod Telling
+pub mod Ending
+pub mod Disk

@@ -1,35 +1,63 @@
--- What is known of the bytes that a running script reads and writes.
-use Rattle.std.specs.Prelude.{◌≡◌, ◌≢◌, ◌⊎◌, ℕ, Bool, true, false, List, [], ◌∷◌, ◌++◌, Option, Some, Result, Ok, Err}
-use Rattle.std.specs.Io.BufRead.{take_through, drop_through}
-use Rattle.cg_sim.specs.declared.script.Stop.{Stop}
-use Rattle.cg_sim.specs.declared.script.Stop.TheVariants.{Io, Memory}
-use Rattle.cg_sim.specs.Phase.{Chance}
-use Rattle.cg_sim.specs.Meaning.{Output, line_feed, out_of_memory, printed}
+-- The lines that a script prints.
+use Rattle.std.specs.Prelude.{◌≡◌, ℕ, List, [], ◌++◌, codes, Option, None, Some, Result, Ok, Err}
+use Rattle.std.specs.List.{flat_map}
+use Rattle.std.specs.Fmt.{decimal}
+use Rattle.cg_desk.specs.Outgoings.{reply_of, ticket_of}
+use Rattle.cg_desk.specs.declared.outgoing.Outgoing.{Outgoing}
+use Rattle.cg_line.specs.Replies.{reply_line}
+use Rattle.cg_store.specs.declared.fault.OpenFault.{OpenFault}
+use Rattle.cg_store.specs.declared.fault.OpenFault.TheVariants as fault
+use Rattle.cg_world.specs.declared.step.StepNote.{StepNote}
+use Rattle.cg_world.specs.declared.step.StepNote.TheVariants as note
+use Rattle.cg_world.specs.declared.trace.Trace.{Trace}
+use Rattle.cg_sim.specs.declared.stop.Stop.{Stop}
+use Rattle.cg_sim.specs.declared.stop.Stop.TheVariants as stop
 
--- what a read took of what was left, up to the first line feed, and what is left behind it; or nothing was left
-abbrev pub IsNext : List ℕ → Bool → List ℕ → Option (List ℕ) → Type 0
-IsNext left false taken behind = left ≡ []
-IsNext left true taken behind = (taken ≡ take_through line_feed left) × (behind ≡ Some (drop_through line_feed left)) × (left ≢ [])
+-- a line that says what went wrong
+abbrev pub fault_line : List ℕ → List ℕ
+fault_line name = codes "FAULT " ++ name ++ codes "\n"
 
--- a line without the line feed at its end, where it has one
-abbrev pub IsWithoutEnd : List ℕ → List ℕ → Type 0
-IsWithoutEnd line front = (line ≡ front ++ line_feed ∷ []) ⊎ (front ≡ line) × ((p : List ℕ) → line ≢ p ++ line_feed ∷ [])
+abbrev pub bad_line : ℕ → List ℕ
+bad_line number = codes "BAD SCRIPT LINE " ++ decimal number ++ codes "\n"
 
--- by some chances this is the output: behind what stood there it was written, and its status answered
-pub record EndsAs (output : List Chance → Output) (before : List ℕ) (status : ℕ) (contents : Option (List ℕ)) : Type 0 where
-  pub chances : List Chance
-  pub status_is : status ≡ (output chances).status
-  pub written : contents ≡ Some (before ++ (output chances).text)
+-- a reply that leaves: the session that it goes to, and its line
+unfoldable pub reply_text : Outgoing → List ℕ
+reply_text outgoing = codes "s" ++ decimal (ticket_of outgoing).session ++ codes " " ++ reply_line (reply_of outgoing) ++ codes "\n"
 
--- by some chances memory ends the script, and all but the line that says so was written
-pub record RunsOut (output : List Chance → Output) (before : List ℕ) (contents : Option (List ℕ)) : Type 0 where
-  pub chances : List Chance
-  pub said : List ℕ
-  pub output_is : output chances ≡ printed said out_of_memory
-  pub written : contents ≡ Some (before ++ said)
+abbrev pub replies_text : List Outgoing → List ℕ
+replies_text replies = flat_map reply_text replies
 
--- what a script that came to its end or was ended has written; where a read or a write failed nothing is said of it
-abbrev pub Tells : (List Chance → Output) → List ℕ → Result ℕ Stop → Option (List ℕ) → Type 0
-Tells output before (Ok status) contents = EndsAs output before status contents
-Tells output before (Err Memory) contents = RunsOut output before contents
-Tells output before (Err Io) contents = Unit {0}
+-- of the steps that are taken, those that are refused are told
+unfoldable pub note_text : StepNote → List ℕ
+note_text note.Done = []
+note_text note.Nothing = []
+note_text note.InFlight = fault_line (codes "InFlight")
+note_text note.Full = fault_line (codes "Full")
+note_text note.Device = fault_line (codes "Device")
+
+-- the refusal of a request for which memory was wanting
+abbrev pub last_text : Option Outgoing → List ℕ
+last_text None = []
+last_text (Some refused) = reply_text refused
+
+-- what is told of a run: why steps were refused, the replies that left, and that refusal
+abbrev pub trace_text : Trace → List ℕ
+trace_text trace = flat_map note_text trace.notes ++ flat_map replies_text trace.out ++ last_text trace.last
+
+-- how many commands, group records and offsets a loading found
+abbrev pub opening_text : ℕ × ℕ × ℕ → List ℕ
+opening_text found = codes "LOADED " ++ decimal found.0 ++ codes " " ++ decimal found.1 ++ codes " " ++ decimal found.2 ++ codes "\n"
+
+-- why a disk is not loaded; want of memory has no line of its own
+abbrev pub open_fault_text : OpenFault → List ℕ
+open_fault_text fault.Memory = []
+open_fault_text fault.Device = fault_line (codes "Device")
+open_fault_text fault.BadFrame = fault_line (codes "BadFrame")
+open_fault_text fault.BadRecord = fault_line (codes "BadRecord")
+
+-- what is told at the end of a script that ends before its end
+abbrev pub stop_text : Stop → List ℕ
+stop_text (stop.BadLine number) = bad_line number
+stop_text stop.Io = []
+stop_text stop.Memory = fault_line (codes "Memory")
+stop_text stop.Device = fault_line (codes "Device")

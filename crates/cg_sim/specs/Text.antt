@@ -1,4 +1,4 @@
--- Words, numbers and bytes on a line.
+-- Words and numbers on a line.
 use Rattle.std.specs.Prelude.{ℕ, ◌+◌, ◌-◌, ◌*◌, ◌%◌, Bool, true, false, not, ◌&&◌, ◌||◌, ◌==◌, nat_le, List, [], ◌∷◌, length, take, drop, codes, Option, None, Some, if◌then◌else◌}
 use Rattle.std.specs.Option.{option_map}
 use Rattle.std.specs.List.{list_all, fold}
@@ -57,16 +57,19 @@ session_of word = do
   digits ← behind_of (codes "s") word
   if is_session digits then Some (value_of digits) else None
 
--- a hexadecimal digit as lines have it
-abbrev pub is_lower_hex_digit : ℕ → Bool
-is_lower_hex_digit b = is_digit b || (nat_le 97 b && nat_le b 102)
+-- the word for the member in a JOIN
+unfoldable pub joiner_of : List ℕ → Option (List ℕ)
+joiner_of request = do
+  call ← behind_of (codes "JOIN ") request
+  group ← cut_of 32 call
+  member ← cut_of 32 group.1
+  Some member.0
 
--- hexadecimal digits, two for each byte
-abbrev pub are_pairs : List ℕ → Bool
-are_pairs digits = list_all is_lower_hex_digit digits && length digits % 2 == 0
+-- it names no member
+abbrev pub is_none_word : Option (List ℕ) → Bool
+is_none_word None = false
+is_none_word (Some word) = bytes_eq word (codes "-")
 
--- the digits of bytes on a line: 'x' and two digits for each byte
-unfoldable pub hex_digits_of : List ℕ → Option (List ℕ)
-hex_digits_of word = do
-  digits ← behind_of (codes "x") word
-  if are_pairs digits then Some digits else None
+-- a request line is a JOIN that names no member
+unfoldable pub draws_uuid : List ℕ → Bool
+draws_uuid request = is_none_word (joiner_of request)

@@ -1,111 +1,137 @@
 //! The lines of a script, read where they stand: reading takes no memory.
 ghost use Rattle.std.specs.Prelude.{◌≡◌};
-ghost use Rattle.cg_sim.specs.Text.{is_skipped, number_of};
+ghost use Rattle.std.specs.Option.{option_map};
+ghost use Rattle.cg_sim.specs.Text.{draws_uuid, is_skipped, joiner_of, number_of};
+ghost use Rattle.cg_sim.specs.declared.text.TheConstants.{NUMBER_MAX};
 
-use crate::text;
-use crate::word::{HexWord, NameWord};
+use crate::request_line::RequestLine;
+use crate::text::{self, NUMBER_MAX};
 use cg_disk::Crash;
-use cg_names::{GroupId, Topic};
-use cg_record::{OFFSET_MAX, Offset, PARTITION_MAX, Partition};
-
-/// The greatest number of calls of a fuse.
-pub const FUSE_CALLS_MAX: u64 = u64::MAX;
-
-/// A partition of a topic, as one group reads it.
-#[derive(Drop)]
-pub struct Place<'a> {
-    pub group: NameWord<'a>,
-    pub topic: NameWord<'a>,
-    pub partition: Partition,
-}
-
-/// A request of a session, about one partition.
-#[derive(Drop)]
-pub enum Request<'a> {
-    /// `COMMIT group -1 - - topic:partition:offset:xHEX`: the offset, and the metadata in hexadecimal digits.
-    Commit(Place<'a>, Offset, HexWord<'a>),
-    /// `FETCH group topic:partition`
-    Fetch(Place<'a>),
-}
+use cg_names::Moment;
 
 /// A line of a script.
 #[derive(Drop)]
 pub enum Line<'a> {
     /// A blank line, or a comment.
     Skipped,
-    /// `flush`: the commands that wait are settled.
+    /// `at M`: sets the moment, in milliseconds.
+    At(Moment),
+    /// `tick M`: sets the moment; time has gone by.
+    Tick(Moment),
+    /// `gone s<digits>`: the session of this number is closed.
+    Gone(u64),
+    /// `take`: the desk hands the next batch out.
+    Take,
+    /// `append`: the store appends it.
+    Append,
+    /// `settle`: the desk settles it.
+    Settle,
+    /// `flush`: these three steps.
     Flush,
-    /// `reload`: as `stop keep` and `load`.
-    Reload,
-    /// `load`: serves what is on the disk.
-    Load,
     /// `fuse K`: the disk passes K more calls, and then fails each.
     Fuse(u64),
     /// `stop keep`, `stop lose`: power loss, which leaves what was not synced or loses it.
     Stop(Crash),
-    /// A session's number, and its request.
-    Ask(u64, Request<'a>),
+    /// `load`: serves what is on the disk.
+    Load,
+    /// `reload`: as `stop keep` and `load`.
+    Reload,
+    /// `close`: closes the desk, and then as `stop keep`.
+    Close,
+    /// `s<digits> <request line>`: a session's number, and the line of its request, which is not read yet.
+    Ask(u64, RequestLine<'a>),
 }
 
 impl<'a> Line<'a> {
-    ghost use Rattle.cg_sim.specs.Line.{line_of, plain_line_of, fuse_line_of, session_line_of};
+    ghost use Rattle.cg_sim.specs.Line.{line_of, power_line_of, step_line_of, word_line_of, worded_line_of};
 
     /// The line that the text spells, or None where it spells none.
     #[tactic(auto, unfolding(crate::specs::Line::line_of))]
     pub fn read(text: &'a [u8]) -> Option<Self>
         ensures { result ≡ line_of text.now }
     {
-        if let Some(line) = Line::plain_line(text) {
-            return Some(line);
-        }
-        if let Some(line) = Line::fuse_line(text) {
-            return Some(line);
-        }
-        Line::session_line(text)
-    }
-
-    #[tactic(auto, unfolding(crate::specs::Line::plain_line_of))]
-    fn plain_line(text: &[u8]) -> Option<Self>
-        ensures { result ≡ plain_line_of text.now }
-    {
         if is_skipped(text) {
             return Some(Line::Skipped);
+        }
+        if let Some(line) = Line::step_line(text) {
+            return Some(line);
+        }
+        if let Some(line) = Line::power_line(text) {
+            return Some(line);
+        }
+        Line::worded_line(text)
+    }
+
+    // A line whose first word says what it is.
+    #[tactic(auto, unfolding(crate::specs::Line::worded_line_of))]
+    fn worded_line(text: &'a [u8]) -> Option<Self>
+        ensures { result ≡ worded_line_of text.now }
+    {
+        let (word, rest) = text::cut(text, b' ')?;
+        Line::word_line(word, rest)
+    }
+
+    // A step of the desk or the store.
+    #[tactic(auto, unfolding(crate::specs::Line::step_line_of))]
+    fn step_line(text: &[u8]) -> Option<Self>
+        ensures { result ≡ step_line_of text.now }
+    {
+        if text == b"take".as_slice() {
+            return Some(Line::Take);
+        }
+        if text == b"append".as_slice() {
+            return Some(Line::Append);
+        }
+        if text == b"settle".as_slice() {
+            return Some(Line::Settle);
         }
         if text == b"flush".as_slice() {
             return Some(Line::Flush);
         }
-        if text == b"reload".as_slice() {
-            return Some(Line::Reload);
-        }
-        if text == b"load".as_slice() {
-            return Some(Line::Load);
-        }
+        None
+    }
+
+    // A stop or a loading.
+    #[tactic(auto, unfolding(crate::specs::Line::power_line_of))]
+    fn power_line(text: &[u8]) -> Option<Self>
+        ensures { result ≡ power_line_of text.now }
+    {
         if text == b"stop keep".as_slice() {
             return Some(Line::Stop(Crash::Keep));
         }
         if text == b"stop lose".as_slice() {
             return Some(Line::Stop(Crash::Lose));
         }
+        if text == b"load".as_slice() {
+            return Some(Line::Load);
+        }
+        if text == b"reload".as_slice() {
+            return Some(Line::Reload);
+        }
+        if text == b"close".as_slice() {
+            return Some(Line::Close);
+        }
         None
     }
 
-    #[tactic(auto, unfolding(crate::specs::Line::fuse_line_of))]
-    fn fuse_line(text: &[u8]) -> Option<Self>
-        ensures { result ≡ fuse_line_of text.now }
+    // A word that says what the rest of the line is.
+    #[tactic(auto, unfolding(crate::specs::Line::word_line_of))]
+    fn word_line(word: &[u8], rest: &'a [u8]) -> Option<Self>
+        ensures { result ≡ word_line_of word.now rest.now }
     {
-        let digits = text::behind(text, b"fuse ")?;
-        let calls = text::number(digits, FUSE_CALLS_MAX)?;
-        Some(Line::Fuse(calls))
-    }
-
-    #[tactic(auto, unfolding(crate::specs::Line::session_line_of))]
-    fn session_line(text: &'a [u8]) -> Option<Self>
-        ensures { result ≡ session_line_of text.now }
-    {
-        let (word, rest) = text::cut(text, b' ')?;
-        let session = text::session_number(word)?;
-        let request = Request::read(rest)?;
-        Some(Line::Ask(session, request))
+        if word == b"at".as_slice() {
+            return Some(Line::At(moment_in(rest)?));
+        }
+        if word == b"tick".as_slice() {
+            return Some(Line::Tick(moment_in(rest)?));
+        }
+        if word == b"gone".as_slice() {
+            return Some(Line::Gone(text::session_number(rest)?));
+        }
+        if word == b"fuse".as_slice() {
+            return Some(Line::Fuse(text::number(rest, NUMBER_MAX)?));
+        }
+        Some(Line::Ask(text::session_number(word)?, RequestLine::new(rest)))
     }
 }
 
@@ -118,78 +144,31 @@ fn is_skipped(text: &[u8]) -> bool
     }
 }
 
-impl<'a> Request<'a> {
-    ghost use Rattle.cg_sim.specs.Line.{request_of, commit_of, fetch_of};
-
-    #[tactic(auto, unfolding(crate::specs::Line::request_of))]
-    fn read(text: &'a [u8]) -> Option<Self>
-        ensures { result ≡ request_of text.now }
-    {
-        let (word, rest) = text::cut(text, b' ')?;
-        if word == b"COMMIT".as_slice() {
-            return Request::commit(rest);
-        }
-        if word == b"FETCH".as_slice() {
-            return Request::fetch(rest);
-        }
-        None
-    }
-
-    #[tactic(auto, unfolding(crate::specs::Line::commit_of))]
-    fn commit(text: &'a [u8]) -> Option<Self>
-        ensures { result ≡ commit_of text.now }
-    {
-        let (group, rest) = text::cut(text, b' ')?;
-        let entry = text::behind(rest, b"-1 - - ")?;
-        let (topic, rest) = text::cut(entry, b':')?;
-        let (partition, rest) = text::cut(rest, b':')?;
-        let (offset, metadata) = text::cut(rest, b':')?;
-        let place = Place::read(group, topic, partition)?;
-        let offset = offset_in(offset)?;
-        let metadata = HexWord::new(text::hex_digits(metadata)?);
-        Some(Request::Commit(place, offset, metadata))
-    }
-
-    #[tactic(auto, unfolding(crate::specs::Line::fetch_of))]
-    fn fetch(text: &'a [u8]) -> Option<Self>
-        ensures { result ≡ fetch_of text.now }
-    {
-        let (group, rest) = text::cut(text, b' ')?;
-        let (topic, partition) = text::cut(rest, b':')?;
-        let place = Place::read(group, topic, partition)?;
-        Some(Request::Fetch(place))
-    }
-}
-
-impl<'a> Place<'a> {
-    ghost use Rattle.cg_sim.specs.Line.{place_of};
-
-    #[tactic(auto, unfolding(crate::specs::Line::place_of))]
-    fn read(group: &'a [u8], topic: &'a [u8], partition: &[u8]) -> Option<Self>
-        ensures { result ≡ place_of group.now topic.now partition.now }
-    {
-        let partition = partition_in(partition)?;
-        if GroupId::fault(group).is_some() || Topic::fault(topic).is_some() {
-            return None;
-        }
-        Some(Place {
-            group: NameWord::new(group),
-            topic: NameWord::new(topic),
-            partition,
-        })
-    }
-}
-
-fn partition_in(text: &[u8]) -> Option<Partition>
-    ensures { result ≡ number_of PARTITION_MAX text.now }
+fn moment_in(text: &[u8]) -> Option<Moment>
+    ensures { result ≡ number_of NUMBER_MAX text.now }
 {
-    let number = text::number(text, u64::from(PARTITION_MAX))?;
-    Partition::new(number as u32)
+    let millis = text::number(text, NUMBER_MAX)?;
+    Some(Moment::from_millis(millis))
 }
 
-fn offset_in(text: &[u8]) -> Option<Offset>
-    ensures { result ≡ number_of OFFSET_MAX text.now }
+/// Whether a request line is a JOIN that names no member.
+#[tactic(auto, unfolding(crate::specs::Text::draws_uuid))]
+pub fn draws_uuid(request: &[u8]) -> bool
+    ensures { result ≡ draws_uuid request.now }
 {
-    let number = text::number(text, OFFSET_MAX)?;
-    Offset::new(number)
+    match joiner(request) {
+        Some(member) => member == b"-".as_slice(),
+        None => false,
+    }
+}
+
+// The word for the member in a JOIN.
+#[tactic(auto, unfolding(crate::specs::Text::joiner_of))]
+fn joiner(request: &[u8]) -> Option<&[u8]>
+    ensures { option_map (λ member. member.now) result ≡ joiner_of request.now }
+{
+    let call = text::behind(request, b"JOIN ")?;
+    let (_, rest) = text::cut(call, b' ')?;
+    let (member, _) = text::cut(rest, b' ')?;
+    Some(member)
 }

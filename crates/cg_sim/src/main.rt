@@ -1,25 +1,21 @@
-//! Runs a script of requests and flushes against a log on a sector disk, and prints what it answers.
+//! Runs a script of requests and steps against a coordinator over a disk in memory, and prints what it answers.
 #![tactic(auto)]
 
-mod desk;
-mod device;
-mod held;
-mod laws;
+mod call;
 mod line;
-mod loading;
-mod log;
-mod program;
-mod reply;
+mod loaded;
+mod player;
+mod request_line;
 mod script;
-mod serving;
-mod settle;
+mod stage;
+mod stop;
+mod telling;
 #[cfg(test)]
 mod tests;
 mod text;
-mod word;
+mod unloaded;
 
-pub use laws::settled_commands_stay;
-pub use script::script;
+pub use script::{STATUS_BAD_LINE, STATUS_DONE, STATUS_IO, STATUS_SHORT, script};
 use std::io::{self, BufReader};
 use std::process::ExitCode;
 
@@ -27,6 +23,6 @@ fn main(rt: HostRuntime) -> ExitCode {
     let mut writer = io::writer(&rt);
     match BufReader::new(rt.alloc(), rt.reader()) {
         Ok(mut reader) => ExitCode::from(script::script(rt.alloc(), &mut reader, &mut writer)),
-        Err(_) => ExitCode::from(script::STATUS_MEMORY),
+        Err(_) => ExitCode::from(script::refuse_script(&mut writer)),
     }
 }

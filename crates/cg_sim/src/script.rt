@@ -1,20 +1,22 @@
 //! Running a script: one line after the other, until its end, a bad line, or trouble.
-ghost use Rattle.std.specs.Prelude.{◌≡◌, ◌⊎◌, ◌++◌, ℕ, List, Option, Some, [], IfOk, IfErr, OnOk, codes};
+ghost use Rattle.std.specs.Prelude.{◌≡◌, ◌⊎◌, ◌≤◌, ◌++◌, ℕ, Ok, Err, Some, [], IfOk, IfErr, OnOk, List};
 ghost use Rattle.std.specs.Io.KnownBytes.{Appends};
-ghost use Rattle.cg_sim.specs.Program.{fault_line};
-ghost use Rattle.cg_sim.specs.Phase.{Phase, load_step};
-ghost use Rattle.cg_sim.specs.Meaning.{bad_line, lines_of, meaning, output_of, printed};
-ghost use Rattle.cg_sim.specs.Running.{Makes, Stands};
-ghost use Rattle.cg_sim.specs.Telling.{EndsAs, IsNext, IsWithoutEnd, Tells};
-ghost use Rattle.cg_sim.specs.declared.script.TheConstants.{STATUS_IO};
+ghost use Rattle.cg_disk.specs.Mem.{mem_size};
+ghost use Rattle.cg_sim.specs.Disk.{sectors_needed};
+ghost use Rattle.cg_sim.specs.Ending.{Ends, WritesThen, status_of};
+ghost use Rattle.cg_sim.specs.Reading.{IsNext, IsWithoutEnd};
+ghost use Rattle.cg_sim.specs.Telling.{bad_line, stop_text};
 
-use crate::device::Breakable;
-use crate::log::{DISK_SECTORS, Log};
-use crate::program::Program;
-use crate::reply;
-use cg_disk::{FuseDisk, MemDisk, SectorDisk};
-use std::alloc::{AllocError, Global};
-use std::io::{self, BufRead, ErrorKind, Write};
+use crate::player::Player;
+use crate::stage::Stage;
+use crate::stop::Stop;
+use crate::unloaded::Unloaded;
+use cg_disk::MemDisk;
+use cg_names::Moment;
+use cg_store::DISK_SECTORS;
+use itoa::Buffer;
+use std::alloc::Global;
+use std::io::{self, BufRead, Write};
 
 /// The script ended.
 pub const STATUS_DONE: u8 = 0;
@@ -25,34 +27,8 @@ pub const STATUS_BAD_LINE: u8 = 1;
 /// A read or a write failed.
 pub const STATUS_IO: u8 = 3;
 
-/// Memory was wanting outside of a request.
-pub const STATUS_MEMORY: u8 = 4;
-
-// Why a script does not come to its end.
-#[derive(Clone, Copy, Debug, PartialEq, Eq)]
-enum Stop {
-    Io,
-    Memory,
-}
-
-impl From<AllocError> for Stop {
-    ghost use Rattle.cg_sim.specs.declared.script.Stop.TheVariants.{Memory};
-
-    ghost from_gives = { λ _ e. e ≡ Memory };
-
-    fn from(_: AllocError) -> Self {
-        Stop::Memory
-    }
-}
-
-impl From<io::Error> for Stop {
-    fn from(error: io::Error) -> Self {
-        match error.kind() {
-            ErrorKind::OutOfMemory => Stop::Memory,
-            _ => Stop::Io,
-        }
-    }
-}
+/// Memory was wanting outside of a request, or the disk could not be formatted.
+pub const STATUS_SHORT: u8 = 4;
 
 // Reads the next line, with its line feed where it has one; false at the end.
 fn read_line<R: BufRead>(reader: &mut R, line: &mut Vec<u8>) -> Result<bool, Stop>
@@ -86,85 +62,127 @@ fn emit<W: Write>(writer: &mut W, out: &mut Vec<u8>) -> Result<(), Stop>
     Ok(())
 }
 
-fn tell_bad_line(alloc: Global, number: u64, out: &mut Vec<u8>) -> Result<(), AllocError>
-    ensures { OnOk result (out.new.items ≡ out.old.items ++ bad_line number) }
+// A disk that was formatted.
+fn formatted(alloc: Global) -> Result<MemDisk, Stop>
+    ensures { IfOk result (λ disk. sectors_needed ≤ mem_size disk) }
 {
-    let text = format!(in alloc; "BAD SCRIPT LINE {number}\n")?;
-    out.extend_from_slice(text.as_bytes())?;
+    let mut disk = MemDisk::new(alloc, DISK_SECTORS)?;
+    match cg_store::format(&mut disk) {
+        Ok(()) => Ok(disk),
+        Err(_) => Err(Stop::Device),
+    }
+}
+
+// Writes what is to be printed, and ends for the cause that is there already.
+fn emit_before<W: Write>(
+    writer: &mut W,
+    out: &mut Vec<u8>,
+    played: Result<(), Stop>,
+) -> Result<(), Stop>
+    ensures ok { OnOk result (Appends (W.contents writer.old) (W.contents writer.new) out.old.items) }
+    ensures err { IfErr result (λ stop. (stop ≡ Stop.Io) ⊎ Appends (W.contents writer.old) (W.contents writer.new) out.old.items) }
+{
+    emit(writer, out)?;
+    played?;
     Ok(())
 }
 
-// Serves the lines that are left, after what is to be printed already.
-fn serve_lines<D: Breakable + Drop, R: BufRead, W: Write>(
+// Plays the lines that are left, after what came before them.
+fn serve_lines<R: BufRead, W: Write>(
     alloc: Global,
-    mut program: Program<D>,
+    mut stage: Stage,
+    before: Result<(), Stop>,
     out: &mut Vec<u8>,
     reader: &mut R,
     writer: &mut W,
-) -> Result<u8, Stop>
-    ensures { (phase : Phase) → Stands program.stage (D.is_honest program.log.disk) (D.history program.log.disk) program.log.end program.desk phase
-        → (left before : List ℕ) → R.remaining reader.old ≡ Some left → W.contents writer.old ≡ Some before
-        → Tells (λ chances. printed out.old.items (output_of chances 1 phase (lines_of left))) before result (W.contents writer.new) }
+) -> (Stage, Result<(), Stop>)
+    ensures written { (result.1 ≡ Err Stop.Io) ⊎ ((said : List ℕ) × Appends (W.contents writer.old) (W.contents writer.new) said) }
+    ensures end { (input : List ℕ) → R.remaining reader.old ≡ Some input → result.1 ≡ Ok tt → R.remaining reader.new ≡ Some [] }
 {
+    let mut player = Player::new(alloc);
     let mut line = Vec::new(alloc);
+    let mut played = before;
     for number in 1..u64::MAX {
-        emit(writer, out)?;
-        if !read_line(reader, &mut line)? {
-            return Ok(STATUS_DONE);
+        if let Err(stop) = emit_before(writer, out, played) {
+            return (stage, Err(stop));
         }
-        match program.step(without_end(&line), out)? {
-            Some(next) => program = next,
-            None => {
-                tell_bad_line(alloc, number, out)?;
-                emit(writer, out)?;
-                return Ok(STATUS_BAD_LINE);
-            }
+        match read_line(reader, &mut line) {
+            Ok(true) => {}
+            Ok(false) => return (stage, Ok(())),
+            Err(stop) => return (stage, Err(stop)),
         }
+        (stage, played) = player.play(stage, number, without_end(&line), out);
     }
-    Err(Stop::Io)
+    (stage, Err(Stop::Io))
 }
 
-// A program over an empty disk, loaded.
-fn open(alloc: Global, out: &mut Vec<u8>) -> Result<Program<FuseDisk<MemDisk>>, AllocError>
-    ensures { IfOk result (λ p. (fails : Option ℕ) × Makes (load_step fails []) p.stage (⟦<FuseDisk<MemDisk> as SectorDisk>⟧.is_honest p.log.disk)
-        (⟦<FuseDisk<MemDisk> as SectorDisk>⟧.history p.log.disk) p.log.end p.desk out.old.items out.new.items) }
-{
-    let disk = MemDisk::new(alloc, DISK_SECTORS)?;
-    let mut disk = FuseDisk::new(disk, 0);
-    disk.set(None);
-    let program = Program::new(alloc, Log::new(disk)).load(out)?;
-    Ok(program)
-}
-
-fn run<R: BufRead, W: Write>(alloc: Global, reader: &mut R, writer: &mut W) -> Result<u8, Stop>
-    ensures { (input before : List ℕ) → R.remaining reader.old ≡ Some input → W.contents writer.old ≡ Some before
-        → Tells (λ chances. meaning chances input) before result (W.contents writer.new) }
+fn run<R: BufRead, W: Write>(alloc: Global, reader: &mut R, writer: &mut W) -> Result<(), Stop>
+    ensures written { (result ≡ Err Stop.Io) ⊎ ((said : List ℕ) × Appends (W.contents writer.old) (W.contents writer.new) said) }
+    ensures end { (input : List ℕ) → R.remaining reader.old ≡ Some input → result ≡ Ok tt → R.remaining reader.new ≡ Some [] }
 {
     let mut out = Vec::new(alloc);
-    let program = open(alloc, &mut out)?;
-    let status = serve_lines(alloc, program, &mut out, reader, writer)?;
-    Ok(status)
+    let unloaded = Unloaded::new(alloc, formatted(alloc)?);
+    let (stage, loaded) = unloaded.load(alloc, Moment::from_millis(0), &mut out);
+    let (stage, ended) = serve_lines(alloc, stage, loaded, &mut out, reader, writer);
+    let _ = stage.end(alloc);
+    ended
 }
 
-/// Runs a script over a disk in memory, and answers the exit status. Unless a read or a write fails, it writes what the
-/// script means, by what chance had of memory and of the disk, and nothing else, and answers the status of that.
-pub fn script<R: BufRead, W: Write>(alloc: Global, reader: &mut R, writer: &mut W) -> u8
-    ensures { (input before : List ℕ) → R.remaining reader.old ≡ Some input → W.contents writer.old ≡ Some before
-        → (result ≡ STATUS_IO) ⊎ EndsAs (λ chances. meaning chances input) before result (W.contents writer.new) }
+fn tell_bad_line<W: Write>(writer: &mut W, number: u64) -> io::Result<()>
+    ensures { OnOk result (Appends (W.contents writer.old) (W.contents writer.new) (bad_line number)) }
 {
-    match run(alloc, reader, writer) {
-        Ok(status) => status,
-        Err(Stop::Io) => STATUS_IO,
-        Err(Stop::Memory) => match tell_memory(writer) {
-            Ok(()) => STATUS_MEMORY,
-            Err(_) => STATUS_IO,
-        },
+    let mut buffer = Buffer::new();
+    writer.write_all(b"BAD SCRIPT LINE ")?;
+    writer.write_all(buffer.format(number).as_bytes())?;
+    writer.write_all(b"\n")?;
+    Ok(())
+}
+
+// Says why a script ends before its end; of a read or a write that failed nothing can be said.
+fn tell_stop<W: Write>(writer: &mut W, stop: Stop) -> io::Result<()>
+    ensures { OnOk result (Appends (W.contents writer.old) (W.contents writer.new) (stop_text stop)) }
+{
+    match stop {
+        Stop::BadLine(number) => tell_bad_line(writer, number)?,
+        Stop::Memory => writer.write_all(b"FAULT Memory\n")?,
+        Stop::Device => writer.write_all(b"FAULT Device\n")?,
+        Stop::Io => {}
+    }
+    writer.flush()
+}
+
+fn status_of(stop: Stop) -> u8
+    ensures { result ≡ status_of stop }
+{
+    match stop {
+        Stop::BadLine(_) => STATUS_BAD_LINE,
+        Stop::Io => STATUS_IO,
+        Stop::Memory | Stop::Device => STATUS_SHORT,
     }
 }
 
-fn tell_memory<W: Write>(writer: &mut W) -> io::Result<()>
-    ensures { OnOk result (Appends (W.contents writer.old) (W.contents writer.new) (fault_line (codes "Memory"))) }
+/// Says that memory was wanting before a script began, and answers the exit status.
+pub fn refuse_script<W: Write>(writer: &mut W) -> u8
+    ensures ends { Ends result (W.contents writer.old) (W.contents writer.new) }
+    ensures short { (result ≡ STATUS_SHORT) ⊎ (result ≡ STATUS_IO) }
 {
-    writer.write_all(reply::FAULT_MEMORY)?;
-    writer.flush()
+    match tell_stop(writer, Stop::Memory) {
+        Ok(()) => STATUS_SHORT,
+        Err(_) => STATUS_IO,
+    }
+}
+
+/// Runs a script over a disk in memory, and answers the exit status: `STATUS_DONE` where it came to its end; `STATUS_BAD_LINE`
+/// behind a line `BAD SCRIPT LINE`, `STATUS_SHORT` behind a last line `FAULT`, and `STATUS_IO` where a read or a write failed.
+pub fn script<R: BufRead, W: Write>(alloc: Global, reader: &mut R, writer: &mut W) -> u8
+    ensures ends { Ends result (W.contents writer.old) (W.contents writer.new) }
+    ensures end { (input : List ℕ) → R.remaining reader.old ≡ Some input → result ≡ STATUS_DONE → R.remaining reader.new ≡ Some [] }
+{
+    let Err(stop) = run(alloc, reader, writer) else {
+        return STATUS_DONE;
+    };
+    match tell_stop(writer, stop) {
+        Ok(()) => status_of(stop),
+        Err(_) => STATUS_IO,
+    }
 }

@@ -108,6 +108,7 @@ fn a_stop_after_each_call(rt: HostRuntime) -> Result<(), Fail> {
         assert!(rt; no_offset_is_missing(rt.alloc(), "", commit, stop)?);
         assert!(rt; no_offset_is_missing(rt.alloc(), commit, "", stop)?);
         assert!(rt; no_offset_is_missing(rt.alloc(), three, "", stop)?);
+        assert!(rt; no_offset_is_missing(rt.alloc(), commit, "take\nappend\nsettle\n", stop)?);
     }
     Ok(())
 }

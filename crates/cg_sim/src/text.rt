@@ -1,10 +1,13 @@
-//! Words, numbers and bytes on a line, read where they stand: nothing here takes memory.
+//! Words and numbers on a line, read where they stand: nothing here takes memory.
 ghost use Rattle.std.specs.Prelude.{◌≡◌, ◌+◌, ◌-◌, ◌*◌, ◌^◌, ◌≤◌, ◌<◌, IsTrue, MatchOption, IfSome};
 ghost use Rattle.std.specs.Option.{option_map};
 ghost use Rattle.std.specs.List.{list_all};
-ghost use Rattle.cg_sim.specs.Text.{are_pairs, behind_of, cut_of, hex_digits_of, is_digit, is_lower_hex_digit, is_plain, is_session, number_of, session_of, value_of};
+ghost use Rattle.cg_sim.specs.Text.{behind_of, cut_of, is_digit, is_plain, is_session, number_of, session_of, value_of};
 
 use memchr::memchr;
+
+/// The greatest number on a line.
+pub const NUMBER_MAX: u64 = u64::MAX;
 
 /// The greatest number of digits of a session.
 pub const SESSION_DIGITS_MAX: usize = 6;
@@ -105,36 +108,4 @@ fn is_session(digits: &[u8]) -> bool
     ensures { result ≡ is_session digits.now }
 {
     !digits.is_empty() && digits.len() <= SESSION_DIGITS_MAX && are_digits(digits)
-}
-
-/// The digits of bytes on a line: `x` and lower-case hexadecimal digits, two for each byte.
-#[tactic(auto, unfolding(crate::specs::Text::hex_digits_of))]
-pub fn hex_digits(word: &[u8]) -> Option<&[u8]>
-    ensures value { option_map (λ digits. digits.now) result ≡ hex_digits_of word.now }
-    ensures in_pairs { IfSome result (λ digits. IsTrue (are_pairs digits.now)) }
-{
-    let digits = behind(word, b"x")?;
-    if are_pairs(digits) {
-        Some(digits)
-    } else {
-        None
-    }
-}
-
-fn are_pairs(digits: &[u8]) -> bool
-    ensures { result ≡ are_pairs digits.now }
-{
-    are_hex(digits) && digits.len() % 2 == 0
-}
-
-fn are_hex(text: &[u8]) -> bool
-    ensures { result ≡ list_all is_lower_hex_digit text.now }
-{
-    text.iter().all(|b| is_hex(*b))
-}
-
-fn is_hex(byte: u8) -> bool
-    ensures { result ≡ is_lower_hex_digit byte }
-{
-    is_digit(byte) || (b'a'..=b'f').contains(&byte)
 }

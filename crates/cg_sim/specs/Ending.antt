@@ -1,0 +1,22 @@
+-- How a script ends.
+use Rattle.std.specs.Prelude.{◌≡◌, ◌⊎◌, ℕ, List, [], ◌++◌, Option, codes}
+use Rattle.std.specs.Io.KnownBytes.{Appends}
+use Rattle.cg_sim.specs.declared.script.TheConstants.{STATUS_BAD_LINE, STATUS_DONE, STATUS_IO, STATUS_SHORT}
+use Rattle.cg_sim.specs.declared.stop.Stop.{Stop}
+use Rattle.cg_sim.specs.declared.stop.Stop.TheVariants.{BadLine, Device, Io, Memory}
+use Rattle.cg_sim.specs.Telling.{stop_text}
+
+-- the status of a script that ends before its end
+abbrev pub status_of : Stop → ℕ
+status_of (BadLine number) = STATUS_BAD_LINE
+status_of Io = STATUS_IO
+status_of Memory = STATUS_SHORT
+status_of Device = STATUS_SHORT
+
+-- something was written, and then what tells why the script ended
+abbrev pub WritesThen : Option (List ℕ) → Option (List ℕ) → List ℕ → Type 0
+WritesThen old new last = (said : List ℕ) × Appends old new (said ++ last)
+
+-- the script came to its end; a cause was told that has this status; or a read or a write failed
+abbrev pub Ends : ℕ → Option (List ℕ) → Option (List ℕ) → Type 0
+Ends status old new = ((status ≡ STATUS_DONE) × WritesThen old new []) ⊎ ((cause : Stop) × (status ≡ status_of cause) × WritesThen old new (stop_text cause)) ⊎ (status ≡ STATUS_IO)

@@ -1,0 +1,78 @@
+//! What was loaded from a disk.
+ghost use Rattle.std.specs.Prelude.{◌≡◌, ◌≤◌, IfErr};
+ghost use Rattle.cg_disk.specs.Mem.{mem_size};
+ghost use Rattle.cg_store.specs.Store.{disk_of};
+ghost use Rattle.cg_world.specs.Sights.{store_of};
+ghost use Rattle.cg_sim.specs.Disk.{sectors_needed, sectors_of};
+
+use crate::call::Call;
+use crate::stage::Disk;
+use crate::stop::Stop;
+use crate::telling;
+use cg_desk::Outgoing;
+use cg_disk::MemDisk;
+use cg_world::{Step, World};
+use std::alloc::Global;
+
+/// The desk and the store of what was loaded.
+pub struct Loaded {
+    world: World<Disk>,
+    ghost roomy: { sectors_needed ≤ sectors_of (disk_of (store_of world)) },
+}
+
+impl Loaded {
+    pub fn new(world: World<Disk>) -> Self
+        requires { sectors_needed ≤ sectors_of (disk_of (store_of world)) }
+    {
+        Loaded { world }
+    }
+
+    // Takes the steps, and prints what comes of them.
+    fn run(self, alloc: Global, steps: Vec<Step>, out: &mut Vec<u8>) -> (Self, Result<(), Stop>)
+        ensures { IfErr result.1 (λ stop. stop ≡ Stop.Memory) }
+    {
+        let Loaded { world } = self;
+        let (world, trace) = cg_world::run(alloc, world, steps);
+        (Loaded { world }, telling::put_trace(&trace, out))
+    }
+
+    /// Takes a step that is no request, and prints what comes of it.
+    pub fn take_step(self, alloc: Global, step: Step, out: &mut Vec<u8>) -> (Self, Result<(), Stop>)
+        ensures { IfErr result.1 (λ stop. stop ≡ Stop.Memory) }
+    {
+        match vec![in alloc; step] {
+            Ok(steps) => self.run(alloc, steps, out),
+            Err(_) => (self, Err(Stop::Memory)),
+        }
+    }
+
+    /// Answers a request, or refuses it where memory is wanting for it.
+    pub fn ask(self, alloc: Global, call: Call, out: &mut Vec<u8>) -> (Self, Result<(), Stop>)
+        ensures { IfErr result.1 (λ stop. stop ≡ Stop.Memory) }
+    {
+        let Call {
+            ticket,
+            request,
+            now,
+            fresh,
+        } = call;
+        match vec![in alloc; Step::Request(ticket, request, now, fresh)] {
+            Ok(steps) => self.run(alloc, steps, out),
+            Err(_) => (self, telling::put_refusal(ticket, out)),
+        }
+    }
+
+    /// From now on the disk passes that many calls, and then fails each.
+    pub fn set_fuse(&mut self, calls: u64) {
+        self.world.set_fuse(Some(calls));
+    }
+
+    /// Ends it: the replies to all calls without an answer, and the disk as it is, without its fuse.
+    pub fn close(self) -> (Vec<Outgoing>, MemDisk)
+        ensures { sectors_needed ≤ mem_size result.1 }
+    {
+        let Loaded { world } = self;
+        let (refused, disk) = world.close();
+        (refused, disk.into_inner())
+    }
+}

@@ -1,0 +1,158 @@
+//! What each line of a script does.
+ghost use Rattle.std.specs.Prelude.{◌≡◌, ◌⊎◌, Ok, Err, None, IfErr};
+ghost use Rattle.cg_sim.specs.Line.{line_of};
+
+use crate::call::Call;
+use crate::line::{Line, draws_uuid};
+use crate::stage::Stage;
+use crate::stop::Stop;
+use crate::telling;
+use cg_disk::Crash;
+use cg_group::Ticket;
+use cg_line::LineFault;
+use cg_names::Moment;
+use cg_world::Step;
+use std::alloc::Global;
+use uuid::Uuid;
+
+/// Plays lines: it knows the current moment, and how many UUIDs were drawn.
+#[derive(Drop)]
+pub struct Player {
+    alloc: Global,
+    now: Moment,
+    drawn: u64,
+}
+
+impl Player {
+    /// At the first moment of all, before the first UUID.
+    pub fn new(alloc: Global) -> Self {
+        Player {
+            alloc,
+            now: Moment::from_millis(0),
+            drawn: 0,
+        }
+    }
+
+    /// Does what the line of this number says, and puts what is printed at the end of `out`.
+    pub fn play(
+        &mut self,
+        stage: Stage,
+        number: u64,
+        text: &[u8],
+        out: &mut Vec<u8>,
+    ) -> (Stage, Result<(), Stop>)
+        ensures err { IfErr result.1 (λ stop. (stop ≡ Stop.Memory) ⊎ (stop ≡ Stop.BadLine number)) }
+        ensures bad { line_of text.now ≡ None → result.1 ≡ Err (Stop.BadLine number) }
+    {
+        match Line::read(text) {
+            Some(line) => self.play_line(stage, number, &line, out),
+            None => (stage, Err(Stop::BadLine(number))),
+        }
+    }
+
+    fn play_line(
+        &mut self,
+        stage: Stage,
+        number: u64,
+        line: &Line<'_>,
+        out: &mut Vec<u8>,
+    ) -> (Stage, Result<(), Stop>)
+        ensures { IfErr result.1 (λ stop. (stop ≡ Stop.Memory) ⊎ (stop ≡ Stop.BadLine number)) }
+    {
+        match line {
+            Line::Skipped => (stage, Ok(())),
+            Line::At(now) => self.wait(stage, *now),
+            Line::Tick(now) => self.tick(stage, *now, out),
+            Line::Gone(session) => stage.take_step(self.alloc, Step::Gone(*session, self.now), out),
+            Line::Take => stage.take_step(self.alloc, Step::Take, out),
+            Line::Append => stage.take_step(self.alloc, Step::Append, out),
+            Line::Settle => stage.take_step(self.alloc, Step::Settle, out),
+            Line::Flush => stage.flush(self.alloc, out),
+            Line::Fuse(calls) => light(stage, *calls),
+            Line::Stop(crash) => (Stage::Unloaded(stage.stop(self.alloc, *crash)), Ok(())),
+            Line::Load => self.load(stage, number, out),
+            Line::Reload => stage
+                .stop(self.alloc, Crash::Keep)
+                .load(self.alloc, self.now, out),
+            Line::Close => stage.close(self.alloc, out),
+            Line::Ask(session, request) => {
+                self.ask(
+                    stage,
+                    Ticket {
+                        session: *session,
+                        number,
+                    },
+                    request.as_bytes(),
+                    out,
+                )
+            }
+        }
+    }
+
+    fn wait(&mut self, stage: Stage, now: Moment) -> (Stage, Result<(), Stop>)
+        ensures { result.1 ≡ Ok tt }
+    {
+        self.now = now;
+        (stage, Ok(()))
+    }
+
+    fn tick(&mut self, stage: Stage, now: Moment, out: &mut Vec<u8>) -> (Stage, Result<(), Stop>)
+        ensures { IfErr result.1 (λ stop. stop ≡ Stop.Memory) }
+    {
+        self.now = now;
+        stage.take_step(self.alloc, Step::Tick(now), out)
+    }
+
+    // Loads where nothing is loaded.
+    fn load(&self, stage: Stage, number: u64, out: &mut Vec<u8>) -> (Stage, Result<(), Stop>)
+        ensures { IfErr result.1 (λ stop. (stop ≡ Stop.Memory) ⊎ (stop ≡ Stop.BadLine number)) }
+    {
+        match stage {
+            Stage::Unloaded(unloaded) => unloaded.load(self.alloc, self.now, out),
+            Stage::Loaded(loaded) => (Stage::Loaded(loaded), Err(Stop::BadLine(number))),
+        }
+    }
+
+    // The UUID of a request: a JOIN that names no member draws the next one.
+    fn fresh(&mut self, request: &[u8]) -> Uuid {
+        if draws_uuid(request) {
+            // No script has as many lines as there are numbers.
+            self.drawn = self.drawn.saturating_add(1);
+        }
+        Uuid::from_u128(u128::from(self.drawn))
+    }
+
+    fn ask(
+        &mut self,
+        stage: Stage,
+        ticket: Ticket,
+        text: &[u8],
+        out: &mut Vec<u8>,
+    ) -> (Stage, Result<(), Stop>)
+        ensures { IfErr result.1 (λ stop. (stop ≡ Stop.Memory) ⊎ (stop ≡ Stop.BadLine ticket.number)) }
+    {
+        let fresh = self.fresh(text);
+        match cg_line::parse(self.alloc, text) {
+            Ok(request) => {
+                let call = Call {
+                    ticket,
+                    request,
+                    now: self.now,
+                    fresh,
+                };
+                stage.ask(self.alloc, call, out)
+            }
+            Err(LineFault::Memory) => (stage, telling::put_refusal(ticket, out)),
+            Err(LineFault::Malformed) | Err(LineFault::TooLong) => {
+                (stage, Err(Stop::BadLine(ticket.number)))
+            }
+        }
+    }
+}
+
+fn light(mut stage: Stage, calls: u64) -> (Stage, Result<(), Stop>)
+    ensures { result.1 ≡ Ok tt }
+{
+    stage.set_fuse(calls);
+    (stage, Ok(()))
+}

@@ -1,0 +1,30 @@
+//! Request lines in a script.
+ghost use Rattle.std.specs.Prelude.{◌≡◌, List, ℕ};
+
+use std::marker::Model;
+
+/// The line of a request, where it stands in the script; it is not read yet. Contracts see it as its bytes.
+#[derive(Drop)]
+pub struct RequestLine<'a> {
+    bytes: &'a [u8],
+}
+
+impl<'a> Model for RequestLine<'a> {
+    ghost Value = { List ℕ };
+
+    ghost view = { λ l. l.bytes.now };
+}
+
+impl<'a> RequestLine<'a> {
+    pub fn new(bytes: &'a [u8]) -> Self
+        ensures { result ≡ bytes.now }
+    {
+        RequestLine { bytes }
+    }
+
+    pub fn as_bytes(&self) -> &'a [u8]
+        ensures { result.now ≡ self.now }
+    {
+        self.bytes
+    }
+}

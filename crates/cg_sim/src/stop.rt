@@ -1,0 +1,36 @@
+//! Why a script does not come to its end.
+use std::alloc::AllocError;
+use std::io::{self, ErrorKind};
+
+/// What ends a script before its end.
+#[derive(Clone, Copy, Debug, Drop, PartialEq, Eq)]
+pub enum Stop {
+    /// The line of this number is no line of a script, or out of place.
+    BadLine(u64),
+    /// A read or a write failed.
+    Io,
+    /// Memory was wanting outside of a request.
+    Memory,
+    /// The disk failed while it was formatted.
+    Device,
+}
+
+impl From<AllocError> for Stop {
+    ghost use Rattle.std.specs.Prelude.{◌≡◌};
+    ghost use Rattle.cg_sim.specs.declared.stop.Stop.TheVariants.{Memory};
+
+    ghost from_gives = { λ _ e. e ≡ Memory };
+
+    fn from(_: AllocError) -> Self {
+        Stop::Memory
+    }
+}
+
+impl From<io::Error> for Stop {
+    fn from(error: io::Error) -> Self {
+        match error.kind() {
+            ErrorKind::OutOfMemory => Stop::Memory,
+            _ => Stop::Io,
+        }
+    }
+}

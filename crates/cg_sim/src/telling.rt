@@ -1,0 +1,143 @@
+//! The lines that a script prints. Each is put whole, or not at all where memory is wanting.
+ghost use Rattle.std.specs.Prelude.{◌≡◌, ◌++◌, Err, None, Some, IfErr, OnOk};
+ghost use Rattle.std.specs.List.{flat_map};
+ghost use Rattle.cg_desk.specs.Outgoings.{answer};
+ghost use Rattle.cg_group.specs.declared.reply.Reply.TheVariants.{Refused};
+ghost use Rattle.cg_names.specs.declared.code.Code.TheVariants.{UnknownServerError};
+ghost use Rattle.cg_sim.specs.Telling.{note_text, open_fault_text, opening_text, replies_text, reply_text, trace_text};
+
+use crate::stop::Stop;
+use cg_desk::{Outgoing, ReplyToken};
+use cg_group::{Listed, Ticket};
+use cg_names::Code;
+use cg_store::OpenFault;
+use cg_world::{StepNote, StopCause, Trace};
+use itoa::Buffer;
+use std::alloc::{AllocError, Global};
+
+// The line of a reply, behind the session that it goes to.
+#[tactic(auto, unfolding(crate::specs::Telling::reply_text))]
+fn put_line(outgoing: &Outgoing, out: &mut Vec<u8>) -> Result<(), AllocError>
+    ensures { OnOk result (out.new.items ≡ out.old.items ++ reply_text outgoing.now) }
+{
+    let mut buffer = Buffer::new();
+    out.push(b's')?;
+    out.extend_from_slice(buffer.format(outgoing.ticket().session).as_bytes())?;
+    out.push(b' ')?;
+    cg_line::print_into(outgoing.reply(), out)?;
+    out.push(b'\n')?;
+    Ok(())
+}
+
+/// Prints a reply that leaves.
+pub fn put_reply(outgoing: &Outgoing, out: &mut Vec<u8>) -> Result<(), Stop>
+    ensures ok { OnOk result (out.new.items ≡ out.old.items ++ reply_text outgoing.now) }
+    ensures err { IfErr result (λ stop. stop ≡ Stop.Memory) }
+{
+    let whole = out.len();
+    match put_line(outgoing, out) {
+        Ok(()) => Ok(()),
+        Err(_) => {
+            out.truncate(whole);
+            Err(Stop::Memory)
+        }
+    }
+}
+
+/// Prints the refusal of a request for which memory was wanting.
+pub fn put_refusal(ticket: Ticket, out: &mut Vec<u8>) -> Result<(), Stop>
+    ensures ok { OnOk result (out.new.items ≡ out.old.items ++ reply_text (answer ticket (Refused UnknownServerError))) }
+    ensures err { IfErr result (λ stop. stop ≡ Stop.Memory) }
+{
+    put_reply(
+        &ReplyToken::new(ticket).refuse(Code::UnknownServerError),
+        out,
+    )
+}
+
+/// Prints replies that leave, in their order.
+pub fn put_all(replies: &[Outgoing], out: &mut Vec<u8>) -> Result<(), Stop>
+    ensures ok { OnOk result (out.new.items ≡ out.old.items ++ replies_text replies.now) }
+    ensures err { IfErr result (λ stop. stop ≡ Stop.Memory) }
+{
+    for outgoing in replies {
+        put_reply(outgoing, out)?;
+    }
+    Ok(())
+}
+
+// The line of a step that is refused; no other step has one.
+#[tactic(auto, unfolding(crate::specs::Telling::note_text))]
+fn note_line(note: StepNote) -> &'static [u8]
+    ensures { result.now ≡ note_text note }
+{
+    match note {
+        StepNote::Done | StepNote::Nothing => b"",
+        StepNote::InFlight => b"FAULT InFlight\n",
+        StepNote::Full => b"FAULT Full\n",
+        StepNote::Device => b"FAULT Device\n",
+    }
+}
+
+fn put_notes(notes: &[StepNote], out: &mut Vec<u8>) -> Result<(), Stop>
+    ensures ok { OnOk result (out.new.items ≡ out.old.items ++ flat_map note_text notes.now) }
+    ensures err { IfErr result (λ stop. stop ≡ Stop.Memory) }
+{
+    for note in notes {
+        out.extend_from_slice(note_line(*note))?;
+    }
+    Ok(())
+}
+
+fn put_left(left: &[Listed<Outgoing>], out: &mut Vec<u8>) -> Result<(), Stop>
+    ensures ok { OnOk result (out.new.items ≡ out.old.items ++ flat_map replies_text left.now) }
+    ensures err { IfErr result (λ stop. stop ≡ Stop.Memory) }
+{
+    for replies in left {
+        put_all(replies.as_slice(), out)?;
+    }
+    Ok(())
+}
+
+/// Prints why steps were refused, and the replies that left in them. Want of memory for another step than a request ends the
+/// script.
+pub fn put_trace(trace: &Trace, out: &mut Vec<u8>) -> Result<(), Stop>
+    ensures ok { OnOk result (out.new.items ≡ out.old.items ++ trace_text trace.now) }
+    ensures wanting { trace.now.last ≡ None → trace.now.stopped ≡ Some StopCause.Memory → result ≡ Err Stop.Memory }
+    ensures err { IfErr result (λ stop. stop ≡ Stop.Memory) }
+{
+    put_notes(trace.notes.as_slice(), out)?;
+    put_left(trace.out.as_slice(), out)?;
+    match (&trace.last, trace.stopped) {
+        (Some(refused), _) => put_reply(refused, out),
+        (None, Some(StopCause::Memory)) => Err(Stop::Memory),
+        (None, _) => Ok(()),
+    }
+}
+
+/// Prints how many commands, group records and offsets a loading found.
+pub fn put_opening(alloc: Global, opening: (u64, u64, u64), out: &mut Vec<u8>) -> Result<(), Stop>
+    ensures ok { OnOk result (out.new.items ≡ out.old.items ++ opening_text opening) }
+    ensures err { IfErr result (λ stop. stop ≡ Stop.Memory) }
+{
+    let (number, records, offsets) = opening;
+    let text = format!(in alloc; "LOADED {number} {records} {offsets}\n")?;
+    out.extend_from_slice(text.as_bytes())?;
+    Ok(())
+}
+
+/// Prints why a disk was not loaded; want of memory ends the script.
+pub fn put_open_fault(fault: OpenFault, out: &mut Vec<u8>) -> Result<(), Stop>
+    ensures ok { OnOk result (out.new.items ≡ out.old.items ++ open_fault_text fault) }
+    ensures wanting { fault ≡ OpenFault.Memory → result ≡ Err Stop.Memory }
+    ensures err { IfErr result (λ stop. stop ≡ Stop.Memory) }
+{
+    let line: &[u8] = match fault {
+        OpenFault::Memory => return Err(Stop::Memory),
+        OpenFault::Device => b"FAULT Device\n",
+        OpenFault::BadFrame => b"FAULT BadFrame\n",
+        OpenFault::BadRecord => b"FAULT BadRecord\n",
+    };
+    out.extend_from_slice(line)?;
+    Ok(())
+}

@@ -1,0 +1,86 @@
+//! A disk before its loading.
+ghost use Rattle.std.specs.Prelude.{◌≡◌, ◌≤◌, IfErr};
+ghost use Rattle.cg_disk.specs.Mem.{mem_size};
+ghost use Rattle.cg_sim.specs.Disk.{sectors_needed, sectors_of};
+
+use crate::call::Call;
+use crate::loaded::Loaded;
+use crate::stage::{Disk, Stage};
+use crate::stop::Stop;
+use crate::telling;
+use cg_desk::{Desk, ReplyToken};
+use cg_disk::{FuseDisk, MemDisk};
+use cg_names::{Code, Moment};
+use cg_world::World;
+use std::alloc::Global;
+
+/// A disk from which nothing is loaded, and the desk that refuses requests meanwhile.
+pub struct Unloaded {
+    desk: Desk,
+    disk: Disk,
+    ghost roomy: { sectors_needed ≤ sectors_of disk },
+}
+
+impl Unloaded {
+    /// Nothing is loaded from the disk yet, and it has no fuse.
+    pub fn new(alloc: Global, disk: MemDisk) -> Self
+        requires { sectors_needed ≤ mem_size disk }
+    {
+        let mut disk = FuseDisk::new(disk, 0);
+        disk.set(None);
+        match Desk::loading(alloc) {
+            Ok(desk) => Unloaded { desk, disk },
+            Err(_) => unreachable!(),
+        }
+    }
+
+    /// Loads what stands on the disk, and prints what was found. After a refusal it may be tried again.
+    pub fn load(self, alloc: Global, now: Moment, out: &mut Vec<u8>) -> (Stage, Result<(), Stop>)
+        ensures { IfErr result.1 (λ stop. stop ≡ Stop.Memory) }
+    {
+        let Unloaded { desk, disk } = self;
+        match World::open(alloc, disk, now) {
+            Ok(world) => {
+                let _ = desk.close();
+                let told = telling::put_opening(alloc, world.opening(), out);
+                (Stage::Loaded(Loaded::new(world)), told)
+            }
+            Err((fault, disk)) => {
+                let told = telling::put_open_fault(fault, out);
+                (Stage::Unloaded(Unloaded { desk, disk }), told)
+            }
+        }
+    }
+
+    /// Refuses a request, since nothing is loaded.
+    pub fn ask(&mut self, call: Call, out: &mut Vec<u8>) -> Result<(), Stop>
+        ensures { IfErr result (λ stop. stop ≡ Stop.Memory) }
+    {
+        let Call {
+            ticket,
+            request,
+            now,
+            fresh,
+        } = call;
+        let token = ReplyToken::new(ticket);
+        match self.desk.request(token, request, now, fresh) {
+            Ok(replies) => telling::put_all(replies.as_slice(), out)?,
+            Err((_, token)) => telling::put_reply(&token.refuse(Code::UnknownServerError), out)?,
+        }
+        Ok(())
+    }
+
+    /// From now on the disk passes that many calls, and then fails each.
+    pub fn set_fuse(&mut self, calls: u64) {
+        self.disk.set(Some(calls));
+    }
+
+    /// The disk as it is, without its fuse.
+    pub fn into_disk(self) -> MemDisk
+        ensures { sectors_needed ≤ mem_size result }
+    {
+        let Unloaded { desk, disk } = self;
+        let _ = desk.close();
+        disk.into_inner()
+    }
+}
