@@ -5,30 +5,27 @@ ghost use Rattle.cg_desk.specs.Fronts.{in_frame};
 ghost use Rattle.cg_desk.specs.Books.{IsFlying, IsWhy};
 ghost use Rattle.cg_desk.specs.Queues.{commands_of};
 
-use crate::copies::copied_commands;
 use crate::fault::{SettleFault, TakeFault};
 use crate::flight::Flight;
-use crate::fronts::{batch_of, copied_front, in_frame, taken_front};
+use crate::fronts::{batch_of, in_frame, put_back, taken_front};
 use crate::held::HeldStep;
 use crate::outgoing::Outgoing;
 use crate::permit::Permit;
 use crate::queue::Queue;
-use crate::same::are_same_commands;
 use crate::serving::Serving;
-use cg_record::Command;
-use cg_store::{Batch, Receipt};
+use cg_store::{Batch, Receipt, Text};
 use std::alloc::{AllocError, Global};
 use std::mem;
 
-// Takes as many commands from the front of the queue as one frame holds, and copies of them. Want of memory takes none.
+// Takes as many commands from the front of the queue as one frame holds, and their text, to know them again. Want of memory takes none.
 fn take_front(
     alloc: Global,
     queue: &mut Queue,
     settled: u64,
-) -> Result<Option<(Batch, Vec<Command>)>, AllocError>
+) -> Result<Option<(Batch, Text)>, AllocError>
     requires { settled + length (commands_of queue.old) < 2 ^ 64 }
     ensures none { IfOk result (λ o. MatchOption o (commands_of queue.old ≡ []) (λ t. ⊤)) }
-    ensures batch { IfOk result (λ o. MatchOption o ⊤ (λ t. (t.0.first ≡ settled + 1) × (t.0.commands ≡ take (in_frame (commands_of queue.old)) (commands_of queue.old)) × (t.1.items ≡ take (in_frame (commands_of queue.old)) (commands_of queue.old)))) }
+    ensures batch { IfOk result (λ o. MatchOption o ⊤ (λ t. (t.0.first ≡ settled + 1) × (t.0.commands ≡ take (in_frame (commands_of queue.old)) (commands_of queue.old)) × (t.1 ≡ take (in_frame (commands_of queue.old)) (commands_of queue.old)))) }
     ensures rest { OnOk result (commands_of queue.new ≡ drop (in_frame (commands_of queue.old)) (commands_of queue.old)) }
     ensures err { OnErr result (commands_of queue.new ≡ commands_of queue.old) }
 {
@@ -37,9 +34,14 @@ fn take_front(
     if count == 0 {
         return Ok(None);
     }
-    let copies = copied_front(alloc, &queue.front, count)?;
     let commands = taken_front(alloc, &mut queue.front, count)?;
-    Ok(Some((batch_of(settled + 1, commands), copies)))
+    match batch_of(alloc, settled + 1, commands) {
+        Ok(taken) => Ok(Some(taken)),
+        Err(commands) => {
+            put_back(&mut queue.front, commands);
+            Err(AllocError)
+        }
+    }
 }
 
 // Whether a number comes right behind another.
@@ -57,10 +59,8 @@ fn check(flight: &Flight, settled: u64, batch: &Batch) -> Result<(), SettleFault
     ensures told { IfErr result (λ fault. fault ≢ SettleFault.Memory) }
 {
     match flight {
-        Flight::Away(copies) => {
-            if is_next(settled, batch.first)
-                && are_same_commands(copies, batch.commands.as_slice())
-            {
+        Flight::Away(text) => {
+            if is_next(settled, batch.first) && text.is_same(batch.text()) {
                 Ok(())
             } else {
                 Err(SettleFault::Foreign)
@@ -70,30 +70,30 @@ fn check(flight: &Flight, settled: u64, batch: &Batch) -> Result<(), SettleFault
     }
 }
 
-// Copies of the commands of a batch that was given back.
-fn copies_of_returned(alloc: Global, flight: &Flight) -> Result<Option<Vec<Command>>, AllocError>
+// The text of a batch that was given back.
+fn returned_text(flight: &Flight) -> Result<Option<Text>, AllocError>
     ensures { IfOk result (λ o. MatchOption o
         (is_returned (course_of flight.now) ≡ false)
-        (λ copies. course_of flight.now ≡ Returned copies.items)) }
+        (λ text. course_of flight.now ≡ Returned text)) }
 {
     match flight {
         Flight::Returned(batch) => {
-            let copies = copied_commands(alloc, batch.commands.as_slice())?;
-            Ok(Some(copies))
+            let text = batch.text().clone()?;
+            Ok(Some(text))
         }
         _ => Ok(None),
     }
 }
 
 // The batch that was given back leaves again.
-fn leave_again(flight: &mut Flight, copies: Vec<Command>) -> Batch
-    requires { course_of flight.old ≡ Returned copies.items }
-    ensures batch { result.commands ≡ copies.items }
+fn leave_again(flight: &mut Flight, text: Text) -> Batch
+    requires { course_of flight.old ≡ Returned text }
+    ensures batch { result.commands ≡ text }
     ensures first { (next : ℕ) → first_of flight.old next ≡ result.first }
-    ensures flight { course_of flight.new ≡ Away copies.items }
+    ensures flight { course_of flight.new ≡ Away text }
     ensures idle { (next : ℕ) → first_of flight.new next ≡ next }
 {
-    match mem::replace(flight, Flight::Away(copies)) {
+    match mem::replace(flight, Flight::Away(text)) {
         Flight::Returned(batch) => batch,
         _ => unreachable!(),
     }
@@ -110,16 +110,16 @@ impl Serving {
         ensures ok { IfOk result (λ o. IsTake (books self.old) o (books self.new)) }
         ensures err { OnErr result (books self.new ≡ books self.old) }
     {
-        if let Some(copies) = copies_of_returned(self.alloc, &self.flight)? {
-            return Ok(Some(leave_again(&mut self.flight, copies)));
+        if let Some(text) = returned_text(&self.flight)? {
+            return Ok(Some(leave_again(&mut self.flight, text)));
         }
         // A look at the number, for its range.
         let _numbered = self.numbered;
         match take_front(self.alloc, &mut self.queue, self.settled)? {
             None => Ok(None),
             Some(taken) => {
-                let (batch, copies) = taken;
-                self.flight = Flight::Away(copies);
+                let (batch, text) = taken;
+                self.flight = Flight::Away(text);
                 Ok(Some(batch))
             }
         }

@@ -1,13 +1,12 @@
-use cg_record::Command;
-use cg_store::Batch;
+use cg_store::{Batch, Text};
 
 /// Where the batch stands that was taken last.
 #[derive(Debug, Drop)]
 pub enum Flight {
     /// There is none that is not settled.
     Idle,
-    /// It was taken: these are copies of its commands, to know it again.
-    Away(Vec<Command>),
+    /// It was taken: this is the text of its commands, to know it again.
+    Away(Text),
     /// It was given back.
     Returned(Batch),
 }

@@ -1,14 +1,14 @@
 //! The commands that go to the disk together.
-ghost use Rattle.std.specs.Prelude.{◌≡◌, ◌≤◌, ◌<◌, ◌+◌, suc, take, drop, length, IfOk, IsSome, OnErr, OnOk, MatchOption};
-ghost use Rattle.std.specs.VecDeque.{deque_len};
+ghost use Rattle.std.specs.Prelude.{◌≡◌, ◌≤◌, ◌<◌, ◌+◌, ◌++◌, suc, take, drop, length, IfErr, IfOk, IsSome, OnErr, OnOk, MatchOption};
+ghost use Rattle.std.specs.Vec.{vec_len};
+ghost use Rattle.std.specs.VecDeque.{deque_capacity, deque_len};
 ghost use Rattle.cg_frame.specs.declared.segment.TheConstants.{LARGEST_PAYLOAD_BYTES};
 ghost use Rattle.cg_store.specs.Batches.{IsBatch};
 ghost use Rattle.cg_desk.specs.Fronts.{fitting, in_frame};
 
-use crate::copies::copied_command;
 use cg_frame::LARGEST_PAYLOAD_BYTES;
 use cg_record::{Command, size};
-use cg_store::{Batch, Commands};
+use cg_store::{Batch, Commands, Text};
 use std::alloc::{AllocError, Global};
 use std::collections::VecDeque;
 
@@ -44,25 +44,6 @@ pub fn in_frame(commands: &VecDeque<Command>) -> usize
     count
 }
 
-/// Copies of the first commands.
-pub fn copied_front(
-    alloc: Global,
-    commands: &VecDeque<Command>,
-    count: usize,
-) -> Result<Vec<Command>, AllocError>
-    requires { count ≤ deque_len commands.now }
-    ensures { IfOk result (λ copies. copies.items ≡ take count commands.now.items) }
-{
-    let mut copies = Vec::with_capacity(alloc, count)?;
-    for at in 0..count {
-        match commands.get(at) {
-            Some(command) => copies.push_reserved(copied_command(alloc, command)?),
-            None => unreachable!(),
-        }
-    }
-    Ok(copies)
-}
-
 /// Takes the first commands out. Want of memory takes none.
 pub fn taken_front(
     alloc: Global,
@@ -72,6 +53,7 @@ pub fn taken_front(
     requires { count ≤ deque_len commands.old }
     ensures ok { IfOk result (λ front. front.items ≡ take count commands.old.items) }
     ensures rest { OnOk result (commands.new.items ≡ drop count commands.old.items) }
+    ensures room { OnOk result (deque_len commands.new + count ≤ deque_capacity commands.new) }
     ensures err { OnErr result (commands.new.items ≡ commands.old.items) }
 {
     let mut front = Vec::with_capacity(alloc, count)?;
@@ -84,14 +66,40 @@ pub fn taken_front(
     Ok(front)
 }
 
-/// A batch of commands that fit a frame.
-pub fn batch_of(first: u64, commands: Vec<Command>) -> Batch
-    requires { IsBatch commands.items }
-    ensures first { result.first ≡ first }
-    ensures commands { result.commands ≡ commands.items }
+/// Puts commands back in front, in the room that they left.
+pub fn put_back(commands: &mut VecDeque<Command>, mut front: Vec<Command>)
+    requires { deque_len commands.old + vec_len front ≤ deque_capacity commands.old }
+    ensures { commands.new.items ≡ front.items ++ commands.old.items }
 {
-    match Batch::new(first, Commands::from_vec(commands)) {
-        Ok(batch) => batch,
+    while let Some(last) = front.pop() {
+        commands.push_front_reserved(last);
+    }
+}
+
+// The text of commands, to go with them and to be kept.
+fn texts_of(alloc: Global, commands: &[Command]) -> Result<(Text, Text), AllocError>
+    ensures { IfOk result (λ texts. (texts.0 ≡ commands.now) × (texts.1 ≡ commands.now)) }
+{
+    let text = Text::new(alloc, commands)?;
+    let kept = text.clone()?;
+    Ok((text, kept))
+}
+
+/// The batch of commands that fit a frame, and its text, to know it again; or the commands, where memory is wanting.
+pub fn batch_of(
+    alloc: Global,
+    first: u64,
+    commands: Vec<Command>,
+) -> Result<(Batch, Text), Vec<Command>>
+    requires { IsBatch commands.items }
+    ensures ok { IfOk result (λ made. (made.0.first ≡ first) × (made.0.commands ≡ commands.items) × (made.1 ≡ commands.items)) }
+    ensures err { IfErr result (λ back. back.items ≡ commands.items) }
+{
+    let Ok((text, kept)) = texts_of(alloc, &commands) else {
+        return Err(commands);
+    };
+    match Batch::new(first, Commands::from_vec(commands), text) {
+        Ok(batch) => Ok((batch, kept)),
         Err(_) => unreachable!(),
     }
 }

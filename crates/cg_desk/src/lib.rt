@@ -7,7 +7,6 @@
 mod answering;
 mod batches;
 mod bounds;
-mod copies;
 mod desk;
 mod fault;
 mod flight;
@@ -18,7 +17,6 @@ mod outgoing;
 mod permit;
 mod queue;
 mod refusing;
-mod same;
 mod serving;
 mod token;
 

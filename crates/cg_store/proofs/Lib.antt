@@ -3,5 +3,4 @@ pub mod Whole
 pub mod Reading
 pub mod Loaded
 pub mod Kept
-pub mod Measured
 pub mod Standing

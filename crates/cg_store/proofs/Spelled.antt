@@ -87,7 +87,7 @@ none-at frames count payload no_text batches are is =
 
 -- ---- what frames spell is one list of batches
 
-commands-unique : (a b : List Command) → AreCommands a → AreCommands b → spelling a ≡ spelling b → a ≡ b
+pub commands-unique : (a b : List Command) → AreCommands a → AreCommands b → spelling a ≡ spelling b → a ≡ b
 commands-unique a b of_a of_b is =
     let read_a = commands_again a of_a in
     let read_b = commands_again b of_b in

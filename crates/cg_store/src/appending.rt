@@ -12,14 +12,13 @@ ghost use Rattle.cg_store.specs.Carried.{AllCarry, CarriesBeforeOrAfter, IsFree,
 ghost use Rattle.cg_store.specs.Faults.{IsToldOf, failed_append, failed_put, is_append_failure};
 ghost use Rattle.cg_store.specs.declared.segment.TheConstants.{COMMAND_NUMBER_MAX, FIRST_SEGMENT_SECTOR};
 
-use crate::batch::{Batch, text_bytes};
+use crate::batch::Batch;
 use crate::fault::StoreFault;
 use crate::receipt::Receipt;
 use crate::segment::{COMMAND_NUMBER_MAX, segment};
 use crate::store::Store;
 use cg_disk::SectorDisk;
 use cg_frame::{FrameFault, fits};
-use cg_record::Command;
 use std::alloc::Global;
 
 // Appends the frame of a batch, and answers the position of the gate behind it.
@@ -27,28 +26,27 @@ fn append_frame<D: SectorDisk>(
     alloc: Global,
     disk: &mut D,
     end: u64,
-    commands: &[Command],
+    batch: &Batch,
 ) -> Result<u64, FrameFault>
-    requires some { 1 ≤ length commands.now }
     requires on_disk { FIRST_SEGMENT_SECTOR + SEGMENT_SECTORS ≤ D.size disk.old }
     requires gate { D.is_honest disk.old ≡ true → IsFree (D.history disk.old) end }
 
-    ensures ok { D.is_honest disk.old ≡ true → (n : ℕ) (state : State) → Keeps (D.history disk.old) end n state → n + length commands.now ≤ COMMAND_NUMBER_MAX
-        → IfOk result (λ next. Keeps (D.history disk.new) next (n + length commands.now) (after state commands.now)) }
-    ensures images { D.is_honest disk.old ≡ true → (n : ℕ) (state : State) → Keeps (D.history disk.old) end n state → n + length commands.now ≤ COMMAND_NUMBER_MAX
-        → LeavesOnly (D.history disk.old) (D.history disk.new) (CarriesBeforeOrAfter n state commands.now) }
+    ensures ok { D.is_honest disk.old ≡ true → (n : ℕ) (state : State) → Keeps (D.history disk.old) end n state → n + length batch.now.commands ≤ COMMAND_NUMBER_MAX
+        → IfOk result (λ next. Keeps (D.history disk.new) next (n + length batch.now.commands) (after state batch.now.commands)) }
+    ensures images { D.is_honest disk.old ≡ true → (n : ℕ) (state : State) → Keeps (D.history disk.old) end n state → n + length batch.now.commands ≤ COMMAND_NUMBER_MAX
+        → LeavesOnly (D.history disk.old) (D.history disk.new) (CarriesBeforeOrAfter n state batch.now.commands) }
     ensures gate { D.is_honest disk.old ≡ true → IfOk result (λ next. IsFree (D.history disk.new) next) }
-    ensures next { IfOk result (λ next. next ≡ next_gate end (length (spelling commands.now))) }
+    ensures next { IfOk result (λ next. next ≡ next_gate end (length (spelling batch.now.commands))) }
     ensures inside { IfOk result (λ next. next < SEGMENT_SECTORS) }
-    ensures no_room { IsErrOf result FrameFault.NoRoom → SEGMENT_SECTORS ≤ next_gate end (length (spelling commands.now)) }
+    ensures no_room { IsErrOf result FrameFault.NoRoom → SEGMENT_SECTORS ≤ next_gate end (length (spelling batch.now.commands)) }
     ensures memory_leaves { IsErrOf result FrameFault.Memory → disk.new ≡ disk.old }
     ensures device { Counts (D.failures disk.old) (D.failures disk.new) (is_device_failure result) }
     ensures same_size { D.size disk.new ≡ D.size disk.old }
     ensures same_honesty { D.is_honest disk.new ≡ D.is_honest disk.old }
 {
-    let payload = cg_record::write(alloc, commands)?;
-    let count = commands.len() as u64;
-    let next = cg_frame::append(alloc, disk, segment(), end, count, &payload)?;
+    let count = batch.commands.as_slice().len() as u64;
+    let payload = batch.text().as_bytes();
+    let next = cg_frame::append(alloc, disk, segment(), end, count, payload)?;
     Ok(next)
 }
 
@@ -61,8 +59,8 @@ impl<D: SectorDisk> Store<D> {
         ensures { result ≡ has_room (end_of self.now) (front_of self.now) batch.now.commands }
     {
         let commands = batch.commands.as_slice();
-        commands.len() as u64 <= COMMAND_NUMBER_MAX - self.front
-            && fits(segment(), self.end, text_bytes(commands))
+        let bytes = batch.text().as_bytes().len() as u64;
+        commands.len() as u64 <= COMMAND_NUMBER_MAX - self.front && fits(segment(), self.end, bytes)
     }
 
     // Why a batch is refused without a call of the disk and without memory, if it is.
@@ -108,11 +106,10 @@ impl<D: SectorDisk> Store<D> {
         if let Some(fault) = self.refusal(batch) {
             return Err(fault);
         }
-        let commands = batch.commands.as_slice();
-        match append_frame(alloc, &mut self.disk, self.end, commands) {
+        match append_frame(alloc, &mut self.disk, self.end, batch) {
             Ok(next) => {
                 self.end = next;
-                self.front += commands.len() as u64;
+                self.front += batch.commands.as_slice().len() as u64;
                 Ok(())
             }
             Err(FrameFault::Memory) => Err(StoreFault::Memory),

@@ -1,12 +1,11 @@
 //! Batches of commands.
-ghost use Rattle.std.specs.Prelude.{◌≡◌, ◌-◌, ◌^◌, ◌≤◌, MatchResult, length, min};
+ghost use Rattle.std.specs.Prelude.{◌≡◌, MatchResult};
 ghost use Rattle.cg_frame.specs.declared.segment.TheConstants.{LARGEST_PAYLOAD_BYTES};
-ghost use Rattle.cg_record.specs.Spelling.{spelling};
 ghost use Rattle.cg_store.specs.Batches.{IsBatch};
 
 use crate::commands::Commands;
+use crate::text::Text;
 use cg_frame::LARGEST_PAYLOAD_BYTES;
-use cg_record::{Command, size};
 
 /// Commands that are appended together: at least one, and at most as many as one frame holds.
 #[derive(Debug, Drop)]
@@ -14,33 +13,35 @@ pub struct Batch {
     /// The number of the first command; each further one has the next.
     pub first: u64,
     pub commands: Commands,
+    text: Text,
     ghost whole: { IsBatch commands },
-}
-
-/// The bytes of the text of commands, as far as a `u64` counts. Takes no memory.
-#[tactic(auto, using(cg_record::proofs::CommandLaws::spelling_len))]
-pub(crate) fn text_bytes(commands: &[Command]) -> u64
-    ensures { result ≡ min (length (spelling commands.now)) (2 ^ 64 - 1) }
-{
-    let mut total = 1u64;
-    for command in commands {
-        total = total.saturating_add(size(command));
-    }
-    total
+    ghost same: { text ≡ commands },
 }
 
 impl Batch {
     /// A batch; commands that are none are given back. Takes no memory.
-    pub fn new(first: u64, commands: Commands) -> Result<Self, Commands>
+    pub fn new(first: u64, commands: Commands, text: Text) -> Result<Self, Commands>
+        requires { text ≡ commands }
         ensures { MatchResult result
             (λ batch. (batch.first ≡ first) × (batch.commands ≡ commands))
             (λ back. (¬ IsBatch commands) × (back ≡ commands)) }
     {
-        let items = commands.as_slice();
-        if !items.is_empty() && text_bytes(items) <= LARGEST_PAYLOAD_BYTES {
-            Ok(Batch { first, commands })
+        let bytes = text.as_bytes().len() as u64;
+        if !commands.as_slice().is_empty() && bytes <= LARGEST_PAYLOAD_BYTES {
+            Ok(Batch {
+                first,
+                commands,
+                text,
+            })
         } else {
             Err(commands)
         }
+    }
+
+    /// The text of its commands.
+    pub fn text(&self) -> &Text
+        ensures { result.now ≡ self.now.commands }
+    {
+        &self.text
     }
 }

@@ -27,14 +27,24 @@ fn commit(alloc: Global, partitions: u32, offset: u64, bytes: usize) -> Result<C
     }))
 }
 
+// The batch of commands, where they are one.
+fn tried(alloc: Global, first: u64, commands: Vec<Command>) -> Result<Option<Batch>, Fail> {
+    let text = Text::new(alloc, &commands)?;
+    let commands = Commands::from_vec(commands);
+    Ok(Batch::new(first, commands, text).ok())
+}
+
+fn batch_of(alloc: Global, first: u64, commands: Vec<Command>) -> Result<Batch, Fail> {
+    Ok(tried(alloc, first, commands)?.ok_or("a batch")?)
+}
+
 // A batch of commits of these offsets, one partition each.
 fn batch(alloc: Global, first: u64, offsets: &[u64]) -> Result<Batch, Fail> {
     let mut commands = Vec::new(alloc);
     for offset in offsets {
         commands.push(commit(alloc, 1, *offset, 0)?)?;
     }
-    let commands = Commands::from_vec(commands);
-    Ok(Batch::new(first, commands).ok().ok_or("a batch")?)
+    batch_of(alloc, first, commands)
 }
 
 // The offset that is kept for partition 0.
@@ -114,8 +124,7 @@ fn large_batch(alloc: Global, first: u64) -> Result<Batch, Fail> {
     for offset in 0..3 {
         commands.push(commit(alloc, 64, offset, 4_096)?)?;
     }
-    let commands = Commands::from_vec(commands);
-    Ok(Batch::new(first, commands).ok().ok_or("a batch")?)
+    batch_of(alloc, first, commands)
 }
 
 #[test]
@@ -145,11 +154,10 @@ fn refusals_change_nothing(rt: HostRuntime) -> Result<(), Fail> {
 #[test]
 fn a_batch_has_a_command_and_fits_a_frame(rt: HostRuntime) -> Result<(), Fail> {
     let alloc = rt.alloc();
-    let none = Commands::from_vec(Vec::new(alloc));
-    assert!(rt; Batch::new(1, none).is_err());
+    assert!(rt; tried(alloc, 1, Vec::new(alloc))?.is_none());
     let mut commands = large_batch(alloc, 1)?.commands.into_vec();
     commands.push(commit(alloc, 64, 3, 4_096)?)?;
-    assert!(rt; Batch::new(1, Commands::from_vec(commands)).is_err());
+    assert!(rt; tried(alloc, 1, commands)?.is_none());
     Ok(())
 }
 

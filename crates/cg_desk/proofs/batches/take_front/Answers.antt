@@ -2,9 +2,6 @@ use Rattle.std.proofs.Common.{◌≡◌, ◌≤◌, length, take, ap, ◌∙◌,
 use Rattle.cg_desk.proofs.FrontLaws.{fitting-le, front_is_batch, front_is_numbered}
 use Rattle.cg_desk.proofs.batches.take_front.Goals as goal
 
-pub copied_front-requires : goal.copied_front-requires
-copied_front-requires c = let le = fitting-le 1 c.gather.new.self.front.items in search rules
-
 pub taken_front-requires : goal.taken_front-requires
 taken_front-requires c = let le = fitting-le 1 c.gather.new.self.front.items in search rules
 

@@ -1,5 +1,5 @@
 use Rattle.std.proofs.Common.{◌≡◌, ◌≤◌, ◌+◌, take, drop, vec_len, vec_capacity}
-use Rattle.std.specs.VecDeque.{deque_len}
+use Rattle.std.specs.VecDeque.{deque_capacity, deque_len}
 use Rattle.cg_desk.proofs.fronts.taken_front.Given as goal
 
 abbrev pub invariant-loop-at : goal.invariant-loop-at
@@ -9,4 +9,5 @@ invariant-loop-at l = record {
   left : deque_len l.commands + l._at ≡ deque_len l.initial.commands;
   len : vec_len l.front ≡ l._at;
   room : l.fn.count ≤ vec_capacity l.front;
+  same_room : deque_capacity l.commands ≡ deque_capacity l.initial.commands;
 }

@@ -9,10 +9,10 @@ use Rattle.cg_desk.proofs.serving.Serving.take_next.Goals as goal
 
 pub returns-in-Some-clause-ok : goal.returns-in-Some-clause-ok
 returns-in-Some-clause-ok c =
-    let is : course_of c.args.self.now.flight ≡ Returned c.in-Some.copies.items = search rules in (
+    let is : course_of c.args.self.now.flight ≡ Returned c.in-Some.text = search rules in (
       sym (c.leave_again.ensures.first (c.args.self.now.settled + 1)) ∙ c.args.self.now.first,
       c.leave_again.ensures.batch ∙ ap (λ (k : Course). next_batch k (commands_of c.args.self.now.queue)) (sym is),
-      taken_again (books c.args.self.now) c.in-Some.copies.items (course_of c.leave_again.new.flight) is c.leave_again.ensures.flight,
+      taken_again (books c.args.self.now) c.in-Some.text (course_of c.leave_again.new.flight) is c.leave_again.ensures.flight,
     )
 
 pub returns-in-Some-2-clause-ok : goal.returns-in-Some-2-clause-ok
@@ -21,7 +21,7 @@ returns-in-Some-2-clause-ok c =
     let made = rw c.in-Some-2.is at c.in_ok-take_front.ensures.batch in (
       made.0,
       made.1 ∙ ap (λ (k : Course). next_batch k (commands_of c.args.self.now.queue)) (sym home),
-      taken_new (books c.args.self.now) (Away c.in-Some-2.taken.1.items) (commands_of c.take_front.new.queue) home (ap Away made.2) (search rules),
+      taken_new (books c.args.self.now) (Away c.in-Some-2.taken.1) (commands_of c.take_front.new.queue) home (ap Away made.2) (search rules),
     )
 
 pub returns-in-None-clause-ok : goal.returns-in-None-clause-ok
