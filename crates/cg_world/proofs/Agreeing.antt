@@ -1,22 +1,18 @@
 -- The desk, the batch on its way, and the store go on agreeing.
-use Rattle.std.proofs.Common.{◌≡◌, ◌≢◌, ℕ, ◌+◌, ◌≤◌, Bool, true, false, List, [], ◌∷◌, ◌++◌, length, Option, None, Some, refl, sym, ap, ◌∙◌, subst, arith}
+use Rattle.std.proofs.Common.{◌≡◌, ℕ, Bool, true, false, List, [], ◌∷◌, sym, subst}
 use Rattle.std.specs.Prelude.{if◌then◌else◌, Result, Ok, Err, IfOk, OnErr}
 use Rattle.cg_group.specs.declared.event.Event.{Event}
 use Rattle.cg_group.specs.declared.event.Event.TheVariants.{Gone, Tick}
 use Rattle.cg_group.specs.declared.reply.Reply.TheVariants.{Refused}
 use Rattle.cg_names.specs.declared.code.Code.TheVariants.{CoordinatorNotAvailable}
-use Rattle.cg_store.specs.declared.batch.Batch.{Batch}
-use Rattle.cg_store.specs.declared.receipt.Receipt.{Receipt}
-use Rattle.cg_store.specs.Receipts.{batch_of}
-use Rattle.cg_desk.specs.Books.{Books, is_short, letting_go, served, settling, taking}
-use Rattle.cg_desk.specs.Desks.{Answer, State, Loading, Serving, Failed, IsOut, IsTakenFrom, at_rest, gone_on, numbered_of, request_on, return_to, serving, settle_on, settled_of, tick_on}
+use Rattle.cg_desk.specs.Books.{Books, is_short, letting_go, served}
+use Rattle.cg_desk.specs.Desks.{Answer, State, Loading, Serving, Failed, at_rest, gone_on, request_on, serving, tick_on}
 use Rattle.cg_desk.specs.Outgoings.{answer}
 use Rattle.cg_desk.specs.Tokens.{call_of}
 use Rattle.cg_desk.specs.declared.outgoing.Outgoing.{Outgoing}
 use Rattle.cg_desk.specs.declared.token.ReplyToken.{ReplyToken}
-use Rattle.cg_world.specs.Agreeing.{Agree, flying, is_serving, moving, stored_in}
+use Rattle.cg_world.specs.Agreeing.{Agree}
 use Rattle.cg_world.specs.declared.transit.Transit.{Transit}
-use Rattle.cg_world.specs.declared.transit.Transit.TheVariants.{Empty, Taken, Appended}
 
 module _ (t : Transit) (front : ℕ) (failed : Bool) where
   -- an event changes neither the batch in flight nor what is settled

@@ -1,14 +1,14 @@
 -- What images carry after a step.
-use Rattle.std.proofs.Common.{◌≡◌, ◌≢◌, ◌⊎◌, inl, inr, ℕ, ◌+◌, ◌≤◌, Bool, true, false, List, [], ◌∷◌, ◌++◌, append_assoc, length, refl, sym, ap, ◌∙◌, subst, arith}
-use Rattle.cg_disk.specs.Disk.{History, Image, IsImage, LeavesOnly, present}
-use Rattle.cg_disk.proofs.Moments.{LeavesOnly-starts, LeavesOnly-weaker}
-use Rattle.cg_fold.specs.Durable.{State, after}
+use Rattle.std.proofs.Common.{◌≡◌, inl, inr, ℕ, ◌≤◌, Bool, List, [], ◌++◌, refl, sym, subst, arith}
+use Rattle.cg_disk.specs.Disk.{History, Image, LeavesOnly}
+use Rattle.cg_disk.proofs.Moments.{LeavesOnly-starts}
+use Rattle.cg_fold.specs.Durable.{State}
 use Rattle.cg_record.specs.declared.command.Command.{Command}
 use Rattle.cg_store.specs.Carried.{Carries, CarriesBeforeOrAfter}
-use Rattle.cg_store.specs.Store.{IsUnchanged, StandsAt, disk_of, front_of}
+use Rattle.cg_store.specs.Store.{StandsAt, disk_of, front_of}
 use Rattle.cg_store.specs.declared.store.Store.{Store}
-use Rattle.cg_store.proofs.Standing.{StandsAt-carry, StandsAt-unchanged}
-use Rattle.cg_world.specs.Carrying.{CarriesAtLeast, CarriesFront, HasStored, HoldsAtLeast}
+use Rattle.cg_store.proofs.Standing.{StandsAt-carry}
+use Rattle.cg_world.specs.Carrying.{CarriesFront, HasStored, HoldsAtLeast}
 
 -- the pair itself is that of no commands
 pub carries-none : (n : ℕ) (state : State) (commands : List Command) (image : Image) → Carries image n state → CarriesFront n state commands image

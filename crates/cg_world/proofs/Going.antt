@@ -1,7 +1,8 @@
 -- Runs, step by step.
-use Rattle.std.proofs.Common.{◌≡◌, ◌≢◌, ℕ, ◌+◌, ◌≤◌, Bool, true, false, ◌||◌, List, [], ◌∷◌, ◌++◌, append_assoc, append-nil, length, length-append, drop, refl, sym, ap, ◌∙◌, subst, arith}
-use Rattle.std.specs.List.{fold, list_any, zip}
+use Rattle.std.proofs.Common.{◌≡◌, ℕ, ◌+◌, ◌≤◌, Bool, false, ◌||◌, List, [], ◌∷◌, ◌++◌, append_assoc, append-nil, length, length-append, drop, refl, sym, ap, ◌∙◌, subst, arith}
+use Rattle.std.specs.List.{list_any, zip}
 use Rattle.std.proofs.lemmas.List.Folds.{list_any-append}
+use Rattle.std.proofs.lemmas.List.Sums.{fold-append}
 use Rattle.cg_disk.specs.Disk.{Image}
 use Rattle.cg_fold.specs.Durable.{State as Durable, after, effect}
 use Rattle.cg_record.specs.declared.command.Command.{Command}
@@ -91,10 +92,6 @@ unfolding to_store made_by
 nothing-yet w = append-nil (unstored w)
 
 -- fronts of fronts
-
-fold-append : {A B : Type 0} (f : A → B → A) (a : A) (xs ys : List B) → fold f a (xs ++ ys) ≡ fold f (fold f a xs) ys
-fold-append f a [] ys = refl
-fold-append f a (x ∷ xs) ys = fold-append f (f a x) xs ys
 
 pub pair-moves : (P : ℕ → Durable → Type 0) (n : ℕ) (state : Durable) (front more : List Command) → P (n + length front + length more) (after (after state front) more) → P (n + length (front ++ more)) (after state (front ++ more))
 pair-moves P n state front more p =

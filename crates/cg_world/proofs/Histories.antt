@@ -3,11 +3,9 @@ use Rattle.std.proofs.Common.{◌≡◌, ◌⊎◌, inl, inr, ℕ, Bool, true, f
 use Rattle.std.specs.Prelude.{if◌then◌else◌, is_some}
 use Rattle.std.specs.Option.{option_to_list}
 use Rattle.std.proofs.lemmas.Bool.{false≢true}
-use Rattle.cg_group.specs.declared.asking.Request.{Request as Asked}
 use Rattle.cg_group.specs.declared.event.Event.{Event}
 use Rattle.cg_group.specs.declared.event.Event.TheVariants as event
 use Rattle.cg_group.specs.declared.reply.Reply.TheVariants.{Refused}
-use Rattle.cg_group.specs.declared.ticket.Ticket.{Ticket}
 use Rattle.cg_group.specs.Asking.{asked}
 use Rattle.cg_group.specs.Laws.{after_all, commands_of}
 use Rattle.cg_group.specs.Machine.{Machine, step}
@@ -20,7 +18,7 @@ use Rattle.cg_desk.specs.declared.outgoing.Outgoing.{Outgoing}
 use Rattle.cg_desk.specs.declared.token.ReplyToken.{ReplyToken}
 use Rattle.cg_world.specs.Agreeing.{is_serving}
 use Rattle.cg_world.specs.Replying.{RunsMakeHistories}
-use Rattle.cg_world.specs.Runs.{events_of, made_at, made_by, made_in}
+use Rattle.cg_world.specs.Runs.{events_of, made_by, made_in}
 use Rattle.cg_world.specs.Sights.{Sight}
 use Rattle.cg_world.specs.Turns.{Turn, answered, event_at, event_of, turn}
 use Rattle.cg_world.specs.declared.step.Step.{Step}

@@ -16,11 +16,10 @@ use Rattle.cg_names.specs.declared.code.Code.TheVariants.{CoordinatorNotAvailabl
 use Rattle.cg_store.specs.Carried.{Carries}
 use Rattle.cg_desk.specs.Balanced.{IsBalanced}
 use Rattle.cg_desk.specs.Books.{Books, is_short, letting_go, returning, served, settling, taking}
-use Rattle.cg_desk.specs.Desks.{Answer, State, Loading, Serving, Failed, at_rest, gone_on, opened, request_on, return_to, serving, settle_on, settled_of, tick_on}
+use Rattle.cg_desk.specs.Desks.{Answer, State, Loading, Serving, Failed, at_rest, gone_on, opened, request_on, serving, settle_on, settled_of, tick_on}
 use Rattle.cg_desk.specs.Held.{holding, replies_of}
 use Rattle.cg_desk.specs.Outgoings.{answer}
 use Rattle.cg_desk.specs.Owed.{KeepsCalls, sent}
-use Rattle.cg_desk.specs.Tokens.{call_of}
 use Rattle.cg_desk.specs.declared.held.HeldStep.{HeldStep}
 use Rattle.cg_desk.specs.declared.outgoing.Outgoing.{Outgoing}
 use Rattle.cg_desk.specs.declared.token.ReplyToken.{ReplyToken}
@@ -32,7 +31,7 @@ use Rattle.cg_world.specs.Agreeing.{is_serving}
 use Rattle.cg_world.specs.Replying.{AreInOrder, IsOrderly, IsOrderlyAt, IsOrderlyDesk, RepliesLeaveWhenSettled, due, held_in, left_by, replies_by, replies_in, replies_to}
 use Rattle.cg_world.specs.Runs.{AreNotes, after_run}
 use Rattle.cg_world.specs.Sights.{Sight}
-use Rattle.cg_world.specs.Turns.{IsNoteOf, Turn, answered, appended, event_at, in_flight, settled, take_from, taken, turn}
+use Rattle.cg_world.specs.Turns.{Turn, answered, in_flight, settled, turn}
 use Rattle.cg_world.specs.declared.step.Step.{Step}
 use Rattle.cg_world.specs.declared.step.Step.TheVariants.{Request, Gone, Tick, Take, Append, Settle}
 use Rattle.cg_world.specs.declared.step.StepNote.{StepNote}

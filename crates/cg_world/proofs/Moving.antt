@@ -1,5 +1,5 @@
 -- The batch on its way between the desk and the store.
-use Rattle.std.proofs.Common.{◌≡◌, ◌≢◌, ◌⊎◌, inl, inr, ℕ, ◌+◌, ◌≤◌, Bool, true, false, List, [], ◌∷◌, ◌++◌, length, Option, None, Some, refl, sym, ap, ◌∙◌, subst, arith}
+use Rattle.std.proofs.Common.{◌≡◌, ◌≢◌, inl, inr, ℕ, ◌+◌, Bool, true, false, List, [], length, Option, None, Some, refl, sym, ap, ◌∙◌, subst, arith}
 use Rattle.std.proofs.lemmas.Bool.{eqb-false, false≢true}
 use Rattle.std.specs.Prelude.{if◌then◌else◌, nat_eq}
 use Rattle.cg_record.specs.declared.command.Command.{Command}
@@ -18,10 +18,10 @@ use Rattle.cg_desk.specs.declared.fault.SettleFault.{SettleFault}
 use Rattle.cg_desk.specs.declared.fault.SettleFault.TheVariants as settle_fault
 use Rattle.cg_desk.specs.declared.outgoing.Outgoing.{Outgoing}
 use Rattle.cg_world.specs.Agreeing.{Agree, flying, flying_in, is_serving, moving, seen, stored_in}
-use Rattle.cg_world.specs.Sights.{Sight, sight}
+use Rattle.cg_world.specs.Sights.{sight}
 use Rattle.cg_world.specs.declared.world.World.{World}
 use Rattle.cg_world.specs.Transits.{batch_in, is_appended, receipt_in, without_batch, without_receipt}
-use Rattle.cg_world.specs.Turns.{IsIdle, Turn, appended, in_flight, is_taken, take_from}
+use Rattle.cg_world.specs.Turns.{IsIdle, appended, in_flight, take_from}
 use Rattle.cg_world.specs.declared.step.StepNote.TheVariants as note
 use Rattle.cg_world.specs.declared.transit.Transit.{Transit}
 use Rattle.cg_world.specs.declared.transit.Transit.TheVariants.{Empty, Taken, Appended}

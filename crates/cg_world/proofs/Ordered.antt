@@ -1,18 +1,17 @@
 -- Held replies in the order of their needs.
-use Rattle.std.proofs.Common.{◌≡◌, ℕ, suc, ◌+◌, ◌<◌, ◌≤◌, Bool, true, false, cond, List, [], ◌∷◌, ◌++◌, length, map, take, drop, append_assoc, refl, sym, ap, ◌∙◌, subst, arith}
+use Rattle.std.proofs.Common.{◌≡◌, ℕ, ◌+◌, ◌≤◌, Bool, true, false, cond, List, [], ◌∷◌, ◌++◌, map, take, drop, append_assoc, refl, sym, ap, ◌∙◌, arith}
 use Rattle.std.specs.Prelude.{not, nat_le}
-use Rattle.std.specs.List.{filter, prefix_len}
-use Rattle.std.proofs.lemmas.Bool.{false≢true, leb-false, leb-true, le-leb, lt-leb}
+use Rattle.std.specs.List.{filter}
+use Rattle.std.proofs.lemmas.Bool.{leb-false, leb-true, le-leb, lt-leb}
 use Rattle.std.proofs.lemmas.Grind.{flat_map-append}
 use Rattle.std.proofs.lemmas.List.{map-append}
 use Rattle.std.proofs.lemmas.List.Elements.{filter-append}
 use Rattle.std.proofs.Math.Numerals.{one-add}
 use Rattle.cg_group.specs.declared.reply.Reply.{Reply}
 use Rattle.cg_group.specs.declared.ticket.Ticket.{Ticket}
-use Rattle.cg_desk.specs.Held.{holding, ready, released, replies_of, still_held}
+use Rattle.cg_desk.specs.Held.{holding, ready, replies_of}
 use Rattle.cg_desk.specs.Owed.{sent}
 use Rattle.cg_desk.specs.declared.held.HeldStep.{HeldStep}
-use Rattle.cg_desk.specs.declared.outgoing.Outgoing.{Outgoing}
 use Rattle.cg_world.specs.Replying.{AreInOrder, due, is_due}
 
 -- those that are not due yet

@@ -1,13 +1,13 @@
 -- What lawful commands make are lawful records.
-use Rattle.std.proofs.Common.{◌≡◌, ℕ, Bool, true, false, ◌&&◌, cond, not, List, [], ◌∷◌, ◌++◌, map, Option, None, Some, IfSome, refl, sym, ap, ◌∙◌, subst}
-use Rattle.std.specs.List.{AllByRecursion, flat_map, fold, list_any}
+use Rattle.std.proofs.Common.{◌≡◌, ℕ, Bool, true, false, ◌&&◌, cond, not, List, [], ◌∷◌, ◌++◌, map, Option, None, Some, IfSome, refl, sym, ap, subst}
+use Rattle.std.specs.List.{AllByRecursion, list_any}
 use Rattle.std.specs.Option.{option_map}
 use Rattle.std.specs.Ordering.{eq_by_cmp}
 use Rattle.std.specs.FinMap as finmap
 use Rattle.std.proofs.lemmas.Bool.{false≢true}
 use Rattle.cg_disk.specs.Disk.{Image}
 use Rattle.cg_fold.specs.declared.record.GroupRecord.{GroupRecord}
-use Rattle.cg_fold.specs.Durable.{State, after, effect, empty, folded, with_member, with_record}
+use Rattle.cg_fold.specs.Durable.{State, after, effect, empty, with_member, with_record}
 use Rattle.cg_fold.specs.Grouped.{is_another}
 use Rattle.cg_fold.specs.Key.{name_cmp}
 use Rattle.cg_fold.specs.Record.{assigned_record, emptied_record, replaced_record}
@@ -19,7 +19,7 @@ use Rattle.cg_record.specs.declared.member.Member.{Member}
 use Rattle.cg_record.specs.Lawful.{AreCommands, IsCommand}
 use Rattle.cg_record.specs.Rosters.{IsRoster, RosterParts, has_id_of_other, leader_after, may_replace, replaced_in, roster_of, seated, takes_place_of}
 use Rattle.cg_record.proofs.Replacing.{seated_roster}
-use Rattle.cg_store.specs.Carried.{Carries, Spell, joined}
+use Rattle.cg_store.specs.Carried.{Carries, joined}
 
 -- a member may take the place of another
 roster-at : (may : Bool) (new : Member) (roster : RosterParts) → may_replace new roster.members ≡ may → IsRoster roster
@@ -30,9 +30,11 @@ roster-at true new roster is h = seated_roster new roster h (and-first (list_any
     and-first : (a b : Bool) → (a && b) ≡ true → a ≡ true
     and-first true b e = refl
     and-first false b e = absurd (false≢true e)
+
     and-second : (a b : Bool) → (a && b) ≡ true → b ≡ true
     and-second true b e = e
     and-second false b e = absurd (false≢true e)
+
     not-false : (b : Bool) → not b ≡ true → b ≡ false
     not-false true e = absurd (false≢true e)
     not-false false e = refl
@@ -59,7 +61,7 @@ member-lawful state group new (Some r) is h = set-lawful state group (replaced_r
 gone-lawful : (state : State) (group : List ℕ) → AreRecords state → (q : List ℕ) → IfSome (finmap.get (finmap.retain_keys state.records (is_another group)) q) IsRecord
 gone-lawful state group h q =
     subst (λ (o : Option GroupRecord). IfSome o IsRecord)
-      (sym (finmap.get-retain_keys state.records (is_another group) q (λ x tie. ap (is_another group) (sym (name_same q x tie))))) (either (is_another group q))
+    (sym (finmap.get-retain_keys state.records (is_another group) q (λ x tie. ap (is_another group) (sym (name_same q x tie))))) (either (is_another group q))
   where
     either : (b : Bool) → IfSome (cond b (kept_in state q) None) IsRecord
     either true = h q

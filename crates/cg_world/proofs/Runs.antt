@@ -1,20 +1,19 @@
 -- A run before its end, and how it ends.
-use Rattle.std.proofs.Common.{◌≡◌, ◌≢◌, ℕ, ◌+◌, ◌≤◌, Bool, true, false, List, [], ◌∷◌, ◌++◌, append_assoc, append-nil, length, drop, Option, None, Some, refl, sym, ap, ◌∙◌, subst, arith}
+use Rattle.std.proofs.Common.{◌≡◌, ◌≢◌, ℕ, ◌+◌, ◌≤◌, Bool, true, false, List, [], ◌∷◌, ◌++◌, append_assoc, length, length-append, drop, Option, None, Some, refl, sym, ap, ◌∙◌, subst, arith}
 use Rattle.std.specs.List.{list_any, zip}
 use Rattle.std.proofs.lemmas.Bool.{false≢true}
-use Rattle.cg_disk.specs.Disk.{History, Image, IsImage, LeavesOnly, present}
+use Rattle.cg_disk.specs.Disk.{History, LeavesOnly}
 use Rattle.cg_disk.proofs.Moments.{LeavesOnly-then, LeavesOnly-weaker}
 use Rattle.cg_fold.specs.Durable.{State as Durable, after}
 use Rattle.cg_record.specs.declared.command.Command.{Command}
-use Rattle.cg_store.specs.Carried.{Carries}
-use Rattle.cg_store.specs.Store.{IsUnchanged, StandsAt, disk_of, front_of}
+use Rattle.cg_store.specs.Store.{IsUnchanged, StandsAt, disk_of}
 use Rattle.cg_store.proofs.Standing.{StandsAt-unchanged}
 use Rattle.cg_desk.specs.Desks.{settled_of}
 use Rattle.cg_desk.specs.declared.outgoing.Outgoing.{Outgoing}
 use Rattle.cg_world.specs.Agreeing.{is_serving}
 use Rattle.cg_world.specs.Carrying.{CarriesAtLeast, CarriesFront, HasStored, HoldsAtLeast}
-use Rattle.cg_world.specs.Faults.{is_failure, refusal_of, stopped_by_device}
-use Rattle.cg_world.specs.Running.{IsRun, refusal_of_first, went}
+use Rattle.cg_world.specs.Faults.{is_failure}
+use Rattle.cg_world.specs.Running.{IsRun, refusal_of_first}
 use Rattle.cg_world.specs.Runs.{AreNotes, after_run, made_in, outs_of, to_store, unstored}
 use Rattle.cg_world.specs.Sights.{Sight, sight, store_of}
 use Rattle.cg_world.specs.Steps.{IsTaken}
@@ -25,7 +24,7 @@ use Rattle.cg_world.specs.declared.step.StepNote.TheVariants.{Done, Nothing, InF
 use Rattle.cg_world.specs.declared.step.StopCause.TheVariants as cause
 use Rattle.cg_world.specs.declared.trace.Trace.{Trace}
 use Rattle.cg_world.specs.declared.world.World.{World}
-use Rattle.cg_world.proofs.Carrying.{carries-none, holds-at, images-stay}
+use Rattle.cg_world.proofs.Carrying.{holds-at, images-stay}
 use Rattle.cg_world.proofs.Going.{after-snoc, all-taken, carries-behind, carries-more, drop-snoc, few-snoc, notes-snoc, nothing-yet, outs-snoc, pair-moves, sound-snoc, stored-grows, stored-parts, zip-none, zip-snoc}
 use Rattle.cg_world.proofs.Moving.{failed-rests}
 use Rattle.cg_world.proofs.Resting.{turn-stays-failed}
@@ -185,10 +184,10 @@ module _ {D : Type 0} {g : _} (honest : D → Bool) (history : D → History) wh
   })
 
   -- memory was wanting for the next
-  pub run-wanting : (steps rest : List Step) (notes : List StepNote) (outs : List (List Outgoing)) (old now new : World D g) (last : Option Outgoing) (trace : Trace) → Going steps rest notes outs old now
-      → sight new ≡ sight now → IsUnchanged (store_of now) (store_of new) → last ≡ refusal_of_first rest
+  pub run-wanting : (steps rest : List Step) (s : Step) (notes : List StepNote) (outs : List (List Outgoing)) (old now new : World D g) (last : Option Outgoing) (trace : Trace) → Going steps (s ∷ rest) notes outs old now
+      → sight new ≡ sight now → IsUnchanged (store_of now) (store_of new) → last ≡ refusal_of_first (s ∷ rest)
       → trace ≡ record { out = outs; notes = notes; last = last; stopped = Some cause.Memory } → IsRun honest history steps old new trace
-  run-wanting steps rest notes outs old now new last trace going same store told is =
+  run-wanting steps rest s notes outs old now new last trace going same store told is =
       let stored-new : (n : ℕ) (state : Durable) → StandsAt honest history (store_of old) n state → HasStored honest history (store_of new) n state (to_store (zip steps notes) (sight old)) (unstored (sight new)) = λ n state stands.
       let there = going.stored n state stands in
       record {
@@ -202,7 +201,7 @@ module _ {D : Type 0} {g : _} (honest : D → Bool) (history : D → History) wh
         noted = going.noted;
         out = going.out;
         after = same ∙ going.after;
-        ends = (going.sound, going.few);
+        ends = (going.sound, omega (arith, length-append notes (Done ∷ []), few-snoc steps rest s notes Done going.rest_is));
         last = told ∙ ap refusal_of_first going.rest_is;
         images = images-new;
         stored = λ n state stands _. stored-new n state stands;
@@ -264,6 +263,7 @@ module _ {D : Type 0} {g : _} (honest : D → Bool) (history : D → History) wh
       ∙ ap (λ (os : List (List Outgoing)). let t : Trace = record { out = os; notes = notes ++ note ∷ []; last = None; stopped = Some cause.Device } in t) told)
 
   -- no room for the trace
-  pub run-none : (steps : List Step) (old : World D g) (last : Option Outgoing) (trace : Trace) → last ≡ refusal_of_first steps → trace ≡ record { out = []; notes = []; last = last; stopped = Some cause.Memory } → IsRun honest history steps old old trace
-  run-none steps old last trace told is =
-      run-wanting steps steps [] [] old old old last trace (going-start steps old) refl (record { disk = refl; end = refl; front = refl; failed = refl }) told is
+  pub run-none : (steps : List Step) (old : World D g) (last : Option Outgoing) (trace : Trace) → steps ≢ [] → last ≡ refusal_of_first steps → trace ≡ record { out = []; notes = []; last = last; stopped = Some cause.Memory } → IsRun honest history steps old old trace
+  run-none [] old last trace some told is = absurd (some refl)
+  run-none (s ∷ ss) old last trace some told is =
+      run-wanting (s ∷ ss) ss s [] [] old old old last trace (going-start (s ∷ ss) old) refl (record { disk = refl; end = refl; front = refl; failed = refl }) told is

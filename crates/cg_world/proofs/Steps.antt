@@ -1,21 +1,19 @@
 -- Each step of a world, by its kind.
-use Rattle.std.proofs.Common.{◌≡◌, ◌≢◌, ◌⊎◌, inl, inr, ℕ, ◌+◌, ◌≤◌, Bool, true, false, List, [], ◌∷◌, ◌++◌, append-nil, length, refl, sym, ap, ◌∙◌, subst, arith}
-use Rattle.std.specs.Prelude.{if◌then◌else◌, is_some}
-use Rattle.std.proofs.lemmas.Bool.{false≢true}
-use Rattle.cg_disk.specs.Disk.{History, Image, IsImage, LeavesOnly, present}
+use Rattle.std.proofs.Common.{◌≡◌, ◌≢◌, inl, inr, ℕ, ◌+◌, ◌≤◌, Bool, true, false, List, [], ◌∷◌, ◌++◌, append-nil, length, refl, sym, ap, ◌∙◌, subst, arith}
+use Rattle.std.specs.Prelude.{is_some}
+use Rattle.cg_disk.specs.Disk.{History, Image, LeavesOnly}
 use Rattle.cg_disk.proofs.Moments.{LeavesOnly-present, LeavesOnly-weaker}
 use Rattle.cg_fold.specs.Durable.{State as Durable, after}
 use Rattle.cg_group.specs.declared.asking.Request.{Request as Asked}
 use Rattle.cg_group.specs.declared.ticket.Ticket.{Ticket}
 use Rattle.cg_group.specs.Asking.{asked}
 use Rattle.cg_record.specs.declared.command.Command.{Command}
-use Rattle.cg_store.specs.Carried.{Carries, CarriesBeforeOrAfter}
+use Rattle.cg_store.specs.Carried.{CarriesBeforeOrAfter}
 use Rattle.cg_store.specs.Store.{IsUnchanged, StandsAt, disk_of, front_of}
-use Rattle.cg_store.specs.declared.store.Store.{Store}
 use Rattle.cg_store.proofs.Standing.{StandsAt-unchanged}
-use Rattle.cg_desk.specs.Desks.{Answer, State, gone_on, is_out, request_on, settled_of, tick_on}
+use Rattle.cg_desk.specs.Desks.{Answer, State, gone_on, request_on, settled_of, tick_on}
 use Rattle.cg_desk.specs.declared.outgoing.Outgoing.{Outgoing}
-use Rattle.cg_world.specs.Carrying.{CarriesAtLeast, CarriesFront, HasStored, HoldsAtLeast}
+use Rattle.cg_world.specs.Carrying.{CarriesAtLeast, CarriesFront}
 use Rattle.cg_world.specs.Runs.{to_store, unstored, unstored_at}
 use Rattle.cg_world.specs.Sights.{Sight, sight, store_of}
 use Rattle.cg_world.specs.Steps.{IsTaken}
@@ -26,7 +24,7 @@ use Rattle.cg_world.specs.declared.step.StepNote.{StepNote}
 use Rattle.cg_world.specs.declared.step.StepNote.TheVariants.{Done, Nothing, InFlight, Full, Device}
 use Rattle.cg_world.specs.declared.world.World.{World}
 use Rattle.cg_world.proofs.Carrying.{carries-either, holds-at, images-stay, stored-none}
-use Rattle.cg_world.proofs.Unstored.{IsSound, after-full, after-gone, after-nothing, after-request, after-settle, after-take, after-tick, flight-first, to-append}
+use Rattle.cg_world.proofs.Unstored.{after-full, after-gone, after-nothing, after-request, after-settle, after-take, after-tick, flight-first, to-append}
 use Rattle.cg_world.proofs.Moving.{sound-world}
 
 module _ {D : Type 0} {g : _} (honest : D → Bool) (history : D → History) (old new : World D g) where

@@ -1,5 +1,5 @@
 -- The replies of a run, and when they leave.
-use Rattle.std.specs.Prelude.{◌≡◌, ◌+◌, ◌≤◌, ℕ, Bool, true, not, ◌++◌, List, [], ◌∷◌, length, map, nat_le, Option, None, Some}
+use Rattle.std.specs.Prelude.{◌≡◌, ◌+◌, ◌≤◌, ℕ, Bool, true, ◌++◌, List, [], ◌∷◌, length, map, nat_le, Option, None, Some}
 use Rattle.std.specs.List.{filter}
 use Rattle.cg_disk.specs.Disk.{Image}
 use Rattle.cg_fold.specs.Durable.{State as Durable}

@@ -1,5 +1,5 @@
 -- What a run of steps owes: to its callers, and to the disk.
-use Rattle.std.specs.Prelude.{◌≡◌, ◌≤◌, ℕ, Bool, true, false, ◌++◌, List, [], ◌∷◌, length, drop, Option, None, Some}
+use Rattle.std.specs.Prelude.{◌≡◌, ◌<◌, ◌≤◌, ℕ, Bool, false, ◌++◌, List, [], ◌∷◌, length, drop, Option, None, Some}
 use Rattle.std.specs.List.{list_any, zip}
 use Rattle.cg_disk.specs.Disk.{History, LeavesOnly}
 use Rattle.cg_fold.specs.Durable.{State}
@@ -36,7 +36,7 @@ pub record AreBroken (notes : List StepNote) : Type 0 where
 -- how a run ends: all steps were taken; or memory was wanting for the next; or the disk failed in the last that was taken
 abbrev pub Ends : List Step → List StepNote → Option StopCause → Type 0
 Ends steps notes None = AreSound notes × (length notes ≡ length steps)
-Ends steps notes (Some cause.Memory) = AreSound notes × (length notes ≤ length steps)
+Ends steps notes (Some cause.Memory) = AreSound notes × (length notes < length steps)
 Ends steps notes (Some cause.Device) = AreBroken notes × (length notes ≤ length steps)
 
 -- the refusal of the first of these steps

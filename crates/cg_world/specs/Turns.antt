@@ -1,7 +1,6 @@
 -- What each step does to a world.
-use Rattle.std.specs.Prelude.{◌≡◌, ℕ, Bool, true, false, ◌++◌, List, [], ◌∷◌, length, Option, Some, None, is_some, if◌then◌else◌}
+use Rattle.std.specs.Prelude.{◌≡◌, ℕ, Bool, true, false, ◌++◌, List, [], length, Option, Some, None, is_some, if◌then◌else◌}
 use Rattle.cg_frame.specs.Frames.{next_gate}
-use Rattle.cg_group.specs.declared.asking.Request.{Request as Asked}
 use Rattle.cg_group.specs.declared.event.Event.{Event}
 use Rattle.cg_group.specs.declared.event.Event.TheVariants as event
 use Rattle.cg_group.specs.Asking.{asked}

@@ -36,11 +36,15 @@ pub fn run<D: SectorDisk>(alloc: Global, world: World<D>, steps: Vec<Step>) -> (
     ensures same_size { D.size (disk_of (store_of result.0)) ≡ D.size (disk_of (store_of world)) }
     ensures same_honesty { D.is_honest (disk_of (store_of result.0)) ≡ D.is_honest (disk_of (store_of world)) }
 {
+    if steps.is_empty() {
+        return (world, Trace::of_none(alloc, None, None));
+    }
     let mut recording = match Recording::with_room(alloc, steps.len()) {
         Ok(recording) => recording,
         Err(_) => {
             let last = refused_first(steps.as_slice());
-            return (world, Trace::of_none(alloc, last));
+            let stopped = Some(StopCause::Memory);
+            return (world, Trace::of_none(alloc, last, stopped));
         }
     };
     let mut world = world;

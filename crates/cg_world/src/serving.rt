@@ -1,9 +1,8 @@
 //! The steps of the desk's clients.
-ghost use Rattle.std.specs.Prelude.{◌≡◌, false, true, OnErr, IfOk, IfErr};
+ghost use Rattle.std.specs.Prelude.{◌≡◌, OnErr, IfOk, IfErr};
 ghost use Rattle.cg_desk.specs.Desks.{gone_on, request_on, tick_on};
 ghost use Rattle.cg_desk.specs.Outgoings.{answer};
 ghost use Rattle.cg_group.specs.Asking.{asked};
-ghost use Rattle.cg_group.specs.declared.reply.Reply.{Reply as ReplyType};
 ghost use Rattle.cg_group.specs.declared.reply.Reply.TheVariants as reply;
 ghost use Rattle.cg_names.specs.declared.code.Code.TheVariants as code;
 

@@ -1,5 +1,5 @@
 //! The steps between the desk and the store.
-ghost use Rattle.std.specs.Prelude.{◌≡◌, ◌≢◌, ◌+◌, ℕ, [], false, true, length, None, OnErr, OnOk, IfOk, IfErr};
+ghost use Rattle.std.specs.Prelude.{◌≡◌, ◌≢◌, ◌+◌, ℕ, [], false, length, None, OnErr, IfOk, IfErr};
 ghost use Rattle.cg_disk.specs.Disk.{Counts, LeavesOnly};
 ghost use Rattle.cg_fold.specs.Durable.{State, after};
 ghost use Rattle.cg_store.specs.Carried.{CarriesBeforeOrAfter};

@@ -1,5 +1,5 @@
 //! What a run leaves behind.
-ghost use Rattle.std.specs.Prelude.{◌≡◌, [], Some};
+ghost use Rattle.std.specs.Prelude.{◌≡◌, []};
 
 use crate::step::{StepNote, StopCause};
 use cg_desk::Outgoing;
@@ -19,15 +19,15 @@ pub struct Trace {
 }
 
 impl Trace {
-    /// Of a run that took no step, since memory was wanting for its trace. Takes no memory.
-    pub(crate) fn of_none(alloc: Global, last: Option<Outgoing>) -> Self
-        ensures { result ≡ record { out = []; notes = []; last = last; stopped = Some StopCause.Memory } }
+    /// Of a run that took no step. Takes no memory.
+    pub(crate) fn of_none(alloc: Global, last: Option<Outgoing>, stopped: Option<StopCause>) -> Self
+        ensures { result ≡ record { out = []; notes = []; last = last; stopped = stopped } }
     {
         Trace {
             out: Listed::new(alloc),
             notes: Listed::new(alloc),
             last,
-            stopped: Some(StopCause::Memory),
+            stopped,
         }
     }
 }

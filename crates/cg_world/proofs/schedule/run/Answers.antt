@@ -1,14 +1,19 @@
-use Rattle.std.proofs.Common.{rules, ◌≡◌, ◌∙◌, ap, sym, [], ◌∷◌, length, List, arith}
+use Rattle.std.proofs.Common.{rules, ◌≡◌, ap, sym, refl, [], ◌∷◌, length, arith}
 use Rattle.std.specs.Vec.Iter.{into_iter_items}
-use Rattle.cg_world.specs.Running.{refusal_of_first}
-use Rattle.cg_world.specs.declared.step.Step.{Step}
 use Rattle.cg_world.proofs.Going.{none-left}
 use Rattle.cg_world.proofs.Runs.{begins, breaks, goes-on, run-done, run-none, run-wanting}
 use Rattle.cg_world.proofs.schedule.run.Goals as goal
 
+pub returns-then-is_empty-clause-run : goal.returns-then-is_empty-clause-run
+returns-then-is_empty-clause-run g c =
+    let few : length c.args.steps.items ≡ 0 = search rules in
+    let none : c.args.steps.items ≡ [] = none-left c.args.steps.items few in
+    run-done g.D.SectorDisk.is_honest g.D.SectorDisk.history c.args.steps.items [] [] c.args.world c.args.world c.of_none.result
+    (begins g.D.SectorDisk.is_honest g.D.SectorDisk.history c.args.steps.items [] [] [] c.args.world (sym none) refl refl) c.of_none.ensures
+
 pub returns-in-Err-clause-run : goal.returns-in-Err-clause-run
 returns-in-Err-clause-run g c =
-    run-none g.D.SectorDisk.is_honest g.D.SectorDisk.history c.args.steps.items c.args.world c.refused_first-last.result c.of_none.result (search rules) c.of_none.ensures
+    run-none g.D.SectorDisk.is_honest g.D.SectorDisk.history c.args.steps.items c.args.world c.refused_first-last.result c.of_none-in-Err.result (search rules) (search rules) c.of_none-in-Err.ensures
 
 pub loop-step-init : goal.loop-step-init
 loop-step-init g c = (
@@ -46,9 +51,9 @@ loop-step-preserved g c =
 pub returns-in-Err-take_step-clause-run : goal.returns-in-Err-take_step-clause-run
 returns-in-Err-take_step-clause-run g c =
     let next : into_iter_items c.loop-step.step-iterator ≡ c.in-Some.step ∷ into_iter_items c.next.new.self = search rules in
-    run-wanting g.D.SectorDisk.is_honest g.D.SectorDisk.history c.args.steps.items (into_iter_items c.loop-step.step-iterator) c.loop-step.recording.notes.items c.loop-step.recording.out.items c.args.world c.loop-step.world c.take_step.new.self
-    c.in-Err-take_step.wanting.last c.ended-in-Err-take_step.result c.loop-step.invariant.0 c.in-Err-take_step.ensures.err c.in-Err-take_step.ensures.wanting
-    (c.in-Err-take_step.ensures.last ∙ ap refusal_of_first (sym next)) c.ended-in-Err-take_step.ensures
+    run-wanting g.D.SectorDisk.is_honest g.D.SectorDisk.history c.args.steps.items (into_iter_items c.next.new.self) c.in-Some.step c.loop-step.recording.notes.items c.loop-step.recording.out.items c.args.world c.loop-step.world c.take_step.new.self
+    c.in-Err-take_step.wanting.last c.ended-in-Err-take_step.result (rw next at c.loop-step.invariant.0) c.in-Err-take_step.ensures.err c.in-Err-take_step.ensures.wanting
+    c.in-Err-take_step.ensures.last c.ended-in-Err-take_step.ensures
 
 pub returns-clause-run : goal.returns-clause-run
 returns-clause-run g c =

@@ -1,4 +1,4 @@
-use Rattle.std.proofs.Common.{◌≡◌, ◌∙◌, sym, ap, refl, subst, rules}
+use Rattle.std.proofs.Common.{◌∙◌, sym}
 use Rattle.cg_store.specs.Store.{end_of, front_of, has_failed}
 use Rattle.cg_desk.specs.Desks.{state_of}
 use Rattle.cg_world.proofs.Moving.{batch-out, failed-turn, full-for, its-commands, never-failed, never-out-of-order, not-appended, room-for}

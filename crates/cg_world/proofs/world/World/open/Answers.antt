@@ -1,4 +1,4 @@
-use Rattle.std.proofs.Common.{◌≡◌, ◌∙◌, sym, ap, refl, ℕ}
+use Rattle.std.proofs.Common.{◌∙◌, sym, ap, refl, ℕ}
 use Rattle.cg_world.proofs.Opened.{same-opened}
 use Rattle.cg_world.proofs.world.World.open.Goals as goal
 

@@ -1,4 +1,4 @@
-use Rattle.std.proofs.Common.{◌≡◌, ◌∙◌, sym, rules}
+use Rattle.std.proofs.Common.{◌∙◌, sym}
 use Rattle.cg_store.specs.Store.{front_of, has_failed}
 use Rattle.cg_desk.specs.Desks.{state_of}
 use Rattle.cg_world.proofs.Moving.{settled-world}

@@ -1,7 +1,6 @@
-use Rattle.std.proofs.Common.{rules, ◌≡◌}
 use Rattle.cg_store.specs.Store.{front_of, has_failed}
 use Rattle.cg_desk.specs.Desks.{state_of}
-use Rattle.cg_world.proofs.Moving.{Took, took}
+use Rattle.cg_world.proofs.Moving.{took}
 use Rattle.cg_world.proofs.world.World.take.Goals as goal
 
 pub invariant_of-self : goal.invariant_of-self

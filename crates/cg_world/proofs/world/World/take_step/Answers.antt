@@ -1,4 +1,4 @@
-use Rattle.std.proofs.Common.{◌≡◌, ◌∙◌, sym, ap, rules}
+use Rattle.std.proofs.Common.{sym}
 use Rattle.cg_world.proofs.Steps.{append-step, gone-step, request-step, settle-step, take-step, tick-step}
 use Rattle.cg_world.proofs.world.World.take_step.Goals as goal
 

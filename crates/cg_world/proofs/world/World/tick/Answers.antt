@@ -1,4 +1,3 @@
-use Rattle.std.proofs.Common.{rules}
 use Rattle.cg_store.specs.Store.{front_of, has_failed}
 use Rattle.cg_desk.specs.Desks.{state_of}
 use Rattle.cg_world.proofs.Agreeing.{tick-kept}
