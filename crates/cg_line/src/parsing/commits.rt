@@ -2,7 +2,7 @@
 ghost use Rattle.std.specs.Prelude.{◌≡◌, map, IsTrue, IfOk};
 ghost use Rattle.std.specs.List.{list_all};
 ghost use Rattle.cg_line.specs.Numbers.{is_number, value_of};
-ghost use Rattle.cg_line.specs.Splitting.{behind};
+ghost use Rattle.cg_line.specs.Splitting.{behind, colon};
 ghost use Rattle.cg_line.specs.Parsing.{are_commits, commit_in, is_commit, metadata_field, offset_field};
 ghost use Rattle.cg_record.specs.declared.offset.TheConstants.{OFFSET_MAX};
 ghost use Rattle.cg_record.specs.declared.partition.TheConstants.{PARTITION_MAX};
@@ -18,7 +18,7 @@ use std::alloc::{AllocError, Global};
 
 // What stands behind the second colon.
 fn behind_place(word: &[u8]) -> &[u8]
-    ensures { result.now ≡ behind 58 (behind 58 word.now) }
+    ensures { result.now ≡ behind colon (behind colon word.now) }
 {
     behind(behind(word, b':'), b':')
 }

@@ -1,6 +1,6 @@
 //! Lines and the requests that they spell, with memory enough.
 use crate::{LineFault, parse};
-use cg_group::Request;
+use cg_group::{CommitRequest, FetchRequest, JoinRequest, Request, SyncRequest};
 use std::test::Fail;
 
 const WELL_FORMED: [&str; 25] = [
@@ -128,81 +128,95 @@ fn lines_are_requests_or_malformed(rt: HostRuntime) {
     }
 }
 
-// A request, with a bar between its parts, as Rust shows them.
+// The parts of a JOIN, with a bar between them, as Rust shows them.
+fn shown_join(rt: &impl AllocGlobal, r: &JoinRequest) -> Result<String, Fail> {
+    let protocols = r.protocols.as_slice();
+    let first = &protocols.first().ok_or("no protocol")?;
+    let text = format!(in rt.alloc();
+        "{:?}|{:?}|{:?}|{}|{}|{}|{}|{}|{}|{:?}",
+        r.group,
+        r.member,
+        r.instance,
+        r.client,
+        r.session_ms,
+        r.rebalance.get(),
+        r.kind,
+        protocols.len(),
+        first.name,
+        first.subscription.as_bytes()
+    )?;
+    Ok(text)
+}
+
+fn shown_sync(rt: &impl AllocGlobal, r: &SyncRequest) -> Result<String, Fail> {
+    let entries = r.entries.as_slice();
+    let first = &entries.first().ok_or("no entry")?;
+    let text = format!(in rt.alloc();
+        "{:?}|{}|{:?}|{:?}|{}|{}|{:?}",
+        r.group,
+        r.generation,
+        r.member,
+        r.instance,
+        entries.len(),
+        first.member,
+        first.assignment.as_bytes()
+    )?;
+    Ok(text)
+}
+
+fn shown_commit(rt: &impl AllocGlobal, r: &CommitRequest) -> Result<String, Fail> {
+    let entries = r.entries.as_slice();
+    let first = &entries.first().ok_or("no entry")?;
+    let text = format!(in rt.alloc();
+        "{:?}|{}|{:?}|{:?}|{}|{}|{}|{}|{:?}",
+        r.group,
+        r.generation,
+        r.member,
+        r.instance,
+        entries.len(),
+        first.topic,
+        first.partition.get(),
+        first.offset.get(),
+        first.metadata.as_slice()
+    )?;
+    Ok(text)
+}
+
+fn shown_fetch(rt: &impl AllocGlobal, r: &FetchRequest) -> Result<String, Fail> {
+    let partitions = r.partitions.as_slice();
+    let first = &partitions.first().ok_or("no partition")?;
+    let text = format!(in rt.alloc();
+        "{:?}|{}|{}|{}",
+        r.group,
+        partitions.len(),
+        first.topic,
+        first.partition.get()
+    )?;
+    Ok(text)
+}
+
+// A request of any kind, so.
 fn shown(rt: &impl AllocGlobal, line: &str) -> Result<String, Fail> {
-    let text = match parse(rt.alloc(), line.as_bytes())? {
-        Request::Join(r) => {
-            let protocols = r.protocols.as_slice();
-            let first = &protocols.first().ok_or("no protocol")?;
-            format!(in rt.alloc();
-                "{:?}|{:?}|{:?}|{}|{}|{}|{}|{}|{}|{:?}",
-                r.group,
-                r.member,
-                r.instance,
-                r.client,
-                r.session_ms,
-                r.rebalance.get(),
-                r.kind,
-                protocols.len(),
-                first.name,
-                first.subscription.as_bytes()
-            )?
-        }
-        Request::Sync(r) => {
-            let entries = r.entries.as_slice();
-            let first = &entries.first().ok_or("no entry")?;
-            format!(in rt.alloc();
-                "{:?}|{}|{:?}|{:?}|{}|{}|{:?}",
-                r.group,
-                r.generation,
-                r.member,
-                r.instance,
-                entries.len(),
-                first.member,
-                first.assignment.as_bytes()
-            )?
-        }
+    match parse(rt.alloc(), line.as_bytes())? {
+        Request::Join(r) => shown_join(rt, &r),
+        Request::Sync(r) => shown_sync(rt, &r),
         Request::Beat(r) => {
-            format!(in rt.alloc();
+            let text = format!(in rt.alloc();
                 "{:?}|{}|{:?}|{:?}",
                 r.group, r.generation, r.member, r.instance
-            )?
+            )?;
+            Ok(text)
         }
         Request::Leave(r) => {
-            format!(in rt.alloc(); "{:?}|{:?}|{:?}", r.group, r.member, r.instance)?
+            let text = format!(in rt.alloc(); "{:?}|{:?}|{:?}", r.group, r.member, r.instance)?;
+            Ok(text)
         }
-        Request::Commit(r) => {
-            let entries = r.entries.as_slice();
-            let first = &entries.first().ok_or("no entry")?;
-            format!(in rt.alloc();
-                "{:?}|{}|{:?}|{:?}|{}|{}|{}|{}|{:?}",
-                r.group,
-                r.generation,
-                r.member,
-                r.instance,
-                entries.len(),
-                first.topic,
-                first.partition.get(),
-                first.offset.get(),
-                first.metadata.as_slice()
-            )?
-        }
-        Request::Fetch(r) => {
-            let partitions = r.partitions.as_slice();
-            let first = &partitions.first().ok_or("no partition")?;
-            format!(in rt.alloc();
-                "{:?}|{}|{}|{}",
-                r.group,
-                partitions.len(),
-                first.topic,
-                first.partition.get()
-            )?
-        }
-        Request::Describe(group) => format!(in rt.alloc(); "describe|{group:?}")?,
-        Request::Delete(group) => format!(in rt.alloc(); "delete|{group:?}")?,
-        Request::List => format!(in rt.alloc(); "list")?,
-    };
-    Ok(text)
+        Request::Commit(r) => shown_commit(rt, &r),
+        Request::Fetch(r) => shown_fetch(rt, &r),
+        Request::Describe(group) => Ok(format!(in rt.alloc(); "describe|{group:?}")?),
+        Request::Delete(group) => Ok(format!(in rt.alloc(); "delete|{group:?}")?),
+        Request::List => Ok(format!(in rt.alloc(); "list")?),
+    }
 }
 
 #[test]
