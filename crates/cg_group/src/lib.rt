@@ -50,8 +50,6 @@ mod sessions;
 mod settling;
 mod sync_entries;
 mod syncing;
-#[cfg(test)]
-mod tests;
 mod ticket;
 mod ticking;
 mod topic_partition;
