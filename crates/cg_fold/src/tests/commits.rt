@@ -43,76 +43,103 @@ fn expect_offset(
     Ok(())
 }
 
+// A partition of a topic of a group, and the offset and metadata that stand for it, where there are any.
+type Row<'a> = ((&'a str, &'a str, u32), Option<(u64, &'a [u8])>);
+
+fn expect_offsets(
+    rt: &impl Abort,
+    alloc: Global,
+    durable: &Durable,
+    rows: &[Row<'_>],
+) -> Result<(), Fail> {
+    for (place, want) in rows {
+        expect_offset(rt, alloc, durable, *place, *want)?;
+    }
+    Ok(())
+}
+
+// The entries of partitions of topic t.
+fn entries(alloc: Global, rows: &[(u32, u64, &[u8])]) -> Result<Vec<Entry>, Fail> {
+    let mut entries = Vec::new(alloc);
+    for (partition, offset, metadata) in rows {
+        entries.push(entry(alloc, *partition, *offset, metadata)?)?;
+    }
+    Ok(entries)
+}
+
+// Commits partitions of topic t for group g.
+fn apply_rows(
+    alloc: Global,
+    durable: &mut Durable,
+    rows: &[(u32, u64, &[u8])],
+) -> Result<(), Fail> {
+    let command = commit(alloc, entries(alloc, rows)?)?;
+    durable.apply(&command)?;
+    Ok(())
+}
+
+const LAST: u64 = 9_223_372_036_854_775_807;
+
 #[test]
 fn commits_are_kept_and_replaced(rt: HostRuntime) -> Result<(), Fail> {
     let alloc = rt.alloc();
     let mut durable = Durable::new(alloc);
     assert_eq!(rt; durable.counts(), (0, 0));
     expect_offset(&rt, alloc, &durable, ("g", "t", 0), None)?;
-
-    let mut entries = Vec::new(alloc);
-    entries.push(entry(alloc, 2, 42, b"ab")?)?;
-    entries.push(entry(alloc, 0, 9_223_372_036_854_775_807, b"")?)?;
-    durable.apply(&commit(alloc, entries)?)?;
+    apply_rows(alloc, &mut durable, &[(2, 42, b"ab"), (0, LAST, b"")])?;
     assert_eq!(rt; durable.counts(), (0, 2));
-    expect_offset(
-        &rt,
-        alloc,
-        &durable,
-        ("g", "t", 0),
-        Some((9_223_372_036_854_775_807, b"")),
-    )?;
-    expect_offset(&rt, alloc, &durable, ("g", "t", 1), None)?;
-    expect_offset(&rt, alloc, &durable, ("g", "t", 2), Some((42, b"ab")))?;
-    expect_offset(&rt, alloc, &durable, ("h", "t", 2), None)?;
-    expect_offset(&rt, alloc, &durable, ("g", "u", 2), None)?;
-
-    let mut entries = Vec::new(alloc);
-    entries.push(entry(alloc, 2, 7, b"c")?)?;
-    durable.apply(&commit(alloc, entries)?)?;
+    let there: [Row<'_>; 5] = [
+        (("g", "t", 0), Some((LAST, b""))),
+        (("g", "t", 1), None),
+        (("g", "t", 2), Some((42, b"ab"))),
+        (("h", "t", 2), None),
+        (("g", "u", 2), None),
+    ];
+    expect_offsets(&rt, alloc, &durable, &there)?;
+    apply_rows(alloc, &mut durable, &[(2, 7, b"c")])?;
     assert_eq!(rt; durable.counts(), (0, 2));
-    expect_offset(
-        &rt,
-        alloc,
-        &durable,
-        ("g", "t", 0),
-        Some((9_223_372_036_854_775_807, b"")),
-    )?;
-    expect_offset(&rt, alloc, &durable, ("g", "t", 2), Some((7, b"c")))
+    let there: [Row<'_>; 2] = [
+        (("g", "t", 0), Some((LAST, b""))),
+        (("g", "t", 2), Some((7, b"c"))),
+    ];
+    expect_offsets(&rt, alloc, &durable, &there)
+}
+
+// The offset of partition 2 of topic t.
+fn second(alloc: Global, offsets: &Offsets, group: &GroupId) -> Result<Option<u64>, Fail> {
+    let topic = Topic::parse(alloc, "t")?;
+    let partition = Partition::new(2).ok_or("a partition")?;
+    let stored = offsets.get(group, &topic, partition);
+    Ok(stored.map(|s| s.offset.get()))
+}
+
+fn committed(alloc: Global, group: &str, rows: &[(u32, u64, &[u8])]) -> Result<Committed, Fail> {
+    let entries = entries(alloc, rows)?;
+    Ok(Committed {
+        group: GroupId::parse(alloc, group)?,
+        entries: Entries::from_vec(entries).ok().ok_or("entries")?,
+    })
 }
 
 #[test]
 fn offsets_go_on_alone(rt: HostRuntime) -> Result<(), Fail> {
     let alloc = rt.alloc();
     let mut durable = Durable::new(alloc);
-    let mut entries = Vec::new(alloc);
-    entries.push(entry(alloc, 2, 42, b"ab")?)?;
-    entries.push(entry(alloc, 0, 5, b"")?)?;
-    durable.apply(&commit(alloc, entries)?)?;
-
-    let group = GroupId::parse(alloc, "g")?;
-    let topic = Topic::parse(alloc, "t")?;
-    let partition = Partition::new(2).ok_or("a partition")?;
+    apply_rows(alloc, &mut durable, &[(2, 42, b"ab"), (0, 5, b"")])?;
     let mut offsets = durable.into_offsets();
     assert_eq!(rt; offsets.len(), 2);
-    let told = offsets
-        .get(&group, &topic, partition)
-        .map(|s| s.offset.get());
-    assert_eq!(rt; told, Some(42));
-
-    let mut entries = Vec::new(alloc);
-    entries.push(entry(alloc, 1, 7, b"c")?)?;
-    let other = Committed {
-        group: GroupId::parse(alloc, "h")?,
-        entries: Entries::from_vec(entries).ok().ok_or("entries")?,
-    };
+    let group = GroupId::parse(alloc, "g")?;
+    assert_eq!(rt; second(alloc, &offsets, &group)?, Some(42));
+    let other = committed(alloc, "h", &[(1, 7, b"c")])?;
     offsets.commit(&other)?;
     assert_eq!(rt; offsets.len(), 3);
     offsets.forget(&group);
     assert_eq!(rt; offsets.len(), 1);
-    assert!(rt; offsets.get(&group, &topic, partition).is_none());
-
-    let empty = Offsets::new(alloc);
-    assert_eq!(rt; empty.len(), 0);
+    assert_eq!(rt; second(alloc, &offsets, &group)?, None);
     Ok(())
+}
+
+#[test]
+fn no_offsets_are_none(rt: HostRuntime) {
+    assert_eq!(rt; Offsets::new(rt.alloc()).len(), 0);
 }
