@@ -19,8 +19,8 @@ count() {
     failed=$((failed + ${line%% failed*}))
 }
 
-# A check a processor, where each finds 4 GB: none here takes more. Left to itself, rt allows for three times that and runs fewer.
-lanes=$(awk -v cpus="$(nproc)" '/^MemAvailable:/ { fit = int($2 / 4000000); print fit < 1 ? 1 : fit < cpus ? fit : cpus }' /proc/meminfo)
+# A check a processor, where each finds 5 GB: most take 2 to 4, one takes 8. Left to itself, rt allows for twice that and runs fewer.
+lanes=$(awk -v cpus="$(nproc)" '/^MemAvailable:/ { fit = int($2 / 5000000); print fit < 1 ? 1 : fit < cpus ? fit : cpus }' /proc/meminfo)
 export RT_JOBS=${RT_JOBS:-$lanes}
 
 log=$(mktemp)
