@@ -1,6 +1,7 @@
 pub mod Place
 pub mod KeyOrder
 pub mod Put
+pub mod Renewed
 pub mod Kept
 pub mod Taken
 pub mod Names

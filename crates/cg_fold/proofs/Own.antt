@@ -1,12 +1,12 @@
 -- The offsets of one group, and those that a commit puts among them.
-use Rattle.std.proofs.Common.{ℕ, zero, suc, Bool, true, false, cond, take, drop, ◌+◌, ◌<◌, ◌≤◌, List, [], ◌∷◌, length, map as each, refl, arith, ◌≡◌}
+use Rattle.std.proofs.Common.{ℕ, zero, suc, Bool, true, false, cond, take, drop, ◌+◌, ◌<◌, ◌≤◌, List, [], ◌∷◌, length, map as each, Some, None, refl, arith, ◌≡◌}
 use Rattle.std.proofs.Math.Dec.{T}
 use Rattle.std.specs.Prelude.{filter}
 use Rattle.std.specs.List.{fold}
-use Rattle.std.specs.Ordering.{is_lt}
+use Rattle.std.specs.Ordering.{is_eq, is_lt}
 use Rattle.std.specs.declared.cmp.Ordering.{Ordering}
 use Rattle.std.specs.declared.cmp.Ordering.TheVariants.{Less, Equal, Greater}
-use Rattle.std.specs.FinMap.{is_sorted}
+use Rattle.std.specs.FinMap.{find, is_sorted}
 use Rattle.std.specs.FinMap.Entries.{by_order}
 use Rattle.std.proofs.lemmas.Slice.Eq.{bytes_eq-Decides}
 use Rattle.cg_record.specs.declared.entry.Entry.{Entry}
@@ -52,9 +52,24 @@ length-put row (r ∷ rows) = step (key_cmp row.0 r.0) (length-put row rows)
     step Equal rest = (omega arith, (omega arith, omega arith))
     step Greater rest = (omega (arith, rest.0), (omega (arith, rest.1.0), omega arith))
 
+-- one whose key no item has makes it longer
+pub length-put_absent : (row : KeptOffset) (rows : List KeptOffset) → find key_cmp row.0 rows ≡ None → length (put_kept rows row) ≡ length rows + 1
+length-put_absent row [] absent = omega arith
+length-put_absent row (r ∷ rows) absent = step (key_cmp row.0 r.0) (length-put_absent row rows) absent
+  where
+    step : (o : Ordering) → (find key_cmp row.0 rows ≡ None → length (put_kept rows row) ≡ length rows + 1) → cond (is_eq o) (Some r.1) (find key_cmp row.0 rows) ≡ None
+        → length (by_order o ((row.0, row.1) ∷ r ∷ rows) ((r.0, row.1) ∷ rows) (r ∷ put_kept rows row)) ≡ suc (length rows) + 1
+    step Less rest none = omega arith
+    step Equal rest none = absurd (cc)
+    step Greater rest none = omega (arith, rest none)
+
 pub length-fold : (rows new : List KeptOffset) → length (fold put_kept rows new) ≤ length rows + length new
 length-fold rows [] = omega arith
 length-fold rows (row ∷ new) = omega (arith, length-fold (put_kept rows row) new, (length-put row rows).1.0)
+
+pub length-fold_more : (rows new : List KeptOffset) → length rows ≤ length (fold put_kept rows new)
+length-fold_more rows [] = omega arith
+length-fold_more rows (row ∷ new) = omega (arith, length-fold_more (put_kept rows row) new, (length-put row rows).0)
 
 some-fold : (rows new : List KeptOffset) → 0 < length rows → 0 < length (fold put_kept rows new)
 some-fold rows [] some = some

@@ -1,7 +1,7 @@
 -- What commits and deletions do to the shelves, and to the map that their offsets are.
 use Rattle.std.proofs.Common.{◌≡◌, ℕ, ◌+◌, ◌<◌, ◌≤◌, Bool, true, false, cond, List, [], ◌∷◌, ◌++◌, length, map as each, Option, Some, None, ap, sym, ◌∙◌, refl, subst, arith, length-append}
 use Rattle.std.proofs.Math.Dec.{T}
-use Rattle.std.specs.Prelude.{not, IsTrue, filter, bytes_eq}
+use Rattle.std.specs.Prelude.{not, filter, bytes_eq}
 use Rattle.std.specs.List.{fold}
 use Rattle.std.specs.Ordering.{eq_by_cmp, is_eq, nat_cmp, ordering_then}
 use Rattle.std.specs.declared.cmp.Ordering.{Ordering}
@@ -205,21 +205,21 @@ pub length-stock-others : (g : List ℕ) (len : ℕ) (before after : List KeptSh
     → length (stock after) + length (rows_at g before) ≡ len
 length-stock-others g len before after are left = ap (λ l. length (stock l) + length (rows_at g before)) left ∙ length-stock-left g before (tested are.by_group) ∙ sym are.counted
 
--- and no more offsets of its group than they were, and those that were put
-pub length-rows-more : (g : List ℕ) (before after : List KeptShelf) (more : List KeptOffset) → after ≡ with_more g more before → length (rows_at g after) ≤ length (rows_at g before) + length more
-length-rows-more g before after more put_is =
+-- the offsets of its group are those that it had, with these put among them
+pub rows_at-more : (g : List ℕ) (before after : List KeptShelf) (more : List KeptOffset) → after ≡ with_more g more before → rows_at g after ≡ fold put_kept (rows_at g before) more
+rows_at-more g before after more put_is =
     let rows = fold put_kept (rows_at g before) more in
-    let there : rows_at g after ≡ rows = ap (rows_at g) put_is ∙ rows_at-put g g rows before ∙ ap (λ o. cond (is_eq o) rows (rows_at g before)) (tied_itself name_total g) in
-    omega (arith, ap length there, length-fold (rows_at g before) more)
+    ap (rows_at g) put_is ∙ rows_at-put g g rows before ∙ ap (λ o. cond (is_eq o) rows (rows_at g before)) (tied_itself name_total g)
+
+-- and no more of them than they were, and those that were put
+pub length-rows-more : (g : List ℕ) (before after : List KeptShelf) (more : List KeptOffset) → after ≡ with_more g more before → length (rows_at g after) ≤ length (rows_at g before) + length more
+length-rows-more g before after more put_is = omega (arith, ap length (rows_at-more g before after more put_is), length-fold (rows_at g before) more)
 
 -- no group has more offsets than there are
 pub length-rows : (g : List ℕ) (len : ℕ) (shelves : List KeptShelf) → AreShelves len shelves → length (rows_at g shelves) ≤ len
 length-rows g len shelves are = omega (arith, length-stock-others g len shelves _ are refl)
 
 -- ---- they stay shelves
-
-pub sorted-more : (g : List ℕ) (before after : List KeptShelf) (more : List KeptOffset) → IsTrue (is_sorted name_cmp before) → after ≡ with_more g more before → IsTrue (is_sorted name_cmp after)
-sorted-more g before after more sorted put_is = put_keeps_order name_total g (fold put_kept (rows_at g before) more) before after put_is sorted
 
 pub shelves-more : (g : List ℕ) (len new_len : ℕ) (before after : List KeptShelf) (more : List KeptOffset) → AreShelves len before → 0 < length more → AreOf g more
     → after ≡ with_more g more before → new_len ≡ length (stock after) → AreShelves new_len after

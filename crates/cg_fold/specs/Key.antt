@@ -1,5 +1,5 @@
 -- The order in which offsets are kept.
-use Rattle.std.specs.Prelude.{◌≡◌, ℕ, ◌<◌, Bool, List, length, slice_index_or, refl}
+use Rattle.std.specs.Prelude.{◌≡◌, ℕ, ◌<◌, Bool, List, length, map as each, slice_index_or, refl}
 use Rattle.std.specs.declared.cmp.Ordering.{Ordering}
 use Rattle.std.specs.declared.cmp.Ordering.TheVariants.{Equal}
 use Rattle.std.specs.Ordering.{nat_cmp, is_lt, on, then_cmp}
@@ -7,6 +7,7 @@ use Rattle.std.specs.Cmp.Lexicographic.{slice_cmp}
 use Rattle.std.specs.Coded.{Coded, code_by, coded×, coded_list, coded_ℕ}
 use Rattle.std.specs.FinMap as map
 use Rattle.std.specs.FinMap.{put}
+use Rattle.cg_record.specs.declared.committed.Committed.{Committed}
 use Rattle.cg_record.specs.declared.entry.Entry.{Entry}
 use Rattle.cg_fold.specs.declared.key.OffsetKey.{OffsetKey}
 use Rattle.cg_fold.specs.declared.key.StoredOffset.{StoredOffset}
@@ -41,6 +42,10 @@ IsOther kept at key = (d : KeptOffset) → at < length kept → key_cmp (slice_i
 -- what an entry of a commit keeps for a group
 abbrev pub kept_of : List ℕ → Entry → KeptOffset
 kept_of group entry = (key_of group entry.topic entry.partition, record { offset = entry.offset; metadata = entry.metadata })
+
+-- what a commit keeps
+abbrev pub kept_by : Committed → List KeptOffset
+kept_by commit = each (kept_of commit.group) commit.entries
 
 -- an offset put among others that stand in order
 abbrev pub put_kept : List KeptOffset → KeptOffset → List KeptOffset

@@ -1,4 +1,5 @@
 pub mod Key
+pub mod Renewed
 pub mod Grouped
 pub mod Shelf
 pub mod Record

@@ -1,5 +1,5 @@
 -- The offsets of groups as they are kept: a shelf for each group that has any.
-use Rattle.std.specs.Prelude.{◌≡◌, ℕ, ◌<◌, List, [], ◌∷◌, length, flat_map, slice_index_or, slice_set, Option, Some, None, IsTrue}
+use Rattle.std.specs.Prelude.{◌≡◌, ℕ, ◌+◌, ◌<◌, List, [], ◌∷◌, length, flat_map, slice_index_or, slice_set, Option, Some, None, IsTrue}
 use Rattle.std.specs.List.{fold}
 use Rattle.std.specs.Coded.{Coded, coded×, coded_list}
 use Rattle.std.specs.FinMap.{find, is_sorted, put}
@@ -55,3 +55,7 @@ with_more group new shelves = put name_cmp group (fold put_kept (rows_at group s
 -- the one with the other shelves as they were, but for these put on the one at this place
 abbrev pub AddsAt : List KeptShelf → List KeptShelf → ℕ → List KeptOffset → Type 0
 AddsAt old new at more = (d : KeptShelf) → new ≡ slice_set old at ((slice_index_or old at d).0, fold put_kept (slice_index_or old at d).1 more)
+
+-- the one at this place has so many offsets more
+abbrev pub GrowsAt : List KeptShelf → List KeptShelf → ℕ → ℕ → Type 0
+GrowsAt old new at grown = (d : KeptShelf) → length (slice_index_or new at d).1 ≡ length (slice_index_or old at d).1 + grown

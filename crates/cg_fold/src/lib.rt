@@ -11,6 +11,7 @@ mod law;
 mod offsets;
 mod record;
 mod records;
+mod renewals;
 mod rows;
 mod shelves;
 mod snapshots;

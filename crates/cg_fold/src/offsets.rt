@@ -20,8 +20,10 @@ use std::marker::Model;
 /// How far each group has read each partition. Contracts see it as the map of `State`.
 ///
 /// The offsets of each group stand on a shelf of their own. A look-up takes time logarithmic in the number of groups and in that of
-/// the group's offsets, and no memory; so does a commit of partitions that are there. A partition that is new moves the group's
-/// offsets behind it, and a group that is new the shelves behind its own, but not what stands on them.
+/// the group's offsets, and no memory. A commit looks its group up once, and each partition among the group's offsets; where all
+/// are there, it copies the metadata alone. Else it copies the entries whole, each with the group, and looks the partitions up
+/// again: one that is new moves the group's offsets behind it, and a group that is new the shelves behind its own, but not what
+/// stands on them.
 #[derive(Drop)]
 pub struct Offsets {
     alloc: Global,
@@ -79,8 +81,9 @@ impl Offsets {
         self.shelves.as_slice()
     }
 
-    /// Sets the offset of each entry of a commit. Want of memory changes nothing; so are more than `u64::MAX` offsets answered,
-    /// which no memory holds.
+    /// Sets the offset of each entry of a commit. Takes memory for the metadata, for a list where there are several entries, and
+    /// for keys where a partition is new. Want of memory changes nothing; so are more than `u64::MAX` offsets answered, which no
+    /// memory holds.
     pub fn commit(&mut self, commit: &Committed) -> Result<(), AllocError>
         ensures ok { OnOk result (self.new ≡ fold (with_entry commit.now.group) self.old commit.now.entries) }
         ensures err { OnErr result (self.new ≡ self.old) }
@@ -88,11 +91,8 @@ impl Offsets {
         if commit.entries.len() as u64 > u64::MAX - self.len {
             return Err(AllocError);
         }
-        let rows = rows::rows_of(self.alloc, commit)?;
-        let before = shelves::rows_at(&self.shelves, &commit.group).len() as u64;
-        shelves::add(&mut self.shelves, self.alloc, &commit.group, rows)?;
-        let after = shelves::rows_at(&self.shelves, &commit.group).len() as u64;
-        self.len = self.len - before + after;
+        let grown = shelves::add(&mut self.shelves, self.alloc, commit)?;
+        self.len += grown;
         Ok(())
     }
 

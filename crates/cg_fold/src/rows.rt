@@ -1,13 +1,14 @@
 //! The offsets as rows in the order of their keys: a look-up is a binary search, which takes no memory.
-ghost use Rattle.std.specs.Prelude.{◌≡◌, ◌+◌, ◌<◌, ◌≤◌, IsTrue, length, vec_len, vec_capacity, [], IfOk, OnErr, OnOk, map};
+ghost use Rattle.std.specs.Prelude.{◌≡◌, ◌+◌, ◌<◌, ◌≤◌, IsTrue, length, vec_len, vec_capacity, [], IfOk, OnErr, OnOk};
 ghost use Rattle.std.specs.List.{fold, prefix_len};
 ghost use Rattle.std.specs.FinMap.{find, is_sorted, put};
 ghost use Rattle.std.specs.Bool.{OnTrue, OnFalse};
 ghost use Rattle.std.specs.Option.{option_copied};
 ghost use Rattle.std.specs.VecDeque.{deque_len};
-ghost use Rattle.cg_fold.specs.Key.{IsOther, IsOwn, kept_of, is_below, key_cmp, key_of, put_kept};
+ghost use Rattle.cg_fold.specs.Key.{IsOther, IsOwn, kept_by, kept_of, is_below, key_cmp, key_of, put_kept};
 
 use crate::key::{OffsetKey, StoredOffset};
+use crate::renewals;
 use cg_names::{GroupId, Topic};
 use cg_record::{Committed, Entry, Partition};
 use std::alloc::{AllocError, Global};
@@ -57,14 +58,75 @@ impl Rows {
         self.rows.as_slice()
     }
 
-    /// Puts these rows, one after the other. Want of memory changes nothing.
-    pub fn put_all(&mut self, waiting: VecDeque<Row>) -> Result<(), AllocError>
-        ensures ok { OnOk result (self.new ≡ fold put_kept self.old waiting.items) }
+    /// Puts what the entries of a commit keep, one after the other, and answers how many rows more there are. Want of memory
+    /// changes nothing.
+    pub fn put_commit(&mut self, alloc: Global, commit: &Committed) -> Result<u64, AllocError>
+        ensures ok { OnOk result (self.new ≡ fold put_kept self.old (kept_by commit.now)) }
+        ensures grown { IfOk result (λ grown. length self.new ≡ length self.old + grown) }
         ensures err { OnErr result (self.new ≡ self.old) }
     {
+        match commit.entries.as_slice() {
+            [entry] => {
+                let grown = self.put_entry(&commit.group, entry)?;
+                Ok(grown)
+            }
+            _ => {
+                let grown = self.put_entries(alloc, commit)?;
+                Ok(grown)
+            }
+        }
+    }
+
+    // Puts what the entries of a commit keep, one after the other: in place where the rows of all are there. Answers how many
+    // rows more there are.
+    fn put_entries(&mut self, alloc: Global, commit: &Committed) -> Result<u64, AllocError>
+        ensures ok { OnOk result (self.new ≡ fold put_kept self.old (kept_by commit.now)) }
+        ensures grown { IfOk result (λ grown. length self.new ≡ length self.old + grown) }
+        ensures err { OnErr result (self.new ≡ self.old) }
+    {
+        let entries = commit.entries.as_slice();
+        match renewals::renewals_of(alloc, &self.rows, &commit.group, entries)? {
+            Some(renewals) => {
+                renewals::renew_all(&mut self.rows, renewals);
+                Ok(0)
+            }
+            None => {
+                let grown = self.put_all(rows_of(alloc, commit)?)?;
+                Ok(grown)
+            }
+        }
+    }
+
+    // Puts what an entry keeps: in place where its row is there. Answers how many rows more there are.
+    fn put_entry(&mut self, group: &GroupId, entry: &Entry) -> Result<u64, AllocError>
+        ensures ok { OnOk result (self.new ≡ put_kept self.old (kept_of group.now entry.now)) }
+        ensures grown { IfOk result (λ grown. length self.new ≡ length self.old + grown) }
+        ensures err { OnErr result (self.new ≡ self.old) }
+    {
+        match renewals::renewal_of(&self.rows, group, entry)? {
+            Some(renewal) => {
+                renewals::renew(&mut self.rows, renewal);
+                Ok(0)
+            }
+            None => {
+                let row = row_of(group, entry)?;
+                self.rows.reserve(1)?;
+                put_row(&mut self.rows, row);
+                Ok(1)
+            }
+        }
+    }
+
+    // Puts these rows, one after the other, and answers how many rows more there are.
+    fn put_all(&mut self, waiting: VecDeque<Row>) -> Result<u64, AllocError>
+        ensures ok { OnOk result (self.new ≡ fold put_kept self.old waiting.items) }
+        ensures grown { IfOk result (λ grown. length self.new ≡ length self.old + grown) }
+        ensures err { OnErr result (self.new ≡ self.old) }
+    {
+        let before = self.rows.len();
         self.rows.reserve(waiting.len())?;
         put_rows(&mut self.rows, waiting);
-        Ok(())
+        Ok((self.rows.len() - before) as u64)
     }
 }
 
@@ -77,16 +139,16 @@ pub fn place(rows: &[Row], group: &GroupId, topic: &Topic, partition: Partition)
     rows.partition_point(|row| row.0.compare(group, topic, partition) == Ordering::Less)
 }
 
-// Whether the row at this place is the key's own.
-fn is_at(rows: &[Row], at: usize, group: &GroupId, topic: &Topic, partition: Partition) -> bool
+/// Whether the row at this place is the key's own.
+pub fn is_at(rows: &[Row], at: usize, group: &GroupId, topic: &Topic, partition: Partition) -> bool
     ensures own { OnTrue result (IsOwn rows.now at (key_of group.now topic.now partition)) }
     ensures other { OnFalse result (IsOther rows.now at (key_of group.now topic.now partition)) }
 {
     at < rows.len() && rows[at].0.compare(group, topic, partition) == Ordering::Equal
 }
 
-/// Puts a row in its place: over the row of its key, or between two others. Takes no memory.
-pub fn put_row(rows: &mut Vec<Row>, row: Row)
+// Puts a row in its place: over the row of its key, or between two others. Takes no memory.
+fn put_row(rows: &mut Vec<Row>, row: Row)
     requires sorted { IsTrue (is_sorted key_cmp rows.old.items) }
     requires room { vec_len rows.old < vec_capacity rows.old }
     ensures rows { rows.new.items ≡ put key_cmp row.0 row.1 rows.old.items }
@@ -103,8 +165,8 @@ pub fn put_row(rows: &mut Vec<Row>, row: Row)
     }
 }
 
-/// Puts these rows, one after the other. Takes no memory.
-pub fn put_rows(rows: &mut Vec<Row>, mut waiting: VecDeque<Row>)
+// Puts these rows, one after the other. Takes no memory.
+fn put_rows(rows: &mut Vec<Row>, mut waiting: VecDeque<Row>)
     requires sorted { IsTrue (is_sorted key_cmp rows.old.items) }
     requires room { vec_len rows.old + deque_len waiting ≤ vec_capacity rows.old }
     ensures rows { rows.new.items ≡ fold put_kept rows.old.items waiting.items }
@@ -130,9 +192,9 @@ fn row_of(group: &GroupId, entry: &Entry) -> Result<Row, AllocError>
     Ok((key, stored))
 }
 
-/// The rows that a commit puts, copied from it.
-pub fn rows_of(alloc: Global, commit: &Committed) -> Result<VecDeque<Row>, AllocError>
-    ensures { IfOk result (λ rows. rows.items ≡ map (kept_of commit.now.group) commit.now.entries) }
+// The rows that a commit puts, copied from it.
+fn rows_of(alloc: Global, commit: &Committed) -> Result<VecDeque<Row>, AllocError>
+    ensures { IfOk result (λ rows. rows.items ≡ kept_by commit.now) }
 {
     let mut rows = VecDeque::with_capacity(alloc, commit.entries.len())?;
     for entry in commit.entries.as_slice() {

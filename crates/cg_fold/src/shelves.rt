@@ -1,15 +1,15 @@
 //! The offsets of groups: a shelf for each group that has any, in the order of the groups' ids.
-ghost use Rattle.std.specs.Prelude.{◌≡◌, ◌<◌, [], IsTrue, length, IfOk, OnErr, OnOk};
+ghost use Rattle.std.specs.Prelude.{◌≡◌, ◌+◌, ◌<◌, [], IsTrue, length, IfOk, OnErr, OnOk};
 ghost use Rattle.std.specs.List.{fold};
 ghost use Rattle.std.specs.FinMap.{is_sorted};
-ghost use Rattle.cg_fold.specs.Key.{key_cmp, name_cmp, put_kept};
-ghost use Rattle.cg_fold.specs.Shelf.{AddsAt, rows_at, with_more};
+ghost use Rattle.cg_fold.specs.Key.{kept_by, key_cmp, name_cmp, put_kept};
+ghost use Rattle.cg_fold.specs.Shelf.{AddsAt, GrowsAt, rows_at, with_more};
 
 use crate::grouped::{self, OfGroup};
 use crate::rows::{Row, Rows};
 use cg_names::GroupId;
+use cg_record::Committed;
 use std::alloc::{AllocError, Global};
-use std::collections::VecDeque;
 
 /// The offsets of a group, with the group's id.
 pub type Shelf = OfGroup<Rows>;
@@ -26,43 +26,48 @@ pub fn rows_at<'a>(shelves: &'a [Shelf], group: &GroupId) -> &'a [Row]
     }
 }
 
-// Puts these on the shelf at this place.
-fn add_at(shelves: &mut Vec<Shelf>, at: usize, more: VecDeque<Row>) -> Result<(), AllocError>
+// Puts what a commit keeps on the shelf at this place, and answers how many offsets more it has.
+fn add_at(
+    shelves: &mut Vec<Shelf>,
+    alloc: Global,
+    at: usize,
+    commit: &Committed,
+) -> Result<u64, AllocError>
     requires { at < length shelves.old.items }
-    ensures ok { OnOk result (AddsAt shelves.old.items shelves.new.items at more.items) }
+    ensures ok { OnOk result (AddsAt shelves.old.items shelves.new.items at (kept_by commit.now)) }
+    ensures grown { IfOk result (λ grown. GrowsAt shelves.old.items shelves.new.items at grown) }
     ensures err { OnErr result (shelves.new.items ≡ shelves.old.items) }
 {
-    shelves[at].1.put_all(more)?;
-    Ok(())
+    let grown = shelves[at].1.put_commit(alloc, commit)?;
+    Ok(grown)
 }
 
-// A shelf with these alone.
-fn shelf_of(alloc: Global, group: &GroupId, more: VecDeque<Row>) -> Result<Shelf, AllocError>
-    ensures { IfOk result (λ shelf. shelf ≡ (group.now, fold put_kept [] more.items)) }
+// A shelf with what a commit keeps alone.
+fn shelf_of(alloc: Global, commit: &Committed) -> Result<Shelf, AllocError>
+    ensures { IfOk result (λ shelf. shelf ≡ (commit.now.group, fold put_kept [] (kept_by commit.now))) }
 {
     let mut rows = Rows::new(alloc);
-    rows.put_all(more)?;
-    let group = group.clone()?;
+    rows.put_commit(alloc, commit)?;
+    let group = commit.group.clone()?;
     Ok((group, rows))
 }
 
-/// Puts these on the shelf of a group, which is made where there is none. Want of memory changes nothing.
-pub fn add(
-    shelves: &mut Vec<Shelf>,
-    alloc: Global,
-    group: &GroupId,
-    more: VecDeque<Row>,
-) -> Result<(), AllocError>
+/// Puts what a commit keeps on the shelf of its group, which is made where there is none, and answers how many offsets more
+/// the group has. Want of memory changes nothing.
+pub fn add(shelves: &mut Vec<Shelf>, alloc: Global, commit: &Committed) -> Result<u64, AllocError>
     requires { IsTrue (is_sorted name_cmp shelves.old.items) }
-    ensures ok { OnOk result (shelves.new.items ≡ with_more group.now more.items shelves.old.items) }
+    ensures ok { OnOk result (shelves.new.items ≡ with_more commit.now.group (kept_by commit.now) shelves.old.items) }
+    ensures grown { IfOk result (λ grown. length (rows_at commit.now.group shelves.new.items) ≡ length (rows_at commit.now.group shelves.old.items) + grown) }
     ensures err { OnErr result (shelves.new.items ≡ shelves.old.items) }
 {
-    let at = grouped::place(shelves, group);
-    if grouped::is_at(shelves, at, group) {
-        add_at(shelves, at, more)?;
+    let at = grouped::place(shelves, &commit.group);
+    if grouped::is_at(shelves, at, &commit.group) {
+        let grown = add_at(shelves, alloc, at, commit)?;
+        Ok(grown)
     } else {
-        let shelf = shelf_of(alloc, group, more)?;
+        let shelf = shelf_of(alloc, commit)?;
+        let grown = shelf.1.as_slice().len() as u64;
         shelves.insert(at, shelf)?;
+        Ok(grown)
     }
-    Ok(())
 }

@@ -105,6 +105,28 @@ fn commits_are_kept_and_replaced(rt: HostRuntime) -> Result<(), Fail> {
     expect_offsets(&rt, alloc, &durable, &there)
 }
 
+#[test]
+fn commits_of_several_are_replaced(rt: HostRuntime) -> Result<(), Fail> {
+    let alloc = rt.alloc();
+    let mut durable = Durable::new(alloc);
+    apply_rows(alloc, &mut durable, &[(2, 42, b"ab"), (0, 5, b"")])?;
+    apply_rows(alloc, &mut durable, &[(2, 8, b""), (0, 9, b"def")])?;
+    assert_eq!(rt; durable.counts(), (0, 2));
+    let there: [Row<'_>; 2] = [
+        (("g", "t", 0), Some((9, b"def"))),
+        (("g", "t", 2), Some((8, b""))),
+    ];
+    expect_offsets(&rt, alloc, &durable, &there)?;
+    apply_rows(alloc, &mut durable, &[(2, 10, b"g"), (1, 11, b"h")])?;
+    assert_eq!(rt; durable.counts(), (0, 3));
+    let there: [Row<'_>; 3] = [
+        (("g", "t", 0), Some((9, b"def"))),
+        (("g", "t", 1), Some((11, b"h"))),
+        (("g", "t", 2), Some((10, b"g"))),
+    ];
+    expect_offsets(&rt, alloc, &durable, &there)
+}
+
 // The offset of partition 2 of topic t.
 fn second(alloc: Global, offsets: &Offsets, group: &GroupId) -> Result<Option<u64>, Fail> {
     let topic = Topic::parse(alloc, "t")?;

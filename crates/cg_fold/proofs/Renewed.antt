@@ -1,0 +1,85 @@
+-- Offsets set where their keys stand.
+use Rattle.std.proofs.Common.{◌≡◌, ◌+◌, cond, List, [], ◌∷◌, ◌++◌, length, map as each, get_or, set, ap, sym, ◌∙◌, refl, subst, arith}
+use Rattle.std.proofs.Math.ListN.{get_or-map, length-set}
+use Rattle.std.proofs.Math.Seq.{map-set_same}
+use Rattle.std.proofs.lemmas.List.{length-map}
+use Rattle.std.specs.List.{fold, prefix_len}
+use Rattle.std.specs.Ordering.{is_lt}
+use Rattle.cg_fold.specs.declared.key.OffsetKey.{OffsetKey}
+use Rattle.cg_fold.specs.declared.renewals.Renewal.{Renewal}
+use Rattle.cg_fold.specs.Key.{KeptOffset, is_below, key_cmp, key_of, put_kept}
+use Rattle.cg_fold.specs.Renewed.{AreBelow, AreRenewals, IsRenewal, renewed}
+use Rattle.cg_fold.proofs.KeyOrder.{key_total}
+use Rattle.cg_fold.proofs.Place.{put-same}
+
+-- what an entry sets in place is what it puts
+pub renewed_is_put : (rows deref : List KeptOffset) (kept : KeptOffset) (renewal : Renewal) → deref ≡ rows → IsRenewal deref kept renewal → renewed rows renewal ≡ put_kept rows kept
+renewed_is_put rows deref kept renewal same is =
+    let here : IsRenewal rows kept renewal = subst (λ l. IsRenewal l kept renewal) same is in
+    let none : KeptOffset = (key_of [] [] 0, renewal.stored) in
+    ap (λ v. set rows renewal.at ((get_or rows renewal.at none).0, v)) here.stored ∙ sym (put-same key_total kept.0 kept.1 rows renewal.at none here.at here.own.0 (here.own.1 none))
+
+-- ---- one after the other
+
+abbrev keys : List KeptOffset → List OffsetKey
+keys rows = each (λ row. row.0) rows
+
+keys-renewed : (rows : List KeptOffset) (renewal : Renewal) → keys (renewed rows renewal) ≡ keys rows
+keys-renewed rows renewal = map-set_same (λ (row : KeptOffset). row.0) rows renewal.at _ (key_of [] [] 0, renewal.stored) refl
+
+prefix_len-keys : (key : OffsetKey) (rows : List KeptOffset) → prefix_len (is_below key) rows ≡ prefix_len (λ k. is_lt (key_cmp k key)) (keys rows)
+prefix_len-keys key [] = refl
+prefix_len-keys key (row ∷ rows) = ap (λ n. cond (is_lt (key_cmp row.0 key)) (1 + n) 0) (prefix_len-keys key rows)
+
+-- where a key stands depends on the keys alone
+renewal_stays : (old new : List KeptOffset) (kept : KeptOffset) (renewal : Renewal) → keys new ≡ keys old → IsRenewal old kept renewal → IsRenewal new kept renewal
+renewal_stays old new kept renewal same is = record {
+  at = is.at ∙ prefix_len-keys kept.0 old ∙ ap (prefix_len (λ k. is_lt (key_cmp k kept.0))) (sym same) ∙ sym (prefix_len-keys kept.0 new);
+  own = (
+    omega (arith, is.own.0, length-map old (λ (row : KeptOffset). row.0), length-map new (λ (row : KeptOffset). row.0), ap length same),
+    λ d. ap (λ k. key_cmp k kept.0) (sym (get_or-map (λ (row : KeptOffset). row.0) new renewal.at d) ∙ ap (λ l. get_or l renewal.at d.0) same ∙ get_or-map (λ (row : KeptOffset). row.0) old renewal.at d)
+        ∙ is.own.1 d,
+  );
+  stored = is.stored;
+}
+
+renewals_stay : (old new kept : List KeptOffset) (renewals : List Renewal) → keys new ≡ keys old → AreRenewals old kept renewals → AreRenewals new kept renewals
+renewals_stay old new [] [] same are = tt
+renewals_stay old new [] (renewal ∷ renewals) same are = absurd are
+renewals_stay old new (k ∷ kept) [] same are = absurd are
+renewals_stay old new (k ∷ kept) (renewal ∷ renewals) same are = (renewal_stays old new k renewal same are.0, renewals_stay old new kept renewals same are.1)
+
+-- what entries set in place is what they put
+fold-renewed : (rows kept : List KeptOffset) (renewals : List Renewal) → AreRenewals rows kept renewals → fold renewed rows renewals ≡ fold put_kept rows kept
+fold-renewed rows [] [] are = refl
+fold-renewed rows [] (renewal ∷ renewals) are = absurd are
+fold-renewed rows (k ∷ kept) [] are = absurd are
+fold-renewed rows (k ∷ kept) (renewal ∷ renewals) are =
+    fold-renewed (renewed rows renewal) kept renewals (renewals_stay rows (renewed rows renewal) kept renewals (keys-renewed rows renewal) are.1)
+    ∙ ap (λ l. fold put_kept l kept) (renewed_is_put rows rows k renewal refl are.0)
+
+length-fold_renewed : (rows : List KeptOffset) (renewals : List Renewal) → length (fold renewed rows renewals) ≡ length rows
+length-fold_renewed rows [] = refl
+length-fold_renewed rows (renewal ∷ renewals) = length-fold_renewed (renewed rows renewal) renewals ∙ simp length-set
+
+are_below : (rows kept : List KeptOffset) (renewals : List Renewal) → AreRenewals rows kept renewals → AreBelow (length rows) renewals
+are_below rows [] [] are = tt
+are_below rows [] (renewal ∷ renewals) are = absurd are
+are_below rows (k ∷ kept) [] are = absurd are
+are_below rows (k ∷ kept) (renewal ∷ renewals) are = (are.0.own.0, are_below rows kept renewals are.1)
+
+-- what is known of renewals that were found in rows
+pub renewals_below : (rows deref kept : List KeptOffset) (renewals : List Renewal) → deref ≡ rows → AreRenewals deref kept renewals → AreBelow (length rows) renewals
+renewals_below rows deref kept renewals same are = are_below rows kept renewals (subst (λ l. AreRenewals l kept renewals) same are)
+
+pub renewals_are_puts : (rows deref kept : List KeptOffset) (renewals : List Renewal) → deref ≡ rows → AreRenewals deref kept renewals
+    → (fold renewed rows renewals ≡ fold put_kept rows kept) × (length (fold renewed rows renewals) ≡ length rows)
+renewals_are_puts rows deref kept renewals same are =
+    (fold-renewed rows kept renewals (subst (λ l. AreRenewals l kept renewals) same are), length-fold_renewed rows renewals)
+
+pub renewals-more : (rows kept : List KeptOffset) (renewals : List Renewal) (new : KeptOffset) (renewal : Renewal)
+    → AreRenewals rows kept renewals → IsRenewal rows new renewal → AreRenewals rows (kept ++ new ∷ []) (renewals ++ renewal ∷ [])
+renewals-more rows [] [] new renewal are is = (is, tt)
+renewals-more rows [] (r ∷ renewals) new renewal are is = absurd are
+renewals-more rows (k ∷ kept) [] new renewal are is = absurd are
+renewals-more rows (k ∷ kept) (r ∷ renewals) new renewal are is = (are.0, renewals-more rows kept renewals new renewal are.1 is)
