@@ -3,6 +3,7 @@ use Rattle.std.proofs.Common.{◌≡◌, ℕ, true, false, List, map, Option, So
 use Rattle.cg_names.specs.declared.code.Code.{Code}
 use Rattle.cg_names.specs.declared.code.Code.TheVariants.{InvalidGroupId, OffsetMetadataTooLarge, UnknownMemberId}
 use Rattle.cg_record.specs.declared.entry.Entry.{Entry}
+use Rattle.cg_group.specs.declared.commit_entry.CommitEntry.{CommitEntry}
 use Rattle.cg_group.specs.declared.effects.Effects.{Effects}
 use Rattle.cg_group.specs.declared.group.Group.{Group}
 use Rattle.cg_group.specs.declared.request.BeatRequest.{BeatRequest}
@@ -14,7 +15,7 @@ use Rattle.cg_group.specs.declared.ticket.Ticket.{Ticket}
 use Rattle.cg_group.specs.declared.turn.Turn.{Turn}
 use Rattle.cg_group.specs.Beating.{beat_held, beat_reply, beat_taken}
 use Rattle.cg_group.specs.Commits.{is_too_large, kept_entry}
-use Rattle.cg_group.specs.Committing.{commit_effects, commit_held, committed, committer, hearing_committer, keeping_entries}
+use Rattle.cg_group.specs.Committing.{commit_by, commit_effects, commit_held, committed, committer, hearing_committer, keeping_entries}
 use Rattle.cg_group.specs.InPlace.{IsBeatIn, IsCurrent, IsNamed, IsSyncIn}
 use Rattle.cg_group.specs.Machine.{at_moment, beat, commit, commit_in, concluded, find_group, named_group, outcome, reply_alone, sync, with_group}
 use Rattle.cg_group.specs.Membership.{hearing}
@@ -82,27 +83,24 @@ commit_refused now r ticket groups own g code at e =
     commit_here now r ticket groups own g at
     ∙ ap (λ o. o >>= λ who. refused_if (is_too_large r.entries) OffsetMetadataTooLarge >>= λ _. Ok (committed r.entries ticket (hearing_committer now who g))) e
 
-pub commit_too_large : (now : ℕ) (r : CommitRequest) (ticket : Ticket) (groups : List Group) (own : List ℕ) (g : Group) (who : Option (List ℕ)) → IsNamed r.group groups own g → committer r.generation r.instance r.member g ≡ Ok who → is_too_large r.entries ≡ true → commit now r ticket groups ≡ Err OffsetMetadataTooLarge
+pub commit_taken : (now : ℕ) (r : CommitRequest) (ticket : Ticket) (groups : List Group) (own : List ℕ) (g : Group) (who : Option (List ℕ)) → IsNamed r.group groups own g → committer r.generation r.instance r.member g ≡ Ok who → commit now r ticket groups ≡ commit_by now who r.entries ticket g
 unfolding commit_held
-commit_too_large now r ticket groups own g who at e large =
-    commit_here now r ticket groups own g at
-    ∙ ap (λ o. o >>= λ who. refused_if (is_too_large r.entries) OffsetMetadataTooLarge >>= λ _. Ok (committed r.entries ticket (hearing_committer now who g))) e
-    ∙ ap (λ b. refused_if b OffsetMetadataTooLarge >>= λ _. Ok (committed r.entries ticket (hearing_committer now who g))) large
+commit_taken now r ticket groups own g who at e = commit_here now r ticket groups own g at ∙ ap (λ o. o >>= λ who. commit_by now who r.entries ticket g) e
+
+pub commit_too_large : (now : ℕ) (entries : List CommitEntry) (ticket : Ticket) (g : Group) (who : Option (List ℕ)) → is_too_large entries ≡ true → commit_by now who entries ticket g ≡ Err OffsetMetadataTooLarge
+commit_too_large now entries ticket g who large = ap (λ b. refused_if b OffsetMetadataTooLarge >>= λ _. Ok (committed entries ticket (hearing_committer now who g))) large
 
 id-committer : (now : ℕ) (who : Option (List ℕ)) (g : Group) → (hearing_committer now who g).id ≡ g.id
 id-committer now None g = refl
 id-committer now (Some id) g = id-hearing now id g
 
-pub commit_in_place : (now : ℕ) (r : CommitRequest) (ticket : Ticket) (groups after : List Group) (own : List ℕ) (g : Group) (who : Option (List ℕ)) (e : Effects) (entries : List Entry) → IsNamed r.group groups own g → committer r.generation r.instance r.member g ≡ Ok who → is_too_large r.entries ≡ false → entries ≡ map kept_entry r.entries
-    → after ≡ with_group (hearing_committer now who g) groups → e ≡ commit_effects entries ticket own → concluded (at_moment now groups) ticket (commit now r ticket groups) ≡ outcome now after e
-unfolding concluded commit_held keeping_entries
-commit_in_place now r ticket groups after own g who e entries at from few kept put made =
+pub commit_in_place : (now : ℕ) (given : List CommitEntry) (ticket : Ticket) (groups after : List Group) (own : List ℕ) (g : Group) (who : Option (List ℕ)) (e : Effects) (entries : List Entry) → find_group own groups ≡ Some g → is_too_large given ≡ false → entries ≡ map kept_entry given
+    → after ≡ with_group (hearing_committer now who g) groups → e ≡ commit_effects entries ticket own → concluded (at_moment now groups) ticket (commit_by now who given ticket g) ≡ outcome now after e
+unfolding concluded keeping_entries
+commit_in_place now given ticket groups after own g who e entries found few kept put made =
     let h : Group = hearing_committer now who g in
-    ap (concluded (at_moment now groups) ticket)
-    (commit_here now r ticket groups own g at
-    ∙ ap (λ o. o >>= λ who. refused_if (is_too_large r.entries) OffsetMetadataTooLarge >>= λ _. Ok (committed r.entries ticket (hearing_committer now who g))) from
-    ∙ ap (λ b. refused_if b OffsetMetadataTooLarge >>= λ _. Ok (committed r.entries ticket h)) few)
-    ∙ ap (λ gs. outcome now gs (commit_effects (map kept_entry r.entries) ticket h.id)) (sym put)
-    ∙ ap (λ i. outcome now after (commit_effects (map kept_entry r.entries) ticket i)) (id-committer now who g ∙ found_named own groups g at.found)
+    ap (λ b. concluded (at_moment now groups) ticket (refused_if b OffsetMetadataTooLarge >>= λ _. Ok (committed given ticket h))) few
+    ∙ ap (λ gs. outcome now gs (commit_effects (map kept_entry given) ticket h.id)) (sym put)
+    ∙ ap (λ i. outcome now after (commit_effects (map kept_entry given) ticket i)) (id-committer now who g ∙ found_named own groups g found)
     ∙ ap (λ es. outcome now after (commit_effects es ticket own)) (sym kept)
     ∙ ap (outcome now after) (sym made)

@@ -65,12 +65,17 @@ keeping_entries entries ticket g = record { group = g; replies = (ticket, reply.
 abbrev pub committed : List CommitEntry → Ticket → Group → Turn
 committed entries ticket g = keeping_entries (map kept_entry entries) ticket g
 
+-- COMMIT of who may commit
+abbrev pub commit_by : ℕ → Option (List ℕ) → List CommitEntry → Ticket → Group → Result Turn Code
+commit_by now who entries ticket g = do
+  _ ← refused_if (is_too_large entries) OffsetMetadataTooLarge
+  Ok (committed entries ticket (hearing_committer now who g))
+
 -- COMMIT in a group that is held
 unfoldable pub commit_held : ℕ → ℤ → Option (List ℕ) → Option (List ℕ) → List CommitEntry → Ticket → Group → Result Turn Code
 commit_held now generation instance member entries ticket g = do
   who ← committer generation instance member g
-  _ ← refused_if (is_too_large entries) OffsetMetadataTooLarge
-  Ok (committed entries ticket (hearing_committer now who g))
+  commit_by now who entries ticket g
 
 -- COMMIT in a group that is not held: it is made, without members
 unfoldable pub commit_unheld : ℤ → List CommitEntry → Ticket → ℕ → List ℕ → Result Turn Code

@@ -15,6 +15,7 @@ pub mod Syncing
 pub mod Replacing
 pub mod Admission
 pub mod Handing
+pub mod Few
 pub mod Asking
 pub mod Assignments
 pub mod Beating

@@ -3,7 +3,7 @@ ghost use Rattle.std.specs.Prelude.{◌≡◌, ◌++◌, OnOk, IfOk};
 ghost use Rattle.cg_group.specs.Waiting.{answer, answers, refusing};
 
 use crate::calls::Calls;
-use crate::listed::Listed;
+use crate::few::Few;
 use crate::member::Member;
 use crate::reply::Reply;
 use crate::ticket::Ticket;
@@ -40,7 +40,7 @@ pub fn answer_one<T: Telling>(
     which: Calls,
     teller: &T,
     member: &Member,
-    replies: &mut Listed<(Ticket, Reply)>,
+    replies: &mut Few<(Ticket, Reply)>,
 ) -> Result<(), AllocError>
     ensures { OnOk result (replies.new ≡ replies.old ++ answer which (T.tells teller.now) member.now) }
 {
@@ -56,7 +56,7 @@ pub fn answer_all<T: Telling>(
     which: Calls,
     teller: &T,
     members: &[Member],
-    replies: &mut Listed<(Ticket, Reply)>,
+    replies: &mut Few<(Ticket, Reply)>,
 ) -> Result<(), AllocError>
     ensures { OnOk result (replies.new ≡ replies.old ++ answers which (T.tells teller.now) members.now) }
 {

@@ -3,9 +3,9 @@ ghost use Rattle.std.specs.Prelude.{◌≡◌, []};
 ghost use Rattle.cg_group.specs.Changes.{AreHeld, changed};
 
 use crate::effects::Effects;
+use crate::few::Few;
 use crate::group::Group;
 use crate::held::Held;
-use crate::listed::Listed;
 use cg_names::GroupId;
 use std::alloc::Global;
 
@@ -36,8 +36,8 @@ impl Changes {
             groups: Vec::new(alloc),
             answered: Vec::new(alloc),
             effects: Effects {
-                commands: Listed::new(alloc),
-                replies: Listed::new(alloc),
+                commands: Few::new(alloc),
+                replies: Few::new(alloc),
             },
         }
     }

@@ -1,19 +1,17 @@
 //! COMMIT: how far a group has read.
-ghost use Rattle.std.specs.Prelude.{◌≡◌, ℕ, List, Ok, Err, Some, IfOk, OnErr, MatchResult};
+ghost use Rattle.std.specs.Prelude.{◌≡◌, ℕ, List, Ok, Err, Some, IfOk, MatchResult};
 ghost use Rattle.std.specs.Option.{option_copied};
 ghost use Rattle.cg_group.specs.Committing.{commit_effects, commit_of_member, commit_unheld, committer, keeping_entries};
 ghost use Rattle.cg_group.specs.Joining.{new_group};
-ghost use Rattle.cg_group.specs.Offsets.{offsets_after};
 
 use crate::bounds::GROUPS_MAX;
 use crate::commits::Commits;
 use crate::effects::Effects;
 use crate::fencing::checked_member;
+use crate::few::Few;
 use crate::group::{Group, Phase};
-use crate::listed::Listed;
 use crate::reply::Reply;
 use crate::ticket::Ticket;
-use cg_fold::Offsets;
 use cg_names::{Code, InstanceId, MemberId};
 use cg_record::{Command, Committed, Entries};
 use std::alloc::{AllocError, Global};
@@ -64,27 +62,14 @@ pub fn committer<'a>(
     }
 }
 
-/// Keeps a commit: its command and its reply. Want of memory leaves the offsets as they were.
-#[tactic(auto, unfolding(cg_fold::specs::Durable::effect))]
-pub fn keep_commit(
-    alloc: Global,
-    offsets: &mut Offsets,
-    committed: Committed,
-    ticket: Ticket,
-) -> Result<Effects, AllocError>
-    ensures effects { IfOk result (λ e. e ≡ commit_effects committed.entries ticket committed.group) }
-    ensures offsets { IfOk result (λ e. offsets.new ≡ offsets_after offsets.old e.commands) }
-    ensures err { OnErr result (offsets.new ≡ offsets.old) }
+/// The command that keeps a commit, and the reply. Takes no memory.
+pub fn kept(alloc: Global, committed: Committed, ticket: Ticket) -> Effects
+    ensures { result ≡ commit_effects committed.entries ticket committed.group }
 {
-    let mut commands = Vec::with_capacity(alloc, 1)?;
-    let mut replies = Listed::new(alloc);
-    replies.push((ticket, Reply::Done))?;
-    offsets.commit(&committed)?;
-    commands.push_reserved(Command::Committed(committed));
-    Ok(Effects {
-        commands: Listed::from_vec(commands),
-        replies,
-    })
+    Effects {
+        commands: Few::one(alloc, Command::Committed(committed)),
+        replies: Few::one(alloc, (ticket, Reply::Done)),
+    }
 }
 
 /// What a COMMIT in a group that is not held keeps, beside so many that are.

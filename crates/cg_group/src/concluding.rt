@@ -25,10 +25,7 @@ pub fn conclude(
     ensures err { OnErr result (held.new ≡ held.old) }
 {
     match concluding {
-        Err(code) => {
-            let effects = reply_alone(alloc, ticket, Reply::Refused(code))?;
-            Ok(effects)
-        }
+        Err(code) => Ok(reply_alone(alloc, ticket, Reply::Refused(code))),
         Ok(turn) => {
             let Turn {
                 group,

@@ -1,4 +1,4 @@
-use crate::listed::Listed;
+use crate::few::Few;
 use crate::reply::Reply;
 use crate::ticket::Ticket;
 use cg_record::Command;
@@ -6,6 +6,6 @@ use cg_record::Command;
 /// What an event made, each in its order.
 #[derive(Debug, Drop)]
 pub struct Effects {
-    pub commands: Listed<Command>,
-    pub replies: Listed<(Ticket, Reply)>,
+    pub commands: Few<Command>,
+    pub replies: Few<(Ticket, Reply)>,
 }

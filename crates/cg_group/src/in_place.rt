@@ -1,9 +1,9 @@
 //! Requests that hear a member and change nothing else are taken in the place of their group, without a copy of it.
-ghost use Rattle.std.specs.Prelude.{◌≡◌, ℕ, Bool, List, Some, Err, IfOk, OnOk, OnErr, IsOk, MatchResult, MatchOption, ⊤};
+ghost use Rattle.std.specs.Prelude.{◌≡◌, ℕ, Bool, List, Some, Err, IfOk, OnErr, MatchResult, MatchOption, ⊤};
 ghost use Rattle.cg_group.specs.declared.group.Group.{Group};
 ghost use Rattle.cg_group.specs.InPlace.{IsBeatIn, IsSyncIn};
-ghost use Rattle.cg_group.specs.Committing.{hearing_committer};
-ghost use Rattle.cg_group.specs.Machine.{InOrder, at_moment, outcome, reply_alone, concluded, beat, commit, find_group, named_group, sync, with_group};
+ghost use Rattle.cg_group.specs.Committing.{commit_by, hearing_committer};
+ghost use Rattle.cg_group.specs.Machine.{InOrder, at_moment, outcome, reply_alone, concluded, beat, find_group, sync, with_group};
 ghost use Rattle.std.specs.Option.{option_copied};
 ghost use Rattle.cg_group.specs.Membership.{hearing};
 ghost use Rattle.cg_group.specs.Offsets.{offsets_after};
@@ -11,32 +11,31 @@ ghost use Rattle.cg_group.specs.Sessions.{AreKnown};
 ghost use Rattle.cg_group.specs.Syncing.{sync_current, sync_held};
 
 use crate::beating::{beat_reply, beating_member};
-use crate::committing::{committer, keep_commit};
+use crate::commits::Commits;
+use crate::committing::kept;
 use crate::effects::Effects;
 use crate::fencing::checked_member;
+use crate::few::Few;
 use crate::group::{Group, Phase};
 use crate::held::Held;
-use crate::listed::Listed;
 use crate::member::Member;
 use crate::naming::named;
 use crate::reply::Reply;
-use crate::request::{BeatRequest, CommitRequest, SyncRequest};
+use crate::request::{BeatRequest, SyncRequest};
 use crate::ticket::Ticket;
 use cg_fold::Offsets;
 use cg_names::{Code, GroupId, MemberId, Moment};
 use cg_record::{Assignment, Committed};
 use std::alloc::{AllocError, Global};
 
-/// One reply, and nothing else.
-pub fn reply_alone(alloc: Global, ticket: Ticket, reply: Reply) -> Result<Effects, AllocError>
-    ensures { IfOk result (λ e. e ≡ reply_alone ticket reply) }
+/// One reply, and nothing else. Takes no memory.
+pub fn reply_alone(alloc: Global, ticket: Ticket, reply: Reply) -> Effects
+    ensures { result ≡ reply_alone ticket reply }
 {
-    let mut replies = Listed::new(alloc);
-    replies.push((ticket, reply))?;
-    Ok(Effects {
-        commands: Listed::new(alloc),
-        replies,
-    })
+    Effects {
+        commands: Few::new(alloc),
+        replies: Few::one(alloc, (ticket, reply)),
+    }
 }
 
 // Hears the member in the group with this id, and replies.
@@ -47,15 +46,12 @@ fn hear_in(
     id: &MemberId,
     ticket: Ticket,
     reply: Reply,
-) -> Result<Effects, AllocError>
-    ensures groups { OnOk result
-        ((g : Group) → find_group own.now held.old ≡ Some g → held.new ≡ with_group (hearing now id.now g) held.old) }
-    ensures effects { IfOk result (λ e. e ≡ reply_alone ticket reply) }
-    ensures err { OnErr result (held.new ≡ held.old) }
+) -> Effects
+    ensures groups { (g : Group) → find_group own.now held.old ≡ Some g → held.new ≡ with_group (hearing now id.now g) held.old }
+    ensures effects { result ≡ reply_alone ticket reply }
 {
-    let effects = reply_alone(held.allocator(), ticket, reply)?;
     held.hear(own, id, now);
-    Ok(effects)
+    reply_alone(held.allocator(), ticket, reply)
 }
 
 // In which group a BEAT is taken, from which member, and how it is answered.
@@ -75,26 +71,13 @@ fn beating<'a>(
     }
 }
 
-/// A BEAT.
-pub fn meet_beat(
-    now: Moment,
-    held: &mut Held,
-    ticket: Ticket,
-    r: &BeatRequest,
-) -> Result<Effects, AllocError>
-    ensures ok { IfOk result
-        (λ e. concluded (at_moment now held.old) ticket (beat now r.now ticket held.old) ≡ outcome now held.new e) }
-    ensures err { OnErr result (held.new ≡ held.old) }
+/// A BEAT. Takes no memory.
+pub fn meet_beat(now: Moment, held: &mut Held, ticket: Ticket, r: &BeatRequest) -> Effects
+    ensures { concluded (at_moment now held.old) ticket (beat now r.now ticket held.old) ≡ outcome now held.new result }
 {
     match beating(r, held) {
-        Err(code) => {
-            let effects = reply_alone(held.allocator(), ticket, Reply::Refused(code))?;
-            Ok(effects)
-        }
-        Ok((own, id, reply)) => {
-            let effects = hear_in(now, held, own, id, ticket, reply)?;
-            Ok(effects)
-        }
+        Err(code) => reply_alone(held.allocator(), ticket, Reply::Refused(code)),
+        Ok((own, id, reply)) => hear_in(now, held, own, id, ticket, reply),
     }
 }
 
@@ -139,7 +122,7 @@ pub fn syncing<'a>(
     }
 }
 
-/// A SYNC that is answered at once.
+/// A SYNC that is answered at once. Takes no memory.
 pub fn sync_in(
     now: Moment,
     held: &mut Held,
@@ -147,16 +130,12 @@ pub fn sync_in(
     own: &GroupId,
     id: &MemberId,
     assignment: Assignment,
-) -> Result<Effects, AllocError>
-    ensures ok { IfOk result
-        (λ e. (r : SyncRequest) → IsSyncIn r held.old own.now id.now assignment
-        → concluded (at_moment now held.old) ticket (sync now r ticket held.old) ≡ outcome now held.new e) }
-    ensures known { OnOk result
-        ((r : SyncRequest) (homes : ℕ → List ℕ → Bool) → IsSyncIn r held.old own.now id.now assignment → AreKnown homes held.old → AreKnown homes held.new) }
-    ensures err { OnErr result (held.new ≡ held.old) }
+) -> Effects
+    ensures met { (r : SyncRequest) → IsSyncIn r held.old own.now id.now assignment
+        → concluded (at_moment now held.old) ticket (sync now r ticket held.old) ≡ outcome now held.new result }
+    ensures known { (r : SyncRequest) (homes : ℕ → List ℕ → Bool) → IsSyncIn r held.old own.now id.now assignment → AreKnown homes held.old → AreKnown homes held.new }
 {
-    let effects = hear_in(now, held, own, id, ticket, Reply::Synced(assignment))?;
-    Ok(effects)
+    hear_in(now, held, own, id, ticket, Reply::Synced(assignment))
 }
 
 // Hears who commits, in the group with this id.
@@ -170,51 +149,30 @@ fn hear_committer(now: Moment, held: &mut Held, own: &GroupId, who: Option<&Memb
     }
 }
 
-/// A COMMIT in a group that is held.
+/// A COMMIT of who may commit, in the group with this id, which is held. The id and the entries go into the command.
+#[tactic(auto, unfolding(cg_fold::specs::Durable::effect))]
 pub fn commit_in(
     now: Moment,
     held: &mut Held,
     offsets: &mut Offsets,
     ticket: Ticket,
-    r: CommitRequest,
+    id: GroupId,
+    who: Option<&MemberId>,
+    entries: Commits,
 ) -> Result<Effects, AllocError>
-    requires { IsOk (named_group r.group held.old) }
-    ensures ok { IfOk result
-        (λ e. concluded (at_moment now held.old) ticket (commit now r ticket held.old) ≡ outcome now held.new e) }
+    requires { InOrder held.old }
+    ensures ok { IfOk result (λ e. (g : Group) → find_group id held.old ≡ Some g
+        → concluded (at_moment now held.old) ticket (commit_by now (option_copied who.entry) entries ticket g) ≡ outcome now held.new e) }
     ensures offsets { IfOk result (λ e. offsets.new ≡ offsets_after offsets.old e.commands) }
     ensures err { OnErr result ((held.new ≡ held.old) × (offsets.new ≡ offsets.old)) }
 {
     let alloc = held.allocator();
-    let CommitRequest {
-        group,
-        generation,
-        instance,
-        member,
-        entries,
-    } = r;
-    let (own, group) = match named(held, &group) {
-        Ok(named) => named,
-        Err(code) => {
-            let effects = reply_alone(alloc, ticket, Reply::Refused(code))?;
-            return Ok(effects);
-        }
+    let Some(entries) = entries.into_entries(alloc)? else {
+        let refused = Reply::Refused(Code::OffsetMetadataTooLarge);
+        return Ok(reply_alone(alloc, ticket, refused));
     };
-    match committer(generation, &instance, &member, group) {
-        Err(code) => {
-            let effects = reply_alone(alloc, ticket, Reply::Refused(code))?;
-            Ok(effects)
-        }
-        Ok(who) => {
-            let Some(entries) = entries.into_entries(alloc)? else {
-                let refused = Reply::Refused(Code::OffsetMetadataTooLarge);
-                let effects = reply_alone(alloc, ticket, refused)?;
-                return Ok(effects);
-            };
-            let id = own.clone()?;
-            let committed = Committed { group: id, entries };
-            let effects = keep_commit(alloc, offsets, committed, ticket)?;
-            hear_committer(now, held, own, who);
-            Ok(effects)
-        }
-    }
+    let committed = Committed { group: id, entries };
+    offsets.commit(&committed)?;
+    hear_committer(now, held, &committed.group, who);
+    Ok(kept(alloc, committed, ticket))
 }

@@ -8,8 +8,8 @@ ghost use Rattle.std.specs.List.{list_any};
 use crate::answers::{Refusing, answer_all, answer_one};
 use crate::calls::{Calls, is_waiting};
 use crate::copies::copied_group;
+use crate::few::Few;
 use crate::group::{Group, Phase};
-use crate::listed::Listed;
 use crate::member::Member;
 use crate::members::Members;
 use crate::rebalance::{leads, prepared, tried, turn_of};
@@ -68,14 +68,14 @@ fn left(
     ensures { IfOk result (λ t. t ≡ left id.now ticket member.now group.now) }
 {
     let group = without(alloc, id, group)?;
-    let mut replies = Listed::new(alloc);
+    let mut replies = Few::new(alloc);
     let refusing = Refusing(Code::UnknownMemberId);
     answer_one(Calls::Any, &refusing, member, &mut replies)?;
     replies.push((ticket, Reply::Done))?;
     Ok(Turn {
         group,
         replies,
-        commands: Listed::new(alloc),
+        commands: Few::new(alloc),
     })
 }
 

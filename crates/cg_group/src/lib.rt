@@ -24,6 +24,7 @@ mod event;
 mod everywhere;
 mod fencing;
 mod fetching;
+mod few;
 mod group;
 mod groups;
 mod held;
@@ -62,6 +63,7 @@ pub use commit_entry::CommitEntry;
 pub use commits::Commits;
 pub use effects::Effects;
 pub use event::Event;
+pub use few::{Few, Items};
 pub use group::{Group, Phase};
 pub use groups::Groups;
 pub use laws::{

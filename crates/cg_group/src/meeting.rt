@@ -1,26 +1,26 @@
 //! What an event does to the groups that are held.
-ghost use Rattle.std.specs.Prelude.{◌≡◌, Ok, Err, IfOk, OnErr, IsErr, MatchResult};
+ghost use Rattle.std.specs.Prelude.{◌≡◌, Ok, Err, None, length, IfOk, OnErr, MatchResult};
 ghost use Rattle.cg_group.specs.Leaving.{gone_in};
-ghost use Rattle.cg_group.specs.Committing.{keeping_entries};
+ghost use Rattle.cg_group.specs.Committing.{commit_unheld, keeping_entries};
 ghost use Rattle.cg_group.specs.Joining.{new_group};
 ghost use Rattle.cg_group.specs.Offsets.{offsets_after};
 ghost use Rattle.cg_group.specs.Sessions.{AreKnown, is_home};
 ghost use Rattle.cg_group.specs.Ticking.{ticked};
-ghost use Rattle.cg_group.specs.Machine.{named_group, at_moment, standing, outcome, outcome_beside, find_group, concluded, commit, deleting, deleted, deleted_alone, describe, everywhere, met};
+ghost use Rattle.cg_group.specs.Machine.{at_moment, standing, outcome, outcome_beside, find_group, concluded, commit, deleting, deleted, deleted_alone, describe, everywhere, met};
 
 use crate::changes::{Changes, put_all};
-use crate::committing::{committing_unheld, keep_commit};
+use crate::commits::Commits;
+use crate::committing::{committer, committing_unheld, kept};
 use crate::describing::{description, listings};
 use crate::effects::Effects;
 use crate::event::Event;
 use crate::everywhere::{Going, Ticking, everywhere};
 use crate::fetching::fetched;
+use crate::few::Few;
 use crate::held::Held;
 use crate::homes::turn_there;
 use crate::in_place::{commit_in, meet_beat, reply_alone};
 use crate::joining::new_group;
-use crate::listed::Listed;
-use crate::naming::named;
 use crate::parking::{meet_join, meet_leave, meet_sync};
 use crate::reply::Reply;
 use crate::request::CommitRequest;
@@ -50,6 +50,7 @@ fn describe(alloc: Global, id: &Option<GroupId>, groups: &Held) -> Result<Reply,
 }
 
 // Makes the group that a COMMIT names, without members, and keeps the commit. Want of memory makes neither.
+#[tactic(auto, unfolding(cg_fold::specs::Durable::effect))]
 fn commit_new(
     now: Moment,
     held: &mut Held,
@@ -66,47 +67,36 @@ fn commit_new(
 {
     let alloc = held.allocator();
     let own = id.clone()?;
-    let group = id.clone()?;
     held.put(new_group(alloc, own))?;
-    match keep_commit(alloc, offsets, Committed { group, entries }, ticket) {
-        Ok(effects) => Ok(effects),
+    let committed = Committed { group: id, entries };
+    match offsets.commit(&committed) {
+        Ok(()) => Ok(kept(alloc, committed, ticket)),
         Err(wanting) => {
-            held.remove(&id);
+            held.remove(&committed.group);
             Err(wanting)
         }
     }
 }
 
-// A COMMIT whose group is not held, or that names none.
+// A COMMIT whose group is not held.
 fn commit_apart(
     now: Moment,
     held: &mut Held,
     offsets: &mut Offsets,
     ticket: Ticket,
-    r: CommitRequest,
+    id: GroupId,
+    generation: i32,
+    entries: Commits,
 ) -> Result<Effects, AllocError>
-    requires { IsErr (named_group r.group held.old) }
+    requires { find_group id held.old ≡ None }
     ensures ok { IfOk result
-        (λ e. concluded (at_moment now held.old) ticket (commit now r ticket held.old) ≡ outcome now held.new e) }
+        (λ e. concluded (at_moment now held.old) ticket (commit_unheld generation entries ticket (length held.old) id) ≡ outcome now held.new e) }
     ensures offsets { IfOk result (λ e. offsets.new ≡ offsets_after offsets.old e.commands) }
     ensures err { OnErr result ((held.new ≡ held.old) × (offsets.new ≡ offsets.old)) }
 {
     let alloc = held.allocator();
-    let CommitRequest {
-        group,
-        generation,
-        entries,
-        ..
-    } = r;
-    let Some(id) = group else {
-        let effects = reply_alone(alloc, ticket, Reply::Refused(Code::InvalidGroupId))?;
-        return Ok(effects);
-    };
     match committing_unheld(alloc, generation, entries, held.len())? {
-        Err(code) => {
-            let effects = reply_alone(alloc, ticket, Reply::Refused(code))?;
-            Ok(effects)
-        }
+        Err(code) => Ok(reply_alone(alloc, ticket, Reply::Refused(code))),
         Ok(entries) => {
             let effects = commit_new(now, held, offsets, ticket, id, entries)?;
             Ok(effects)
@@ -114,7 +104,7 @@ fn commit_apart(
     }
 }
 
-// A COMMIT: in its group's place where the group is held.
+// A COMMIT. Its group is looked up once.
 fn meet_commit(
     now: Moment,
     held: &mut Held,
@@ -127,13 +117,25 @@ fn meet_commit(
     ensures offsets { IfOk result (λ e. offsets.new ≡ offsets_after offsets.old e.commands) }
     ensures err { OnErr result ((held.new ≡ held.old) × (offsets.new ≡ offsets.old)) }
 {
-    match named(held, &r.group) {
-        Ok(_) => {
-            let effects = commit_in(now, held, offsets, ticket, r)?;
-            Ok(effects)
-        }
-        Err(_) => {
-            let effects = commit_apart(now, held, offsets, ticket, r)?;
+    let alloc = held.allocator();
+    let CommitRequest {
+        group,
+        generation,
+        instance,
+        member,
+        entries,
+    } = r;
+    let Some(id) = group else {
+        return Ok(reply_alone(alloc, ticket, Reply::Refused(Code::InvalidGroupId)));
+    };
+    let Some(group) = held.find(&id) else {
+        let effects = commit_apart(now, held, offsets, ticket, id, generation, entries)?;
+        return Ok(effects);
+    };
+    match committer(generation, &instance, &member, group) {
+        Err(code) => Ok(reply_alone(alloc, ticket, Reply::Refused(code))),
+        Ok(who) => {
+            let effects = commit_in(now, held, offsets, ticket, id, who, entries)?;
             Ok(effects)
         }
     }
@@ -158,14 +160,14 @@ fn deleting<'a>(id: &'a Option<GroupId>, groups: &Held) -> Result<&'a GroupId, C
     Ok(own)
 }
 
-fn deleted_alone(alloc: Global, ticket: Ticket, group: GroupId) -> Result<Effects, AllocError>
-    ensures { IfOk result (λ e. e ≡ deleted_alone ticket group) }
+fn deleted_alone(alloc: Global, ticket: Ticket, group: GroupId) -> Effects
+    ensures { result ≡ deleted_alone ticket group }
 {
-    let mut commands = Listed::new(alloc);
-    commands.push(Command::Deleted(Deleted { group }))?;
-    let mut replies = Listed::new(alloc);
-    replies.push((ticket, Reply::Done))?;
-    Ok(Effects { commands, replies })
+    let command = Command::Deleted(Deleted { group });
+    Effects {
+        commands: Few::one(alloc, command),
+        replies: Few::one(alloc, (ticket, Reply::Done)),
+    }
 }
 
 // A DELETE.
@@ -184,13 +186,10 @@ fn meet_delete(
 {
     let alloc = held.allocator();
     match deleting(id, held) {
-        Err(code) => {
-            let effects = reply_alone(alloc, ticket, Reply::Refused(code))?;
-            Ok(effects)
-        }
+        Err(code) => Ok(reply_alone(alloc, ticket, Reply::Refused(code))),
         Ok(own) => {
             let group = own.clone()?;
-            let effects = deleted_alone(alloc, ticket, group)?;
+            let effects = deleted_alone(alloc, ticket, group);
             held.remove(own);
             offsets.forget(own);
             Ok(effects)
@@ -269,10 +268,7 @@ pub fn met(
             let effects = meet_sync(now, held, homes, ticket, &r)?;
             Ok(effects)
         }
-        Event::Beat(ticket, r) => {
-            let effects = meet_beat(now, held, ticket, &r)?;
-            Ok(effects)
-        }
+        Event::Beat(ticket, r) => Ok(meet_beat(now, held, ticket, &r)),
         Event::Leave(ticket, r) => {
             let effects = meet_leave(now, held, homes, ticket, &r)?;
             Ok(effects)
@@ -283,7 +279,7 @@ pub fn met(
         }
         Event::Fetch(ticket, r) => {
             let reply = fetched(alloc, offsets, r)?;
-            reply_alone(alloc, ticket, reply)
+            Ok(reply_alone(alloc, ticket, reply))
         }
         Event::Delete(ticket, id) => {
             let effects = meet_delete(now, held, offsets, ticket, &id)?;
@@ -291,11 +287,11 @@ pub fn met(
         }
         Event::Describe(ticket, id) => {
             let reply = describe(alloc, &id, held)?;
-            reply_alone(alloc, ticket, reply)
+            Ok(reply_alone(alloc, ticket, reply))
         }
         Event::List(ticket) => {
             let list = listings(alloc, held)?;
-            reply_alone(alloc, ticket, Reply::Groups(list))
+            Ok(reply_alone(alloc, ticket, Reply::Groups(list)))
         }
         Event::Gone(session) => {
             let effects = meet_gone(now, held, homes, session)?;

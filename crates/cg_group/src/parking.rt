@@ -189,10 +189,7 @@ pub fn meet_sync(
     ensures err { OnErr result (held.new ≡ held.old) }
 {
     match syncing(r, held)? {
-        Some((own, id, assignment)) => {
-            let effects = sync_in(now, held, ticket, own, id, assignment)?;
-            Ok(effects)
-        }
+        Some((own, id, assignment)) => Ok(sync_in(now, held, ticket, own, id, assignment)),
         None => {
             let effects = meet_sync_apart(now, held, homes, ticket, r)?;
             Ok(effects)

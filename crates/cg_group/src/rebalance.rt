@@ -8,6 +8,7 @@ ghost use Rattle.cg_group.specs.Waiting.{is_waiting};
 use crate::answers::{Refusing, Telling, answer_all};
 use crate::calls::{Calls, is_waiting};
 use crate::copies::copied_name;
+use crate::few::Few;
 use crate::group::{Group, Phase};
 use crate::listed::Listed;
 use crate::member::Member;
@@ -32,8 +33,8 @@ pub fn turn_of(alloc: Global, group: Group) -> Turn
 {
     Turn {
         group,
-        replies: Listed::new(alloc),
-        commands: Listed::new(alloc),
+        replies: Few::new(alloc),
+        commands: Few::new(alloc),
     }
 }
 
@@ -238,7 +239,7 @@ fn in_next_round(alloc: Global, turn: Turn) -> Result<Turn, AllocError>
 
 // Puts the command last, that the generation has no members.
 #[tactic(auto, unfolding(crate::specs::Rebalance::emptied_command))]
-fn push_emptied(group: &Group, commands: &mut Listed<Command>) -> Result<(), AllocError>
+fn push_emptied(group: &Group, commands: &mut Few<Command>) -> Result<(), AllocError>
     ensures { OnOk result (commands.new ≡ commands.old ++ emptied_command group.now) }
 {
     let Some(generation) = CompletedGeneration::new(group.generation.get()) else {

@@ -11,6 +11,7 @@ use crate::answers::{Refusing, answer_one};
 use crate::calls::Calls;
 use crate::checked::CheckedJoin;
 use crate::copies::{copied_group, copied_name};
+use crate::few::Few;
 use crate::group::{Group, Phase};
 use crate::joining::{new_member, rejoined};
 use crate::listed::Listed;
@@ -80,7 +81,7 @@ fn replaced(alloc: Global, new: Member, old: &Member, group: &Group) -> Result<T
     requires own_id { is_some (find_member new.id group.now.members) ≡ false }
     ensures { IfOk result (λ t. t ≡ replaced new old.now group.now) }
 {
-    let mut replies = Listed::new(alloc);
+    let mut replies = Few::new(alloc);
     let refusing = Refusing(Code::FencedInstanceId);
     answer_one(Calls::Any, &refusing, old, &mut replies)?;
     let own = copied_group(alloc, group)?;
@@ -88,7 +89,7 @@ fn replaced(alloc: Global, new: Member, old: &Member, group: &Group) -> Result<T
     Ok(Turn {
         group,
         replies,
-        commands: Listed::new(alloc),
+        commands: Few::new(alloc),
     })
 }
 

@@ -7,9 +7,9 @@ use crate::answers::{Telling, answer_all};
 use crate::calls::Calls;
 use crate::copies::{copied_group, copied_name};
 use crate::fencing::checked_member;
+use crate::few::Few;
 use crate::group::{Group, Phase};
 use crate::joining::waiting;
-use crate::listed::Listed;
 use crate::member::{Member, Waits};
 use crate::rebalance::{is_preparing, leads, subscription_for, turn_of};
 use crate::reply::Reply;
@@ -107,7 +107,7 @@ fn kept_roster(
 fn push_assigned(
     alloc: Global,
     group: &Group,
-    commands: &mut Listed<Command>,
+    commands: &mut Few<Command>,
 ) -> Result<(), AllocError>
     requires { is_led group.now ≡ true }
     ensures { OnOk result (commands.new ≡ commands.old ++ assigned_command group.now) }

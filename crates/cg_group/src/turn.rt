@@ -1,5 +1,5 @@
+use crate::few::Few;
 use crate::group::Group;
-use crate::listed::Listed;
 use crate::reply::Reply;
 use crate::ticket::Ticket;
 use cg_record::Command;
@@ -8,6 +8,6 @@ use cg_record::Command;
 #[derive(Debug, Drop)]
 pub struct Turn {
     pub group: Group,
-    pub replies: Listed<(Ticket, Reply)>,
-    pub commands: Listed<Command>,
+    pub replies: Few<(Ticket, Reply)>,
+    pub commands: Few<Command>,
 }

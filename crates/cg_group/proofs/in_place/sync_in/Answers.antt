@@ -2,11 +2,11 @@ use Rattle.cg_group.proofs.InPlace.{sync_in_place}
 use Rattle.cg_group.proofs.KnownSessions.{known-heard}
 use Rattle.cg_group.proofs.in_place.sync_in.Goals as goal
 
-pub returns-clause-ok : goal.returns-clause-ok
-returns-clause-ok c =
-    λ r at. sync_in_place c.args.now r c.args.ticket c.args.held.now c.hear_in.new.held c.args.own.now c.args.id.now c.args.assignment c.in_ok-effects.effects at c.in_ok-effects.ensures.groups c.in_ok-effects.ensures.effects
+pub returns-clause-met : goal.returns-clause-met
+returns-clause-met c =
+    λ r at. sync_in_place c.args.now r c.args.ticket c.args.held.now c.hear_in.new.held c.args.own.now c.args.id.now c.args.assignment c.hear_in.result at c.hear_in.ensures.groups c.hear_in.ensures.effects
 
 pub returns-clause-known : goal.returns-clause-known
 returns-clause-known c =
     λ r homes at h.
-    known-heard homes c.args.now c.args.id.now c.args.own.now c.args.held.now c.hear_in.new.held at.group at.named.found (c.in_ok-effects.ensures.groups at.group at.named.found) h
+    known-heard homes c.args.now c.args.id.now c.args.own.now c.args.held.now c.hear_in.new.held at.group at.named.found (c.hear_in.ensures.groups at.group at.named.found) h

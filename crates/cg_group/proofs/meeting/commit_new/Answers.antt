@@ -1,5 +1,4 @@
 use Rattle.std.proofs.Common.{◌≡◌, ap, ◌∙◌}
-use Rattle.cg_group.specs.Committing.{commit_effects}
 use Rattle.cg_group.specs.Joining.{new_group}
 use Rattle.cg_group.specs.Machine.{with_group, without_group}
 use Rattle.cg_group.proofs.Made.{commit_made, unmade}
@@ -7,12 +6,12 @@ use Rattle.cg_group.proofs.meeting.commit_new.Goals as goal
 
 pub returns-in-Ok-clause-ok : goal.returns-in-Ok-clause-ok
 returns-in-Ok-clause-ok c =
-    commit_made c.args.now c.args.held.now c.put.new.self c.args.ticket c.args.entries c.args.id c.in-Ok.effects
+    commit_made c.args.now c.args.held.now c.put.new.self c.args.ticket c.args.entries c.args.id c.kept.result
     (c.in_ok-put.ensures.ok ∙ ap (λ g. with_group g c.args.held.now) (c.new_group.ensures ∙ ap new_group c.in_ok-own.ensures.cases))
-    (c.in-Ok.ensures.effects ∙ ap (commit_effects c.args.entries c.args.ticket) c.in_ok-group.ensures.cases)
+    c.kept.ensures
 
-pub returns-clause-err : goal.returns-clause-err
-returns-clause-err c =
+pub returns-in-Err-clause-err : goal.returns-in-Err-clause-err
+returns-in-Err-clause-err c =
     let made = c.new_group.ensures ∙ ap new_group c.in_ok-own.ensures.cases in
     let put = c.in_ok-put.ensures.ok ∙ ap (λ g. with_group g c.args.held.now) made in
     (c.remove.ensures ∙ ap (without_group c.args.id) put ∙ unmade c.args.id c.args.held.now c.requires, c.in-Err.ensures.err)

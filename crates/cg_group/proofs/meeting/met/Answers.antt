@@ -31,16 +31,16 @@ returns-in_ok-effects-in-Sync-clause-offsets c =
     concluded_still c.args.now c.args.held.now c.meet_sync.new.held c.args.offsets.now c.in-Sync.ticket (sync c.args.now c.in-Sync.r c.in-Sync.ticket c.args.held.now) c.in_ok-effects-in-Sync.effects
     (quiet-sync c.args.now c.in-Sync.r c.in-Sync.ticket c.args.held.now) (c.in_ok-effects-in-Sync.ensures.ok)
 
-pub returns-in_ok-effects-in-Beat-clause-ok : goal.returns-in_ok-effects-in-Beat-clause-ok
+pub returns-in-Beat-clause-ok : goal.returns-in-Beat-clause-ok
 unfolding met
-returns-in_ok-effects-in-Beat-clause-ok c =
+returns-in-Beat-clause-ok c =
     ap (met (standing c.args.now c.args.held.now c.args.offsets.now)) c.in-Beat.is
-    ∙ concluded_beside c.args.now c.args.held.now c.meet_beat.new.held c.args.offsets.now c.in-Beat.ticket (beat c.args.now c.in-Beat.r c.in-Beat.ticket c.args.held.now) c.in_ok-effects-in-Beat.effects (c.in_ok-effects-in-Beat.ensures.ok)
+    ∙ concluded_beside c.args.now c.args.held.now c.meet_beat.new.held c.args.offsets.now c.in-Beat.ticket (beat c.args.now c.in-Beat.r c.in-Beat.ticket c.args.held.now) c.meet_beat.result (c.meet_beat.ensures)
 
-pub returns-in_ok-effects-in-Beat-clause-offsets : goal.returns-in_ok-effects-in-Beat-clause-offsets
-returns-in_ok-effects-in-Beat-clause-offsets c =
-    concluded_still c.args.now c.args.held.now c.meet_beat.new.held c.args.offsets.now c.in-Beat.ticket (beat c.args.now c.in-Beat.r c.in-Beat.ticket c.args.held.now) c.in_ok-effects-in-Beat.effects
-    (quiet-beat c.args.now c.in-Beat.r c.in-Beat.ticket c.args.held.now) (c.in_ok-effects-in-Beat.ensures.ok)
+pub returns-in-Beat-clause-offsets : goal.returns-in-Beat-clause-offsets
+returns-in-Beat-clause-offsets c =
+    concluded_still c.args.now c.args.held.now c.meet_beat.new.held c.args.offsets.now c.in-Beat.ticket (beat c.args.now c.in-Beat.r c.in-Beat.ticket c.args.held.now) c.meet_beat.result
+    (quiet-beat c.args.now c.in-Beat.r c.in-Beat.ticket c.args.held.now) (c.meet_beat.ensures)
 
 pub returns-in_ok-effects-in-Leave-clause-ok : goal.returns-in_ok-effects-in-Leave-clause-ok
 unfolding met
@@ -85,10 +85,10 @@ pub returns-in_ok-effects-in-Tick-clause-offsets : goal.returns-in_ok-effects-in
 returns-in_ok-effects-in-Tick-clause-offsets c =
     everywhere_still c.args.now c.args.held.now c.meet_tick.new.held c.args.offsets.now (ticked c.args.now) c.in_ok-effects-in-Tick.effects (quiet-ticked c.args.now) c.in_ok-effects-in-Tick.ensures.ok
 
-pub returns-in_ok-effects-in-Beat-clause-known : goal.returns-in_ok-effects-in-Beat-clause-known
+pub returns-in-Beat-clause-known : goal.returns-in-Beat-clause-known
 unfolding met
-returns-in_ok-effects-in-Beat-clause-known c =
-    known-after (is_home c.args.homes.now) c.args.now c.args.held.now c.meet_beat.new.held (event.Beat c.in-Beat.ticket c.in-Beat.r) c.in_ok-effects-in-Beat.effects tt c.in_ok-effects-in-Beat.ensures.ok c.requires
+returns-in-Beat-clause-known c =
+    known-after (is_home c.args.homes.now) c.args.now c.args.held.now c.meet_beat.new.held (event.Beat c.in-Beat.ticket c.in-Beat.r) c.meet_beat.result tt c.meet_beat.ensures c.requires
 
 pub returns-in_ok-effects-in-Commit-clause-known : goal.returns-in_ok-effects-in-Commit-clause-known
 unfolding met

@@ -1,0 +1,35 @@
+use Rattle.std.proofs.Common.{◌≡◌, Some, None, length, rules, ap, ◌∙◌}
+use Rattle.std.specs.Option.{option_copied}
+use Rattle.cg_names.specs.declared.code.Code.TheVariants.{InvalidGroupId}
+use Rattle.cg_group.specs.InPlace.{IsNamed}
+use Rattle.cg_group.specs.Committing.{commit_unheld}
+use Rattle.cg_group.specs.Machine.{at_moment, commit, concluded, find_group, outcome}
+use Rattle.cg_group.proofs.InPlace.{commit_refused, commit_taken, concluded_refused}
+use Rattle.cg_group.proofs.Made.{commit_absent, commit_unnamed}
+use Rattle.cg_group.proofs.meeting.meet_commit.Goals as goal
+
+pub returns-in_default-clause-ok : goal.returns-in_default-clause-ok
+returns-in_default-clause-ok c =
+    concluded_refused c.args.now c.args.held.now c.args.ticket (commit c.args.now c.args.r c.args.ticket c.args.held.now) InvalidGroupId c.reply_alone.result
+    (commit_unnamed c.args.now c.args.r c.args.ticket c.args.held.now c.in_default.is) c.reply_alone.ensures
+
+pub returns-in_default-find-clause-ok : goal.returns-in_default-find-clause-ok
+returns-in_default-find-clause-ok c =
+    let none : find_group c.in-Some.id c.args.held.now ≡ None = search rules in
+    let apart : concluded (at_moment c.args.now c.args.held.now) c.args.ticket (commit_unheld c.args.r.generation c.args.r.entries c.args.ticket (length c.args.held.now) c.in-Some.id) ≡ outcome c.args.now c.commit_apart.new.held c.in_ok-effects.effects = search rules in
+    ap (concluded (at_moment c.args.now c.args.held.now) c.args.ticket) (commit_absent c.args.now c.args.r c.args.ticket c.args.held.now c.in-Some.id c.in-Some.is none) ∙ apart
+
+pub returns-in-Err-clause-ok : goal.returns-in-Err-clause-ok
+returns-in-Err-clause-ok c =
+    let found : find_group c.in-Some.id c.args.held.now ≡ Some c.in-Some-find.group.now = search rules in
+    let named : IsNamed c.args.r.group c.args.held.now c.in-Some.id c.in-Some-find.group.now = record { named = c.in-Some.is; found = found } in
+    concluded_refused c.args.now c.args.held.now c.args.ticket (commit c.args.now c.args.r c.args.ticket c.args.held.now) c.in-Err.code c.reply_alone-in-Err.result
+    (commit_refused c.args.now c.args.r c.args.ticket c.args.held.now c.in-Some.id c.in-Some-find.group.now c.in-Err.code named (search rules)) c.reply_alone-in-Err.ensures
+
+pub returns-clause-ok : goal.returns-clause-ok
+returns-clause-ok c =
+    let found : find_group c.in-Some.id c.args.held.now ≡ Some c.in-Some-find.group.now = search rules in
+    let named : IsNamed c.args.r.group c.args.held.now c.in-Some.id c.in-Some-find.group.now = record { named = c.in-Some.is; found = found } in
+    ap (concluded (at_moment c.args.now c.args.held.now) c.args.ticket)
+    (commit_taken c.args.now c.args.r c.args.ticket c.args.held.now c.in-Some.id c.in-Some-find.group.now (option_copied c.in-Ok.who) named (search rules))
+    ∙ c.in_ok-effects-in-Ok.ensures.ok c.in-Some-find.group.now found
