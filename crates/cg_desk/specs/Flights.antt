@@ -14,7 +14,7 @@ pub data Course : Type 0 where
 -- where it stands
 abbrev pub course_of : Flight → Course
 course_of flight.Idle = Idle
-course_of (flight.Away text) = Away text
+course_of (flight.Away commands) = Away commands
 course_of (flight.Returned batch) = Returned batch.commands
 
 -- its commands, where it is not settled
@@ -26,7 +26,7 @@ unsettled (Returned commands) = commands
 -- the number of the first command of a batch that was given back
 abbrev pub first_of : Flight → ℕ → ℕ
 first_of flight.Idle next = next
-first_of (flight.Away text) next = next
+first_of (flight.Away commands) next = next
 first_of (flight.Returned batch) next = batch.first
 
 -- a batch is in flight

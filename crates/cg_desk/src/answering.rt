@@ -10,7 +10,7 @@ ghost use Rattle.cg_desk.specs.Tokens.{call_of, has_token, is_for, without};
 use crate::outgoing::Outgoing;
 use crate::permit::Permit;
 use crate::token::ReplyToken;
-use cg_group::{Listed, Reply, Ticket};
+use cg_group::{Few, Items, Reply, Ticket};
 use cg_names::Code;
 use std::collections::VecDeque;
 
@@ -57,10 +57,32 @@ pub fn answer_call(
     }
 }
 
+// Answers calls by replies in a vector.
+fn answer_many(
+    tokens: &mut VecDeque<ReplyToken>,
+    replies: Vec<(Ticket, Reply)>,
+    need: u64,
+    permit: &Permit,
+    out: &mut Vec<Outgoing>,
+)
+    requires need { need ≤ front_of permit.now }
+    requires room { vec_len out.old + deque_len tokens.old ≤ vec_capacity out.old }
+    ensures out { out.new.items ≡ out.old.items ++ answering replies.items tokens.old.items }
+    ensures tokens { tokens.new.items ≡ after_answering replies.items tokens.old.items }
+    ensures room { vec_len out.new + deque_len tokens.new ≤ vec_capacity out.new }
+    ensures fewer { deque_len tokens.new ≤ deque_len tokens.old }
+    ensures capacity { vec_capacity out.new ≡ vec_capacity out.old }
+{
+    for reply in replies {
+        answer_call(tokens, reply, need, permit, out);
+    }
+}
+
 /// Answers calls by their replies, in their order.
+#[tactic(auto, unfolding(crate::specs::Answering::answering, crate::specs::Answering::after_answering))]
 pub fn answer_calls(
     tokens: &mut VecDeque<ReplyToken>,
-    replies: Listed<(Ticket, Reply)>,
+    replies: Few<(Ticket, Reply)>,
     need: u64,
     permit: &Permit,
     out: &mut Vec<Outgoing>,
@@ -73,8 +95,9 @@ pub fn answer_calls(
     ensures fewer { deque_len tokens.new ≤ deque_len tokens.old }
     ensures capacity { vec_capacity out.new ≡ vec_capacity out.old }
 {
-    for reply in replies.into_vec() {
-        answer_call(tokens, reply, need, permit, out);
+    match replies.into_items() {
+        Items::One([reply]) => answer_call(tokens, reply, need, permit, out),
+        Items::Many(replies) => answer_many(tokens, replies, need, permit, out),
     }
 }
 

@@ -13,16 +13,17 @@ use crate::outgoing::Outgoing;
 use crate::permit::Permit;
 use crate::queue::Queue;
 use crate::serving::Serving;
-use cg_store::{Batch, Receipt, Text};
+use cg_store::{Batch, Commands, Receipt};
 use std::alloc::{AllocError, Global};
 use std::mem;
 
-// Takes as many commands from the front of the queue as one frame holds, and their text, to know them again. Want of memory takes none.
+// Takes as many commands from the front of the queue as one frame holds: their batch, and they again, to know it by. Want of memory
+// takes none.
 fn take_front(
     alloc: Global,
     queue: &mut Queue,
     settled: u64,
-) -> Result<Option<(Batch, Text)>, AllocError>
+) -> Result<Option<(Batch, Commands)>, AllocError>
     requires { settled + length (commands_of queue.old) < 2 ^ 64 }
     ensures none { IfOk result (λ o. MatchOption o (commands_of queue.old ≡ []) (λ t. ⊤)) }
     ensures batch { IfOk result (λ o. MatchOption o ⊤ (λ t. (t.0.first ≡ settled + 1) × (t.0.commands ≡ take (in_frame (commands_of queue.old)) (commands_of queue.old)) × (t.1 ≡ take (in_frame (commands_of queue.old)) (commands_of queue.old)))) }
@@ -59,8 +60,8 @@ fn check(flight: &Flight, settled: u64, batch: &Batch) -> Result<(), SettleFault
     ensures told { IfErr result (λ fault. fault ≢ SettleFault.Memory) }
 {
     match flight {
-        Flight::Away(text) => {
-            if is_next(settled, batch.first) && text.is_same(batch.text()) {
+        Flight::Away(commands) => {
+            if is_next(settled, batch.first) && commands.is_same(&batch.commands) {
                 Ok(())
             } else {
                 Err(SettleFault::Foreign)
@@ -70,30 +71,30 @@ fn check(flight: &Flight, settled: u64, batch: &Batch) -> Result<(), SettleFault
     }
 }
 
-// The text of a batch that was given back.
-fn returned_text(flight: &Flight) -> Result<Option<Text>, AllocError>
+// The commands of a batch that was given back.
+fn returned_commands(flight: &Flight) -> Result<Option<Commands>, AllocError>
     ensures { IfOk result (λ o. MatchOption o
         (is_returned (course_of flight.now) ≡ false)
-        (λ text. course_of flight.now ≡ Returned text)) }
+        (λ commands. course_of flight.now ≡ Returned commands)) }
 {
     match flight {
         Flight::Returned(batch) => {
-            let text = batch.text().clone()?;
-            Ok(Some(text))
+            let commands = batch.commands.clone()?;
+            Ok(Some(commands))
         }
         _ => Ok(None),
     }
 }
 
 // The batch that was given back leaves again.
-fn leave_again(flight: &mut Flight, text: Text) -> Batch
-    requires { course_of flight.old ≡ Returned text }
-    ensures batch { result.commands ≡ text }
+fn leave_again(flight: &mut Flight, commands: Commands) -> Batch
+    requires { course_of flight.old ≡ Returned commands }
+    ensures batch { result.commands ≡ commands }
     ensures first { (next : ℕ) → first_of flight.old next ≡ result.first }
-    ensures flight { course_of flight.new ≡ Away text }
+    ensures flight { course_of flight.new ≡ Away commands }
     ensures idle { (next : ℕ) → first_of flight.new next ≡ next }
 {
-    match mem::replace(flight, Flight::Away(text)) {
+    match mem::replace(flight, Flight::Away(commands)) {
         Flight::Returned(batch) => batch,
         _ => unreachable!(),
     }
@@ -110,16 +111,16 @@ impl Serving {
         ensures ok { IfOk result (λ o. IsTake (books self.old) o (books self.new)) }
         ensures err { OnErr result (books self.new ≡ books self.old) }
     {
-        if let Some(text) = returned_text(&self.flight)? {
-            return Ok(Some(leave_again(&mut self.flight, text)));
+        if let Some(commands) = returned_commands(&self.flight)? {
+            return Ok(Some(leave_again(&mut self.flight, commands)));
         }
         // A look at the number, for its range.
         let _numbered = self.numbered;
         match take_front(self.alloc, &mut self.queue, self.settled)? {
             None => Ok(None),
             Some(taken) => {
-                let (batch, text) = taken;
-                self.flight = Flight::Away(text);
+                let (batch, commands) = taken;
+                self.flight = Flight::Away(commands);
                 Ok(Some(batch))
             }
         }
@@ -171,7 +172,7 @@ impl Serving {
             return Err((SettleFault::Memory, receipt));
         };
         let mut out = out;
-        self.settled += receipt.batch().commands.as_slice().len() as u64;
+        self.settled += receipt.batch().commands.len() as u64;
         self.flight = Flight::Idle;
         let permit = Permit::new(self.settled);
         HeldStep::release(&mut self.held, &mut self.tokens, &permit, &mut out);

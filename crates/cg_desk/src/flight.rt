@@ -1,12 +1,12 @@
-use cg_store::{Batch, Text};
+use cg_store::{Batch, Commands};
 
 /// Where the batch stands that was taken last.
 #[derive(Debug, Drop)]
 pub enum Flight {
     /// There is none that is not settled.
     Idle,
-    /// It was taken: this is the text of its commands, to know it again.
-    Away(Text),
+    /// It was taken: these are its commands, to know it again.
+    Away(Commands),
     /// It was given back.
     Returned(Batch),
 }

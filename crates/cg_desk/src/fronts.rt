@@ -8,7 +8,7 @@ ghost use Rattle.cg_desk.specs.Fronts.{fitting, in_frame};
 
 use cg_frame::LARGEST_PAYLOAD_BYTES;
 use cg_record::{Command, size};
-use cg_store::{Batch, Commands, Text};
+use cg_store::{Batch, Commands};
 use std::alloc::{AllocError, Global};
 use std::collections::VecDeque;
 
@@ -76,29 +76,29 @@ pub fn put_back(commands: &mut VecDeque<Command>, mut front: Vec<Command>)
     }
 }
 
-// The text of commands, to go with them and to be kept.
-fn texts_of(alloc: Global, commands: &[Command]) -> Result<(Text, Text), AllocError>
-    ensures { IfOk result (λ texts. (texts.0 ≡ commands.now) × (texts.1 ≡ commands.now)) }
+// Commands as they go to the disk, to go and to be kept.
+fn both_of(alloc: Global, commands: &[Command]) -> Result<(Commands, Commands), AllocError>
+    ensures { IfOk result (λ both. (both.0 ≡ commands.now) × (both.1 ≡ commands.now)) }
 {
-    let text = Text::new(alloc, commands)?;
-    let kept = text.clone()?;
-    Ok((text, kept))
+    let leaving = Commands::new(alloc, commands)?;
+    let kept = leaving.clone()?;
+    Ok((leaving, kept))
 }
 
-/// The batch of commands that fit a frame, and its text, to know it again; or the commands, where memory is wanting.
+/// The batch of commands that fit a frame, and its commands again, to know it by; or the commands, where memory is wanting.
 pub fn batch_of(
     alloc: Global,
     first: u64,
     commands: Vec<Command>,
-) -> Result<(Batch, Text), Vec<Command>>
+) -> Result<(Batch, Commands), Vec<Command>>
     requires { IsBatch commands.items }
     ensures ok { IfOk result (λ made. (made.0.first ≡ first) × (made.0.commands ≡ commands.items) × (made.1 ≡ commands.items)) }
     ensures err { IfErr result (λ back. back.items ≡ commands.items) }
 {
-    let Ok((text, kept)) = texts_of(alloc, &commands) else {
+    let Ok((leaving, kept)) = both_of(alloc, &commands) else {
         return Err(commands);
     };
-    match Batch::new(first, Commands::from_vec(commands), text) {
+    match Batch::new(first, leaving) {
         Ok(batch) => Ok((batch, kept)),
         Err(_) => unreachable!(),
     }

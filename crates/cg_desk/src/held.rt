@@ -8,21 +8,21 @@ use crate::answering::answer_calls;
 use crate::outgoing::Outgoing;
 use crate::permit::Permit;
 use crate::token::ReplyToken;
-use cg_group::{Listed, Reply, Ticket};
+use cg_group::{Few, Reply, Ticket};
 use std::collections::VecDeque;
 
 /// The replies of one step, in their order. They may leave once the command of the number `need` is settled.
 #[derive(Debug, Drop)]
 pub struct HeldStep {
     pub need: u64,
-    pub replies: Listed<(Ticket, Reply)>,
+    pub replies: Few<(Ticket, Reply)>,
 }
 
 impl HeldStep {
     ghost use Rattle.cg_desk.specs.Held.{holding, is_waiting, released, still_held};
 
     /// Holds the replies of a step; a step without replies is not held.
-    pub fn hold(held: &mut VecDeque<HeldStep>, need: u64, replies: Listed<(Ticket, Reply)>)
+    pub fn hold(held: &mut VecDeque<HeldStep>, need: u64, replies: Few<(Ticket, Reply)>)
         requires { deque_len held.old < deque_capacity held.old }
         ensures { held.new.items ≡ held.old.items ++ holding need replies }
     {

@@ -3,7 +3,7 @@ ghost use Rattle.std.specs.Prelude.{◌≡◌, ◌≤◌, ◌<◌, ◌+◌, ◌+
 ghost use Rattle.std.specs.List.{flat_map};
 ghost use Rattle.std.specs.VecDeque.{deque_capacity, deque_len};
 
-use cg_group::Listed;
+use cg_group::{Few, Items};
 use cg_record::Command;
 use std::alloc::{AllocError, Global};
 use std::collections::VecDeque;
@@ -13,20 +13,25 @@ use std::collections::VecDeque;
 #[derive(Debug, Drop)]
 pub struct Queue {
     pub front: VecDeque<Command>,
-    pub lists: VecDeque<Listed<Command>>,
+    pub lists: VecDeque<Few<Command>>,
 }
 
 // Puts commands last, in room that was kept for them.
-fn put_last(front: &mut VecDeque<Command>, commands: Listed<Command>)
+fn put_last(front: &mut VecDeque<Command>, commands: Few<Command>)
     requires { deque_len front.old + length commands ≤ deque_capacity front.old }
     ensures { front.new.items ≡ front.old.items ++ commands }
 {
-    let mut last = VecDeque::from_vec(commands.into_vec());
-    let _ = front.append(&mut last);
+    match commands.into_items() {
+        Items::One([command]) => front.push_back_reserved(command),
+        Items::Many(commands) => {
+            let mut last = VecDeque::from_vec(commands);
+            let _ = front.append(&mut last);
+        }
+    }
 }
 
 // Puts a list last, where there are commands in it.
-fn put_list(lists: &mut VecDeque<Listed<Command>>, commands: Listed<Command>)
+fn put_list(lists: &mut VecDeque<Few<Command>>, commands: Few<Command>)
     requires { deque_len lists.old < deque_capacity lists.old }
     ensures { flat_map (λ l. l) lists.new.items ≡ flat_map (λ l. l) lists.old.items ++ commands }
 {
@@ -58,7 +63,7 @@ impl Queue {
     }
 
     /// Puts the commands of a step last, in the room that was kept.
-    pub fn put(&mut self, commands: Listed<Command>)
+    pub fn put(&mut self, commands: Few<Command>)
         requires { has_room self.old }
         ensures { commands_of self.new ≡ commands_of self.old ++ commands }
     {

@@ -10,7 +10,7 @@ use crate::answering::refuse_call;
 use crate::held::HeldStep;
 use crate::outgoing::Outgoing;
 use crate::token::ReplyToken;
-use cg_group::{Groups, Listed, Reply, Ticket};
+use cg_group::{Few, Groups, Items, Reply, Ticket};
 use cg_names::Code;
 use std::collections::VecDeque;
 
@@ -26,10 +26,28 @@ fn refuse_reply(tokens: &mut VecDeque<ReplyToken>, held: (Ticket, Reply), out: &
     refuse_call(tokens, ticket, out);
 }
 
+// Refuses the calls of replies in a vector.
+fn refuse_many(
+    tokens: &mut VecDeque<ReplyToken>,
+    replies: Vec<(Ticket, Reply)>,
+    out: &mut Vec<Outgoing>,
+)
+    requires { vec_len out.old + deque_len tokens.old ≤ vec_capacity out.old }
+    ensures out { out.new.items ≡ out.old.items ++ answering (map refusal (calls_of replies.items)) tokens.old.items }
+    ensures tokens { tokens.new.items ≡ after_answering (map refusal (calls_of replies.items)) tokens.old.items }
+    ensures room { vec_len out.new + deque_len tokens.new ≤ vec_capacity out.new }
+    ensures capacity { vec_capacity out.new ≡ vec_capacity out.old }
+{
+    for reply in replies {
+        refuse_reply(tokens, reply, out);
+    }
+}
+
 // Refuses the calls of replies that were held.
+#[tactic(auto, unfolding(crate::specs::Answering::answering, crate::specs::Answering::after_answering))]
 fn refuse_calls(
     tokens: &mut VecDeque<ReplyToken>,
-    replies: Listed<(Ticket, Reply)>,
+    replies: Few<(Ticket, Reply)>,
     out: &mut Vec<Outgoing>,
 )
     requires { vec_len out.old + deque_len tokens.old ≤ vec_capacity out.old }
@@ -38,8 +56,9 @@ fn refuse_calls(
     ensures room { vec_len out.new + deque_len tokens.new ≤ vec_capacity out.new }
     ensures capacity { vec_capacity out.new ≡ vec_capacity out.old }
 {
-    for reply in replies.into_vec() {
-        refuse_reply(tokens, reply, out);
+    match replies.into_items() {
+        Items::One([reply]) => refuse_reply(tokens, reply, out),
+        Items::Many(replies) => refuse_many(tokens, replies, out),
     }
 }
 

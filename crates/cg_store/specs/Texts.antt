@@ -4,6 +4,7 @@ use Rattle.cg_record.specs.Reading.{commands_of}
 use Rattle.cg_record.specs.declared.command.Command.{Command}
 use Rattle.cg_record.specs.declared.fault.RecordFault.{RecordFault}
 
+-- what a reading gives: nothing where it tells a fault
 abbrev pub what_is_read : Result (List Command) RecordFault → List Command
 what_is_read (Ok commands) = commands
 what_is_read (Err fault) = []

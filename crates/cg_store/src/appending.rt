@@ -44,8 +44,8 @@ fn append_frame<D: SectorDisk>(
     ensures same_size { D.size disk.new ≡ D.size disk.old }
     ensures same_honesty { D.is_honest disk.new ≡ D.is_honest disk.old }
 {
-    let count = batch.commands.as_slice().len() as u64;
-    let payload = batch.text().as_bytes();
+    let count = batch.commands.len() as u64;
+    let payload = batch.commands.as_bytes();
     let next = cg_frame::append(alloc, disk, segment(), end, count, payload)?;
     Ok(next)
 }
@@ -58,8 +58,8 @@ impl<D: SectorDisk> Store<D> {
     fn has_room_for(&self, batch: &Batch) -> bool
         ensures { result ≡ has_room (end_of self.now) (front_of self.now) batch.now.commands }
     {
-        let commands = batch.commands.as_slice();
-        let bytes = batch.text().as_bytes().len() as u64;
+        let commands = &batch.commands;
+        let bytes = commands.as_bytes().len() as u64;
         commands.len() as u64 <= COMMAND_NUMBER_MAX - self.front && fits(segment(), self.end, bytes)
     }
 
@@ -109,7 +109,7 @@ impl<D: SectorDisk> Store<D> {
         match append_frame(alloc, &mut self.disk, self.end, batch) {
             Ok(next) => {
                 self.end = next;
-                self.front += batch.commands.as_slice().len() as u64;
+                self.front += batch.commands.len() as u64;
                 Ok(())
             }
             Err(FrameFault::Memory) => Err(StoreFault::Memory),

@@ -1,44 +1,81 @@
-//! Lists of commands.
-ghost use Rattle.std.specs.Prelude.{◌≡◌};
+//! Commands as they go to the disk.
+ghost use Rattle.std.specs.Prelude.{◌≡◌, ◌↔◌, length, IfOk, IsTrue};
+ghost use Rattle.cg_record.specs.Lawful.{AreCommands};
+ghost use Rattle.cg_record.specs.Spelling.{spelling};
+ghost use Rattle.cg_store.specs.Texts.{IsText, told};
 
 use cg_record::Command;
+use std::alloc::{AllocError, Global};
 use std::marker::Model;
 
-/// Commands in their order. Contracts see them as a list.
+/// Commands in their order, kept as the text that a frame holds. Contracts see the commands: each list of them has one text.
 #[derive(Debug, Drop)]
 pub struct Commands {
-    items: Vec<Command>,
+    len: usize,
+    bytes: Vec<u8>,
+    ghost whole: { IsText bytes.items },
+    ghost counted: { len ≡ length (told bytes.items) },
 }
 
 impl Model for Commands {
     ghost use Rattle.std.specs.Prelude.{List};
     ghost use Rattle.cg_record.specs.declared.command.Command.{Command};
+    ghost use Rattle.cg_store.specs.Texts.{told};
 
     ghost Value = { List Command };
 
-    ghost view = { λ c. c.items.items };
+    ghost view = { λ c. told c.bytes.items };
+}
+
+// Bytes from which commands are read: they are the one spelling of these.
+fn spelling_of(bytes: &[u8]) -> &[u8]
+    requires { IsText bytes.now }
+    ensures spelled { result.now ≡ spelling (told bytes.now) }
+    ensures lawful { AreCommands (told bytes.now) }
+{
+    bytes
 }
 
 impl Commands {
-    /// The commands of a vector, in its order.
-    pub fn from_vec(items: Vec<Command>) -> Self
-        ensures { result ≡ items.items }
+    /// These commands. Their one want of memory is for as many bytes as their text has.
+    pub fn new(alloc: Global, commands: &[Command]) -> Result<Self, AllocError>
+        ensures { IfOk result (λ made. made ≡ commands.now) }
     {
-        Commands { items }
+        let len = commands.len();
+        let bytes = cg_record::write(alloc, commands)?;
+        Ok(Commands { len, bytes })
     }
 
-    /// The commands in their order.
-    pub fn as_slice(&self) -> &[Command]
-        ensures { result.now ≡ self.now }
+    /// How many there are.
+    pub fn len(&self) -> usize
+        ensures { result ≡ length self.now }
     {
-        self.items.as_slice()
+        self.len
     }
 
-    /// A vector of the commands, in their order.
-    pub fn into_vec(self) -> Vec<Command>
-        ensures { result.items ≡ self }
+    /// The bytes that spell them.
+    pub fn as_bytes(&self) -> &[u8]
+        ensures spelled { result.now ≡ spelling self.now }
+        ensures lawful { AreCommands self.now }
     {
-        let Commands { items } = self;
-        items
+        spelling_of(self.bytes.as_slice())
+    }
+
+    /// Whether both are the same commands. Takes no memory.
+    pub fn is_same(&self, other: &Commands) -> bool
+        ensures { IsTrue result ↔ (self.now ≡ other.now) }
+    {
+        self.as_bytes() == other.as_bytes()
+    }
+}
+
+impl Clone for Commands {
+    ghost is_clone = { λ commands copy. copy ≡ commands };
+
+    fn clone(&self) -> Result<Self, AllocError> {
+        Ok(Commands {
+            len: self.len,
+            bytes: self.bytes.clone()?,
+        })
     }
 }

@@ -13,7 +13,6 @@ mod opening;
 mod receipt;
 mod segment;
 mod store;
-mod text;
 
 pub use batch::Batch;
 pub use commands::Commands;
@@ -21,7 +20,6 @@ pub use fault::{OpenFault, StoreFault};
 pub use receipt::Receipt;
 pub use segment::{COMMAND_NUMBER_MAX, DISK_SECTORS, FIRST_SEGMENT_SECTOR, format};
 pub use store::Store;
-pub use text::Text;
 
 #[cfg(test)]
 mod tests;

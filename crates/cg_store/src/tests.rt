@@ -29,9 +29,8 @@ fn commit(alloc: Global, partitions: u32, offset: u64, bytes: usize) -> Result<C
 
 // The batch of commands, where they are one.
 fn tried(alloc: Global, first: u64, commands: Vec<Command>) -> Result<Option<Batch>, Fail> {
-    let text = Text::new(alloc, &commands)?;
-    let commands = Commands::from_vec(commands);
-    Ok(Batch::new(first, commands, text).ok())
+    let commands = Commands::new(alloc, &commands)?;
+    Ok(Batch::new(first, commands).ok())
 }
 
 fn batch_of(alloc: Global, first: u64, commands: Vec<Command>) -> Result<Batch, Fail> {
@@ -70,7 +69,7 @@ fn batches_survive_a_crash(rt: HostRuntime) -> Result<(), Fail> {
             return Err("appended".into());
         };
         assert_eq!(rt; receipt.batch().first, 1);
-        assert_eq!(rt; receipt.into_batch().commands.into_vec().len(), 2);
+        assert_eq!(rt; receipt.into_batch().commands.len(), 2);
         assert!(rt; store.append(alloc, batch(alloc, 3, &[43])?).is_ok());
         assert_eq!(rt; store.front(), 3);
 
@@ -118,13 +117,18 @@ fn a_failed_append_leaves_all_or_nothing(rt: HostRuntime) -> Result<(), Fail> {
     Ok(())
 }
 
-// Three commits of 64 partitions with the longest metadata: more than half of a segment.
-fn large_batch(alloc: Global, first: u64) -> Result<Batch, Fail> {
+// So many commits of 64 partitions with the longest metadata.
+fn large_commands(alloc: Global, count: u64) -> Result<Vec<Command>, Fail> {
     let mut commands = Vec::new(alloc);
-    for offset in 0..3 {
+    for offset in 0..count {
         commands.push(commit(alloc, 64, offset, 4_096)?)?;
     }
-    batch_of(alloc, first, commands)
+    Ok(commands)
+}
+
+// Three of them: more than half of a segment.
+fn large_batch(alloc: Global, first: u64) -> Result<Batch, Fail> {
+    batch_of(alloc, first, large_commands(alloc, 3)?)
 }
 
 #[test]
@@ -155,9 +159,8 @@ fn refusals_change_nothing(rt: HostRuntime) -> Result<(), Fail> {
 fn a_batch_has_a_command_and_fits_a_frame(rt: HostRuntime) -> Result<(), Fail> {
     let alloc = rt.alloc();
     assert!(rt; tried(alloc, 1, Vec::new(alloc))?.is_none());
-    let mut commands = large_batch(alloc, 1)?.commands.into_vec();
-    commands.push(commit(alloc, 64, 3, 4_096)?)?;
-    assert!(rt; tried(alloc, 1, commands)?.is_none());
+    assert!(rt; tried(alloc, 1, large_commands(alloc, 3)?)?.is_some());
+    assert!(rt; tried(alloc, 1, large_commands(alloc, 4)?)?.is_none());
     Ok(())
 }
 

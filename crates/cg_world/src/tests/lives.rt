@@ -60,7 +60,7 @@ pub fn found(world: &Life) -> (u64, u64, u64) {
 /// Of the batch that waits for the store, the number of its first command and how many it has.
 pub fn waiting(world: &Life) -> Option<(u64, usize)> {
     match &world.transit {
-        Transit::Taken(batch) => Some((batch.first, batch.commands.as_slice().len())),
+        Transit::Taken(batch) => Some((batch.first, batch.commands.len())),
         _ => None,
     }
 }

@@ -1,7 +1,7 @@
 use Rattle.std.proofs.Common.{◌≡◌, ◌∙◌, ap, sym, rules}
 use Rattle.cg_record.specs.Spelling.{spelling}
 use Rattle.cg_store.proofs.Spelled.{commands-unique}
-use Rattle.cg_store.proofs.text.Text.is_same.Goals as goal
+use Rattle.cg_store.proofs.commands.Commands.is_same.Goals as goal
 
 pub returns : goal.returns
 returns c =

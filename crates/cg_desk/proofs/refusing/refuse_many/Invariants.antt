@@ -4,7 +4,7 @@ use Rattle.std.specs.Vec.Iter.{into_iter_items, into_iter_len}
 use Rattle.cg_desk.specs.Answering.{refusal}
 use Rattle.cg_desk.specs.Held.{calls_of}
 use Rattle.cg_desk.proofs.Leaving.{Told}
-use Rattle.cg_desk.proofs.refusing.refuse_calls.Given as goal
+use Rattle.cg_desk.proofs.refusing.refuse_many.Given as goal
 
 abbrev pub invariant-loop-reply : goal.invariant-loop-reply
 invariant-loop-reply l = record {

@@ -2,7 +2,7 @@ use Rattle.std.proofs.Common.{◌≡◌, ◌≤◌, ◌+◌, length, vec_len, ve
 use Rattle.std.specs.VecDeque.{deque_len}
 use Rattle.std.specs.Vec.Iter.{into_iter_items, into_iter_len}
 use Rattle.cg_desk.proofs.Leaving.{Told}
-use Rattle.cg_desk.proofs.answering.answer_calls.Given as goal
+use Rattle.cg_desk.proofs.answering.answer_many.Given as goal
 
 abbrev pub invariant-loop-reply : goal.invariant-loop-reply
 invariant-loop-reply l = record {
