@@ -4,6 +4,7 @@ use anyhow::{Result, ensure};
 use cg_desk::{Desk, ReplyToken};
 use cg_group::{Request, Ticket};
 use cg_names::Code;
+use std::collections::VecDeque;
 use uuid::Uuid;
 
 // A call is told from the others by its number.
@@ -22,9 +23,9 @@ fn ask(desk: &mut Desk, number: u64, request: Request) -> Result<()> {
 }
 
 /// Asks for all of them, the first one by a call of this number.
-pub fn ask_all(desk: &mut Desk, first: u64, requests: Vec<Request>) -> Result<()> {
+pub fn ask_all(desk: &mut Desk, first: u64, requests: &mut VecDeque<Request>) -> Result<()> {
     let mut number = first;
-    for request in requests {
+    while let Some(request) = requests.pop_front() {
         ask(desk, number, request)?;
         number = number.wrapping_add(1);
     }

@@ -1,8 +1,6 @@
 //! Batches that go from a desk to a store and are settled.
-ghost use Rattle.std.specs.Prelude.{◌≡◌, ◌+◌, OnOk, Vec, length};
-ghost use Rattle.std.specs.List.{sum_by};
-ghost use Rattle.std.specs.declared.alloc.Global.{Global};
-ghost use Rattle.cg_group.specs.declared.asking.Request.{Request};
+ghost use Rattle.std.specs.Prelude.{◌≡◌, ◌+◌, OnOk};
+ghost use Rattle.std.specs.VecDeque.{deque_len};
 ghost use Rattle.cg_store.specs.Store.{front_of};
 
 use crate::asking::ask_all;
@@ -12,6 +10,7 @@ use cg_disk::SectorDisk;
 use cg_group::Request;
 use cg_store::{Batch, Receipt, Store};
 use std::alloc::Global;
+use std::collections::VecDeque;
 
 /// The next batch of a desk.
 pub fn taken(desk: &mut Desk) -> Result<Batch> {
@@ -29,7 +28,7 @@ pub fn appended<D: SectorDisk>(
     ensures { OnOk result (front_of store.new ≡ front_of store.old + commits) }
 {
     ensure!(
-        batch.commands.as_slice().len() == commits,
+        batch.commands.len() == commits,
         "a batch has another number of commands"
     );
     match store.append(alloc, batch) {
@@ -46,14 +45,14 @@ pub fn settled(desk: &mut Desk, receipt: Receipt) -> Result<Vec<Outgoing>> {
     }
 }
 
-// Asks for commits, which go to the store in one batch, and lets their replies leave.
-fn commit_batch<D: SectorDisk>(
+/// Asks for commits, which go to the store in one batch, and lets their replies leave.
+pub fn commit_batch<D: SectorDisk>(
     alloc: Global,
     desk: &mut Desk,
     store: &mut Store<D>,
-    requests: Vec<Request>,
+    requests: &mut VecDeque<Request>,
 ) -> Result<()>
-    ensures { OnOk result (front_of store.new ≡ front_of store.old + length requests.items) }
+    ensures { OnOk result (front_of store.new ≡ front_of store.old + deque_len requests.old) }
 {
     let commits = requests.len();
     ask_all(desk, 0, requests)?;
@@ -61,20 +60,5 @@ fn commit_batch<D: SectorDisk>(
     let receipt = appended(alloc, store, batch, commits)?;
     let out = settled(desk, receipt)?;
     ensure!(out.len() == commits, "a reply stays");
-    Ok(())
-}
-
-/// The same, batch after batch.
-pub fn commit_all<D: SectorDisk>(
-    alloc: Global,
-    desk: &mut Desk,
-    store: &mut Store<D>,
-    batches: Vec<Vec<Request>>,
-) -> Result<()>
-    ensures { OnOk result (front_of store.new ≡ front_of store.old + sum_by (λ (b : Vec Request Global). length b.items) batches.items) }
-{
-    for requests in batches {
-        commit_batch(alloc, desk, store, requests)?;
-    }
     Ok(())
 }

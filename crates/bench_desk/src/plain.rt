@@ -53,23 +53,20 @@ impl Plain {
             .unwrap_or(0)
     }
 
-    /// Puts the sectors down one frame behind the other, as many as fit, and `most` at most. Answers how many.
-    pub fn fill<D: SectorDisk>(&self, disk: &mut D, most: u64) -> Result<u64, DiskFault>
+    /// Puts the sectors of one frame down, behind so many others. Answers whether they fit the segment; else it calls no disk.
+    pub fn put<D: SectorDisk>(&self, disk: &mut D, number: u64) -> Result<bool, DiskFault>
         requires { SEGMENT.first + SEGMENT.sectors ≤ D.size disk.old }
         ensures { D.size disk.new ≡ D.size disk.old }
     {
-        let mut pos = 0;
-        for n in 0..most {
-            if !fits(SEGMENT, pos, self.bytes) {
-                return Ok(n);
-            }
-            let at = SEGMENT.first + pos;
-            disk.write(at + 1, &self.body)?;
-            disk.sync()?;
-            disk.write(at, &self.gate)?;
-            disk.sync()?;
-            pos += self.stride();
+        let pos = number.saturating_mul(self.stride());
+        if !fits(SEGMENT, pos, self.bytes) {
+            return Ok(false);
         }
-        Ok(most)
+        let at = SEGMENT.first + pos;
+        disk.write(at + 1, &self.body)?;
+        disk.sync()?;
+        disk.write(at, &self.gate)?;
+        disk.sync()?;
+        Ok(true)
     }
 }

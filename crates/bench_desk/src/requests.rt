@@ -25,10 +25,10 @@ fn timed<R: Clock>(
     held: usize,
     tally: &mut Tally,
 ) -> Result<()> {
-    ask_all(desk, 0, commits(alloc, held)?)?;
-    let requests = commits(alloc, REQUESTS)?;
+    ask_all(desk, 0, &mut commits(alloc, held)?)?;
+    let mut requests = commits(alloc, REQUESTS)?;
     let start = Instant::now(rt)?;
-    ask_all(desk, held as u64, requests)?;
+    ask_all(desk, held as u64, &mut requests)?;
     tally.add(start.elapsed(rt)?)?;
     Ok(())
 }

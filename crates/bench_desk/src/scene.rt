@@ -1,5 +1,6 @@
 //! A desk that serves groups without members, and commits to them.
-ghost use Rattle.std.specs.Prelude.{◌≡◌, IfOk, vec_len};
+ghost use Rattle.std.specs.Prelude.{◌≡◌, ◌+◌, IfOk, OnOk};
+ghost use Rattle.std.specs.VecDeque.{deque_len};
 
 use anyhow::{Context, Result, bail};
 use cg_desk::Desk;
@@ -8,6 +9,7 @@ use cg_group::{CommitEntry, CommitRequest, Commits, Groups, Listed, Request};
 use cg_names::{GroupId, Moment, Name};
 use cg_record::{Command, Committed, Entries, Entry, Metadata, Offset, Partition};
 use std::alloc::Global;
+use std::collections::VecDeque;
 
 /// Groups that the desk holds: each commit goes to the next of them.
 const GROUPS: u64 = 64;
@@ -81,14 +83,22 @@ fn commit(alloc: Global, number: u64) -> Result<Request> {
     }))
 }
 
-/// So many commits, each to the next group.
-pub fn commits(alloc: Global, count: usize) -> Result<Vec<Request>>
-    ensures { IfOk result (λ requests. vec_len requests ≡ count) }
+/// Puts so many commits last, each to the next group.
+pub fn add_commits(alloc: Global, requests: &mut VecDeque<Request>, count: usize) -> Result<()>
+    ensures { OnOk result (deque_len requests.new ≡ deque_len requests.old + count) }
 {
-    let mut requests = Vec::with_capacity(alloc, count)?;
     for number in 0..count {
-        requests.push(commit(alloc, number as u64)?)?;
+        requests.push_back(commit(alloc, number as u64)?)?;
     }
+    Ok(())
+}
+
+/// So many commits, each to the next group.
+pub fn commits(alloc: Global, count: usize) -> Result<VecDeque<Request>>
+    ensures { IfOk result (λ requests. deque_len requests ≡ count) }
+{
+    let mut requests = VecDeque::with_capacity(alloc, count)?;
+    add_commits(alloc, &mut requests, count)?;
     Ok(requests)
 }
 

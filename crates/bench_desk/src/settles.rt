@@ -35,9 +35,9 @@ fn timed<R: Clock>(
     tally: &mut Tally,
 ) -> Result<()> {
     let Replies { leaving, staying } = replies;
-    ask_all(desk, 0, commits(alloc, leaving)?)?;
+    ask_all(desk, 0, &mut commits(alloc, leaving)?)?;
     let batch = taken(desk)?;
-    ask_all(desk, leaving as u64, commits(alloc, staying)?)?;
+    ask_all(desk, leaving as u64, &mut commits(alloc, staying)?)?;
     let receipt = appended(alloc, store, batch, leaving)?;
     let start = Instant::now(rt)?;
     let out = settled(desk, receipt)?;

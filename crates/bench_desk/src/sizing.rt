@@ -18,13 +18,11 @@ pub struct Size {
 }
 
 fn first_size(alloc: Global, desk: &mut Desk, most: usize) -> Result<Size> {
-    ask_all(desk, 0, commits(alloc, most)?)?;
+    ask_all(desk, 0, &mut commits(alloc, most)?)?;
     let batch = taken(desk)?;
-    let commands = batch.commands.as_slice();
-    let payload = cg_record::write(alloc, commands)?;
     Ok(Size {
-        commits: commands.len(),
-        bytes: payload.len() as u64,
+        commits: batch.commands.len(),
+        bytes: batch.commands.as_bytes().len() as u64,
     })
 }
 
