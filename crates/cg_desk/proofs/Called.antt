@@ -4,22 +4,22 @@ use Rattle.std.specs.Prelude.{Option, Some, None, is_some, filter, option_map, o
 use Rattle.std.specs.List.{list_any}
 use Rattle.std.proofs.lemmas.List.Sums.{sum_by-append, sum_by-cons}
 use Rattle.cg_names.specs.declared.code.Code.TheVariants.{CoordinatorNotAvailable, RebalanceInProgress}
-use Rattle.cg_group.specs.declared.calls.Calls.{Calls}
-use Rattle.cg_group.specs.declared.calls.Calls.TheVariants.{Joins, Syncs, Any, OfSession}
-use Rattle.cg_group.specs.declared.group.Group.{Group}
-use Rattle.cg_group.specs.declared.member.Member.{Member}
-use Rattle.cg_group.specs.declared.member.Waits.{Waits}
-use Rattle.cg_group.specs.declared.member.Waits.TheVariants.{Nothing, Join, Sync}
-use Rattle.cg_group.specs.declared.reply.Reply.{Reply}
-use Rattle.cg_group.specs.declared.ticket.Ticket.{Ticket}
-use Rattle.cg_group.specs.declared.turn.Turn.{Turn}
-use Rattle.cg_group.specs.Joining.{in_join_phase}
-use Rattle.cg_group.specs.Leaving.{after_removal, gone_in, has_joined}
-use Rattle.cg_group.specs.Membership.{heard, is_empty, is_preparing, keeping}
-use Rattle.cg_group.specs.Rebalance.{completed, emptied, is_ready, joined_reply, next_round, prepared, told_to_joins, tried, turn_of}
-use Rattle.cg_group.specs.Syncing.{synced_reply, told_to_syncs}
-use Rattle.cg_group.specs.Ticking.{at_deadline, can_complete, ended, expired, is_due, is_overdue, outstays, ticked}
-use Rattle.cg_group.specs.Waiting.{after_answer, after_answers, answer, answered, answers, called, is_waiting, refusing}
+use Rattle.cg_member.specs.declared.calls.Calls.{Calls}
+use Rattle.cg_member.specs.declared.calls.Calls.TheVariants.{Joins, Syncs, Any, OfSession}
+use Rattle.cg_member.specs.declared.group.Group.{Group}
+use Rattle.cg_member.specs.declared.member.Member.{Member}
+use Rattle.cg_member.specs.declared.member.Waits.{Waits}
+use Rattle.cg_member.specs.declared.member.Waits.TheVariants.{Nothing, Join, Sync}
+use Rattle.cg_member.specs.declared.reply.Reply.{Reply}
+use Rattle.cg_request.specs.declared.ticket.Ticket.{Ticket}
+use Rattle.cg_member.specs.declared.turn.Turn.{Turn}
+use Rattle.cg_member.specs.Joining.{in_join_phase}
+use Rattle.cg_member.specs.Leaving.{after_removal, gone_in, has_joined}
+use Rattle.cg_member.specs.Membership.{heard, is_empty, is_preparing, keeping}
+use Rattle.cg_member.specs.Rebalance.{completed, emptied, is_ready, joined_reply, next_round, prepared, told_to_joins, tried, turn_of}
+use Rattle.cg_member.specs.Syncing.{synced_reply, told_to_syncs}
+use Rattle.cg_member.specs.Ticking.{at_deadline, can_complete, ended, expired, is_due, is_overdue, outstays, ticked}
+use Rattle.cg_member.specs.Waiting.{after_answer, after_answers, answer, answered, answers, called, is_waiting, refusing}
 use Rattle.cg_desk.specs.Held.{calls_of}
 use Rattle.cg_desk.specs.Owed.{weight_calls}
 use Rattle.cg_desk.specs.Turns.{own, told_of, total, waits_of}

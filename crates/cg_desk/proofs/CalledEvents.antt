@@ -4,32 +4,33 @@ use Rattle.std.specs.Prelude.{Option, Some, None, max}
 use Rattle.std.specs.List.{list_any}
 use Rattle.cg_names.specs.declared.code.Code.{Code}
 use Rattle.cg_names.specs.declared.code.Code.TheVariants.{FencedInstanceId, GroupIdNotFound, InvalidGroupId, NonEmptyGroup, UnknownMemberId}
-use Rattle.cg_group.specs.declared.asking.Request.{Request}
-use Rattle.cg_group.specs.declared.asking.Request.TheVariants as request
-use Rattle.cg_group.specs.declared.group.Group.{Group}
-use Rattle.cg_group.specs.declared.member.Member.{Member}
-use Rattle.cg_group.specs.declared.request.BeatRequest.{BeatRequest}
-use Rattle.cg_group.specs.declared.request.CommitRequest.{CommitRequest}
-use Rattle.cg_group.specs.declared.request.JoinRequest.{JoinRequest}
-use Rattle.cg_group.specs.declared.request.LeaveRequest.{LeaveRequest}
-use Rattle.cg_group.specs.declared.request.SyncRequest.{SyncRequest}
-use Rattle.cg_group.specs.declared.ticket.Ticket.{Ticket}
-use Rattle.cg_group.specs.declared.turn.Turn.{Turn}
-use Rattle.cg_group.specs.Asking.{asked}
-use Rattle.cg_group.specs.Beating.{beat_taken}
-use Rattle.cg_group.specs.Committing.{committed, hearing_committer}
-use Rattle.cg_group.specs.Joining.{join_known, join_new, new_group}
-use Rattle.cg_group.specs.Kept.{Each}
-use Rattle.cg_group.specs.Leaving.{leave_held, leave_taken, leaver, may_be}
-use Rattle.cg_group.specs.Machine.{InOrder, Machine, Outcome, beat, commit, concluded, deleted, deleting, find_group, join, leave, met, named_group, step, sync}
-use Rattle.cg_group.specs.Members.{AreDistinct, ids}
-use Rattle.cg_group.specs.Membership.{find_instance, find_member, has_id, has_instance, is_empty, is_same}
-use Rattle.cg_group.specs.Names.{are_distinct}
-use Rattle.cg_group.specs.Refusing.{◌>>=◌, refused_if}
-use Rattle.cg_group.specs.Replacing.{join_replacing}
-use Rattle.cg_group.specs.Syncing.{sync_taken}
-use Rattle.cg_group.proofs.Framed.{framed-beat_taken, framed-committed, framed-join_known, framed-join_new, framed-join_replacing, framed-leave_taken, framed-sync_taken}
-use Rattle.cg_group.proofs.KeptLists.{each-found, same_self}
+use Rattle.cg_request.specs.declared.asking.Request.{Request}
+use Rattle.cg_request.specs.declared.asking.Request.TheVariants as request
+use Rattle.cg_member.specs.declared.group.Group.{Group}
+use Rattle.cg_member.specs.declared.member.Member.{Member}
+use Rattle.cg_request.specs.declared.request.BeatRequest.{BeatRequest}
+use Rattle.cg_request.specs.declared.request.CommitRequest.{CommitRequest}
+use Rattle.cg_request.specs.declared.request.JoinRequest.{JoinRequest}
+use Rattle.cg_request.specs.declared.request.LeaveRequest.{LeaveRequest}
+use Rattle.cg_request.specs.declared.request.SyncRequest.{SyncRequest}
+use Rattle.cg_request.specs.declared.ticket.Ticket.{Ticket}
+use Rattle.cg_member.specs.declared.turn.Turn.{Turn}
+use Rattle.cg_request.specs.Asking.{asked}
+use Rattle.cg_turn.specs.Beating.{beat_taken}
+use Rattle.cg_turn.specs.Committing.{committed, hearing_committer}
+use Rattle.cg_member.specs.Joining.{join_known, join_new, new_group}
+use Rattle.cg_held.specs.Kept.{Each}
+use Rattle.cg_member.specs.Leaving.{leave_held, leave_taken, leaver, may_be}
+use Rattle.cg_group.specs.Machine.{beat, commit, concluded, deleted, deleting, join, leave, met, named_group, step, sync}
+use Rattle.cg_held.specs.Held.{InOrder, Machine, Outcome, find_group}
+use Rattle.cg_member.specs.Members.{AreDistinct, ids}
+use Rattle.cg_member.specs.Membership.{find_instance, find_member, has_id, has_instance, is_empty, is_same}
+use Rattle.cg_request.specs.Names.{are_distinct}
+use Rattle.cg_member.specs.Refusing.{◌>>=◌, refused_if}
+use Rattle.cg_member.specs.Replacing.{join_replacing}
+use Rattle.cg_member.specs.Syncing.{sync_taken}
+use Rattle.cg_held.proofs.Framed.{framed-beat_taken, framed-committed, framed-join_known, framed-join_new, framed-join_replacing, framed-leave_taken, framed-sync_taken}
+use Rattle.cg_held.proofs.KeptLists.{each-found, same_self}
 use Rattle.cg_group.proofs.Requests.{Fine, after_checked, after_given, fine-beat, fine-commit, fine-join, fine-sync, given_by, tested}
 use Rattle.cg_desk.specs.Owed.{KeepsCalls}
 use Rattle.cg_desk.specs.Tokens.{call_of}

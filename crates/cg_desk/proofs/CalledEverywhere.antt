@@ -8,18 +8,19 @@ use Rattle.cg_fold.specs.Durable.{State}
 use Rattle.cg_fold.specs.declared.record.GroupRecord.{GroupRecord}
 use Rattle.cg_record.specs.declared.member.Member.{Member as KeptMember}
 use Rattle.cg_record.specs.Rosters.{RosterParts}
-use Rattle.cg_group.specs.declared.calls.Calls.TheVariants.{Any}
-use Rattle.cg_group.specs.declared.event.Event.TheVariants.{Gone, Tick}
-use Rattle.cg_group.specs.declared.group.Group.{Group}
-use Rattle.cg_group.specs.declared.member.Member.{Member}
-use Rattle.cg_group.specs.declared.ticket.Ticket.{Ticket}
-use Rattle.cg_group.specs.declared.turn.Turn.{Turn}
-use Rattle.cg_group.specs.Joining.{new_group}
-use Rattle.cg_group.specs.Leaving.{gone_in}
-use Rattle.cg_group.specs.Machine.{Machine, everywhere, met, step}
-use Rattle.cg_group.specs.Reviving.{revive, revived, revived_from, revived_member, revived_with}
-use Rattle.cg_group.specs.Ticking.{ticked}
-use Rattle.cg_group.specs.Waiting.{called, waiting_calls}
+use Rattle.cg_member.specs.declared.calls.Calls.TheVariants.{Any}
+use Rattle.cg_request.specs.declared.event.Event.TheVariants.{Gone, Tick}
+use Rattle.cg_member.specs.declared.group.Group.{Group}
+use Rattle.cg_member.specs.declared.member.Member.{Member}
+use Rattle.cg_request.specs.declared.ticket.Ticket.{Ticket}
+use Rattle.cg_member.specs.declared.turn.Turn.{Turn}
+use Rattle.cg_member.specs.Joining.{new_group}
+use Rattle.cg_member.specs.Leaving.{gone_in}
+use Rattle.cg_group.specs.Machine.{met, step}
+use Rattle.cg_held.specs.Held.{Machine, everywhere}
+use Rattle.cg_held.specs.Reviving.{revive, revived, revived_from, revived_member, revived_with}
+use Rattle.cg_member.specs.Ticking.{ticked}
+use Rattle.cg_member.specs.Waiting.{called, waiting_calls}
 use Rattle.cg_desk.specs.Owed.{KeepsCalls, weight_calls}
 use Rattle.cg_desk.specs.Turns.{own, told_of, total, waits_of}
 use Rattle.cg_desk.proofs.Called.{gone-kept, ticked-kept, told-append}

@@ -6,31 +6,31 @@ use Rattle.std.proofs.lemmas.Slice.Eq.{bytes_eq-Decides}
 use Rattle.std.proofs.lemmas.Cmp.{nat_list_eq_equiv}
 use Rattle.std.proofs.lemmas.List.Sums.{sum_by-append, sum_by-cons}
 use Rattle.cg_names.specs.declared.code.Code.TheVariants.{RebalanceInProgress, UnknownMemberId}
-use Rattle.cg_group.specs.declared.calls.Calls.TheVariants.{Any, Syncs}
-use Rattle.cg_group.specs.declared.group.Group.{Group}
-use Rattle.cg_group.specs.declared.group.Phase.{Phase}
-use Rattle.cg_group.specs.declared.group.Phase.TheVariants.{Empty, Preparing, Completing, Stable}
-use Rattle.cg_group.specs.declared.member.Member.{Member}
-use Rattle.cg_group.specs.declared.member.Waits.{Waits}
-use Rattle.cg_group.specs.declared.member.Waits.TheVariants.{Join, Sync}
-use Rattle.cg_group.specs.declared.reply.Reply.{Reply}
-use Rattle.cg_group.specs.declared.reply.Reply.TheVariants as reply
-use Rattle.cg_group.specs.declared.request.JoinRequest.{JoinRequest}
-use Rattle.cg_group.specs.declared.request.SyncEntry.{SyncEntry}
-use Rattle.cg_group.specs.declared.request.SyncRequest.{SyncRequest}
-use Rattle.cg_group.specs.declared.ticket.Ticket.{Ticket}
-use Rattle.cg_group.specs.declared.turn.Turn.{Turn}
-use Rattle.cg_group.specs.Beating.{beat_taken}
-use Rattle.cg_group.specs.Joining.{admitted, displaced, in_join_phase, is_current, join_again, join_current, join_known, join_new, new_member, rejoined, updated, updating, waits_with, waiting}
-use Rattle.cg_group.specs.Membership.{find_member, has_id, heard, hearing, is_preparing, is_same, keeping, leads, with_member}
-use Rattle.cg_group.specs.Rebalance.{prepared, turn_of}
-use Rattle.cg_group.specs.Syncing.{assigned, assigning, distributed, sync_current, sync_taken, sync_waits, assigned_command}
-use Rattle.cg_group.specs.Members.{ids}
-use Rattle.cg_group.specs.Names.{are_distinct}
-use Rattle.cg_group.specs.Leaving.{leave_taken, left}
-use Rattle.cg_group.specs.declared.commit_entry.CommitEntry.{CommitEntry}
-use Rattle.cg_group.specs.Committing.{committed, hearing_committer, keeping_entries}
-use Rattle.cg_group.specs.Waiting.{after_answer, after_answers, answer, answered, called, is_waiting, refusing}
+use Rattle.cg_member.specs.declared.calls.Calls.TheVariants.{Any, Syncs}
+use Rattle.cg_member.specs.declared.group.Group.{Group}
+use Rattle.cg_member.specs.declared.group.Phase.{Phase}
+use Rattle.cg_member.specs.declared.group.Phase.TheVariants.{Empty, Preparing, Completing, Stable}
+use Rattle.cg_member.specs.declared.member.Member.{Member}
+use Rattle.cg_member.specs.declared.member.Waits.{Waits}
+use Rattle.cg_member.specs.declared.member.Waits.TheVariants.{Join, Sync}
+use Rattle.cg_member.specs.declared.reply.Reply.{Reply}
+use Rattle.cg_member.specs.declared.reply.Reply.TheVariants as reply
+use Rattle.cg_request.specs.declared.request.JoinRequest.{JoinRequest}
+use Rattle.cg_request.specs.declared.request.SyncEntry.{SyncEntry}
+use Rattle.cg_request.specs.declared.request.SyncRequest.{SyncRequest}
+use Rattle.cg_request.specs.declared.ticket.Ticket.{Ticket}
+use Rattle.cg_member.specs.declared.turn.Turn.{Turn}
+use Rattle.cg_turn.specs.Beating.{beat_taken}
+use Rattle.cg_member.specs.Joining.{admitted, displaced, in_join_phase, is_current, join_again, join_current, join_known, join_new, new_member, rejoined, updated, updating, waits_with, waiting}
+use Rattle.cg_member.specs.Membership.{find_member, has_id, heard, hearing, is_preparing, is_same, keeping, leads, with_member}
+use Rattle.cg_member.specs.Rebalance.{prepared, turn_of}
+use Rattle.cg_member.specs.Syncing.{assigned, assigning, distributed, sync_current, sync_taken, sync_waits, assigned_command}
+use Rattle.cg_member.specs.Members.{ids}
+use Rattle.cg_request.specs.Names.{are_distinct}
+use Rattle.cg_member.specs.Leaving.{leave_taken, left}
+use Rattle.cg_request.specs.declared.commit_entry.CommitEntry.{CommitEntry}
+use Rattle.cg_turn.specs.Committing.{committed, hearing_committer, keeping_entries}
+use Rattle.cg_member.specs.Waiting.{after_answer, after_answers, answer, answered, called, is_waiting, refusing}
 use Rattle.cg_desk.specs.Owed.{weight_calls}
 use Rattle.cg_desk.specs.Turns.{own, told_of, total, waits_of}
 use Rattle.cg_desk.proofs.Called.{phase-kept, removal-kept, syncs-kept, told-append, tried-kept}

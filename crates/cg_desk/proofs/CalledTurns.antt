@@ -7,20 +7,20 @@ use Rattle.std.proofs.lemmas.Cmp.{nat_list_eq_equiv}
 use Rattle.std.proofs.lemmas.List.Sums.{sum_by-cons}
 use Rattle.cg_names.specs.declared.code.Code.TheVariants.{FencedInstanceId}
 use Rattle.cg_record.specs.declared.member.Member.{Member as KeptMember}
-use Rattle.cg_group.specs.declared.calls.Calls.TheVariants.{Any}
-use Rattle.cg_group.specs.declared.group.Group.{Group}
-use Rattle.cg_group.specs.declared.member.Member.{Member}
-use Rattle.cg_group.specs.declared.request.JoinRequest.{JoinRequest}
-use Rattle.cg_group.specs.declared.ticket.Ticket.{Ticket}
-use Rattle.cg_group.specs.declared.turn.Turn.{Turn}
-use Rattle.cg_group.specs.Joining.{new_member, rejoined}
-use Rattle.cg_group.specs.Members.{instances}
-use Rattle.cg_group.specs.Membership.{find_instance, find_member, has_instance, is_named, is_same}
-use Rattle.cg_group.specs.Names.{are_distinct}
-use Rattle.cg_group.specs.Replacing.{join_replacing, keeps_generation, replaced, replaced_in_place, replaced_reply, replacing, seating, successor}
-use Rattle.cg_group.specs.Syncing.{kept_member}
-use Rattle.cg_group.specs.Waiting.{called, refusing}
-use Rattle.cg_group.proofs.KeptLists.{same_self}
+use Rattle.cg_member.specs.declared.calls.Calls.TheVariants.{Any}
+use Rattle.cg_member.specs.declared.group.Group.{Group}
+use Rattle.cg_member.specs.declared.member.Member.{Member}
+use Rattle.cg_request.specs.declared.request.JoinRequest.{JoinRequest}
+use Rattle.cg_request.specs.declared.ticket.Ticket.{Ticket}
+use Rattle.cg_member.specs.declared.turn.Turn.{Turn}
+use Rattle.cg_member.specs.Joining.{new_member, rejoined}
+use Rattle.cg_member.specs.Members.{instances}
+use Rattle.cg_member.specs.Membership.{find_instance, find_member, has_instance, is_named, is_same}
+use Rattle.cg_request.specs.Names.{are_distinct}
+use Rattle.cg_member.specs.Replacing.{join_replacing, keeps_generation, replaced, replaced_in_place, replaced_reply, replacing, seating, successor}
+use Rattle.cg_member.specs.Syncing.{kept_member}
+use Rattle.cg_member.specs.Waiting.{called, refusing}
+use Rattle.cg_held.proofs.KeptLists.{same_self}
 use Rattle.cg_desk.specs.Turns.{TurnsKeepTheirCalls, own, total, waits_of}
 use Rattle.cg_desk.proofs.Called.{gone-kept, ticked-kept, told-append}
 use Rattle.cg_desk.proofs.CalledRequests.{and-true, answer-own, beat-kept, commit-kept, known-kept, leave-kept, new-kept, not-true, or-false, rejoined-kept, sync-kept}

@@ -4,7 +4,7 @@ use Rattle.std.specs.Prelude.{◌&&◌}
 use Rattle.std.specs.List.{position}
 use Rattle.std.proofs.lemmas.Bool.{eqb-true}
 use Rattle.std.proofs.lemmas.List.Quantifiers.{position-Some}
-use Rattle.cg_group.specs.declared.ticket.Ticket.{Ticket}
+use Rattle.cg_request.specs.declared.ticket.Ticket.{Ticket}
 use Rattle.cg_desk.specs.Tokens.{call_of, is_for}
 use Rattle.cg_desk.specs.declared.token.ReplyToken.{ReplyToken}
 

@@ -2,22 +2,23 @@
 use Rattle.std.proofs.Common.{◌≡◌, ℕ, List, [], ◌∷◌, ◌++◌, refl, sym, ap, ◌∙◌, subst, max, Result, Ok, Err}
 use Rattle.cg_names.specs.declared.code.Code.{Code}
 use Rattle.cg_fold.specs.Durable.{State}
-use Rattle.cg_group.specs.declared.event.Event.{Event}
-use Rattle.cg_group.specs.declared.event.Event.TheVariants as event
-use Rattle.cg_group.specs.declared.group.Group.{Group}
-use Rattle.cg_group.specs.declared.ticket.Ticket.{Ticket}
-use Rattle.cg_group.specs.declared.turn.Turn.{Turn}
-use Rattle.cg_group.specs.Kept.{Ascending}
+use Rattle.cg_request.specs.declared.event.Event.{Event}
+use Rattle.cg_request.specs.declared.event.Event.TheVariants as event
+use Rattle.cg_member.specs.declared.group.Group.{Group}
+use Rattle.cg_request.specs.declared.ticket.Ticket.{Ticket}
+use Rattle.cg_member.specs.declared.turn.Turn.{Turn}
+use Rattle.cg_held.specs.Kept.{Ascending}
 use Rattle.cg_group.specs.Laws.{after_all}
-use Rattle.cg_group.specs.Leaving.{gone_in}
-use Rattle.cg_group.specs.Machine.{InOrder, Machine, beat, commit, concluded, deleted, deleting, groups_after, join, leave, met, everywhere, step, sync}
-use Rattle.cg_group.specs.Reviving.{revive}
-use Rattle.cg_group.specs.Ticking.{ticked}
+use Rattle.cg_member.specs.Leaving.{gone_in}
+use Rattle.cg_group.specs.Machine.{beat, commit, concluded, deleted, deleting, join, leave, met, step, sync}
+use Rattle.cg_held.specs.Held.{InOrder, Machine, groups_after, everywhere}
+use Rattle.cg_held.specs.Reviving.{revive}
+use Rattle.cg_member.specs.Ticking.{ticked}
 use Rattle.cg_group.proofs.DistinctMachine.{members_stay_distinct}
-use Rattle.cg_group.proofs.Framed.{framed-gone_in, framed-ticked}
-use Rattle.cg_group.proofs.KeptLists.{ascending-with_group, group_ids}
-use Rattle.cg_group.proofs.Removing.{ascending-without}
-use Rattle.cg_group.proofs.Revived.{in_order-revived}
+use Rattle.cg_held.proofs.Framed.{framed-gone_in, framed-ticked}
+use Rattle.cg_held.proofs.KeptLists.{ascending-with_group, group_ids}
+use Rattle.cg_held.proofs.Removing.{ascending-without}
+use Rattle.cg_held.proofs.Revived.{in_order-revived}
 use Rattle.cg_desk.specs.Made.{EventsKeepCalls, IsMade}
 use Rattle.cg_desk.proofs.CalledEvents.{IsSound, request-keeps}
 use Rattle.cg_desk.proofs.CalledEverywhere.{gone-keeps, loaded-idle, tick-keeps}

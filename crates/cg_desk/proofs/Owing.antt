@@ -7,11 +7,12 @@ use Rattle.std.proofs.lemmas.List.{append-nil, map-append, nil_from_length, take
 use Rattle.std.proofs.Math.Seq.{take-length}
 use Rattle.std.proofs.lemmas.List.Concat.{flat_map-append}
 use Rattle.std.proofs.lemmas.List.Sums.{sum_by-append, sum_by-cons}
-use Rattle.cg_group.specs.declared.event.Event.{Event}
-use Rattle.cg_group.specs.declared.reply.Reply.{Reply}
-use Rattle.cg_group.specs.declared.ticket.Ticket.{Ticket}
-use Rattle.cg_group.specs.Machine.{Machine, step}
-use Rattle.cg_group.specs.Waiting.{waiting_calls}
+use Rattle.cg_request.specs.declared.event.Event.{Event}
+use Rattle.cg_member.specs.declared.reply.Reply.{Reply}
+use Rattle.cg_request.specs.declared.ticket.Ticket.{Ticket}
+use Rattle.cg_group.specs.Machine.{step}
+use Rattle.cg_held.specs.Held.{Machine}
+use Rattle.cg_member.specs.Waiting.{waiting_calls}
 use Rattle.cg_desk.specs.Answering.{after_answering, answering, answering_one, refusal, refused}
 use Rattle.cg_desk.specs.Books.{Books, failing, letting_go, served, settling, stepped}
 use Rattle.cg_desk.specs.Desks.{opened}

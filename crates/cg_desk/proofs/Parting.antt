@@ -2,10 +2,11 @@
 use Rattle.std.proofs.Common.{◌≡◌, ℕ, List, [], ◌∷◌, refl}
 use Rattle.std.specs.List.{flat_map}
 use Rattle.cg_record.specs.declared.command.Command.{Command}
-use Rattle.cg_group.specs.declared.event.Event.TheVariants.{Gone}
-use Rattle.cg_group.specs.declared.group.Group.{Group}
-use Rattle.cg_group.specs.Leaving.{gone_in}
-use Rattle.cg_group.specs.Machine.{Machine, everywhere, met, step}
+use Rattle.cg_request.specs.declared.event.Event.TheVariants.{Gone}
+use Rattle.cg_member.specs.declared.group.Group.{Group}
+use Rattle.cg_member.specs.Leaving.{gone_in}
+use Rattle.cg_group.specs.Machine.{met, step}
+use Rattle.cg_held.specs.Held.{Machine, everywhere}
 
 no_commands : (now session : ℕ) (groups : List Group) → flat_map (λ (g : Group). (gone_in now session g).commands) groups ≡ []
 unfolding gone_in

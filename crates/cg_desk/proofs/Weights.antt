@@ -7,14 +7,14 @@ use Rattle.std.proofs.lemmas.List.{get_or_default}
 use Rattle.std.proofs.lemmas.List.Quantifiers.{position-Some}
 use Rattle.std.proofs.lemmas.List.Sorted.{IsPermutation-remove, sum_by-IsPermutation}
 use Rattle.std.proofs.lemmas.List.Sums.{sum_by-append, sum_by-cons}
-use Rattle.cg_group.specs.declared.event.Event.{Event}
-use Rattle.cg_group.specs.declared.event.Event.TheVariants as event
-use Rattle.cg_group.specs.declared.reply.Reply.{Reply}
-use Rattle.cg_group.specs.declared.reply.Reply.TheVariants.{Refused}
+use Rattle.cg_request.specs.declared.event.Event.{Event}
+use Rattle.cg_request.specs.declared.event.Event.TheVariants as event
+use Rattle.cg_member.specs.declared.reply.Reply.{Reply}
+use Rattle.cg_member.specs.declared.reply.Reply.TheVariants.{Refused}
 use Rattle.cg_names.specs.declared.code.Code.TheVariants.{CoordinatorNotAvailable}
-use Rattle.cg_group.specs.declared.ticket.Ticket.{Ticket}
+use Rattle.cg_request.specs.declared.ticket.Ticket.{Ticket}
 use Rattle.cg_group.specs.Machine.{step}
-use Rattle.cg_group.specs.Waiting.{waiting_calls}
+use Rattle.cg_member.specs.Waiting.{waiting_calls}
 use Rattle.cg_desk.specs.Answering.{after_answering, answering, answering_one, refusal, refused}
 use Rattle.cg_desk.specs.Books.{Books, Served, failing, is_short, letting_go, served, settling, stepped}
 use Rattle.cg_desk.specs.Desks.{Answer, State, Loading, Serving, Failed, at_rest, failing_on, gone_on, request_on, serving, settle_on, tick_on}

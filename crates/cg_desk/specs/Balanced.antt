@@ -1,14 +1,14 @@
 -- Each call without an answer has one token for good, whatever the desk is asked; so no reply waits for a token that is not there.
 use Rattle.std.specs.Prelude.{◌≡◌, ◌+◌, ℕ, List, [], ◌∷◌, ◌++◌, map, Option}
 use Rattle.cg_fold.specs.Durable.{State as Durable}
-use Rattle.cg_group.specs.declared.asking.Request.{Request}
-use Rattle.cg_group.specs.declared.event.Event.{Event}
-use Rattle.cg_group.specs.declared.event.Event.TheVariants.{Gone, Tick}
-use Rattle.cg_group.specs.Asking.{asked}
-use Rattle.cg_group.specs.Kept.{AreRecords}
+use Rattle.cg_request.specs.declared.asking.Request.{Request}
+use Rattle.cg_request.specs.declared.event.Event.{Event}
+use Rattle.cg_request.specs.declared.event.Event.TheVariants.{Gone, Tick}
+use Rattle.cg_request.specs.Asking.{asked}
+use Rattle.cg_held.specs.Kept.{AreRecords}
 use Rattle.cg_group.specs.Machine.{step}
-use Rattle.cg_group.specs.Reviving.{revive}
-use Rattle.cg_group.specs.Waiting.{waiting_calls}
+use Rattle.cg_held.specs.Reviving.{revive}
+use Rattle.cg_member.specs.Waiting.{waiting_calls}
 use Rattle.cg_store.specs.declared.batch.Batch.{Batch}
 use Rattle.cg_desk.specs.Answering.{refusal}
 use Rattle.cg_desk.specs.Books.{Books, failing, served, settling, stepped}

@@ -1,11 +1,12 @@
 -- A desk that serves: what contracts see of it, and what each call does.
 use Rattle.std.specs.Prelude.{◌≡◌, ◌+◌, ◌-◌, ◌*◌, ℕ, Bool, List, [], ◌∷◌, ◌++◌, length, map, take, drop, nat_lt, true, false, Option, Some, None}
-use Rattle.cg_group.specs.declared.effects.Effects.{Effects}
-use Rattle.cg_group.specs.declared.event.Event.{Event}
-use Rattle.cg_group.specs.declared.ticket.Ticket.{Ticket}
-use Rattle.cg_group.specs.declared.reply.Reply.{Reply}
-use Rattle.cg_group.specs.Machine.{Machine, Outcome, step}
-use Rattle.cg_group.specs.Waiting.{waiting_calls}
+use Rattle.cg_member.specs.declared.effects.Effects.{Effects}
+use Rattle.cg_request.specs.declared.event.Event.{Event}
+use Rattle.cg_request.specs.declared.ticket.Ticket.{Ticket}
+use Rattle.cg_member.specs.declared.reply.Reply.{Reply}
+use Rattle.cg_group.specs.Machine.{step}
+use Rattle.cg_held.specs.Held.{Machine, Outcome}
+use Rattle.cg_member.specs.Waiting.{waiting_calls}
 use Rattle.cg_record.specs.declared.command.Command.{Command}
 use Rattle.cg_store.specs.declared.batch.Batch.{Batch}
 use Rattle.cg_store.specs.declared.segment.TheConstants.{COMMAND_NUMBER_MAX}

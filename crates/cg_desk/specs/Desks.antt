@@ -1,9 +1,9 @@
 -- The desk by its phase, and what each of its calls does.
 use Rattle.std.specs.Prelude.{◌≡◌, ℕ, Bool, false, List, [], ◌∷◌, if◌then◌else◌, Option, Some, None}
-use Rattle.cg_group.specs.declared.event.Event.{Event}
-use Rattle.cg_group.specs.declared.event.Event.TheVariants as event
-use Rattle.cg_group.specs.declared.reply.Reply.TheVariants.{Refused}
-use Rattle.cg_group.specs.Machine.{Machine}
+use Rattle.cg_request.specs.declared.event.Event.{Event}
+use Rattle.cg_request.specs.declared.event.Event.TheVariants as event
+use Rattle.cg_member.specs.declared.reply.Reply.TheVariants.{Refused}
+use Rattle.cg_held.specs.Held.{Machine}
 use Rattle.cg_names.specs.declared.code.Code.TheVariants.{CoordinatorLoadInProgress, CoordinatorNotAvailable}
 use Rattle.cg_store.specs.declared.batch.Batch.{Batch}
 use Rattle.cg_desk.specs.Books.{Books, Served, IsInFlight, IsReason, IsTake, failing, is_short, returning, served, settling}

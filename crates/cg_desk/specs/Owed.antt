@@ -1,11 +1,12 @@
 -- Each call without an answer has one token: either a reply is held for it, or it waits in the machine.
 use Rattle.std.specs.Prelude.{◌≡◌, ◌+◌, ℕ, List}
 use Rattle.std.specs.List.{sum_by}
-use Rattle.cg_group.specs.declared.event.Event.{Event}
-use Rattle.cg_group.specs.declared.reply.Reply.{Reply}
-use Rattle.cg_group.specs.declared.ticket.Ticket.{Ticket}
-use Rattle.cg_group.specs.Machine.{Machine, step}
-use Rattle.cg_group.specs.Waiting.{waiting_calls}
+use Rattle.cg_request.specs.declared.event.Event.{Event}
+use Rattle.cg_member.specs.declared.reply.Reply.{Reply}
+use Rattle.cg_request.specs.declared.ticket.Ticket.{Ticket}
+use Rattle.cg_group.specs.Machine.{step}
+use Rattle.cg_held.specs.Held.{Machine}
+use Rattle.cg_member.specs.Waiting.{waiting_calls}
 use Rattle.cg_desk.specs.Books.{Books}
 use Rattle.cg_desk.specs.Held.{calls_of, replies_of}
 use Rattle.cg_desk.specs.Laws.{weight_of}

@@ -1,7 +1,7 @@
 -- What a token stands for, and which tokens there are.
 use Rattle.std.specs.Prelude.{ℕ, Bool, ◌&&◌, nat_eq, List, Option, Some, None, is_some}
 use Rattle.std.specs.List.{position, remove}
-use Rattle.cg_group.specs.declared.ticket.Ticket.{Ticket}
+use Rattle.cg_request.specs.declared.ticket.Ticket.{Ticket}
 use Rattle.cg_desk.specs.declared.token.ReplyToken.{ReplyToken}
 
 -- the call that has no answer yet

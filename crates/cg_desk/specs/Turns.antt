@@ -2,27 +2,27 @@
 use Rattle.std.specs.Prelude.{◌≡◌, ◌+◌, ℕ, true, List, Option, Some, is_some}
 use Rattle.std.specs.List.{sum_by}
 use Rattle.std.specs.Option.{option_to_list}
-use Rattle.cg_group.specs.declared.calls.Calls.TheVariants.{Any}
-use Rattle.cg_group.specs.declared.commit_entry.CommitEntry.{CommitEntry}
-use Rattle.cg_group.specs.declared.group.Group.{Group}
-use Rattle.cg_group.specs.declared.group.Phase.{Phase}
-use Rattle.cg_group.specs.declared.member.Member.{Member}
-use Rattle.cg_group.specs.declared.reply.Reply.{Reply}
-use Rattle.cg_group.specs.declared.request.JoinRequest.{JoinRequest}
-use Rattle.cg_group.specs.declared.request.SyncRequest.{SyncRequest}
-use Rattle.cg_group.specs.declared.ticket.Ticket.{Ticket}
-use Rattle.cg_group.specs.declared.turn.Turn.{Turn}
-use Rattle.cg_group.specs.Beating.{beat_taken}
-use Rattle.cg_group.specs.Committing.{committed, hearing_committer}
-use Rattle.cg_group.specs.Joining.{join_known, join_new}
-use Rattle.cg_group.specs.Leaving.{gone_in, leave_taken}
-use Rattle.cg_group.specs.Members.{ids, instances}
-use Rattle.cg_group.specs.Membership.{find_instance, find_member}
-use Rattle.cg_group.specs.Names.{are_distinct}
-use Rattle.cg_group.specs.Replacing.{join_replacing}
-use Rattle.cg_group.specs.Syncing.{sync_taken}
-use Rattle.cg_group.specs.Ticking.{ticked}
-use Rattle.cg_group.specs.Waiting.{called}
+use Rattle.cg_member.specs.declared.calls.Calls.TheVariants.{Any}
+use Rattle.cg_request.specs.declared.commit_entry.CommitEntry.{CommitEntry}
+use Rattle.cg_member.specs.declared.group.Group.{Group}
+use Rattle.cg_member.specs.declared.group.Phase.{Phase}
+use Rattle.cg_member.specs.declared.member.Member.{Member}
+use Rattle.cg_member.specs.declared.reply.Reply.{Reply}
+use Rattle.cg_request.specs.declared.request.JoinRequest.{JoinRequest}
+use Rattle.cg_request.specs.declared.request.SyncRequest.{SyncRequest}
+use Rattle.cg_request.specs.declared.ticket.Ticket.{Ticket}
+use Rattle.cg_member.specs.declared.turn.Turn.{Turn}
+use Rattle.cg_turn.specs.Beating.{beat_taken}
+use Rattle.cg_turn.specs.Committing.{committed, hearing_committer}
+use Rattle.cg_member.specs.Joining.{join_known, join_new}
+use Rattle.cg_member.specs.Leaving.{gone_in, leave_taken}
+use Rattle.cg_member.specs.Members.{ids, instances}
+use Rattle.cg_member.specs.Membership.{find_instance, find_member}
+use Rattle.cg_request.specs.Names.{are_distinct}
+use Rattle.cg_member.specs.Replacing.{join_replacing}
+use Rattle.cg_member.specs.Syncing.{sync_taken}
+use Rattle.cg_member.specs.Ticking.{ticked}
+use Rattle.cg_member.specs.Waiting.{called}
 use Rattle.cg_desk.specs.Held.{calls_of}
 use Rattle.cg_desk.specs.Owed.{weight_calls}
 

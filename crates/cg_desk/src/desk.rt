@@ -52,8 +52,8 @@ fn refused_at_once(
 
 impl Desk {
     ghost use Rattle.cg_fold.specs.Durable.{State as DurableState};
-    ghost use Rattle.cg_group.specs.Asking.{asked};
-    ghost use Rattle.cg_group.specs.Reviving.{revive};
+    ghost use Rattle.cg_request.specs.Asking.{asked};
+    ghost use Rattle.cg_held.specs.Reviving.{revive};
     ghost use Rattle.cg_store.specs.Receipts.{batch_of};
     ghost use Rattle.cg_desk.specs.Desks.{IsOut, IsReasonAt, IsTakenFrom, failing_on, gone_on, is_out, numbered_of, opened, request_on, return_to, settle_on, settled_of, state_of, tick_on};
     ghost use Rattle.cg_desk.specs.Desks as state;

@@ -4,7 +4,7 @@ ghost use Rattle.std.specs.VecDeque.{deque_len};
 ghost use Rattle.cg_desk.specs.Answering.{after_answering, answering, answering_one, refusal, refused};
 ghost use Rattle.cg_desk.specs.Held.{calls_of, replies_of};
 ghost use Rattle.cg_desk.specs.Tokens.{without};
-ghost use Rattle.cg_group.specs.Waiting.{waiting_calls};
+ghost use Rattle.cg_member.specs.Waiting.{waiting_calls};
 
 use crate::answering::refuse_call;
 use crate::held::HeldStep;

@@ -43,8 +43,8 @@ pub struct Serving {
 }
 
 impl Serving {
-    ghost use Rattle.cg_group.specs.Asking.{asked};
-    ghost use Rattle.cg_group.specs.declared.event.Event.TheVariants as event;
+    ghost use Rattle.cg_request.specs.Asking.{asked};
+    ghost use Rattle.cg_request.specs.declared.event.Event.TheVariants as event;
     ghost use Rattle.cg_desk.specs.Books.{Books, failing, is_short, letting_go, numbering, served};
     ghost use Rattle.cg_desk.specs.Held.{is_waiting};
     ghost use Rattle.cg_desk.specs.Serving.{HasRoom, books};

@@ -9,35 +9,35 @@ use Rattle.cg_names.specs.declared.generation.TheConstants.{GENERATION_MAX}
 use Rattle.cg_record.specs.Rosters.{RosterParts}
 use Rattle.std.proofs.lemmas.Bool.{and_parts, and_from, or_parts, or_left, or_right, not-false, false≢true}
 use Rattle.std.proofs.lemmas.List.Folds.{list_all-append, list_all-map}
-use Rattle.cg_group.specs.declared.calls.Calls.TheVariants.{Joins, Syncs}
+use Rattle.cg_member.specs.declared.calls.Calls.TheVariants.{Joins, Syncs}
 use Rattle.cg_record.specs.declared.command.Command.TheVariants as command
-use Rattle.cg_group.specs.declared.event.Event.{Event}
+use Rattle.cg_request.specs.declared.event.Event.{Event}
 use Rattle.cg_fold.specs.declared.record.GroupRecord.{GroupRecord}
-use Rattle.cg_group.specs.declared.group.Group.{Group}
-use Rattle.cg_group.specs.declared.group.Phase.{Phase}
-use Rattle.cg_group.specs.declared.group.Phase.TheVariants.{Empty, Preparing, Completing, Stable}
-use Rattle.cg_group.specs.declared.member.Member.{Member}
-use Rattle.cg_group.specs.declared.protocol.Protocol.{Protocol}
-use Rattle.cg_group.specs.declared.member.Waits.TheVariants.{Join}
-use Rattle.cg_group.specs.declared.request.JoinRequest.{JoinRequest}
-use Rattle.cg_group.specs.declared.request.SyncEntry.{SyncEntry}
-use Rattle.cg_group.specs.declared.ticket.Ticket.{Ticket}
-use Rattle.cg_group.specs.declared.turn.Turn.{Turn}
-use Rattle.cg_group.specs.Joining.{in_join_phase, is_inconsistent, updated, waiting, waits_with}
-use Rattle.cg_group.specs.Kept.{Kept}
-use Rattle.cg_group.proofs.Kept.{kept_after}
+use Rattle.cg_member.specs.declared.group.Group.{Group}
+use Rattle.cg_member.specs.declared.group.Phase.{Phase}
+use Rattle.cg_member.specs.declared.group.Phase.TheVariants.{Empty, Preparing, Completing, Stable}
+use Rattle.cg_member.specs.declared.member.Member.{Member}
+use Rattle.cg_request.specs.declared.protocol.Protocol.{Protocol}
+use Rattle.cg_member.specs.declared.member.Waits.TheVariants.{Join}
+use Rattle.cg_request.specs.declared.request.JoinRequest.{JoinRequest}
+use Rattle.cg_request.specs.declared.request.SyncEntry.{SyncEntry}
+use Rattle.cg_request.specs.declared.ticket.Ticket.{Ticket}
+use Rattle.cg_member.specs.declared.turn.Turn.{Turn}
+use Rattle.cg_member.specs.Joining.{in_join_phase, is_inconsistent, updated, waiting, waits_with}
+use Rattle.cg_held.specs.Kept.{Kept}
+use Rattle.cg_held.proofs.Kept.{kept_after}
 use Rattle.cg_group.specs.Laws.{IsRecordedAs, TellsOf}
-use Rattle.cg_group.specs.Leaving.{after_removal, has_joined}
-use Rattle.cg_group.specs.Membership.{has_id, has_instance, heard, hearing, is_empty, is_named, is_preparing, is_same, with_member}
-use Rattle.cg_group.specs.Rebalance.{completed, completed_generation, emptied, emptied_command, is_ready, next_round, prepared, told_to_joins, tried}
-use Rattle.cg_group.specs.Replacing.{seated, seating}
-use Rattle.cg_group.specs.Syncing.{assigned, assigned_command, assigning, distributed, kept_member, kept_roster, told_to_syncs}
-use Rattle.cg_group.specs.Ticking.{can_complete, ended}
-use Rattle.cg_group.specs.Vote.{is_common, offers}
-use Rattle.cg_group.specs.Waiting.{after_answers}
+use Rattle.cg_member.specs.Leaving.{after_removal, has_joined}
+use Rattle.cg_member.specs.Membership.{has_id, has_instance, heard, hearing, is_empty, is_named, is_preparing, is_same, with_member}
+use Rattle.cg_member.specs.Rebalance.{completed, completed_generation, emptied, emptied_command, is_ready, next_round, prepared, told_to_joins, tried}
+use Rattle.cg_member.specs.Replacing.{seated, seating}
+use Rattle.cg_member.specs.Syncing.{assigned, assigned_command, assigning, distributed, kept_member, kept_roster, told_to_syncs}
+use Rattle.cg_member.specs.Ticking.{can_complete, ended}
+use Rattle.cg_member.specs.Vote.{is_common, offers}
+use Rattle.cg_member.specs.Waiting.{after_answers}
 use Rattle.cg_group.proofs.Elections.{HasCommon, elected_is}
-use Rattle.cg_group.proofs.Keeping.{IsLasting, map-same, map-with_member, keep-after_answers}
-use Rattle.cg_group.proofs.KeptLists.{kept_after-append, kept_after-one, same_self}
+use Rattle.cg_member.proofs.Keeping.{IsLasting, map-same, map-with_member, keep-after_answers}
+use Rattle.cg_held.proofs.KeptLists.{kept_after-append, kept_after-one, same_self}
 use Rattle.cg_group.proofs.Calling.{AllWaits, all-named, is_named_wait, no_sync, no_sync-after_answers, waits-after_answers, waits-assigned, waits-with_member}
 
 -- a join phase has completed the group's generation

@@ -5,42 +5,43 @@ use Rattle.std.proofs.lemmas.Bool.{and_from, or_left, or_right, false≢true}
 use Rattle.std.proofs.lemmas.Cmp.{nat_eq_equiv}
 use Rattle.std.proofs.lemmas.List.Folds.{list_any-append}
 use Rattle.std.specs.Prelude.{pos, unwrap_or, option_map}
-use Rattle.cg_group.specs.declared.protocol.Protocol.{Protocol}
+use Rattle.cg_request.specs.declared.protocol.Protocol.{Protocol}
 use Rattle.std.specs.Ordering.{int_eq}
 use Rattle.std.specs.FinMap as finmap
 use Rattle.cg_record.specs.declared.member.Member.{Member as KeptMember}
 use Rattle.cg_record.specs.declared.command.Command.{Command}
-use Rattle.cg_group.specs.declared.event.Event.{Event}
-use Rattle.cg_group.specs.declared.event.Event.TheVariants as event
+use Rattle.cg_request.specs.declared.event.Event.{Event}
+use Rattle.cg_request.specs.declared.event.Event.TheVariants as event
 use Rattle.cg_fold.specs.declared.record.GroupRecord.{GroupRecord}
-use Rattle.cg_group.specs.declared.group.Group.{Group}
-use Rattle.cg_group.specs.declared.group.Phase.{Phase}
-use Rattle.cg_group.specs.declared.group.Phase.TheVariants.{Empty, Preparing, Completing, Stable}
-use Rattle.cg_group.specs.declared.member.Waits.{Waits}
-use Rattle.cg_group.specs.declared.member.Waits.TheVariants.{Nothing, Join, Sync}
-use Rattle.cg_group.specs.declared.request.SyncRequest.{SyncRequest}
-use Rattle.cg_group.specs.declared.ticket.Ticket.{Ticket}
-use Rattle.cg_group.specs.Joining.{new_group}
-use Rattle.cg_group.specs.Kept.{Each, Kept, kept_in}
-use Rattle.cg_group.proofs.Kept.{kept-after, kept_after}
+use Rattle.cg_member.specs.declared.group.Group.{Group}
+use Rattle.cg_member.specs.declared.group.Phase.{Phase}
+use Rattle.cg_member.specs.declared.group.Phase.TheVariants.{Empty, Preparing, Completing, Stable}
+use Rattle.cg_member.specs.declared.member.Waits.{Waits}
+use Rattle.cg_member.specs.declared.member.Waits.TheVariants.{Nothing, Join, Sync}
+use Rattle.cg_request.specs.declared.request.SyncRequest.{SyncRequest}
+use Rattle.cg_request.specs.declared.ticket.Ticket.{Ticket}
+use Rattle.cg_member.specs.Joining.{new_group}
+use Rattle.cg_held.specs.Kept.{Each, Kept, kept_in}
+use Rattle.cg_held.proofs.Kept.{kept-after, kept_after}
 use Rattle.cg_group.specs.Laws.{AgreesIn, AreRequests, IsRecordedAs, MachineAndCommandsAgree, after_all, commands_of, has_named, is_request, is_same_ticket, is_sync_of, state_after}
-use Rattle.cg_group.specs.Leaving.{gone_in}
-use Rattle.cg_group.specs.Machine.{Machine, beat, commit, deleting, find_group, join, leave, met, step, sync}
-use Rattle.cg_group.specs.Membership.{is_empty, is_named, is_same}
-use Rattle.cg_group.specs.Rebalance.{subscription_for}
-use Rattle.cg_group.specs.Reviving.{revive, revived, revived_from, revived_member, revived_with}
+use Rattle.cg_member.specs.Leaving.{gone_in}
+use Rattle.cg_group.specs.Machine.{beat, commit, deleting, join, leave, met, step, sync}
+use Rattle.cg_held.specs.Held.{Machine, find_group}
+use Rattle.cg_member.specs.Membership.{is_empty, is_named, is_same}
+use Rattle.cg_member.specs.Rebalance.{subscription_for}
+use Rattle.cg_held.specs.Reviving.{revive, revived, revived_from, revived_member, revived_with}
 use Rattle.cg_fold.specs.Durable.{State}
 use Rattle.cg_fold.specs.Snapshot.{groups_in, in_order}
 use Rattle.cg_record.specs.Rosters.{RosterParts}
-use Rattle.cg_group.proofs.Revived.{held_revived, id_revived, in_order-revived}
-use Rattle.cg_group.specs.Syncing.{kept_member}
-use Rattle.cg_group.specs.Ticking.{ticked}
-use Rattle.cg_group.specs.Vote.{is_common}
+use Rattle.cg_held.proofs.Revived.{held_revived, id_revived, in_order-revived}
+use Rattle.cg_member.specs.Syncing.{kept_member}
+use Rattle.cg_member.specs.Ticking.{ticked}
+use Rattle.cg_member.specs.Vote.{is_common}
 use Rattle.cg_group.proofs.Agreeing.{Holds, Whole, kind_holds, suits_consistent, suits_empty}
 use Rattle.cg_group.proofs.AgreeingTurns.{after-beat_taken, after-committed, after-gone_in, after-join_known, after-join_new, after-join_replacing, after-leave_taken, after-sync_taken, after-ticked}
 use Rattle.cg_group.proofs.Calling.{AllWaits, is_named_wait, no_sync}
-use Rattle.cg_group.proofs.Framed.{framed-beat_taken, framed-committed, framed-gone_in, framed-join_known, framed-join_new, framed-join_replacing, framed-leave_taken, framed-sync_taken, framed-ticked}
-use Rattle.cg_group.proofs.KeptLists.{each-found, id-found, kept_after-append, kept_after-none, same_self}
+use Rattle.cg_held.proofs.Framed.{framed-beat_taken, framed-committed, framed-gone_in, framed-join_known, framed-join_new, framed-join_replacing, framed-leave_taken, framed-sync_taken, framed-ticked}
+use Rattle.cg_held.proofs.KeptLists.{each-found, id-found, kept_after-append, kept_after-none, same_self}
 use Rattle.cg_group.proofs.Covering.{covered-after_all, covered-revive, offsets-after_all, offsets-revive}
 use Rattle.cg_group.proofs.KeptMachine.{Fits, Invariant, each-over, fits_framed, invariant-concluded, invariant-deleted, invariant-everywhere}
 use Rattle.cg_group.proofs.Requests.{fine-beat, fine-commit, fine-join, fine-leave, fine-sync}

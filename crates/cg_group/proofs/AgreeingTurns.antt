@@ -4,42 +4,42 @@ use Rattle.std.specs.Prelude.{if◌then◌else◌}
 use Rattle.std.specs.List.{list_any, list_all}
 use Rattle.std.specs.Option.{option_map}
 use Rattle.std.proofs.lemmas.Bool.{and_parts, false≢true}
-use Rattle.cg_group.specs.declared.calls.Calls.TheVariants.{Joins, OfSession}
-use Rattle.cg_group.specs.declared.event.Event.{Event}
-use Rattle.cg_group.specs.declared.group.Group.{Group}
-use Rattle.cg_group.specs.declared.group.Phase.{Phase}
-use Rattle.cg_group.specs.declared.group.Phase.TheVariants.{Empty, Preparing, Completing, Stable}
-use Rattle.cg_group.specs.declared.member.Member.{Member}
-use Rattle.cg_group.specs.declared.member.Waits.{Waits}
-use Rattle.cg_group.specs.declared.member.Waits.TheVariants.{Join, Nothing, Sync}
-use Rattle.cg_group.specs.declared.request.JoinRequest.{JoinRequest}
-use Rattle.cg_group.specs.declared.request.SyncRequest.{SyncRequest}
-use Rattle.cg_group.specs.declared.ticket.Ticket.{Ticket}
-use Rattle.cg_group.specs.declared.turn.Turn.{Turn}
+use Rattle.cg_member.specs.declared.calls.Calls.TheVariants.{Joins, OfSession}
+use Rattle.cg_request.specs.declared.event.Event.{Event}
+use Rattle.cg_member.specs.declared.group.Group.{Group}
+use Rattle.cg_member.specs.declared.group.Phase.{Phase}
+use Rattle.cg_member.specs.declared.group.Phase.TheVariants.{Empty, Preparing, Completing, Stable}
+use Rattle.cg_member.specs.declared.member.Member.{Member}
+use Rattle.cg_member.specs.declared.member.Waits.{Waits}
+use Rattle.cg_member.specs.declared.member.Waits.TheVariants.{Join, Nothing, Sync}
+use Rattle.cg_request.specs.declared.request.JoinRequest.{JoinRequest}
+use Rattle.cg_request.specs.declared.request.SyncRequest.{SyncRequest}
+use Rattle.cg_request.specs.declared.ticket.Ticket.{Ticket}
+use Rattle.cg_member.specs.declared.turn.Turn.{Turn}
 use Rattle.cg_record.specs.declared.command.Command.{Command}
 use Rattle.cg_record.specs.declared.command.Command.TheVariants as command
 use Rattle.cg_record.specs.Rosters.{may_replace}
 use Rattle.cg_fold.specs.Record.{replaced_record}
 use Rattle.cg_fold.specs.declared.record.GroupRecord.{GroupRecord}
-use Rattle.cg_group.specs.declared.commit_entry.CommitEntry.{CommitEntry}
-use Rattle.cg_group.specs.Beating.{beat_taken}
-use Rattle.cg_group.specs.Commits.{kept_entry}
-use Rattle.cg_group.specs.Committing.{committed, hearing_committer, keeping_entries}
-use Rattle.cg_group.specs.Joining.{admitted, in_join_phase, is_current, join_again, join_current, join_known, join_new, new_member, rejoined, updated, updating, waiting, waits_with}
-use Rattle.cg_group.specs.Kept.{Kept}
-use Rattle.cg_group.proofs.Kept.{kept_after}
+use Rattle.cg_request.specs.declared.commit_entry.CommitEntry.{CommitEntry}
+use Rattle.cg_turn.specs.Beating.{beat_taken}
+use Rattle.cg_request.specs.Commits.{kept_entry}
+use Rattle.cg_turn.specs.Committing.{committed, hearing_committer, keeping_entries}
+use Rattle.cg_member.specs.Joining.{admitted, in_join_phase, is_current, join_again, join_current, join_known, join_new, new_member, rejoined, updated, updating, waiting, waits_with}
+use Rattle.cg_held.specs.Kept.{Kept}
+use Rattle.cg_held.proofs.Kept.{kept_after}
 use Rattle.cg_group.specs.Laws.{has_named}
-use Rattle.cg_group.specs.Leaving.{after_removal, gone_in, leave_taken, left}
-use Rattle.cg_group.specs.Membership.{find_instance, find_member, has_id, heard, hearing, is_empty, is_named, is_preparing, is_stable, keeping, leads, with_member}
-use Rattle.cg_group.specs.Rebalance.{completed, is_ready, tried, turn_of}
-use Rattle.cg_group.specs.Replacing.{join_replacing, keeps_generation, replaced, replaced_command, replaced_in_place, replacing, seating, successor}
-use Rattle.cg_group.specs.Syncing.{distributed, kept_member, sync_current, sync_taken, sync_waits}
-use Rattle.cg_group.specs.Ticking.{at_deadline, ended, expired, is_due, is_overdue, outstays, ticked}
-use Rattle.cg_group.specs.Waiting.{after_answers, is_waiting}
+use Rattle.cg_member.specs.Leaving.{after_removal, gone_in, leave_taken, left}
+use Rattle.cg_member.specs.Membership.{find_instance, find_member, has_id, heard, hearing, is_empty, is_named, is_preparing, is_stable, keeping, leads, with_member}
+use Rattle.cg_member.specs.Rebalance.{completed, is_ready, tried, turn_of}
+use Rattle.cg_member.specs.Replacing.{join_replacing, keeps_generation, replaced, replaced_command, replaced_in_place, replacing, seating, successor}
+use Rattle.cg_member.specs.Syncing.{distributed, kept_member, sync_current, sync_taken, sync_waits}
+use Rattle.cg_member.specs.Ticking.{at_deadline, ended, expired, is_due, is_overdue, outstays, ticked}
+use Rattle.cg_member.specs.Waiting.{after_answers, is_waiting}
 use Rattle.cg_group.proofs.Elections.{HasCommon}
-use Rattle.cg_group.proofs.Framed.{Framed, framed-in_join_phase, framed-waiting, framed-expired_of}
-use Rattle.cg_group.proofs.Keeping.{map-with_member, keep-after_answers}
-use Rattle.cg_group.proofs.KeptLists.{kept_after-one, same_names}
+use Rattle.cg_held.proofs.Framed.{Framed, framed-in_join_phase, framed-waiting, framed-expired_of}
+use Rattle.cg_member.proofs.Keeping.{map-with_member, keep-after_answers}
+use Rattle.cg_held.proofs.KeptLists.{kept_after-one, same_names}
 use Rattle.cg_group.proofs.Calling.{AllWaits, each-filter, is_named_wait, no_sync, waits-after_answers, waits-append, waits-seated, waits-with_member}
 use Rattle.cg_group.proofs.Succeeding.{successor_may, told-replacing}
 use Rattle.cg_group.proofs.Agreeing.{After, Holds, Joining, Suits, Whole, after-after_removal, after-completed, after-distributed, after-ended, after-hearing, after-tried, common-append, common-filter, common-map, common-seated, common-update, empty_members, joining-in_join_phase, joining-waiting, joining_from, kind_holds, lasting_kept, lasting_protocols, preparing_is, whole-members}

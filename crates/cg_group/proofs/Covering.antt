@@ -16,27 +16,28 @@ use Rattle.cg_fold.specs.declared.key.StoredOffset.{StoredOffset}
 use Rattle.cg_fold.specs.Durable.{State, after, effect, is_of_other, with_entry}
 use Rattle.cg_fold.specs.Key.{key_cmp, kept_of}
 use Rattle.cg_fold.proofs.KeyOrder.{key_same, key_total}
-use Rattle.cg_group.specs.declared.event.Event.{Event}
-use Rattle.cg_group.specs.declared.event.Event.TheVariants as event
-use Rattle.cg_group.specs.declared.group.Group.{Group}
-use Rattle.cg_group.specs.declared.ticket.Ticket.{Ticket}
-use Rattle.cg_group.specs.declared.turn.Turn.{Turn}
-use Rattle.cg_group.specs.Committing.{keeping_entries}
+use Rattle.cg_request.specs.declared.event.Event.{Event}
+use Rattle.cg_request.specs.declared.event.Event.TheVariants as event
+use Rattle.cg_member.specs.declared.group.Group.{Group}
+use Rattle.cg_request.specs.declared.ticket.Ticket.{Ticket}
+use Rattle.cg_member.specs.declared.turn.Turn.{Turn}
+use Rattle.cg_turn.specs.Committing.{keeping_entries}
 use Rattle.cg_group.specs.Laws.{after_all, commands_of}
-use Rattle.cg_group.specs.Leaving.{gone_in}
-use Rattle.cg_group.specs.Machine.{Machine, beat, commit, concluded, deleted, deleting, everywhere, find_group, groups_after, join, leave, met, step, sync, with_group, without_group}
-use Rattle.cg_group.specs.Membership.{is_same}
-use Rattle.cg_group.specs.Offsets.{OffsetMap, offsets_after}
-use Rattle.cg_group.specs.Reviving.{revive}
-use Rattle.cg_group.specs.Ticking.{ticked}
+use Rattle.cg_member.specs.Leaving.{gone_in}
+use Rattle.cg_group.specs.Machine.{beat, commit, concluded, deleted, deleting, join, leave, met, step, sync}
+use Rattle.cg_held.specs.Held.{Machine, everywhere, find_group, groups_after, with_group, without_group}
+use Rattle.cg_member.specs.Membership.{is_same}
+use Rattle.cg_member.specs.Offsets.{OffsetMap, offsets_after}
+use Rattle.cg_held.specs.Reviving.{revive}
+use Rattle.cg_member.specs.Ticking.{ticked}
 use Rattle.cg_group.proofs.KeptMachine.{found-turns}
-use Rattle.cg_group.proofs.Framed.{Framed, framed-gone_in, framed-ticked}
-use Rattle.cg_group.proofs.KeptLists.{found-with_group, same_self}
+use Rattle.cg_held.proofs.Framed.{Framed, framed-gone_in, framed-ticked}
+use Rattle.cg_held.proofs.KeptLists.{found-with_group, same_self}
 use Rattle.cg_group.proofs.OffsetsKept.{AreQuiet, after-append, offsets-after, quiet-offsets}
 use Rattle.cg_group.proofs.Quiet.{Quiet, quiet-all, quiet-beat, quiet-gone_in, quiet-join, quiet-leave, quiet-sync, quiet-ticked}
-use Rattle.cg_group.proofs.Removing.{found-without}
+use Rattle.cg_held.proofs.Removing.{found-without}
 use Rattle.cg_group.proofs.Requests.{Fine, fine-commit}
-use Rattle.cg_group.proofs.Revived.{read_revived}
+use Rattle.cg_held.proofs.Revived.{read_revived}
 
 -- each group that has read is held
 abbrev pub Covered : OffsetMap → List Group → Type 0

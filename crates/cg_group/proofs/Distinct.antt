@@ -4,33 +4,33 @@ use Rattle.std.specs.Prelude.{if◌then◌else◌}
 use Rattle.std.specs.List.{list_any}
 use Rattle.std.specs.Option.{option_to_list}
 use Rattle.cg_record.specs.declared.member.Member.{Member as KeptMember}
-use Rattle.cg_group.specs.declared.calls.Calls.TheVariants.{OfSession, Any}
-use Rattle.cg_group.specs.declared.member.Member.{Member}
-use Rattle.cg_group.specs.declared.member.Waits.TheVariants.{Join, Sync}
-use Rattle.cg_group.specs.declared.group.Group.{Group}
-use Rattle.cg_group.specs.declared.group.Phase.{Phase}
-use Rattle.cg_group.specs.declared.group.Phase.TheVariants.{Empty, Preparing, Completing, Stable}
-use Rattle.cg_group.specs.declared.request.JoinRequest.{JoinRequest}
-use Rattle.cg_group.specs.declared.request.SyncEntry.{SyncEntry}
-use Rattle.cg_group.specs.declared.request.SyncRequest.{SyncRequest}
-use Rattle.cg_group.specs.declared.ticket.Ticket.{Ticket}
-use Rattle.cg_group.specs.declared.turn.Turn.{Turn}
-use Rattle.cg_group.specs.declared.commit_entry.CommitEntry.{CommitEntry}
-use Rattle.cg_group.specs.Beating.{beat_taken}
-use Rattle.cg_group.specs.Committing.{committed, hearing_committer, keeping_entries}
-use Rattle.cg_group.specs.Joining.{admitted, in_join_phase, is_current, join_again, join_current, join_known, join_new, new_group, new_member, rejoined, updating, updated, waiting}
-use Rattle.cg_group.specs.Names.{are_distinct}
-use Rattle.cg_group.specs.Members.{AreDistinct}
-use Rattle.cg_group.specs.Leaving.{after_removal, gone_in, leave_taken, left}
-use Rattle.cg_group.specs.Membership.{has_id, find_member, find_instance, hearing, keeping, leads}
-use Rattle.cg_group.specs.Rebalance.{turn_of, completed, tried}
-use Rattle.cg_group.specs.Syncing.{assigned, assigning, distributed, kept_member, sync_current, sync_taken, sync_waits}
-use Rattle.cg_group.specs.Ticking.{at_deadline, can_complete, ended, expired, is_due, is_overdue, outstays, ticked}
-use Rattle.cg_group.specs.Replacing.{join_replacing, keeps_generation, replaced, replaced_in_place, replacing, successor}
-use Rattle.cg_group.proofs.Keeping.{map-same, map-with_member, keep-after_answers, keep-hearing, keep-waiting, keep-in_join_phase, keep-told_to_syncs, keep-completed, keep-tried, keep-after_removal}
-use Rattle.cg_group.proofs.Seats.{distinct-seating}
-use Rattle.cg_group.proofs.Together.{distinct-filter, distinct-filter_instances, distinct-members-push, distinct-names, lasting_id, lasting_instance, no_instance_found}
-use Rattle.cg_group.specs.Waiting.{is_waiting}
+use Rattle.cg_member.specs.declared.calls.Calls.TheVariants.{OfSession, Any}
+use Rattle.cg_member.specs.declared.member.Member.{Member}
+use Rattle.cg_member.specs.declared.member.Waits.TheVariants.{Join, Sync}
+use Rattle.cg_member.specs.declared.group.Group.{Group}
+use Rattle.cg_member.specs.declared.group.Phase.{Phase}
+use Rattle.cg_member.specs.declared.group.Phase.TheVariants.{Empty, Preparing, Completing, Stable}
+use Rattle.cg_request.specs.declared.request.JoinRequest.{JoinRequest}
+use Rattle.cg_request.specs.declared.request.SyncEntry.{SyncEntry}
+use Rattle.cg_request.specs.declared.request.SyncRequest.{SyncRequest}
+use Rattle.cg_request.specs.declared.ticket.Ticket.{Ticket}
+use Rattle.cg_member.specs.declared.turn.Turn.{Turn}
+use Rattle.cg_request.specs.declared.commit_entry.CommitEntry.{CommitEntry}
+use Rattle.cg_turn.specs.Beating.{beat_taken}
+use Rattle.cg_turn.specs.Committing.{committed, hearing_committer, keeping_entries}
+use Rattle.cg_member.specs.Joining.{admitted, in_join_phase, is_current, join_again, join_current, join_known, join_new, new_group, new_member, rejoined, updating, updated, waiting}
+use Rattle.cg_request.specs.Names.{are_distinct}
+use Rattle.cg_member.specs.Members.{AreDistinct}
+use Rattle.cg_member.specs.Leaving.{after_removal, gone_in, leave_taken, left}
+use Rattle.cg_member.specs.Membership.{has_id, find_member, find_instance, hearing, keeping, leads}
+use Rattle.cg_member.specs.Rebalance.{turn_of, completed, tried}
+use Rattle.cg_member.specs.Syncing.{assigned, assigning, distributed, kept_member, sync_current, sync_taken, sync_waits}
+use Rattle.cg_member.specs.Ticking.{at_deadline, can_complete, ended, expired, is_due, is_overdue, outstays, ticked}
+use Rattle.cg_member.specs.Replacing.{join_replacing, keeps_generation, replaced, replaced_in_place, replacing, successor}
+use Rattle.cg_member.proofs.Keeping.{map-same, map-with_member, keep-after_answers, keep-hearing, keep-waiting, keep-in_join_phase, keep-told_to_syncs, keep-completed, keep-tried, keep-after_removal}
+use Rattle.cg_member.proofs.Seats.{distinct-seating}
+use Rattle.cg_member.proofs.Together.{distinct-filter, distinct-filter_instances, distinct-members-push, distinct-names, lasting_id, lasting_instance, no_instance_found}
+use Rattle.cg_member.specs.Waiting.{is_waiting}
 
 -- the members of the group are distinct
 abbrev pub Distinct : Group → Type 0

@@ -5,23 +5,24 @@ use Rattle.cg_record.specs.Rosters.{IsRoster, RosterParts}
 use Rattle.cg_fold.specs.declared.record.GroupRecord.{GroupRecord}
 use Rattle.cg_fold.specs.Durable.{State}
 use Rattle.cg_fold.specs.Snapshot.{groups_in, in_order}
-use Rattle.cg_group.specs.declared.event.Event.{Event}
-use Rattle.cg_group.specs.declared.event.Event.TheVariants as event
-use Rattle.cg_group.specs.declared.group.Group.{Group}
-use Rattle.cg_group.specs.declared.ticket.Ticket.{Ticket}
-use Rattle.cg_group.specs.declared.turn.Turn.{Turn}
-use Rattle.cg_group.specs.Joining.{new_group}
-use Rattle.cg_group.specs.Kept.{AreRecords, Each, IsRecord, kept_in}
-use Rattle.cg_group.specs.Names.{are_distinct}
+use Rattle.cg_request.specs.declared.event.Event.{Event}
+use Rattle.cg_request.specs.declared.event.Event.TheVariants as event
+use Rattle.cg_member.specs.declared.group.Group.{Group}
+use Rattle.cg_request.specs.declared.ticket.Ticket.{Ticket}
+use Rattle.cg_member.specs.declared.turn.Turn.{Turn}
+use Rattle.cg_member.specs.Joining.{new_group}
+use Rattle.cg_held.specs.Kept.{AreRecords, Each, IsRecord, kept_in}
+use Rattle.cg_request.specs.Names.{are_distinct}
 use Rattle.cg_group.specs.Laws.{MembersStayDistinct, after_all}
-use Rattle.cg_group.specs.Leaving.{gone_in}
-use Rattle.cg_group.specs.Machine.{Machine, beat, commit, concluded, deleted, deleting, everywhere, groups_after, join, leave, met, step, sync}
-use Rattle.cg_group.specs.Reviving.{revive, revived, revived_from, revived_with}
-use Rattle.cg_group.specs.Ticking.{ticked}
+use Rattle.cg_member.specs.Leaving.{gone_in}
+use Rattle.cg_group.specs.Machine.{beat, commit, concluded, deleted, deleting, join, leave, met, step, sync}
+use Rattle.cg_held.specs.Held.{Machine, everywhere, groups_after}
+use Rattle.cg_held.specs.Reviving.{revive, revived, revived_from, revived_with}
+use Rattle.cg_member.specs.Ticking.{ticked}
 use Rattle.cg_group.proofs.Distinct.{Distinct, apart-new_group, distinct-beat_taken, distinct-committed, distinct-gone_in, distinct-join_known, distinct-join_new, distinct-join_replacing, distinct-leave_taken, distinct-new_group, distinct-sync_taken, distinct-ticked, free-new_group}
-use Rattle.cg_group.proofs.KeptLists.{each-found, each-put}
-use Rattle.cg_group.proofs.Rostering.{distinct-revived_members}
-use Rattle.cg_group.proofs.Removing.{each-without}
+use Rattle.cg_held.proofs.KeptLists.{each-found, each-put}
+use Rattle.cg_held.proofs.Recalled.{distinct-revived_members}
+use Rattle.cg_held.proofs.Removing.{each-without}
 use Rattle.cg_group.proofs.Requests.{Fine, fine-beat, fine-commit, fine-join, fine-leave, fine-sync}
 use Rattle.std.proofs.Common.{Result, Ok, Err}
 use Rattle.cg_names.specs.declared.code.Code.{Code}

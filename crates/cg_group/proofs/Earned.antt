@@ -7,51 +7,52 @@ use Rattle.std.specs.Ordering.{match_ordering, nat_cmp}
 use Rattle.std.specs.declared.cmp.Ordering.TheVariants.{Less, Equal, Greater}
 use Rattle.std.proofs.lemmas.Bool.{and_from, false≢true, or_left, or_right}
 use Rattle.cg_names.specs.declared.code.Code.{Code}
-use Rattle.cg_group.specs.declared.calls.Calls.TheVariants.{Syncs, Any}
+use Rattle.cg_member.specs.declared.calls.Calls.TheVariants.{Syncs, Any}
 use Rattle.cg_record.specs.declared.member.Member.{Member as KeptMember}
 use Rattle.cg_record.specs.Rosters.{RosterParts}
-use Rattle.cg_group.specs.declared.event.Event.{Event}
-use Rattle.cg_group.specs.declared.event.Event.TheVariants as event
+use Rattle.cg_request.specs.declared.event.Event.{Event}
+use Rattle.cg_request.specs.declared.event.Event.TheVariants as event
 use Rattle.cg_fold.specs.declared.record.GroupRecord.{GroupRecord}
 use Rattle.cg_fold.specs.Durable.{State, after}
-use Rattle.cg_group.specs.declared.group.Group.{Group}
-use Rattle.cg_group.specs.declared.group.Phase.{Phase}
-use Rattle.cg_group.specs.declared.group.Phase.TheVariants.{Empty, Preparing, Completing, Stable}
-use Rattle.cg_group.specs.declared.member.Member.{Member}
-use Rattle.cg_group.specs.declared.member.Waits.{Waits}
-use Rattle.cg_group.specs.declared.member.Waits.TheVariants.{Join, Sync, Nothing}
-use Rattle.cg_group.specs.declared.reply.Reply.{Reply}
-use Rattle.cg_group.specs.declared.reply.Reply.TheVariants as reply
-use Rattle.cg_group.specs.declared.request.JoinRequest.{JoinRequest}
-use Rattle.cg_group.specs.declared.request.SyncEntry.{SyncEntry}
-use Rattle.cg_group.specs.declared.request.SyncRequest.{SyncRequest}
-use Rattle.cg_group.specs.declared.ticket.Ticket.{Ticket}
-use Rattle.cg_group.specs.declared.turn.Turn.{Turn}
-use Rattle.cg_group.specs.Joining.{admitted, is_current, join_again, join_current, join_known, join_new, new_group, new_member, rejoined, updating, waiting, waits_with}
-use Rattle.cg_group.specs.Kept.{Each, Kept, kept_in}
-use Rattle.cg_group.proofs.Kept.{kept-after, kept_after}
+use Rattle.cg_member.specs.declared.group.Group.{Group}
+use Rattle.cg_member.specs.declared.group.Phase.{Phase}
+use Rattle.cg_member.specs.declared.group.Phase.TheVariants.{Empty, Preparing, Completing, Stable}
+use Rattle.cg_member.specs.declared.member.Member.{Member}
+use Rattle.cg_member.specs.declared.member.Waits.{Waits}
+use Rattle.cg_member.specs.declared.member.Waits.TheVariants.{Join, Sync, Nothing}
+use Rattle.cg_member.specs.declared.reply.Reply.{Reply}
+use Rattle.cg_member.specs.declared.reply.Reply.TheVariants as reply
+use Rattle.cg_request.specs.declared.request.JoinRequest.{JoinRequest}
+use Rattle.cg_request.specs.declared.request.SyncEntry.{SyncEntry}
+use Rattle.cg_request.specs.declared.request.SyncRequest.{SyncRequest}
+use Rattle.cg_request.specs.declared.ticket.Ticket.{Ticket}
+use Rattle.cg_member.specs.declared.turn.Turn.{Turn}
+use Rattle.cg_member.specs.Joining.{admitted, is_current, join_again, join_current, join_known, join_new, new_group, new_member, rejoined, updating, waiting, waits_with}
+use Rattle.cg_held.specs.Kept.{Each, Kept, kept_in}
+use Rattle.cg_held.proofs.Kept.{kept-after, kept_after}
 use Rattle.cg_group.specs.Laws.{AreRequests, IsRecordedAs, TellsOf, after_all, has_named, is_earned, is_earned_in, is_in_roster, is_kept_for, state_after}
-use Rattle.cg_group.specs.declared.topic_partition.TopicPartition.{TopicPartition}
-use Rattle.cg_group.specs.Fetching.{fetched}
-use Rattle.cg_group.specs.Offsets.{OffsetMap}
-use Rattle.cg_group.specs.Leaving.{after_removal, gone_in, leave_taken, left}
-use Rattle.cg_group.specs.declared.commit_entry.CommitEntry.{CommitEntry}
-use Rattle.cg_group.specs.Committing.{committed, hearing_committer, keeping_entries}
-use Rattle.cg_group.specs.Machine.{Machine, Outcome, beat, commit, concluded, deleted, deleting, describe, everywhere, join, leave, met, step, sync, with_group}
-use Rattle.cg_group.specs.Membership.{find_member, has_id, heard, hearing, is_preparing, is_same, keeping, leads, with_member}
-use Rattle.cg_group.specs.Rebalance.{completed, joined_reply, next_round, tried, turn_of}
-use Rattle.cg_group.specs.Replacing.{join_replacing, keeps_generation, replaced, replaced_in_place, replaced_reply, successor}
-use Rattle.cg_group.specs.Reviving.{revive}
-use Rattle.cg_group.specs.Syncing.{assigned_command, assigning, distributed, kept_member, sync_current, sync_taken, sync_waits, synced_reply, told_to_syncs}
-use Rattle.cg_group.specs.Ticking.{at_deadline, can_complete, ended, expired, is_due, outstays, ticked}
-use Rattle.cg_group.specs.Waiting.{after_answers, answers, called}
+use Rattle.cg_request.specs.declared.topic_partition.TopicPartition.{TopicPartition}
+use Rattle.cg_member.specs.Fetching.{fetched}
+use Rattle.cg_member.specs.Offsets.{OffsetMap}
+use Rattle.cg_member.specs.Leaving.{after_removal, gone_in, leave_taken, left}
+use Rattle.cg_request.specs.declared.commit_entry.CommitEntry.{CommitEntry}
+use Rattle.cg_turn.specs.Committing.{committed, hearing_committer, keeping_entries}
+use Rattle.cg_group.specs.Machine.{beat, commit, concluded, deleted, deleting, describe, join, leave, met, step, sync}
+use Rattle.cg_held.specs.Held.{Machine, Outcome, everywhere, with_group}
+use Rattle.cg_member.specs.Membership.{find_member, has_id, heard, hearing, is_preparing, is_same, keeping, leads, with_member}
+use Rattle.cg_member.specs.Rebalance.{completed, joined_reply, next_round, tried, turn_of}
+use Rattle.cg_member.specs.Replacing.{join_replacing, keeps_generation, replaced, replaced_in_place, replaced_reply, successor}
+use Rattle.cg_held.specs.Reviving.{revive}
+use Rattle.cg_member.specs.Syncing.{assigned_command, assigning, distributed, kept_member, sync_current, sync_taken, sync_waits, synced_reply, told_to_syncs}
+use Rattle.cg_member.specs.Ticking.{at_deadline, can_complete, ended, expired, is_due, outstays, ticked}
+use Rattle.cg_member.specs.Waiting.{after_answers, answers, called}
 use Rattle.cg_group.proofs.Agreeing.{Holds, IsCompleted, Whole, assigned_tells, empty_members}
 use Rattle.cg_group.proofs.AgreeingMachine.{WholeMachine, machine_more, sync_named, was_met_last, whole-all}
 use Rattle.cg_group.proofs.AgreeingTurns.{nothing_found, some_named}
 use Rattle.cg_group.proofs.Calling.{AllWaits, is_named_wait, waits-assigned, waits-with_member}
-use Rattle.cg_group.proofs.Framed.{each-append, framed-sync_taken}
-use Rattle.cg_group.proofs.Keeping.{keep-after_answers, keep-hearing}
-use Rattle.cg_group.proofs.KeptLists.{each-found, id-found, kept_after-append, same_names, same_self}
+use Rattle.cg_held.proofs.Framed.{each-append, framed-sync_taken}
+use Rattle.cg_member.proofs.Keeping.{keep-after_answers, keep-hearing}
+use Rattle.cg_held.proofs.KeptLists.{each-found, id-found, kept_after-append, same_names, same_self}
 use Rattle.cg_group.proofs.KeptMachine.{each-over}
 use Rattle.cg_group.proofs.Requests.{Fine, fine-beat, fine-commit, fine-join, fine-leave, fine-sync}
 use Rattle.cg_group.proofs.Telling.{Told, each-answers, expired_tried, told-beat_taken, told-completed, told-gone_in, told-in_join_phase, told-left, told-rejoined, told-removal, told-replaced, told-tried, told-waiting}

@@ -8,11 +8,11 @@ use Rattle.std.specs.List.{list_any, list_all}
 use Rattle.std.specs.Ordering.{nat_cmp, flip_args, is_gt, is_lt, on, ordering_reverse, ordering_then, then_cmp}
 use Rattle.std.specs.declared.cmp.Ordering.{Ordering}
 use Rattle.std.specs.declared.cmp.Ordering.TheVariants.{Less, Equal, Greater}
-use Rattle.cg_group.specs.declared.member.Member.{Member}
-use Rattle.cg_group.specs.declared.protocol.Protocol.{Protocol}
-use Rattle.cg_group.specs.Membership.{is_empty, is_same}
-use Rattle.cg_group.specs.Vote.{beats, candidates, elected, is_beaten, is_common, offers, votes}
-use Rattle.cg_group.proofs.KeptLists.{same_names, same_self}
+use Rattle.cg_member.specs.declared.member.Member.{Member}
+use Rattle.cg_request.specs.declared.protocol.Protocol.{Protocol}
+use Rattle.cg_member.specs.Membership.{is_empty, is_same}
+use Rattle.cg_member.specs.Vote.{beats, candidates, elected, is_beaten, is_common, offers, votes}
+use Rattle.cg_held.proofs.KeptLists.{same_names, same_self}
 
 -- a protocol that every member has
 abbrev pub HasCommon : List Member → Type 0

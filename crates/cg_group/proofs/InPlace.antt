@@ -3,25 +3,26 @@ use Rattle.std.proofs.Common.{◌≡◌, ℕ, true, false, List, map, Option, So
 use Rattle.cg_names.specs.declared.code.Code.{Code}
 use Rattle.cg_names.specs.declared.code.Code.TheVariants.{InvalidGroupId, OffsetMetadataTooLarge, UnknownMemberId}
 use Rattle.cg_record.specs.declared.entry.Entry.{Entry}
-use Rattle.cg_group.specs.declared.commit_entry.CommitEntry.{CommitEntry}
-use Rattle.cg_group.specs.declared.effects.Effects.{Effects}
-use Rattle.cg_group.specs.declared.group.Group.{Group}
-use Rattle.cg_group.specs.declared.request.BeatRequest.{BeatRequest}
-use Rattle.cg_group.specs.declared.request.CommitRequest.{CommitRequest}
-use Rattle.cg_group.specs.declared.request.SyncRequest.{SyncRequest}
-use Rattle.cg_group.specs.declared.reply.Reply.{Reply}
-use Rattle.cg_group.specs.declared.reply.Reply.TheVariants as reply
-use Rattle.cg_group.specs.declared.ticket.Ticket.{Ticket}
-use Rattle.cg_group.specs.declared.turn.Turn.{Turn}
-use Rattle.cg_group.specs.Beating.{beat_held, beat_reply, beat_taken}
-use Rattle.cg_group.specs.Commits.{is_too_large, kept_entry}
-use Rattle.cg_group.specs.Committing.{commit_by, commit_effects, commit_held, committed, committer, hearing_committer, keeping_entries}
+use Rattle.cg_request.specs.declared.commit_entry.CommitEntry.{CommitEntry}
+use Rattle.cg_member.specs.declared.effects.Effects.{Effects}
+use Rattle.cg_member.specs.declared.group.Group.{Group}
+use Rattle.cg_request.specs.declared.request.BeatRequest.{BeatRequest}
+use Rattle.cg_request.specs.declared.request.CommitRequest.{CommitRequest}
+use Rattle.cg_request.specs.declared.request.SyncRequest.{SyncRequest}
+use Rattle.cg_member.specs.declared.reply.Reply.{Reply}
+use Rattle.cg_member.specs.declared.reply.Reply.TheVariants as reply
+use Rattle.cg_request.specs.declared.ticket.Ticket.{Ticket}
+use Rattle.cg_member.specs.declared.turn.Turn.{Turn}
+use Rattle.cg_turn.specs.Beating.{beat_held, beat_reply, beat_taken}
+use Rattle.cg_request.specs.Commits.{is_too_large, kept_entry}
+use Rattle.cg_turn.specs.Committing.{commit_by, commit_effects, commit_held, committed, committer, hearing_committer, keeping_entries}
 use Rattle.cg_group.specs.InPlace.{IsBeatIn, IsCurrent, IsNamed, IsSyncIn}
-use Rattle.cg_group.specs.Machine.{at_moment, beat, commit, commit_in, concluded, find_group, named_group, outcome, reply_alone, sync, with_group}
-use Rattle.cg_group.specs.Membership.{hearing}
-use Rattle.cg_group.specs.Refusing.{◌>>=◌, refused_if}
-use Rattle.cg_group.specs.Syncing.{sync_current, sync_held}
-use Rattle.cg_group.proofs.InOrder.{found_named}
+use Rattle.cg_group.specs.Machine.{beat, commit, commit_in, concluded, named_group, reply_alone, sync}
+use Rattle.cg_held.specs.Held.{at_moment, find_group, outcome, with_group}
+use Rattle.cg_member.specs.Membership.{hearing}
+use Rattle.cg_member.specs.Refusing.{◌>>=◌, refused_if}
+use Rattle.cg_member.specs.Syncing.{sync_current, sync_held}
+use Rattle.cg_held.proofs.InOrder.{found_named}
 
 id-hearing : (now : ℕ) (id : List ℕ) (g : Group) → (hearing now id g).id ≡ g.id
 unfolding hearing

@@ -5,17 +5,18 @@ use Rattle.std.proofs.lemmas.Bool.{or_left, or_right, false≢true}
 use Rattle.cg_names.specs.declared.code.Code.{Code}
 use Rattle.cg_record.specs.declared.command.Command.{Command}
 use Rattle.cg_fold.specs.declared.record.GroupRecord.{GroupRecord}
-use Rattle.cg_group.specs.declared.group.Group.{Group}
-use Rattle.cg_group.specs.declared.ticket.Ticket.{Ticket}
-use Rattle.cg_group.specs.declared.turn.Turn.{Turn}
-use Rattle.cg_group.specs.Kept.{Each, ComesBefore, Ascending, Kept}
-use Rattle.cg_group.proofs.Kept.{kept_after}
+use Rattle.cg_member.specs.declared.group.Group.{Group}
+use Rattle.cg_request.specs.declared.ticket.Ticket.{Ticket}
+use Rattle.cg_member.specs.declared.turn.Turn.{Turn}
+use Rattle.cg_held.specs.Kept.{Each, ComesBefore, Ascending, Kept}
+use Rattle.cg_held.proofs.Kept.{kept_after}
 use Rattle.cg_record.specs.declared.command.Command.TheVariants as command
-use Rattle.cg_group.specs.Machine.{Machine, concluded, deleted, everywhere, find_group, groups_after, with_group, without_group}
-use Rattle.cg_group.proofs.Removing.{ascending-without, each-without-over, found-without}
-use Rattle.cg_group.specs.Membership.{is_same}
-use Rattle.cg_group.proofs.Framed.{Framed, OfGroup}
-use Rattle.cg_group.proofs.KeptLists.{kept_after-append, kept_after-none, kept_after-one, kept_after-other, differs_from_order, same_names, group_ids, ascending-with_group, each-after, each-with_group, found-with_group}
+use Rattle.cg_group.specs.Machine.{concluded, deleted}
+use Rattle.cg_held.specs.Held.{Machine, everywhere, find_group, groups_after, with_group, without_group}
+use Rattle.cg_held.proofs.Removing.{ascending-without, each-without-over, found-without}
+use Rattle.cg_member.specs.Membership.{is_same}
+use Rattle.cg_held.proofs.Framed.{Framed, OfGroup}
+use Rattle.cg_held.proofs.KeptLists.{kept_after-append, kept_after-none, kept_after-one, kept_after-other, differs_from_order, same_names, group_ids, ascending-with_group, each-after, each-with_group, found-with_group}
 use Rattle.cg_group.proofs.Requests.{Fine}
 use Rattle.std.proofs.lemmas.Cmp.{nat_list_eq_equiv}
 use Rattle.std.specs.declared.cmp.Ordering.TheVariants.{Less}

@@ -3,46 +3,47 @@ use Rattle.std.proofs.Common.{◌≡◌, ℕ, Bool, true, false, not, List, [], 
 use Rattle.std.specs.Prelude.{◌==◌, if◌then◌else◌, is_some, IfOk, OnErr}
 use Rattle.std.specs.List.{list_any}
 use Rattle.cg_names.specs.declared.code.Code.{Code}
-use Rattle.cg_group.specs.declared.calls.Calls.TheVariants.{Joins, OfSession, Syncs}
-use Rattle.cg_group.specs.declared.event.Event.{Event}
-use Rattle.cg_group.specs.declared.event.Event.TheVariants as event
-use Rattle.cg_group.specs.declared.group.Group.{Group}
-use Rattle.cg_group.specs.declared.group.Phase.{Phase}
-use Rattle.cg_group.specs.declared.group.Phase.TheVariants.{Empty, Preparing, Completing, Stable}
-use Rattle.cg_group.specs.declared.member.Member.{Member}
-use Rattle.cg_group.specs.declared.member.Waits.{Waits}
-use Rattle.cg_group.specs.declared.member.Waits.TheVariants.{Nothing, Join, Sync}
-use Rattle.cg_group.specs.declared.request.JoinRequest.{JoinRequest}
-use Rattle.cg_group.specs.declared.request.SyncEntry.{SyncEntry}
-use Rattle.cg_group.specs.declared.request.SyncRequest.{SyncRequest}
-use Rattle.cg_group.specs.declared.ticket.Ticket.{Ticket}
-use Rattle.cg_group.specs.declared.turn.Turn.{Turn}
-use Rattle.cg_group.specs.Beating.{beat_taken}
-use Rattle.cg_group.specs.Joining.{admitted, in_join_phase, is_current, join_again, join_current, join_known, join_new, new_group, new_member, rejoined, updated, updating, waiting, waits_with}
-use Rattle.cg_group.specs.Kept.{Each, kept_in}
-use Rattle.cg_group.specs.Leaving.{after_removal, gone_in, has_joined, leave_taken, left}
-use Rattle.cg_group.specs.declared.commit_entry.CommitEntry.{CommitEntry}
-use Rattle.cg_group.specs.Committing.{committed, hearing_committer, keeping_entries}
-use Rattle.cg_group.specs.declared.effects.Effects.{Effects}
-use Rattle.cg_group.specs.Machine.{Machine, Outcome, at_moment, beat, commit, concluded, deleted, deleting, everywhere, find_group, groups_after, join, leave, met, outcome, sync, with_group}
-use Rattle.cg_group.specs.Membership.{has_id, heard, hearing, is_empty, is_preparing, keeping, leads}
-use Rattle.cg_group.specs.Replacing.{join_replacing, keeps_generation, replaced, replaced_in_place, replacing, seating, successor}
-use Rattle.cg_group.specs.Reviving.{revived, revived_from, revived_member, revived_with}
+use Rattle.cg_member.specs.declared.calls.Calls.TheVariants.{Joins, OfSession, Syncs}
+use Rattle.cg_request.specs.declared.event.Event.{Event}
+use Rattle.cg_request.specs.declared.event.Event.TheVariants as event
+use Rattle.cg_member.specs.declared.group.Group.{Group}
+use Rattle.cg_member.specs.declared.group.Phase.{Phase}
+use Rattle.cg_member.specs.declared.group.Phase.TheVariants.{Empty, Preparing, Completing, Stable}
+use Rattle.cg_member.specs.declared.member.Member.{Member}
+use Rattle.cg_member.specs.declared.member.Waits.{Waits}
+use Rattle.cg_member.specs.declared.member.Waits.TheVariants.{Nothing, Join, Sync}
+use Rattle.cg_request.specs.declared.request.JoinRequest.{JoinRequest}
+use Rattle.cg_request.specs.declared.request.SyncEntry.{SyncEntry}
+use Rattle.cg_request.specs.declared.request.SyncRequest.{SyncRequest}
+use Rattle.cg_request.specs.declared.ticket.Ticket.{Ticket}
+use Rattle.cg_member.specs.declared.turn.Turn.{Turn}
+use Rattle.cg_turn.specs.Beating.{beat_taken}
+use Rattle.cg_member.specs.Joining.{admitted, in_join_phase, is_current, join_again, join_current, join_known, join_new, new_group, new_member, rejoined, updated, updating, waiting, waits_with}
+use Rattle.cg_held.specs.Kept.{Each, kept_in}
+use Rattle.cg_member.specs.Leaving.{after_removal, gone_in, has_joined, leave_taken, left}
+use Rattle.cg_request.specs.declared.commit_entry.CommitEntry.{CommitEntry}
+use Rattle.cg_turn.specs.Committing.{committed, hearing_committer, keeping_entries}
+use Rattle.cg_member.specs.declared.effects.Effects.{Effects}
+use Rattle.cg_group.specs.Machine.{beat, commit, concluded, deleted, deleting, join, leave, met, sync}
+use Rattle.cg_held.specs.Held.{Machine, Outcome, at_moment, everywhere, find_group, groups_after, outcome, with_group}
+use Rattle.cg_member.specs.Membership.{has_id, heard, hearing, is_empty, is_preparing, keeping, leads}
+use Rattle.cg_member.specs.Replacing.{join_replacing, keeps_generation, replaced, replaced_in_place, replacing, seating, successor}
+use Rattle.cg_held.specs.Reviving.{revived, revived_from, revived_member, revived_with}
 use Rattle.cg_record.specs.declared.member.Member.{Member as KeptMember}
 use Rattle.cg_record.specs.Rosters.{RosterParts}
 use Rattle.cg_fold.specs.declared.record.GroupRecord.{GroupRecord}
 use Rattle.cg_fold.specs.Durable.{State}
-use Rattle.cg_group.specs.Rebalance.{completed, emptied, is_ready, next_round, prepared, told_to_joins, tried, turn_of}
-use Rattle.cg_group.specs.Sessions.{AreKnown, Known, Owns, is_known}
-use Rattle.cg_group.specs.Syncing.{assigning, distributed, kept_member, sync_current, sync_taken, sync_waits, told_to_syncs}
-use Rattle.cg_group.specs.Ticking.{at_deadline, can_complete, ended, expired, is_due, is_overdue, outstays, ticked}
-use Rattle.cg_group.specs.Waiting.{after_answers, answered, called, is_waiting}
+use Rattle.cg_member.specs.Rebalance.{completed, emptied, is_ready, next_round, prepared, told_to_joins, tried, turn_of}
+use Rattle.cg_held.specs.Sessions.{AreKnown, Known, Owns, is_known}
+use Rattle.cg_member.specs.Syncing.{assigning, distributed, kept_member, sync_current, sync_taken, sync_waits, told_to_syncs}
+use Rattle.cg_member.specs.Ticking.{at_deadline, can_complete, ended, expired, is_due, is_overdue, outstays, ticked}
+use Rattle.cg_member.specs.Waiting.{after_answers, answered, called, is_waiting}
 use Rattle.std.proofs.lemmas.Bool.{eqb-false, eqb-true, or_from}
-use Rattle.cg_group.proofs.Untouched.{calm_gone_in}
-use Rattle.cg_group.proofs.Framed.{Framed, framed-beat_taken, framed-committed, framed-gone_in, framed-join_known, framed-join_new, framed-join_replacing, framed-leave_taken, framed-sync_taken, framed-ticked}
+use Rattle.cg_held.proofs.Untouched.{calm_gone_in}
+use Rattle.cg_held.proofs.Framed.{Framed, framed-beat_taken, framed-committed, framed-gone_in, framed-join_known, framed-join_new, framed-join_replacing, framed-leave_taken, framed-sync_taken, framed-ticked}
 use Rattle.cg_group.proofs.Calling.{each-filter, waits-after_answers, waits-append, waits-assigned, waits-seated, waits-with_member}
-use Rattle.cg_group.proofs.KeptLists.{each-found, each-put, id-found, same_names}
-use Rattle.cg_group.proofs.Removing.{each-without}
+use Rattle.cg_held.proofs.KeptLists.{each-found, each-put, id-found, same_names}
+use Rattle.cg_held.proofs.Removing.{each-without}
 use Rattle.cg_group.proofs.Requests.{Fine, fine-beat, fine-commit, fine-join, fine-leave, fine-sync}
 
 module _ (sessions : ℕ → Bool) where

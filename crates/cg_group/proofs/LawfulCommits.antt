@@ -5,27 +5,28 @@ use Rattle.std.specs.Ordering.{int_eq}
 use Rattle.std.proofs.lemmas.Bool.{not-false}
 use Rattle.cg_names.specs.declared.code.Code.{Code}
 use Rattle.cg_names.specs.declared.code.Code.TheVariants.{CoordinatorNotAvailable, IllegalGeneration, InvalidGroupId, OffsetMetadataTooLarge, RebalanceInProgress, UnknownMemberId}
-use Rattle.cg_group.specs.declared.bounds.TheConstants.{GROUPS_MAX}
-use Rattle.cg_group.specs.declared.group.Group.{Group}
-use Rattle.cg_group.specs.declared.group.Phase.{Phase}
-use Rattle.cg_group.specs.declared.group.Phase.TheVariants.{Empty, Preparing, Completing, Stable}
-use Rattle.cg_group.specs.declared.member.Member.{Member}
-use Rattle.cg_group.specs.declared.request.CommitRequest.{CommitRequest}
-use Rattle.cg_group.specs.declared.ticket.Ticket.{Ticket}
-use Rattle.cg_group.specs.declared.turn.Turn.{Turn}
-use Rattle.cg_group.specs.Commits.{is_too_large}
-use Rattle.cg_group.specs.Committing.{commit_held, commit_of_member, commit_of_none, commit_unheld, committed, committer, hearing_committer, is_completing, is_negative}
-use Rattle.cg_group.specs.Fencing.{member_check}
-use Rattle.cg_group.specs.Joining.{new_group}
-use Rattle.cg_group.specs.Kept.{kept_in}
+use Rattle.cg_turn.specs.declared.bounds.TheConstants.{GROUPS_MAX}
+use Rattle.cg_member.specs.declared.group.Group.{Group}
+use Rattle.cg_member.specs.declared.group.Phase.{Phase}
+use Rattle.cg_member.specs.declared.group.Phase.TheVariants.{Empty, Preparing, Completing, Stable}
+use Rattle.cg_member.specs.declared.member.Member.{Member}
+use Rattle.cg_request.specs.declared.request.CommitRequest.{CommitRequest}
+use Rattle.cg_request.specs.declared.ticket.Ticket.{Ticket}
+use Rattle.cg_member.specs.declared.turn.Turn.{Turn}
+use Rattle.cg_request.specs.Commits.{is_too_large}
+use Rattle.cg_turn.specs.Committing.{commit_held, commit_of_member, commit_of_none, commit_unheld, committed, committer, hearing_committer, is_completing, is_negative}
+use Rattle.cg_member.specs.Fencing.{member_check}
+use Rattle.cg_member.specs.Joining.{new_group}
+use Rattle.cg_held.specs.Kept.{kept_in}
 use Rattle.cg_group.specs.Laws.{CommitsAreLawful, IsOfMember, IsOfNobody, after_all, state_after}
-use Rattle.cg_group.specs.Machine.{Machine, commit, commit_in, concluded, find_group, met, step}
-use Rattle.cg_group.specs.Membership.{find_member, is_empty}
-use Rattle.cg_group.specs.Refusing.{◌>>=◌, refused_if}
-use Rattle.cg_group.specs.Reviving.{revive}
+use Rattle.cg_group.specs.Machine.{commit, commit_in, concluded, met, step}
+use Rattle.cg_held.specs.Held.{Machine, find_group}
+use Rattle.cg_member.specs.Membership.{find_member, is_empty}
+use Rattle.cg_member.specs.Refusing.{◌>>=◌, refused_if}
+use Rattle.cg_held.specs.Reviving.{revive}
 use Rattle.cg_group.proofs.Agreeing.{Whole, empty_members}
 use Rattle.cg_group.proofs.AgreeingMachine.{whole-all}
-use Rattle.cg_group.proofs.KeptLists.{each-found}
+use Rattle.cg_held.proofs.KeptLists.{each-found}
 use Rattle.cg_group.proofs.Requests.{Fine, after_checked, after_test, check_parts, passed_by, tested, unfenced_by}
 
 -- the group of a member that commits is not empty by its phase

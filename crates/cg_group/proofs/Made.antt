@@ -4,16 +4,17 @@ use Rattle.std.specs.Prelude.{IsErr}
 use Rattle.cg_names.specs.declared.code.Code.{Code}
 use Rattle.cg_names.specs.declared.code.Code.TheVariants.{InvalidGroupId, UnknownMemberId}
 use Rattle.cg_record.specs.declared.entry.Entry.{Entry}
-use Rattle.cg_group.specs.declared.effects.Effects.{Effects}
-use Rattle.cg_group.specs.declared.group.Group.{Group}
-use Rattle.cg_group.specs.declared.request.CommitRequest.{CommitRequest}
-use Rattle.cg_group.specs.declared.ticket.Ticket.{Ticket}
-use Rattle.cg_group.specs.declared.turn.Turn.{Turn}
-use Rattle.cg_group.specs.Committing.{commit_effects, commit_unheld, keeping_entries}
-use Rattle.cg_group.specs.Joining.{new_group}
-use Rattle.cg_group.specs.Machine.{at_moment, commit, commit_in, concluded, find_group, named_group, outcome, with_group, without_group}
-use Rattle.cg_group.specs.Refusing.{◌>>=◌}
-use Rattle.cg_group.proofs.Removing.{without_with}
+use Rattle.cg_member.specs.declared.effects.Effects.{Effects}
+use Rattle.cg_member.specs.declared.group.Group.{Group}
+use Rattle.cg_request.specs.declared.request.CommitRequest.{CommitRequest}
+use Rattle.cg_request.specs.declared.ticket.Ticket.{Ticket}
+use Rattle.cg_member.specs.declared.turn.Turn.{Turn}
+use Rattle.cg_turn.specs.Committing.{commit_effects, commit_unheld, keeping_entries}
+use Rattle.cg_member.specs.Joining.{new_group}
+use Rattle.cg_group.specs.Machine.{commit, commit_in, concluded, named_group}
+use Rattle.cg_held.specs.Held.{at_moment, find_group, outcome, with_group, without_group}
+use Rattle.cg_member.specs.Refusing.{◌>>=◌}
+use Rattle.cg_held.proofs.Removing.{without_with}
 
 pub commit_made : (now : ℕ) (groups after : List Group) (ticket : Ticket) (entries : List Entry) (id : List ℕ) (e : Effects) → after ≡ with_group (new_group id) groups → e ≡ commit_effects entries ticket id → concluded (at_moment now groups) ticket (Ok (keeping_entries entries ticket (new_group id))) ≡ outcome now after e
 unfolding concluded keeping_entries new_group

@@ -7,26 +7,26 @@ use Rattle.cg_record.specs.declared.assigned.Assigned.{Assigned}
 use Rattle.cg_record.specs.declared.command.Command.{Command}
 use Rattle.cg_record.specs.declared.command.Command.TheVariants as command
 use Rattle.cg_record.specs.declared.emptied.Emptied.{Emptied}
-use Rattle.cg_group.specs.declared.group.Group.{Group}
-use Rattle.cg_group.specs.declared.group.Phase.{Phase}
-use Rattle.cg_group.specs.declared.group.Phase.TheVariants.{Empty, Preparing, Completing, Stable}
-use Rattle.cg_group.specs.declared.member.Member.{Member}
-use Rattle.cg_group.specs.declared.member.Waits.{Waits}
-use Rattle.cg_group.specs.declared.member.Waits.TheVariants.{Join, Sync}
-use Rattle.cg_group.specs.declared.request.JoinRequest.{JoinRequest}
-use Rattle.cg_group.specs.declared.request.SyncEntry.{SyncEntry}
-use Rattle.cg_group.specs.declared.request.SyncRequest.{SyncRequest}
-use Rattle.cg_group.specs.declared.ticket.Ticket.{Ticket}
-use Rattle.cg_group.specs.declared.turn.Turn.{Turn}
-use Rattle.cg_group.specs.Beating.{beat_taken}
-use Rattle.cg_group.specs.Joining.{admitted, in_join_phase, is_current, join_again, join_current, join_known, join_new, new_member, rejoined, updating, waiting}
-use Rattle.cg_group.specs.Kept.{Each}
-use Rattle.cg_group.specs.Leaving.{after_removal, gone_in, has_joined, leave_taken, left}
-use Rattle.cg_group.specs.Membership.{hearing, is_empty, is_preparing, keeping, leads}
-use Rattle.cg_group.specs.Rebalance.{completed, completed_generation, emptied, emptied_command, is_ready, next_round, prepared, told_to_joins, tried, turn_of}
-use Rattle.cg_group.specs.Syncing.{assigned_command, assigning, distributed, kept_roster, sync_current, sync_taken, sync_waits, told_to_syncs}
-use Rattle.cg_group.specs.Ticking.{at_deadline, can_complete, ended, expired, is_due, is_overdue, outstays, ticked}
-use Rattle.cg_group.proofs.Framed.{each-append}
+use Rattle.cg_member.specs.declared.group.Group.{Group}
+use Rattle.cg_member.specs.declared.group.Phase.{Phase}
+use Rattle.cg_member.specs.declared.group.Phase.TheVariants.{Empty, Preparing, Completing, Stable}
+use Rattle.cg_member.specs.declared.member.Member.{Member}
+use Rattle.cg_member.specs.declared.member.Waits.{Waits}
+use Rattle.cg_member.specs.declared.member.Waits.TheVariants.{Join, Sync}
+use Rattle.cg_request.specs.declared.request.JoinRequest.{JoinRequest}
+use Rattle.cg_request.specs.declared.request.SyncEntry.{SyncEntry}
+use Rattle.cg_request.specs.declared.request.SyncRequest.{SyncRequest}
+use Rattle.cg_request.specs.declared.ticket.Ticket.{Ticket}
+use Rattle.cg_member.specs.declared.turn.Turn.{Turn}
+use Rattle.cg_turn.specs.Beating.{beat_taken}
+use Rattle.cg_member.specs.Joining.{admitted, in_join_phase, is_current, join_again, join_current, join_known, join_new, new_member, rejoined, updating, waiting}
+use Rattle.cg_held.specs.Kept.{Each}
+use Rattle.cg_member.specs.Leaving.{after_removal, gone_in, has_joined, leave_taken, left}
+use Rattle.cg_member.specs.Membership.{hearing, is_empty, is_preparing, keeping, leads}
+use Rattle.cg_member.specs.Rebalance.{completed, completed_generation, emptied, emptied_command, is_ready, next_round, prepared, told_to_joins, tried, turn_of}
+use Rattle.cg_member.specs.Syncing.{assigned_command, assigning, distributed, kept_roster, sync_current, sync_taken, sync_waits, told_to_syncs}
+use Rattle.cg_member.specs.Ticking.{at_deadline, can_complete, ended, expired, is_due, is_overdue, outstays, ticked}
+use Rattle.cg_held.proofs.Framed.{each-append}
 
 module _ (P : Command → Type 0) (assigned_is : (a : Assigned) → P (command.Assigned a)) (emptied_is : (e : Emptied) → P (command.Emptied e)) where
   abbrev Makes : Turn → Type 0

@@ -14,8 +14,8 @@ use Rattle.cg_fold.specs.declared.record.GroupRecord.{GroupRecord}
 use Rattle.cg_fold.specs.Durable.{State, after, effect, is_of_other, with_entry, with_member}
 use Rattle.cg_fold.specs.Key.{key_cmp, kept_of}
 use Rattle.cg_fold.proofs.KeyOrder.{key_same, key_total}
-use Rattle.cg_group.specs.Kept.{Each}
-use Rattle.cg_group.specs.Offsets.{OffsetMap, offsets_after}
+use Rattle.cg_held.specs.Kept.{Each}
+use Rattle.cg_member.specs.Offsets.{OffsetMap, offsets_after}
 
 -- a command that leaves the offsets as they are
 abbrev pub is_quiet : Command → Bool

@@ -7,36 +7,37 @@ use Rattle.std.proofs.lemmas.Bool.{and_from, or_left, or_right}
 use Rattle.cg_names.specs.declared.code.Code.{Code}
 use Rattle.cg_record.specs.declared.command.Command.{Command}
 use Rattle.cg_record.specs.declared.command.Command.TheVariants as command
-use Rattle.cg_group.specs.declared.commit_entry.CommitEntry.{CommitEntry}
-use Rattle.cg_group.specs.declared.event.Event.{Event}
-use Rattle.cg_group.specs.declared.event.Event.TheVariants as event
-use Rattle.cg_group.specs.declared.group.Group.{Group}
-use Rattle.cg_group.specs.declared.group.Phase.{Phase}
-use Rattle.cg_group.specs.declared.group.Phase.TheVariants.{Empty, Preparing, Completing, Stable}
-use Rattle.cg_group.specs.declared.member.Member.{Member}
-use Rattle.cg_group.specs.declared.member.Waits.{Waits}
-use Rattle.cg_group.specs.declared.member.Waits.TheVariants.{Join, Sync}
-use Rattle.cg_group.specs.declared.request.JoinRequest.{JoinRequest}
-use Rattle.cg_group.specs.declared.request.SyncEntry.{SyncEntry}
-use Rattle.cg_group.specs.declared.request.SyncRequest.{SyncRequest}
-use Rattle.cg_group.specs.declared.ticket.Ticket.{Ticket}
-use Rattle.cg_group.specs.declared.turn.Turn.{Turn}
-use Rattle.cg_group.specs.Beating.{beat_taken}
-use Rattle.cg_group.specs.Committing.{committed, hearing_committer, keeping_entries}
-use Rattle.cg_group.specs.Joining.{admitted, in_join_phase, is_current, join_again, join_current, join_known, join_new, new_group, new_member, rejoined, updating, waiting}
-use Rattle.cg_group.specs.Kept.{Each}
+use Rattle.cg_request.specs.declared.commit_entry.CommitEntry.{CommitEntry}
+use Rattle.cg_request.specs.declared.event.Event.{Event}
+use Rattle.cg_request.specs.declared.event.Event.TheVariants as event
+use Rattle.cg_member.specs.declared.group.Group.{Group}
+use Rattle.cg_member.specs.declared.group.Phase.{Phase}
+use Rattle.cg_member.specs.declared.group.Phase.TheVariants.{Empty, Preparing, Completing, Stable}
+use Rattle.cg_member.specs.declared.member.Member.{Member}
+use Rattle.cg_member.specs.declared.member.Waits.{Waits}
+use Rattle.cg_member.specs.declared.member.Waits.TheVariants.{Join, Sync}
+use Rattle.cg_request.specs.declared.request.JoinRequest.{JoinRequest}
+use Rattle.cg_request.specs.declared.request.SyncEntry.{SyncEntry}
+use Rattle.cg_request.specs.declared.request.SyncRequest.{SyncRequest}
+use Rattle.cg_request.specs.declared.ticket.Ticket.{Ticket}
+use Rattle.cg_member.specs.declared.turn.Turn.{Turn}
+use Rattle.cg_turn.specs.Beating.{beat_taken}
+use Rattle.cg_turn.specs.Committing.{committed, hearing_committer, keeping_entries}
+use Rattle.cg_member.specs.Joining.{admitted, in_join_phase, is_current, join_again, join_current, join_known, join_new, new_group, new_member, rejoined, updating, waiting}
+use Rattle.cg_held.specs.Kept.{Each}
 use Rattle.cg_group.specs.Laws.{AssignmentsAreEarned, after_all, is_passed_on, passes_assignment}
-use Rattle.cg_group.specs.Leaving.{after_removal, gone_in, has_joined, leave_taken, left}
-use Rattle.cg_group.specs.Machine.{Machine, beat, commit, concluded, deleted, deleting, everywhere, find_group, join, leave, met, step, sync}
-use Rattle.cg_group.specs.Membership.{find_instance, has_instance, hearing, is_empty, is_preparing, is_same, keeping, leads}
-use Rattle.cg_group.specs.Rebalance.{completed, completed_generation, emptied, emptied_command, is_ready, next_round, prepared, told_to_joins, tried, turn_of}
-use Rattle.cg_group.specs.Replacing.{join_replacing, keeps_generation, replaced, replaced_command, replaced_in_place, successor}
-use Rattle.cg_group.specs.Reviving.{revive}
-use Rattle.cg_group.specs.Syncing.{assigned_command, assigning, distributed, kept_member, kept_roster, sync_current, sync_taken, sync_waits, told_to_syncs}
-use Rattle.cg_group.specs.Ticking.{at_deadline, can_complete, ended, expired, is_due, is_overdue, outstays, ticked}
+use Rattle.cg_member.specs.Leaving.{after_removal, gone_in, has_joined, leave_taken, left}
+use Rattle.cg_group.specs.Machine.{beat, commit, concluded, deleted, deleting, join, leave, met, step, sync}
+use Rattle.cg_held.specs.Held.{Machine, everywhere, find_group}
+use Rattle.cg_member.specs.Membership.{find_instance, has_instance, hearing, is_empty, is_preparing, is_same, keeping, leads}
+use Rattle.cg_member.specs.Rebalance.{completed, completed_generation, emptied, emptied_command, is_ready, next_round, prepared, told_to_joins, tried, turn_of}
+use Rattle.cg_member.specs.Replacing.{join_replacing, keeps_generation, replaced, replaced_command, replaced_in_place, successor}
+use Rattle.cg_held.specs.Reviving.{revive}
+use Rattle.cg_member.specs.Syncing.{assigned_command, assigning, distributed, kept_member, kept_roster, sync_current, sync_taken, sync_waits, told_to_syncs}
+use Rattle.cg_member.specs.Ticking.{at_deadline, can_complete, ended, expired, is_due, is_overdue, outstays, ticked}
 use Rattle.cg_group.proofs.Earned.{replies_are_earned}
-use Rattle.cg_group.proofs.Framed.{each-append}
-use Rattle.cg_group.proofs.KeptLists.{same_self}
+use Rattle.cg_held.proofs.Framed.{each-append}
+use Rattle.cg_held.proofs.KeptLists.{same_self}
 use Rattle.cg_group.proofs.KeptMachine.{each-over}
 use Rattle.cg_group.proofs.Making.{makes-beat_taken, makes-gone_in, makes-join_known, makes-join_new, makes-leave_taken, makes-rejoined, makes-sync_taken, makes-ticked}
 use Rattle.cg_group.proofs.Requests.{Fine, fine-beat, fine-commit, fine-join, fine-leave, fine-sync}

@@ -5,20 +5,21 @@ use Rattle.std.specs.List.{flat_map}
 use Rattle.cg_names.specs.declared.code.Code.{Code}
 use Rattle.cg_record.specs.declared.command.Command.{Command}
 use Rattle.cg_record.specs.declared.member.Member.{Member as KeptMember}
-use Rattle.cg_group.specs.declared.group.Group.{Group}
-use Rattle.cg_group.specs.declared.member.Member.{Member}
-use Rattle.cg_group.specs.declared.request.BeatRequest.{BeatRequest}
-use Rattle.cg_group.specs.declared.request.JoinRequest.{JoinRequest}
-use Rattle.cg_group.specs.declared.request.LeaveRequest.{LeaveRequest}
-use Rattle.cg_group.specs.declared.request.SyncRequest.{SyncRequest}
-use Rattle.cg_group.specs.declared.ticket.Ticket.{Ticket}
-use Rattle.cg_group.specs.declared.turn.Turn.{Turn}
-use Rattle.cg_group.specs.Joining.{new_group, rejoined}
-use Rattle.cg_group.specs.Leaving.{gone_in}
-use Rattle.cg_group.specs.Machine.{Machine, beat, concluded, join, leave, sync}
-use Rattle.cg_group.specs.Replacing.{join_replacing, keeps_generation, replaced, replaced_command, replaced_in_place, successor}
-use Rattle.cg_group.specs.Syncing.{kept_member}
-use Rattle.cg_group.specs.Ticking.{ticked}
+use Rattle.cg_member.specs.declared.group.Group.{Group}
+use Rattle.cg_member.specs.declared.member.Member.{Member}
+use Rattle.cg_request.specs.declared.request.BeatRequest.{BeatRequest}
+use Rattle.cg_request.specs.declared.request.JoinRequest.{JoinRequest}
+use Rattle.cg_request.specs.declared.request.LeaveRequest.{LeaveRequest}
+use Rattle.cg_request.specs.declared.request.SyncRequest.{SyncRequest}
+use Rattle.cg_request.specs.declared.ticket.Ticket.{Ticket}
+use Rattle.cg_member.specs.declared.turn.Turn.{Turn}
+use Rattle.cg_member.specs.Joining.{new_group, rejoined}
+use Rattle.cg_member.specs.Leaving.{gone_in}
+use Rattle.cg_group.specs.Machine.{beat, concluded, join, leave, sync}
+use Rattle.cg_held.specs.Held.{Machine}
+use Rattle.cg_member.specs.Replacing.{join_replacing, keeps_generation, replaced, replaced_command, replaced_in_place, successor}
+use Rattle.cg_member.specs.Syncing.{kept_member}
+use Rattle.cg_member.specs.Ticking.{ticked}
 use Rattle.cg_group.proofs.Making.{makes-all, makes-beat_taken, makes-gone_in, makes-join_known, makes-join_new, makes-leave_taken, makes-rejoined, makes-sync_taken, makes-ticked}
 use Rattle.cg_group.proofs.OffsetsKept.{AreQuiet, IsQuiet}
 use Rattle.cg_group.proofs.Requests.{Fine, fine-beat, fine-join, fine-leave, fine-sync}

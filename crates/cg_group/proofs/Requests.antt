@@ -4,28 +4,29 @@ use Rattle.std.proofs.lemmas.Bool.{not-false}
 use Rattle.std.specs.Ordering.{int_eq}
 use Rattle.cg_names.specs.declared.code.Code.{Code}
 use Rattle.cg_names.specs.declared.code.Code.TheVariants.{CoordinatorNotAvailable, GroupMaxSizeReached, IllegalGeneration, InconsistentGroupProtocol, InvalidGroupId, InvalidSessionTimeout, OffsetMetadataTooLarge, RebalanceInProgress, UnknownMemberId}
-use Rattle.cg_group.specs.declared.bounds.TheConstants.{GROUPS_MAX}
-use Rattle.cg_group.specs.declared.member.Member.{Member}
-use Rattle.cg_group.specs.declared.group.Group.{Group}
-use Rattle.cg_group.specs.declared.request.BeatRequest.{BeatRequest}
-use Rattle.cg_group.specs.declared.request.CommitRequest.{CommitRequest}
-use Rattle.cg_group.specs.declared.request.JoinRequest.{JoinRequest}
-use Rattle.cg_group.specs.declared.request.LeaveRequest.{LeaveRequest}
-use Rattle.cg_group.specs.declared.request.SyncRequest.{SyncRequest}
-use Rattle.cg_group.specs.declared.ticket.Ticket.{Ticket}
-use Rattle.cg_group.specs.declared.turn.Turn.{Turn}
-use Rattle.cg_group.specs.Beating.{beat_held, beat_taken}
-use Rattle.cg_group.specs.Admission.{is_full, join_drawn, join_held, join_placed, join_unheld}
-use Rattle.cg_group.specs.Fencing.{fencing, member_check}
-use Rattle.cg_group.specs.Joining.{drawn, is_inconsistent, is_session_refused, join_known, join_new, new_group, own_name}
-use Rattle.cg_group.specs.Leaving.{leave_held, leave_taken, leaver}
-use Rattle.cg_group.specs.Replacing.{join_replacing}
-use Rattle.cg_group.specs.Commits.{is_too_large}
-use Rattle.cg_group.specs.Committing.{commit_held, commit_unheld, committed, committer, hearing_committer, is_negative}
-use Rattle.cg_group.specs.Machine.{commit, commit_in, find_group, join, join_in, named_group, sync, beat, leave}
-use Rattle.cg_group.specs.Membership.{find_instance, find_member, is_empty, is_preparing}
-use Rattle.cg_group.specs.Refusing.{◌>>=◌, refused_if}
-use Rattle.cg_group.specs.Syncing.{sync_held, sync_taken}
+use Rattle.cg_turn.specs.declared.bounds.TheConstants.{GROUPS_MAX}
+use Rattle.cg_member.specs.declared.member.Member.{Member}
+use Rattle.cg_member.specs.declared.group.Group.{Group}
+use Rattle.cg_request.specs.declared.request.BeatRequest.{BeatRequest}
+use Rattle.cg_request.specs.declared.request.CommitRequest.{CommitRequest}
+use Rattle.cg_request.specs.declared.request.JoinRequest.{JoinRequest}
+use Rattle.cg_request.specs.declared.request.LeaveRequest.{LeaveRequest}
+use Rattle.cg_request.specs.declared.request.SyncRequest.{SyncRequest}
+use Rattle.cg_request.specs.declared.ticket.Ticket.{Ticket}
+use Rattle.cg_member.specs.declared.turn.Turn.{Turn}
+use Rattle.cg_turn.specs.Beating.{beat_held, beat_taken}
+use Rattle.cg_turn.specs.Admission.{is_full, join_drawn, join_held, join_placed, join_unheld}
+use Rattle.cg_member.specs.Fencing.{fencing, member_check}
+use Rattle.cg_member.specs.Joining.{drawn, is_inconsistent, is_session_refused, join_known, join_new, new_group, own_name}
+use Rattle.cg_member.specs.Leaving.{leave_held, leave_taken, leaver}
+use Rattle.cg_member.specs.Replacing.{join_replacing}
+use Rattle.cg_request.specs.Commits.{is_too_large}
+use Rattle.cg_turn.specs.Committing.{commit_held, commit_unheld, committed, committer, hearing_committer, is_negative}
+use Rattle.cg_group.specs.Machine.{commit, commit_in, join, join_in, named_group, sync, beat, leave}
+use Rattle.cg_held.specs.Held.{find_group}
+use Rattle.cg_member.specs.Membership.{find_instance, find_member, is_empty, is_preparing}
+use Rattle.cg_member.specs.Refusing.{◌>>=◌, refused_if}
+use Rattle.cg_member.specs.Syncing.{sync_held, sync_taken}
 
 -- a refusal, or a turn of which this holds
 abbrev pub Fine : (Turn → Type 0) → Result Turn Code → Type 0

@@ -9,17 +9,17 @@ use Rattle.cg_record.specs.declared.member.Member.{Member as KeptMember}
 use Rattle.cg_record.specs.Rosters.{RosterParts, has_id_of_other, is_one_instance, leader_after, leads_and_goes as record_goes, may_replace, replaced_in, roster_of, seated as record_seated, takes_place_of}
 use Rattle.cg_fold.specs.declared.record.GroupRecord.{GroupRecord}
 use Rattle.cg_fold.specs.Record.{replaced_record}
-use Rattle.cg_group.specs.declared.group.Group.{Group}
-use Rattle.cg_group.specs.declared.group.Phase.TheVariants.{Empty, Stable}
-use Rattle.cg_group.specs.declared.member.Member.{Member}
-use Rattle.cg_group.specs.declared.request.JoinRequest.{JoinRequest}
-use Rattle.cg_group.specs.Joining.{new_member}
+use Rattle.cg_member.specs.declared.group.Group.{Group}
+use Rattle.cg_member.specs.declared.group.Phase.TheVariants.{Empty, Stable}
+use Rattle.cg_member.specs.declared.member.Member.{Member}
+use Rattle.cg_request.specs.declared.request.JoinRequest.{JoinRequest}
+use Rattle.cg_member.specs.Joining.{new_member}
 use Rattle.cg_group.specs.Laws.{IsAssignedAs, IsRecordedAs, TellsOf}
-use Rattle.cg_group.specs.Members.{ids}
-use Rattle.cg_group.specs.Membership.{find_instance, find_member, has_instance, is_named, is_same}
-use Rattle.cg_group.specs.Replacing.{leads_and_goes, replacing, seated, seating, successor}
-use Rattle.cg_group.specs.Syncing.{kept_member}
-use Rattle.cg_group.proofs.Together.{fresh_from_find}
+use Rattle.cg_member.specs.Members.{ids}
+use Rattle.cg_member.specs.Membership.{find_instance, find_member, has_instance, is_named, is_same}
+use Rattle.cg_member.specs.Replacing.{leads_and_goes, replacing, seated, seating, successor}
+use Rattle.cg_member.specs.Syncing.{kept_member}
+use Rattle.cg_member.proofs.Together.{fresh_from_find}
 
 -- what is found passes the test, and what it passes one of all does
 pub found_passes : (p : Member → Bool) (ms : List Member) (m : Member) → find p ms ≡ Some m → p m ≡ true

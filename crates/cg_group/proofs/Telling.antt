@@ -4,26 +4,26 @@ use Rattle.std.specs.Prelude.{if◌then◌else◌, option_map, option_to_list}
 use Rattle.std.specs.List.{list_any, flat_map}
 use Rattle.cg_names.specs.declared.code.Code.{Code}
 use Rattle.cg_names.specs.declared.code.Code.TheVariants.{FencedInstanceId, RebalanceInProgress, UnknownMemberId}
-use Rattle.cg_group.specs.declared.calls.Calls.{Calls}
-use Rattle.cg_group.specs.declared.calls.Calls.TheVariants.{Any, Joins, OfSession, Syncs}
-use Rattle.cg_group.specs.declared.group.Group.{Group}
-use Rattle.cg_group.specs.declared.member.Member.{Member}
-use Rattle.cg_group.specs.declared.member.Waits.{Waits}
-use Rattle.cg_group.specs.declared.member.Waits.TheVariants.{Join}
-use Rattle.cg_group.specs.declared.reply.Reply.{Reply}
-use Rattle.cg_group.specs.declared.reply.Reply.TheVariants as reply
-use Rattle.cg_group.specs.declared.ticket.Ticket.{Ticket}
-use Rattle.cg_group.specs.declared.turn.Turn.{Turn}
-use Rattle.cg_group.specs.Beating.{beat_reply, beat_taken}
-use Rattle.cg_group.specs.Joining.{displaced, in_join_phase, waiting}
-use Rattle.cg_group.specs.Kept.{Each}
-use Rattle.cg_group.specs.Leaving.{after_removal, gone_in, has_joined, left}
-use Rattle.cg_group.specs.Membership.{find_member, is_empty, is_preparing, keeping}
-use Rattle.cg_group.specs.Rebalance.{completed, emptied, is_ready, joined_reply, next_round, prepared, told_to_joins, tried, turn_of}
-use Rattle.cg_group.specs.Replacing.{replaced}
-use Rattle.cg_group.specs.Ticking.{expired, is_overdue}
-use Rattle.cg_group.specs.Waiting.{answer, answers, called, refusing}
-use Rattle.cg_group.proofs.Framed.{each-append}
+use Rattle.cg_member.specs.declared.calls.Calls.{Calls}
+use Rattle.cg_member.specs.declared.calls.Calls.TheVariants.{Any, Joins, OfSession, Syncs}
+use Rattle.cg_member.specs.declared.group.Group.{Group}
+use Rattle.cg_member.specs.declared.member.Member.{Member}
+use Rattle.cg_member.specs.declared.member.Waits.{Waits}
+use Rattle.cg_member.specs.declared.member.Waits.TheVariants.{Join}
+use Rattle.cg_member.specs.declared.reply.Reply.{Reply}
+use Rattle.cg_member.specs.declared.reply.Reply.TheVariants as reply
+use Rattle.cg_request.specs.declared.ticket.Ticket.{Ticket}
+use Rattle.cg_member.specs.declared.turn.Turn.{Turn}
+use Rattle.cg_turn.specs.Beating.{beat_reply, beat_taken}
+use Rattle.cg_member.specs.Joining.{displaced, in_join_phase, waiting}
+use Rattle.cg_held.specs.Kept.{Each}
+use Rattle.cg_member.specs.Leaving.{after_removal, gone_in, has_joined, left}
+use Rattle.cg_member.specs.Membership.{find_member, is_empty, is_preparing, keeping}
+use Rattle.cg_member.specs.Rebalance.{completed, emptied, is_ready, joined_reply, next_round, prepared, told_to_joins, tried, turn_of}
+use Rattle.cg_member.specs.Replacing.{replaced}
+use Rattle.cg_member.specs.Ticking.{expired, is_overdue}
+use Rattle.cg_member.specs.Waiting.{answer, answers, called, refusing}
+use Rattle.cg_held.proofs.Framed.{each-append}
 
 -- each reply of the turn
 abbrev pub Told : (Reply → Type 0) → Turn → Type 0

@@ -1,14 +1,14 @@
 -- Requests that hear a member and change nothing else: they are taken in their group's place.
 use Rattle.std.specs.Prelude.{◌≡◌, ℕ, List, Option, Some, Ok}
-use Rattle.cg_group.specs.declared.group.Group.{Group}
-use Rattle.cg_group.specs.declared.member.Member.{Member}
-use Rattle.cg_group.specs.declared.reply.Reply.{Reply}
-use Rattle.cg_group.specs.declared.request.BeatRequest.{BeatRequest}
-use Rattle.cg_group.specs.declared.request.SyncRequest.{SyncRequest}
-use Rattle.cg_group.specs.declared.ticket.Ticket.{Ticket}
-use Rattle.cg_group.specs.Beating.{beat_held, beat_reply, beat_taken}
-use Rattle.cg_group.specs.Machine.{find_group}
-use Rattle.cg_group.specs.Syncing.{sync_current, sync_held}
+use Rattle.cg_member.specs.declared.group.Group.{Group}
+use Rattle.cg_member.specs.declared.member.Member.{Member}
+use Rattle.cg_member.specs.declared.reply.Reply.{Reply}
+use Rattle.cg_request.specs.declared.request.BeatRequest.{BeatRequest}
+use Rattle.cg_request.specs.declared.request.SyncRequest.{SyncRequest}
+use Rattle.cg_request.specs.declared.ticket.Ticket.{Ticket}
+use Rattle.cg_turn.specs.Beating.{beat_held, beat_reply, beat_taken}
+use Rattle.cg_held.specs.Held.{find_group}
+use Rattle.cg_member.specs.Syncing.{sync_current, sync_held}
 
 -- the request names this group, and it is held
 pub record IsNamed (given : Option (List ℕ)) (groups : List Group) (own : List ℕ) (group : Group) : Type 0 where

@@ -10,26 +10,27 @@ use Rattle.cg_record.specs.Rosters.{RosterParts}
 use Rattle.cg_fold.specs.declared.key.OffsetKey.{OffsetKey}
 use Rattle.cg_fold.specs.declared.record.GroupRecord.{GroupRecord}
 use Rattle.cg_fold.specs.Durable.{State, after}
-use Rattle.cg_group.specs.declared.event.Event.{Event}
-use Rattle.cg_group.specs.declared.event.Event.TheVariants as event
-use Rattle.cg_group.specs.declared.group.Group.{Group}
-use Rattle.cg_group.specs.declared.group.Phase.{Phase}
-use Rattle.cg_group.specs.declared.group.Phase.TheVariants.{Empty, Preparing, Completing, Stable}
-use Rattle.cg_group.specs.declared.member.Member.{Member}
-use Rattle.cg_group.specs.declared.reply.Reply.{Reply}
-use Rattle.cg_group.specs.declared.request.CommitRequest.{CommitRequest}
-use Rattle.cg_group.specs.declared.reply.Reply.TheVariants as reply
-use Rattle.cg_group.specs.declared.ticket.Ticket.{Ticket}
-use Rattle.cg_group.specs.Committing.{is_negative}
-use Rattle.cg_group.specs.Fencing.{fencing}
-use Rattle.cg_group.specs.Kept.{AreRecords, Each, Kept, kept_in}
-use Rattle.cg_group.specs.Leaving.{gone_in}
-use Rattle.cg_group.specs.Members.{AreDistinct}
-use Rattle.cg_group.specs.Machine.{Machine, Outcome, find_group, met, step}
-use Rattle.cg_group.specs.Membership.{find_member, has_instance, is_named, is_same}
-use Rattle.cg_group.specs.Reviving.{revive}
-use Rattle.cg_group.specs.Syncing.{kept_member}
-use Rattle.cg_group.specs.Ticking.{ticked}
+use Rattle.cg_request.specs.declared.event.Event.{Event}
+use Rattle.cg_request.specs.declared.event.Event.TheVariants as event
+use Rattle.cg_member.specs.declared.group.Group.{Group}
+use Rattle.cg_member.specs.declared.group.Phase.{Phase}
+use Rattle.cg_member.specs.declared.group.Phase.TheVariants.{Empty, Preparing, Completing, Stable}
+use Rattle.cg_member.specs.declared.member.Member.{Member}
+use Rattle.cg_member.specs.declared.reply.Reply.{Reply}
+use Rattle.cg_request.specs.declared.request.CommitRequest.{CommitRequest}
+use Rattle.cg_member.specs.declared.reply.Reply.TheVariants as reply
+use Rattle.cg_request.specs.declared.ticket.Ticket.{Ticket}
+use Rattle.cg_turn.specs.Committing.{is_negative}
+use Rattle.cg_member.specs.Fencing.{fencing}
+use Rattle.cg_held.specs.Kept.{AreRecords, Each, Kept, kept_in}
+use Rattle.cg_member.specs.Leaving.{gone_in}
+use Rattle.cg_member.specs.Members.{AreDistinct}
+use Rattle.cg_group.specs.Machine.{met, step}
+use Rattle.cg_held.specs.Held.{Machine, Outcome, find_group}
+use Rattle.cg_member.specs.Membership.{find_member, has_instance, is_named, is_same}
+use Rattle.cg_held.specs.Reviving.{revive}
+use Rattle.cg_member.specs.Syncing.{kept_member}
+use Rattle.cg_member.specs.Ticking.{ticked}
 
 -- the machine after these events, each at its moment
 unfoldable pub after_all : List (Event × ℕ) → Machine → Machine

@@ -1,85 +1,36 @@
--- The machine: which groups are held, how far each has read, and what an event makes of them. The moment of an event is its own or the
+-- The machine: what an event makes of the groups that are held and of how far each has read. The moment of an event is its own or the
 -- last one, whichever is later.
-use Rattle.std.specs.Prelude.{not, if◌then◌else◌, ℕ, max, List, [], ◌∷◌, map, length, Option, Some, None, Result, Ok, Err, option_map, ok_or, find}
-use Rattle.std.specs.List.{flat_map}
-use Rattle.std.specs.FinMap as finmap
-use Rattle.std.specs.Ordering.{nat_cmp, match_ordering}
-use Rattle.std.specs.Cmp.Lexicographic.{slice_cmp}
+use Rattle.std.specs.Prelude.{not, ℕ, max, List, [], ◌∷◌, map, length, Option, Some, None, Result, Ok, Err, option_map, ok_or}
 use Rattle.cg_names.specs.declared.code.Code.{Code}
 use Rattle.cg_names.specs.declared.code.Code.TheVariants.{GroupIdNotFound, InvalidGroupId, InvalidSessionTimeout, NonEmptyGroup, UnknownMemberId}
 use Rattle.cg_record.specs.declared.command.Command.TheVariants as command
-use Rattle.cg_group.specs.declared.effects.Effects.{Effects}
-use Rattle.cg_group.specs.declared.event.Event.{Event}
-use Rattle.cg_group.specs.declared.event.Event.TheVariants.{Join, Sync, Beat, Leave, Commit, Fetch, Delete, Describe, Gone, Tick}
-use Rattle.cg_group.specs.declared.event.Event.TheVariants as event
-use Rattle.cg_group.specs.declared.group.Group.{Group}
-use Rattle.cg_group.specs.declared.reply.Reply.{Reply}
-use Rattle.cg_group.specs.declared.reply.Reply.TheVariants as reply
-use Rattle.cg_group.specs.declared.request.BeatRequest.{BeatRequest}
-use Rattle.cg_group.specs.declared.request.CommitRequest.{CommitRequest}
-use Rattle.cg_group.specs.declared.request.JoinRequest.{JoinRequest}
-use Rattle.cg_group.specs.declared.request.LeaveRequest.{LeaveRequest}
-use Rattle.cg_group.specs.declared.request.SyncRequest.{SyncRequest}
-use Rattle.cg_group.specs.declared.ticket.Ticket.{Ticket}
-use Rattle.cg_group.specs.declared.turn.Turn.{Turn}
-use Rattle.cg_group.specs.Admission.{join_held, join_unheld}
-use Rattle.cg_group.specs.Beating.{beat_held}
-use Rattle.cg_group.specs.Committing.{commit_held, commit_unheld}
-use Rattle.cg_group.specs.Describing.{description, listing}
-use Rattle.cg_group.specs.Fetching.{fetched}
-use Rattle.cg_group.specs.Joining.{is_session_refused}
-use Rattle.cg_group.specs.Leaving.{gone_in, leave_held}
-use Rattle.cg_group.specs.Kept.{Ascending}
-use Rattle.cg_group.specs.Membership.{is_empty, is_same}
-use Rattle.cg_group.specs.Offsets.{OffsetMap, offsets_after}
-use Rattle.cg_group.specs.Refusing.{◌>>=◌, refused_if}
-use Rattle.cg_group.specs.Syncing.{sync_held}
-use Rattle.cg_group.specs.Ticking.{ticked}
-
--- the groups that are held, by the bytes of their ids, how far each has read, and the last moment
-pub record Machine : Type 0 where
-  pub groups : List Group
-  pub offsets : OffsetMap
-  pub last : ℕ
-
--- the machine after an event, and what the event made
-pub record Outcome : Type 0 where
-  pub after : Machine
-  pub effects : Effects
-
--- these groups at this moment; of offsets nothing is said
-abbrev pub at_moment : ℕ → List Group → Machine
-at_moment now groups = record { groups = groups; offsets = finmap.empty; last = now }
-
--- these groups and offsets at this moment
-abbrev pub standing : ℕ → List Group → OffsetMap → Machine
-standing now groups offsets = record { groups = groups; offsets = offsets; last = now }
-
--- these groups and effects at this moment, and offsets of which nothing was said yet
-abbrev pub outcome_beside : OffsetMap → ℕ → List Group → Effects → Outcome
-outcome_beside offsets now groups effects = record { after = standing now groups offsets; effects = effects }
-
--- these groups and effects at this moment
-abbrev pub outcome : ℕ → List Group → Effects → Outcome
-outcome now groups effects = record { after = at_moment now groups; effects = effects }
-
--- the group with this id, where it is held
-unfoldable pub find_group : List ℕ → List Group → Option Group
-find_group id groups = find (λ g. is_same g.id id) groups
-
--- the groups stand by the bytes of their ids, each once
-abbrev pub InOrder : List Group → Type 0
-InOrder groups = Ascending (map (λ g. g.id) groups)
-
--- the groups with this one in the place of its id
-unfoldable pub with_group : Group → List Group → List Group
-with_group g [] = g ∷ []
-with_group g (h ∷ hs) = match_ordering (slice_cmp nat_cmp g.id h.id) (g ∷ h ∷ hs) (g ∷ hs) (h ∷ with_group g hs)
-
--- the groups without this one
-unfoldable pub without_group : List ℕ → List Group → List Group
-without_group id [] = []
-without_group id (h ∷ hs) = if is_same h.id id then hs else h ∷ without_group id hs
+use Rattle.cg_member.specs.declared.effects.Effects.{Effects}
+use Rattle.cg_request.specs.declared.event.Event.{Event}
+use Rattle.cg_request.specs.declared.event.Event.TheVariants.{Join, Sync, Beat, Leave, Commit, Fetch, Delete, Describe, Gone, Tick}
+use Rattle.cg_request.specs.declared.event.Event.TheVariants as event
+use Rattle.cg_member.specs.declared.group.Group.{Group}
+use Rattle.cg_member.specs.declared.reply.Reply.{Reply}
+use Rattle.cg_member.specs.declared.reply.Reply.TheVariants as reply
+use Rattle.cg_request.specs.declared.request.BeatRequest.{BeatRequest}
+use Rattle.cg_request.specs.declared.request.CommitRequest.{CommitRequest}
+use Rattle.cg_request.specs.declared.request.JoinRequest.{JoinRequest}
+use Rattle.cg_request.specs.declared.request.LeaveRequest.{LeaveRequest}
+use Rattle.cg_request.specs.declared.request.SyncRequest.{SyncRequest}
+use Rattle.cg_request.specs.declared.ticket.Ticket.{Ticket}
+use Rattle.cg_member.specs.declared.turn.Turn.{Turn}
+use Rattle.cg_turn.specs.Admission.{join_held, join_unheld}
+use Rattle.cg_turn.specs.Beating.{beat_held}
+use Rattle.cg_turn.specs.Committing.{commit_held, commit_unheld}
+use Rattle.cg_held.specs.Describing.{description, listing}
+use Rattle.cg_member.specs.Fetching.{fetched}
+use Rattle.cg_held.specs.Held.{Machine, Outcome, find_group, with_group, without_group, everywhere}
+use Rattle.cg_member.specs.Joining.{is_session_refused}
+use Rattle.cg_member.specs.Leaving.{gone_in, leave_held}
+use Rattle.cg_member.specs.Membership.{is_empty}
+use Rattle.cg_member.specs.Offsets.{offsets_after}
+use Rattle.cg_member.specs.Refusing.{◌>>=◌, refused_if}
+use Rattle.cg_member.specs.Syncing.{sync_held}
+use Rattle.cg_member.specs.Ticking.{ticked}
 
 -- one reply, and nothing else
 abbrev pub reply_alone : Ticket → Reply → Effects
@@ -167,18 +118,6 @@ deleted s ticket (Ok id) = record {
 unfoldable pub describe : Option (List ℕ) → List Group → Reply
 describe None groups = reply.Refused InvalidGroupId
 describe (Some id) groups = reply.Described (option_map description (find_group id groups))
-
--- the groups after each took its turn
-abbrev pub groups_after : (Group → Turn) → List Group → List Group
-groups_after turn groups = map (λ g. (turn g).group) groups
-
--- what the turns made, by the bytes of the groups' ids
-abbrev pub effects_of : (Group → Turn) → List Group → Effects
-effects_of turn groups = record { commands = flat_map (λ g. (turn g).commands) groups; replies = flat_map (λ g. (turn g).replies) groups }
-
--- each group takes its turn
-unfoldable pub everywhere : (Group → Turn) → Machine → Outcome
-everywhere turn s = record { after = record s { groups = groups_after turn s.groups }; effects = effects_of turn s.groups }
 
 -- an event at the last moment
 unfoldable pub met : Machine → Event → Outcome

@@ -1,14 +1,15 @@
 //! A request is refused, or its group takes its turn.
 ghost use Rattle.std.specs.Prelude.{◌≡◌, IfOk, OnErr};
-ghost use Rattle.cg_group.specs.Machine.{at_moment, concluded, outcome};
+ghost use Rattle.cg_group.specs.Machine.{concluded};
+ghost use Rattle.cg_held.specs.Held.{at_moment, outcome};
 
-use crate::effects::Effects;
-use crate::held::Held;
 use crate::in_place::reply_alone;
-use crate::reply::Reply;
-use crate::ticket::Ticket;
-use crate::turn::Turn;
+use cg_held::held::Held;
+use cg_member::effects::Effects;
+use cg_member::reply::Reply;
+use cg_member::turn::Turn;
 use cg_names::{Code, Moment};
+use cg_request::ticket::Ticket;
 use std::alloc::{AllocError, Global};
 
 /// What a request does.

@@ -1,19 +1,19 @@
 //! The groups that are held, and the step of the machine.
 ghost use Rattle.std.specs.Prelude.{◌≡◌, IfOk, IfErr, OnErr, length, slice_get};
-ghost use Rattle.cg_group.specs.Sessions.{AreKnown, AreKnown-prop, is_home};
-ghost use Rattle.cg_group.specs.Waiting.{waiting_calls};
+ghost use Rattle.cg_held.specs.Sessions.{AreKnown, AreKnown-prop, is_home};
+ghost use Rattle.cg_member.specs.Waiting.{waiting_calls};
 ghost use Rattle.cg_group.specs.Machine.{step};
-ghost use Rattle.cg_group.specs.Reviving.{revive};
+ghost use Rattle.cg_held.specs.Reviving.{revive};
 
-use crate::effects::Effects;
-use crate::event::Event;
-use crate::held::Held;
 use crate::meeting::met;
-use crate::reviving::revived_all;
-use crate::sessions::Homes;
-use crate::ticket::Ticket;
 use cg_fold::{Durable, Offsets};
+use cg_held::held::Held;
+use cg_held::reviving::revived_all;
+use cg_held::sessions::Homes;
+use cg_member::effects::Effects;
 use cg_names::Moment;
+use cg_request::event::Event;
+use cg_request::ticket::Ticket;
 use std::alloc::{AllocError, Global};
 use std::collections::BTreeMap;
 use std::marker::Model;
@@ -33,7 +33,7 @@ pub struct Groups {
 impl Model for Groups {
     ghost use Rattle.std.specs.Coded.{codes};
     ghost use Rattle.cg_fold.specs.Key.{offsets_code};
-    ghost use Rattle.cg_group.specs.Machine.{Machine};
+    ghost use Rattle.cg_held.specs.Held.{Machine};
 
     ghost Value = { Machine };
 
@@ -44,7 +44,7 @@ impl Model for Groups {
 
 impl Groups {
     /// The groups after a loading at this moment: those that have a record or an offset. Want of memory gives the state back.
-    #[tactic(auto, unfolding(crate::specs::Reviving::revive))]
+    #[tactic(auto, unfolding(cg_held::specs::Reviving::revive))]
     pub fn revive(
         alloc: Global,
         durable: Durable,

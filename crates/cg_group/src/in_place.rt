@@ -1,31 +1,32 @@
 //! Requests that hear a member and change nothing else are taken in the place of their group, without a copy of it.
 ghost use Rattle.std.specs.Prelude.{◌≡◌, ℕ, Bool, List, Some, Err, IfOk, OnErr, MatchResult, MatchOption, ⊤};
-ghost use Rattle.cg_group.specs.declared.group.Group.{Group};
+ghost use Rattle.cg_member.specs.declared.group.Group.{Group};
 ghost use Rattle.cg_group.specs.InPlace.{IsBeatIn, IsSyncIn};
-ghost use Rattle.cg_group.specs.Committing.{commit_by, hearing_committer};
-ghost use Rattle.cg_group.specs.Machine.{InOrder, at_moment, outcome, reply_alone, concluded, beat, find_group, sync, with_group};
+ghost use Rattle.cg_turn.specs.Committing.{commit_by, hearing_committer};
+ghost use Rattle.cg_group.specs.Machine.{reply_alone, concluded, beat, sync};
+ghost use Rattle.cg_held.specs.Held.{InOrder, at_moment, outcome, find_group, with_group};
 ghost use Rattle.std.specs.Option.{option_copied};
-ghost use Rattle.cg_group.specs.Membership.{hearing};
-ghost use Rattle.cg_group.specs.Offsets.{offsets_after};
-ghost use Rattle.cg_group.specs.Sessions.{AreKnown};
-ghost use Rattle.cg_group.specs.Syncing.{sync_current, sync_held};
+ghost use Rattle.cg_member.specs.Membership.{hearing};
+ghost use Rattle.cg_member.specs.Offsets.{offsets_after};
+ghost use Rattle.cg_held.specs.Sessions.{AreKnown};
+ghost use Rattle.cg_member.specs.Syncing.{sync_current, sync_held};
 
-use crate::beating::{beat_reply, beating_member};
-use crate::commits::Commits;
-use crate::committing::kept;
-use crate::effects::Effects;
-use crate::fencing::checked_member;
-use crate::few::Few;
-use crate::group::{Group, Phase};
-use crate::held::Held;
-use crate::member::Member;
 use crate::naming::named;
-use crate::reply::Reply;
-use crate::request::{BeatRequest, SyncRequest};
-use crate::ticket::Ticket;
 use cg_fold::Offsets;
+use cg_held::held::Held;
+use cg_member::effects::Effects;
+use cg_member::fencing::checked_member;
+use cg_member::few::Few;
+use cg_member::group::{Group, Phase};
+use cg_member::member::Member;
+use cg_member::reply::Reply;
 use cg_names::{Code, GroupId, MemberId, Moment};
 use cg_record::{Assignment, Committed};
+use cg_request::commits::Commits;
+use cg_request::request::{BeatRequest, SyncRequest};
+use cg_request::ticket::Ticket;
+use cg_turn::beating::{beat_reply, beating_member};
+use cg_turn::committing::kept;
 use std::alloc::{AllocError, Global};
 
 /// One reply, and nothing else. Takes no memory.
@@ -82,7 +83,7 @@ pub fn meet_beat(now: Moment, held: &mut Held, ticket: Ticket, r: &BeatRequest) 
 }
 
 // The member whose SYNC is answered at once in its group.
-#[tactic(auto, unfolding(crate::specs::Syncing::sync_held, crate::specs::Syncing::sync_taken))]
+#[tactic(auto, unfolding(cg_member::specs::Syncing::sync_held, cg_member::specs::Syncing::sync_taken))]
 fn syncing_member<'a, 'b>(
     r: &'a SyncRequest,
     group: &'b Group,

@@ -3,86 +3,42 @@
 //! Stands on the commands of `cg_record` and the durable state of `cg_fold`; a drawn member id ends in a `uuid`.
 #![tactic(auto)]
 
-mod admission;
-mod answers;
-mod asking;
-mod assignments;
-mod beating;
-mod bounds;
-mod calls;
-mod changes;
-mod checked;
-mod commit_entry;
-mod commits;
-mod committing;
 mod concluding;
-mod copies;
-mod describing;
-mod drawing;
-mod effects;
-mod event;
-mod everywhere;
-mod fencing;
-mod fetching;
-mod few;
-mod group;
 mod groups;
-mod held;
-mod homes;
 mod in_place;
-mod joining;
 mod laws;
-mod leaving;
-mod listed;
 mod meeting;
-mod member;
-mod members;
 mod naming;
 mod parking;
-mod partitions;
-mod protocol;
-mod protocols;
-mod rebalance;
-mod replacing;
-mod reply;
-mod request;
-mod reviving;
-mod sessions;
-mod settling;
-mod sync_entries;
-mod syncing;
-mod ticket;
-mod ticking;
-mod topic_partition;
-mod turn;
-mod vote;
 
-pub use asking::Request;
-pub use bounds::GROUPS_MAX;
-pub use commit_entry::CommitEntry;
-pub use commits::Commits;
-pub use effects::Effects;
-pub use event::Event;
-pub use few::{Few, Items};
-pub use group::{Group, Phase};
 pub use groups::Groups;
 pub use laws::{
     assignments_are_earned, commits_are_lawful, machine_and_commands_agree, members_stay_distinct,
     rounds_are_one,
 };
-pub use listed::Listed;
-pub use member::{Member, Waits};
-pub use members::Members;
-pub use partitions::Partitions;
-pub use protocol::{PROTOCOLS_MAX, Protocol};
-pub use protocols::Protocols;
-pub use reply::{
+
+// What events are made of, and what a step answers.
+pub use cg_member::effects::Effects;
+pub use cg_member::few::{Few, Items};
+pub use cg_member::group::{Group, Phase};
+pub use cg_member::member::{Member, Waits};
+pub use cg_member::members::Members;
+pub use cg_member::reply::{
     Described, DescribedMember, FetchedPartition, Joined, JoinedMember, Listing, Reply,
 };
-pub use request::{
+pub use cg_member::turn::Turn;
+pub use cg_request::asking::Request;
+pub use cg_request::commit_entry::CommitEntry;
+pub use cg_request::commits::Commits;
+pub use cg_request::event::Event;
+pub use cg_request::listed::Listed;
+pub use cg_request::partitions::Partitions;
+pub use cg_request::protocol::{PROTOCOLS_MAX, Protocol};
+pub use cg_request::protocols::Protocols;
+pub use cg_request::request::{
     BeatRequest, CommitRequest, FetchRequest, JoinRequest, LeaveRequest, SyncEntry, SyncRequest,
 };
-pub use sync_entries::SyncEntries;
-pub use ticket::Ticket;
-pub use topic_partition::TopicPartition;
-pub use turn::Turn;
+pub use cg_request::sync_entries::SyncEntries;
+pub use cg_request::ticket::Ticket;
+pub use cg_request::topic_partition::TopicPartition;
+pub use cg_turn::bounds::GROUPS_MAX;

@@ -1,36 +1,37 @@
 //! What an event does to the groups that are held.
 ghost use Rattle.std.specs.Prelude.{◌≡◌, Ok, Err, None, length, IfOk, OnErr, MatchResult};
-ghost use Rattle.cg_group.specs.Leaving.{gone_in};
-ghost use Rattle.cg_group.specs.Committing.{commit_unheld, keeping_entries};
-ghost use Rattle.cg_group.specs.Joining.{new_group};
-ghost use Rattle.cg_group.specs.Offsets.{offsets_after};
-ghost use Rattle.cg_group.specs.Sessions.{AreKnown, is_home};
-ghost use Rattle.cg_group.specs.Ticking.{ticked};
-ghost use Rattle.cg_group.specs.Machine.{at_moment, standing, outcome, outcome_beside, find_group, concluded, commit, deleting, deleted, deleted_alone, describe, everywhere, met};
+ghost use Rattle.cg_member.specs.Leaving.{gone_in};
+ghost use Rattle.cg_turn.specs.Committing.{commit_unheld, keeping_entries};
+ghost use Rattle.cg_member.specs.Joining.{new_group};
+ghost use Rattle.cg_member.specs.Offsets.{offsets_after};
+ghost use Rattle.cg_held.specs.Sessions.{AreKnown, is_home};
+ghost use Rattle.cg_member.specs.Ticking.{ticked};
+ghost use Rattle.cg_group.specs.Machine.{concluded, commit, deleting, deleted, deleted_alone, describe, met};
+ghost use Rattle.cg_held.specs.Held.{at_moment, standing, outcome, outcome_beside, find_group, everywhere};
 
-use crate::changes::{Changes, put_all};
-use crate::commits::Commits;
-use crate::committing::{committer, committing_unheld, kept};
-use crate::describing::{description, listings};
-use crate::effects::Effects;
-use crate::event::Event;
-use crate::everywhere::{Going, Ticking, everywhere};
-use crate::fetching::fetched;
-use crate::few::Few;
-use crate::held::Held;
-use crate::homes::turn_there;
 use crate::in_place::{commit_in, meet_beat, reply_alone};
-use crate::joining::new_group;
 use crate::parking::{meet_join, meet_leave, meet_sync};
-use crate::reply::Reply;
-use crate::request::CommitRequest;
-use crate::sessions::{Homes, forget};
-use crate::settling::settle_all;
-use crate::ticket::Ticket;
-use crate::turn::Turn;
 use cg_fold::Offsets;
+use cg_held::changes::{Changes, put_all};
+use cg_held::describing::{description, listings};
+use cg_held::everywhere::{Going, Ticking, everywhere};
+use cg_held::held::Held;
+use cg_held::homes::turn_there;
+use cg_held::sessions::{Homes, forget};
+use cg_held::settling::settle_all;
+use cg_member::effects::Effects;
+use cg_member::fetching::fetched;
+use cg_member::few::Few;
+use cg_member::reply::Reply;
+use cg_member::turn::Turn;
 use cg_names::{Code, GroupId, Moment};
 use cg_record::{Command, Committed, Deleted, Entries};
+use cg_request::commits::Commits;
+use cg_request::event::Event;
+use cg_request::request::CommitRequest;
+use cg_request::ticket::Ticket;
+use cg_turn::committing::{committer, committing_unheld, kept};
+use cg_turn::joining::new_group;
 use std::alloc::{AllocError, Global};
 
 #[tactic(auto, unfolding(crate::specs::Machine::describe))]
@@ -198,7 +199,7 @@ fn meet_delete(
 }
 
 // A Tick: each group takes its turn. Those that it does not touch stay where they are.
-#[tactic(auto, unfolding(crate::specs::Machine::everywhere))]
+#[tactic(auto, unfolding(cg_held::specs::Held::everywhere))]
 fn meet_tick(now: Moment, held: &mut Held, homes: &mut Homes) -> Result<Effects, AllocError>
     requires { AreKnown (is_home homes.old) held.old }
     ensures known { AreKnown (is_home homes.new) held.new }
@@ -218,7 +219,7 @@ fn meet_tick(now: Moment, held: &mut Held, homes: &mut Homes) -> Result<Effects,
 }
 
 // A session is closed, at this moment. The groups that are no homes of it stay where they are, and are not gone through.
-#[tactic(auto, unfolding(crate::specs::Machine::everywhere))]
+#[tactic(auto, unfolding(cg_held::specs::Held::everywhere))]
 fn meet_gone(
     now: Moment,
     held: &mut Held,

@@ -1,10 +1,11 @@
 //! The group that a request names.
 ghost use Rattle.std.specs.Prelude.{◌≡◌, Err, IfOk, MatchResult};
 ghost use Rattle.cg_group.specs.InPlace.{IsNamed};
-ghost use Rattle.cg_group.specs.Machine.{InOrder, named_group};
+ghost use Rattle.cg_group.specs.Machine.{named_group};
+ghost use Rattle.cg_held.specs.Held.{InOrder};
 
-use crate::group::Group;
-use crate::held::Held;
+use cg_held::held::Held;
+use cg_member::group::Group;
 use cg_names::{Code, GroupId};
 
 /// The id that a request gives, and the group with it. Costs a look-up.

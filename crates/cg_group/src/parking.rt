@@ -1,25 +1,26 @@
 //! Requests whose calls may begin to wait, or that answer calls which wait: JOIN, SYNC and LEAVE.
 ghost use Rattle.std.specs.Prelude.{◌≡◌, ℕ, List, Some, true, false, IfOk, OnErr, OnOk};
-ghost use Rattle.cg_group.specs.Joining.{is_session_refused};
-ghost use Rattle.cg_group.specs.Machine.{at_moment, concluded, join, leave, outcome, sync};
-ghost use Rattle.cg_group.specs.Sessions.{AreKnown, is_home};
+ghost use Rattle.cg_member.specs.Joining.{is_session_refused};
+ghost use Rattle.cg_group.specs.Machine.{concluded, join, leave, sync};
+ghost use Rattle.cg_held.specs.Held.{at_moment, outcome};
+ghost use Rattle.cg_held.specs.Sessions.{AreKnown, is_home};
 
-use crate::admission::{join_held, join_unheld};
-use crate::checked::CheckedJoin;
 use crate::concluding::conclude;
-use crate::copies::copied_name;
-use crate::effects::Effects;
-use crate::held::Held;
 use crate::in_place::{sync_in, syncing};
-use crate::leaving::leave_held;
 use crate::naming::named;
-use crate::request::{JoinRequest, LeaveRequest, SyncRequest};
-use crate::sessions::{Homes, note};
-use crate::settling::settle_named;
-use crate::syncing::sync_held;
-use crate::ticket::Ticket;
-use crate::turn::Turn;
+use cg_held::held::Held;
+use cg_held::sessions::{Homes, note};
+use cg_held::settling::settle_named;
+use cg_member::checked::CheckedJoin;
+use cg_member::copies::copied_name;
+use cg_member::effects::Effects;
+use cg_member::turn::Turn;
 use cg_names::{Code, GroupId, Moment};
+use cg_request::request::{JoinRequest, LeaveRequest, SyncRequest};
+use cg_request::ticket::Ticket;
+use cg_turn::admission::{join_held, join_unheld};
+use cg_turn::leaving::leave_held;
+use cg_turn::syncing::sync_held;
 use std::alloc::{AllocError, Global};
 use uuid::Uuid;
 

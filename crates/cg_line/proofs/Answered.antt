@@ -1,7 +1,7 @@
 -- What an answer to a line says, from what is read of its words.
 use Rattle.std.proofs.Common.{◌≡◌, ℕ, ◌<◌, ◌⊎◌, inl, inr, List, length, refl, arith, Option, Some, None, Result, Ok, Err}
 use Rattle.std.specs.Prelude.{IsSome, IfOk}
-use Rattle.cg_group.specs.declared.asking.Request.{Request}
+use Rattle.cg_request.specs.declared.asking.Request.{Request}
 use Rattle.cg_line.specs.declared.line_fault.LineFault.{LineFault}
 use Rattle.cg_line.specs.declared.line_fault.LineFault.TheVariants.{Memory, Malformed, TooLong}
 use Rattle.cg_line.specs.declared.parsing.splitting.TheConstants.{WORDS_MAX}

@@ -6,14 +6,14 @@ use Rattle.std.specs.Fmt.{decimal, signed_decimal}
 use Rattle.std.proofs.lemmas.List.{length-map}
 use Rattle.cg_names.specs.declared.name.TheConstants.{NAME_BYTES_MAX, MEMBER_ID_BYTES_MAX}
 use Rattle.cg_record.specs.declared.millis.TheConstants.{REBALANCE_MS_MAX}
-use Rattle.cg_group.specs.declared.asking.Request.{Request}
-use Rattle.cg_group.specs.declared.asking.Request.TheVariants as request
-use Rattle.cg_group.specs.declared.request.JoinRequest.{JoinRequest}
-use Rattle.cg_group.specs.declared.request.SyncRequest.{SyncRequest}
-use Rattle.cg_group.specs.declared.request.BeatRequest.{BeatRequest}
-use Rattle.cg_group.specs.declared.request.LeaveRequest.{LeaveRequest}
-use Rattle.cg_group.specs.declared.request.CommitRequest.{CommitRequest}
-use Rattle.cg_group.specs.declared.request.FetchRequest.{FetchRequest}
+use Rattle.cg_request.specs.declared.asking.Request.{Request}
+use Rattle.cg_request.specs.declared.asking.Request.TheVariants as request
+use Rattle.cg_request.specs.declared.request.JoinRequest.{JoinRequest}
+use Rattle.cg_request.specs.declared.request.SyncRequest.{SyncRequest}
+use Rattle.cg_request.specs.declared.request.BeatRequest.{BeatRequest}
+use Rattle.cg_request.specs.declared.request.LeaveRequest.{LeaveRequest}
+use Rattle.cg_request.specs.declared.request.CommitRequest.{CommitRequest}
+use Rattle.cg_request.specs.declared.request.FetchRequest.{FetchRequest}
 use Rattle.cg_line.specs.declared.parsing.TheConstants.{SESSION_LINE_MS_MAX}
 use Rattle.cg_line.specs.declared.parsing.splitting.TheConstants.{WORDS_MAX}
 use Rattle.cg_line.specs.Parsing.{are_terms, beat_of, commit_in, commit_of, fetch_of, group_call_of, group_of, is_call, is_caller, join_of, leave_of, member_call_of, partition_in, protocol_in, request_of, sync_entry_in, sync_of}

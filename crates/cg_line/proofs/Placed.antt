@@ -12,12 +12,12 @@ use Rattle.cg_names.specs.declared.name.TheConstants.{NAME_BYTES_MAX}
 use Rattle.cg_record.specs.declared.entries.TheConstants.{ENTRIES_MAX}
 use Rattle.cg_record.specs.declared.offset.TheConstants.{OFFSET_MAX}
 use Rattle.cg_record.specs.declared.partition.TheConstants.{PARTITION_MAX}
-use Rattle.cg_group.specs.declared.commit_entry.CommitEntry.{CommitEntry}
-use Rattle.cg_group.specs.declared.topic_partition.TopicPartition.{TopicPartition}
-use Rattle.cg_group.specs.Commits.{AreCommits, share_partition}
-use Rattle.cg_group.specs.Commits as commits
-use Rattle.cg_group.specs.Partitions.{ArePartitions, are_one}
-use Rattle.cg_group.specs.Partitions as partitions
+use Rattle.cg_request.specs.declared.commit_entry.CommitEntry.{CommitEntry}
+use Rattle.cg_request.specs.declared.topic_partition.TopicPartition.{TopicPartition}
+use Rattle.cg_request.specs.Commits.{AreCommits, share_partition}
+use Rattle.cg_request.specs.Commits as commits
+use Rattle.cg_request.specs.Partitions.{ArePartitions, are_one}
+use Rattle.cg_request.specs.Partitions as partitions
 use Rattle.cg_line.specs.Fields.{bytes_in, is_bytes, is_name}
 use Rattle.cg_line.specs.Numbers.{is_digit, is_number, value_of}
 use Rattle.cg_line.specs.Parsing.{are_commits, are_partitions, commit_in, have_own_places, is_commit, is_partition, is_place, metadata_field, offset_field, partition_field, partition_in, share_place, topic_field}

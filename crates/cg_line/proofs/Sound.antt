@@ -7,14 +7,14 @@ use Rattle.std.specs.Fmt.{signed_decimal}
 use Rattle.std.proofs.lemmas.Slice.Eq.{bytes_eq-Decides}
 use Rattle.cg_names.specs.declared.name.TheConstants.{NAME_BYTES_MAX, MEMBER_ID_BYTES_MAX}
 use Rattle.cg_record.specs.declared.millis.TheConstants.{REBALANCE_MS_MAX}
-use Rattle.cg_group.specs.declared.asking.Request.{Request}
-use Rattle.cg_group.specs.declared.asking.Request.TheVariants as request
-use Rattle.cg_group.specs.declared.request.JoinRequest.{JoinRequest}
-use Rattle.cg_group.specs.declared.request.SyncRequest.{SyncRequest}
-use Rattle.cg_group.specs.declared.request.BeatRequest.{BeatRequest}
-use Rattle.cg_group.specs.declared.request.LeaveRequest.{LeaveRequest}
-use Rattle.cg_group.specs.declared.request.CommitRequest.{CommitRequest}
-use Rattle.cg_group.specs.declared.request.FetchRequest.{FetchRequest}
+use Rattle.cg_request.specs.declared.asking.Request.{Request}
+use Rattle.cg_request.specs.declared.asking.Request.TheVariants as request
+use Rattle.cg_request.specs.declared.request.JoinRequest.{JoinRequest}
+use Rattle.cg_request.specs.declared.request.SyncRequest.{SyncRequest}
+use Rattle.cg_request.specs.declared.request.BeatRequest.{BeatRequest}
+use Rattle.cg_request.specs.declared.request.LeaveRequest.{LeaveRequest}
+use Rattle.cg_request.specs.declared.request.CommitRequest.{CommitRequest}
+use Rattle.cg_request.specs.declared.request.FetchRequest.{FetchRequest}
 use Rattle.cg_line.specs.declared.parsing.TheConstants.{SESSION_LINE_MS_MAX}
 use Rattle.cg_line.specs.Fields.{is_name, is_optional, optional_in}
 use Rattle.cg_line.specs.Numbers.{generation_in, is_generation, is_number}

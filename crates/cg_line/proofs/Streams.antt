@@ -7,8 +7,8 @@ use Rattle.std.specs.List.{flat_map, list_all}
 use Rattle.std.specs.Io.KnownBytes.{Appends, Consumes, Keeps}
 use Rattle.std.proofs.lemmas.Grind.{flat_map-append}
 use Rattle.std.proofs.lemmas.List.Folds.{list_all-append}
-use Rattle.cg_group.specs.declared.asking.Request.{Request}
-use Rattle.cg_group.specs.declared.reply.Reply.{Reply}
+use Rattle.cg_request.specs.declared.asking.Request.{Request}
+use Rattle.cg_member.specs.declared.reply.Reply.{Reply}
 use Rattle.cg_line.specs.declared.ending.RunEnd.TheVariants as ends
 use Rattle.cg_line.specs.declared.ending.RunFault.{RunFault}
 use Rattle.cg_line.specs.declared.ending.RunFault.TheVariants as faults

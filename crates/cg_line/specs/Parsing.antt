@@ -10,20 +10,20 @@ use Rattle.cg_record.specs.declared.offset.TheConstants.{OFFSET_MAX}
 use Rattle.cg_record.specs.declared.opaque.TheConstants.{SUBSCRIPTION_BYTES_MAX, ASSIGNMENT_BYTES_MAX}
 use Rattle.cg_record.specs.declared.partition.TheConstants.{PARTITION_MAX}
 use Rattle.cg_record.specs.declared.roster.TheConstants.{MEMBERS_MAX}
-use Rattle.cg_group.specs.declared.asking.Request.{Request}
-use Rattle.cg_group.specs.declared.asking.Request.TheVariants as request
-use Rattle.cg_group.specs.declared.commit_entry.CommitEntry.{CommitEntry}
-use Rattle.cg_group.specs.declared.protocol.Protocol.{Protocol}
-use Rattle.cg_group.specs.declared.protocol.TheConstants.{PROTOCOLS_MAX}
-use Rattle.cg_group.specs.declared.request.JoinRequest.{JoinRequest}
-use Rattle.cg_group.specs.declared.request.SyncRequest.{SyncRequest}
-use Rattle.cg_group.specs.declared.request.SyncEntry.{SyncEntry}
-use Rattle.cg_group.specs.declared.request.BeatRequest.{BeatRequest}
-use Rattle.cg_group.specs.declared.request.LeaveRequest.{LeaveRequest}
-use Rattle.cg_group.specs.declared.request.CommitRequest.{CommitRequest}
-use Rattle.cg_group.specs.declared.request.FetchRequest.{FetchRequest}
-use Rattle.cg_group.specs.declared.topic_partition.TopicPartition.{TopicPartition}
-use Rattle.cg_group.specs.Names.{are_distinct}
+use Rattle.cg_request.specs.declared.asking.Request.{Request}
+use Rattle.cg_request.specs.declared.asking.Request.TheVariants as request
+use Rattle.cg_request.specs.declared.commit_entry.CommitEntry.{CommitEntry}
+use Rattle.cg_request.specs.declared.protocol.Protocol.{Protocol}
+use Rattle.cg_request.specs.declared.protocol.TheConstants.{PROTOCOLS_MAX}
+use Rattle.cg_request.specs.declared.request.JoinRequest.{JoinRequest}
+use Rattle.cg_request.specs.declared.request.SyncRequest.{SyncRequest}
+use Rattle.cg_request.specs.declared.request.SyncEntry.{SyncEntry}
+use Rattle.cg_request.specs.declared.request.BeatRequest.{BeatRequest}
+use Rattle.cg_request.specs.declared.request.LeaveRequest.{LeaveRequest}
+use Rattle.cg_request.specs.declared.request.CommitRequest.{CommitRequest}
+use Rattle.cg_request.specs.declared.request.FetchRequest.{FetchRequest}
+use Rattle.cg_request.specs.declared.topic_partition.TopicPartition.{TopicPartition}
+use Rattle.cg_request.specs.Names.{are_distinct}
 use Rattle.cg_line.specs.declared.line_fault.LineFault.{LineFault}
 use Rattle.cg_line.specs.declared.line_fault.LineFault.TheVariants.{Memory, Malformed, TooLong}
 use Rattle.cg_line.specs.declared.parsing.TheConstants.{SESSION_LINE_MS_MAX}

@@ -1,8 +1,8 @@
 -- What comes of a stream of request lines.
 use Rattle.std.specs.Prelude.{◌≡◌, ◌⊎◌, ℕ, ◌<◌, ◌≤◌, ◌==◌, true, not, List, [], ◌∷◌, ◌++◌, length, codes, Option, None, Some, Result, Ok, Err}
 use Rattle.std.specs.List.{flat_map, list_all}
-use Rattle.cg_group.specs.declared.asking.Request.{Request}
-use Rattle.cg_group.specs.declared.reply.Reply.{Reply}
+use Rattle.cg_request.specs.declared.asking.Request.{Request}
+use Rattle.cg_member.specs.declared.reply.Reply.{Reply}
 use Rattle.cg_line.specs.Replies.{reply_line}
 use Rattle.cg_line.specs.Requests.{IsRequest, request_line}
 use Rattle.cg_line.specs.declared.ending.RunEnd.{RunEnd}

@@ -1,8 +1,8 @@
 -- How far a run has come.
 use Rattle.std.specs.Prelude.{◌≡◌, ℕ, List, [], ◌++◌, take, Option, None, Some, Result, Ok, Err, OnOk}
 use Rattle.std.specs.Io.KnownBytes.{Appends, Consumes}
-use Rattle.cg_group.specs.declared.asking.Request.{Request}
-use Rattle.cg_group.specs.declared.reply.Reply.{Reply}
+use Rattle.cg_request.specs.declared.asking.Request.{Request}
+use Rattle.cg_member.specs.declared.reply.Reply.{Reply}
 use Rattle.cg_line.specs.declared.ending.RunEnd.TheVariants.{End}
 use Rattle.cg_line.specs.declared.ending.RunFault.{RunFault}
 use Rattle.cg_line.specs.declared.running.begun.Begun.{Begun}

@@ -1,6 +1,6 @@
 //! What answers requests.
-ghost use Rattle.cg_group.specs.declared.asking.Request.{Request};
-ghost use Rattle.cg_group.specs.declared.reply.Reply.{Reply};
+ghost use Rattle.cg_request.specs.declared.asking.Request.{Request};
+ghost use Rattle.cg_member.specs.declared.reply.Reply.{Reply};
 
 use cg_group::{Reply, Request};
 

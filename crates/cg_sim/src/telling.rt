@@ -2,7 +2,7 @@
 ghost use Rattle.std.specs.Prelude.{◌≡◌, ◌++◌, Err, None, Some, IfErr, OnOk};
 ghost use Rattle.std.specs.List.{flat_map};
 ghost use Rattle.cg_desk.specs.Outgoings.{answer};
-ghost use Rattle.cg_group.specs.declared.reply.Reply.TheVariants.{Refused};
+ghost use Rattle.cg_member.specs.declared.reply.Reply.TheVariants.{Refused};
 ghost use Rattle.cg_names.specs.declared.code.Code.TheVariants.{UnknownServerError};
 ghost use Rattle.cg_sim.specs.Telling.{note_text, open_fault_text, opening_text, replies_text, reply_text, trace_text};
 

@@ -3,12 +3,13 @@ use Rattle.std.proofs.Common.{◌≡◌, ◌⊎◌, inl, inr, ℕ, Bool, true, f
 use Rattle.std.specs.Prelude.{if◌then◌else◌, is_some}
 use Rattle.std.specs.Option.{option_to_list}
 use Rattle.std.proofs.lemmas.Bool.{false≢true}
-use Rattle.cg_group.specs.declared.event.Event.{Event}
-use Rattle.cg_group.specs.declared.event.Event.TheVariants as event
-use Rattle.cg_group.specs.declared.reply.Reply.TheVariants.{Refused}
-use Rattle.cg_group.specs.Asking.{asked}
+use Rattle.cg_request.specs.declared.event.Event.{Event}
+use Rattle.cg_request.specs.declared.event.Event.TheVariants as event
+use Rattle.cg_member.specs.declared.reply.Reply.TheVariants.{Refused}
+use Rattle.cg_request.specs.Asking.{asked}
 use Rattle.cg_group.specs.Laws.{after_all, commands_of}
-use Rattle.cg_group.specs.Machine.{Machine, step}
+use Rattle.cg_group.specs.Machine.{step}
+use Rattle.cg_held.specs.Held.{Machine}
 use Rattle.cg_names.specs.declared.code.Code.TheVariants.{CoordinatorNotAvailable}
 use Rattle.cg_record.specs.declared.command.Command.{Command}
 use Rattle.cg_desk.specs.Books.{Books, is_short, letting_go, served, settling, taking}

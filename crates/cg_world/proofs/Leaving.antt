@@ -4,14 +4,14 @@ use Rattle.std.specs.Prelude.{if◌then◌else◌, is_some}
 use Rattle.std.proofs.lemmas.Bool.{false≢true}
 use Rattle.cg_disk.specs.Disk.{Image}
 use Rattle.cg_fold.specs.Durable.{State as Durable}
-use Rattle.cg_group.specs.declared.asking.Request.{Request as Asked}
-use Rattle.cg_group.specs.declared.event.Event.{Event}
-use Rattle.cg_group.specs.declared.event.Event.TheVariants as event
-use Rattle.cg_group.specs.declared.reply.Reply.TheVariants.{Refused}
-use Rattle.cg_group.specs.declared.ticket.Ticket.{Ticket}
-use Rattle.cg_group.specs.Asking.{asked}
+use Rattle.cg_request.specs.declared.asking.Request.{Request as Asked}
+use Rattle.cg_request.specs.declared.event.Event.{Event}
+use Rattle.cg_request.specs.declared.event.Event.TheVariants as event
+use Rattle.cg_member.specs.declared.reply.Reply.TheVariants.{Refused}
+use Rattle.cg_request.specs.declared.ticket.Ticket.{Ticket}
+use Rattle.cg_request.specs.Asking.{asked}
 use Rattle.cg_group.specs.Machine.{step}
-use Rattle.cg_group.specs.Reviving.{revive}
+use Rattle.cg_held.specs.Reviving.{revive}
 use Rattle.cg_names.specs.declared.code.Code.TheVariants.{CoordinatorNotAvailable}
 use Rattle.cg_store.specs.Carried.{Carries}
 use Rattle.cg_desk.specs.Balanced.{IsBalanced}

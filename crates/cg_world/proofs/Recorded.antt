@@ -12,7 +12,7 @@ use Rattle.cg_fold.specs.Grouped.{is_another}
 use Rattle.cg_fold.specs.Key.{name_cmp}
 use Rattle.cg_fold.specs.Record.{assigned_record, emptied_record, replaced_record}
 use Rattle.cg_fold.proofs.KeyOrder.{name_same, name_total}
-use Rattle.cg_group.specs.Kept.{AreRecords, IsRecord, kept_in}
+use Rattle.cg_held.specs.Kept.{AreRecords, IsRecord, kept_in}
 use Rattle.cg_record.specs.declared.command.Command.{Command}
 use Rattle.cg_record.specs.declared.command.Command.TheVariants.{Assigned, Emptied, Replaced, Committed, Deleted}
 use Rattle.cg_record.specs.declared.member.Member.{Member}

@@ -4,9 +4,9 @@ use Rattle.std.specs.Prelude.{is_some}
 use Rattle.cg_disk.specs.Disk.{History, Image, LeavesOnly}
 use Rattle.cg_disk.proofs.Moments.{LeavesOnly-present, LeavesOnly-weaker}
 use Rattle.cg_fold.specs.Durable.{State as Durable, after}
-use Rattle.cg_group.specs.declared.asking.Request.{Request as Asked}
-use Rattle.cg_group.specs.declared.ticket.Ticket.{Ticket}
-use Rattle.cg_group.specs.Asking.{asked}
+use Rattle.cg_request.specs.declared.asking.Request.{Request as Asked}
+use Rattle.cg_request.specs.declared.ticket.Ticket.{Ticket}
+use Rattle.cg_request.specs.Asking.{asked}
 use Rattle.cg_record.specs.declared.command.Command.{Command}
 use Rattle.cg_store.specs.Carried.{CarriesBeforeOrAfter}
 use Rattle.cg_store.specs.Store.{IsUnchanged, StandsAt, disk_of, front_of}

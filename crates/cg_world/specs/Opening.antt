@@ -2,8 +2,8 @@
 use Rattle.std.specs.Prelude.{◌≡◌, ℕ, Bool, true, false, Result, Ok, Err}
 use Rattle.cg_disk.specs.Disk.{History, Image}
 use Rattle.cg_fold.specs.Durable.{State, counts_of}
-use Rattle.cg_group.specs.Kept.{AreRecords}
-use Rattle.cg_group.specs.Reviving.{revive}
+use Rattle.cg_held.specs.Kept.{AreRecords}
+use Rattle.cg_held.specs.Reviving.{revive}
 use Rattle.cg_store.specs.Carried.{Carries}
 use Rattle.cg_store.specs.Store.{StandsAt, disk_of}
 use Rattle.cg_store.specs.declared.fault.OpenFault.{OpenFault}

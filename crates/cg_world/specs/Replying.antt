@@ -3,10 +3,11 @@ use Rattle.std.specs.Prelude.{◌≡◌, ◌+◌, ◌≤◌, ℕ, Bool, true, �
 use Rattle.std.specs.List.{filter}
 use Rattle.cg_disk.specs.Disk.{Image}
 use Rattle.cg_fold.specs.Durable.{State as Durable}
-use Rattle.cg_group.specs.declared.event.Event.{Event}
+use Rattle.cg_request.specs.declared.event.Event.{Event}
 use Rattle.cg_group.specs.Laws.{commands_of}
-use Rattle.cg_group.specs.Machine.{Outcome, step}
-use Rattle.cg_group.specs.Reviving.{revive}
+use Rattle.cg_group.specs.Machine.{step}
+use Rattle.cg_held.specs.Held.{Outcome}
+use Rattle.cg_held.specs.Reviving.{revive}
 use Rattle.cg_store.specs.Carried.{Carries}
 use Rattle.cg_desk.specs.Balanced.{IsBalanced}
 use Rattle.cg_desk.specs.Books.{Books}

@@ -1,7 +1,7 @@
 -- Runs: steps one after the other, each with what is noted of it.
 use Rattle.std.specs.Prelude.{ℕ, Bool, true, false, ◌++◌, List, [], ◌∷◌}
 use Rattle.std.specs.Option.{option_to_list}
-use Rattle.cg_group.specs.declared.event.Event.{Event}
+use Rattle.cg_request.specs.declared.event.Event.{Event}
 use Rattle.cg_group.specs.Laws.{commands_of}
 use Rattle.cg_record.specs.declared.command.Command.{Command}
 use Rattle.cg_desk.specs.Desks.{State, Loading, Serving, Failed}

@@ -1,9 +1,9 @@
 -- What each step does to a world.
 use Rattle.std.specs.Prelude.{◌≡◌, ℕ, Bool, true, false, ◌++◌, List, [], length, Option, Some, None, is_some, if◌then◌else◌}
 use Rattle.cg_frame.specs.Frames.{next_gate}
-use Rattle.cg_group.specs.declared.event.Event.{Event}
-use Rattle.cg_group.specs.declared.event.Event.TheVariants as event
-use Rattle.cg_group.specs.Asking.{asked}
+use Rattle.cg_request.specs.declared.event.Event.{Event}
+use Rattle.cg_request.specs.declared.event.Event.TheVariants as event
+use Rattle.cg_request.specs.Asking.{asked}
 use Rattle.cg_record.specs.declared.command.Command.{Command}
 use Rattle.cg_record.specs.Spelling.{spelling}
 use Rattle.cg_store.specs.Batches.{has_room}

@@ -2,8 +2,8 @@
 ghost use Rattle.std.specs.Prelude.{◌≡◌, OnErr, IfOk, IfErr};
 ghost use Rattle.cg_desk.specs.Desks.{gone_on, request_on, tick_on};
 ghost use Rattle.cg_desk.specs.Outgoings.{answer};
-ghost use Rattle.cg_group.specs.Asking.{asked};
-ghost use Rattle.cg_group.specs.declared.reply.Reply.TheVariants as reply;
+ghost use Rattle.cg_request.specs.Asking.{asked};
+ghost use Rattle.cg_member.specs.declared.reply.Reply.TheVariants as reply;
 ghost use Rattle.cg_names.specs.declared.code.Code.TheVariants as code;
 
 use crate::world::World;

@@ -3,7 +3,7 @@ ghost use Rattle.std.specs.Prelude.{◌≡◌, ◌⊎◌, ◌+◌, ◌≤◌, �
 ghost use Rattle.cg_disk.specs.Disk.{Counts, Stays, present};
 ghost use Rattle.cg_fold.specs.Durable.{State};
 ghost use Rattle.cg_frame.specs.declared.segment.TheConstants.{SEGMENT_SECTORS};
-ghost use Rattle.cg_group.specs.Reviving.{revive};
+ghost use Rattle.cg_held.specs.Reviving.{revive};
 ghost use Rattle.cg_store.specs.Carried.{Carries};
 ghost use Rattle.cg_store.specs.Faults.{Tells, failed_opening};
 ghost use Rattle.cg_store.specs.Store.{disk_of, front_of, has_failed};

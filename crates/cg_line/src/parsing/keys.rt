@@ -1,7 +1,7 @@
 //! Words with a name before `=` and bytes behind it. Nothing here takes memory.
 ghost use Rattle.std.specs.Prelude.{◌≡◌, ◌∷◌, map};
 ghost use Rattle.std.specs.List.{list_any};
-ghost use Rattle.cg_group.specs.Names.{are_distinct, is_same};
+ghost use Rattle.cg_request.specs.Names.{are_distinct, is_same};
 ghost use Rattle.cg_line.specs.Parsing.{given_to, key_of};
 
 use crate::parsing::splitting::{before, behind};
@@ -40,7 +40,7 @@ fn is_key_among(key: &[u8], words: &[&[u8]]) -> bool
 }
 
 /// Whether no key comes twice. Compares each with each.
-#[tactic(auto, unfolding(cg_group::specs::Names::are_distinct))]
+#[tactic(auto, unfolding(cg_request::specs::Names::are_distinct))]
 pub fn have_own_keys(words: &[&[u8]]) -> bool
     ensures { result ≡ are_distinct (map key_of (map (λ w. w.now) words.now)) }
 {

@@ -1,7 +1,7 @@
 //! Serving one line.
 ghost use Rattle.std.specs.Prelude.{◌≡◌, ◌++◌, ℕ, List, Option, Some, MatchResult, IfErr, OnOk};
-ghost use Rattle.cg_group.specs.declared.asking.Request.{Request};
-ghost use Rattle.cg_group.specs.declared.reply.Reply.{Reply};
+ghost use Rattle.cg_request.specs.declared.asking.Request.{Request};
+ghost use Rattle.cg_member.specs.declared.reply.Reply.{Reply};
 ghost use Rattle.cg_line.specs.Lines.{IsBegun};
 ghost use Rattle.cg_line.specs.Replies.{reply_line};
 ghost use Rattle.cg_line.specs.Running.{IsLine, Turns, ended};

@@ -1,6 +1,6 @@
 use Rattle.std.proofs.Common.{◌≡◌, ◌+◌, ◌<◌, ◌≤◌, List, ◌∷◌, [], ◌++◌, length, map, take, drop, ap, sym, ◌∙◌, rules}
 use Rattle.std.specs.Prelude.{slice_get, Some, None}
-use Rattle.cg_group.specs.Waiting.{waiting_calls}
+use Rattle.cg_member.specs.Waiting.{waiting_calls}
 use Rattle.cg_desk.specs.Answering.{refusal}
 use Rattle.cg_desk.proofs.Leaving.{calls-front, calls-end, calls-past, told_one, told_out, told_then, told_tokens}
 use Rattle.cg_desk.proofs.refusing.refuse_waiting.Goals as goal

@@ -1,6 +1,6 @@
 use Rattle.std.proofs.Common.{◌≡◌, ◌≤◌, ◌+◌, length, map, take, drop, vec_len, vec_capacity}
 use Rattle.std.specs.VecDeque.{deque_len}
-use Rattle.cg_group.specs.Waiting.{waiting_calls}
+use Rattle.cg_member.specs.Waiting.{waiting_calls}
 use Rattle.cg_desk.specs.Answering.{refusal}
 use Rattle.cg_desk.proofs.Leaving.{Told}
 use Rattle.cg_desk.proofs.refusing.refuse_waiting.Given as goal

@@ -1,8 +1,8 @@
 use Rattle.std.proofs.Common.{◌≡◌, true}
 use Rattle.std.specs.Option.{option_copied}
 use Rattle.cg_names.specs.declared.code.Code.TheVariants.{OffsetMetadataTooLarge}
-use Rattle.cg_group.specs.Commits.{is_too_large}
-use Rattle.cg_group.specs.Committing.{commit_by}
+use Rattle.cg_request.specs.Commits.{is_too_large}
+use Rattle.cg_turn.specs.Committing.{commit_by}
 use Rattle.cg_group.proofs.InPlace.{commit_in_place, commit_too_large, concluded_refused}
 use Rattle.cg_group.proofs.in_place.commit_in.Goals as goal
 

@@ -1,8 +1,8 @@
 use Rattle.std.proofs.Common.{ap, sym, ◌∙◌}
 use Rattle.std.specs.Option.{option_copied}
-use Rattle.cg_group.specs.Committing.{hearing_committer}
-use Rattle.cg_group.specs.Machine.{with_group}
-use Rattle.cg_group.proofs.InOrder.{with_group-found}
+use Rattle.cg_turn.specs.Committing.{hearing_committer}
+use Rattle.cg_held.specs.Held.{with_group}
+use Rattle.cg_held.proofs.InOrder.{with_group-found}
 use Rattle.cg_group.proofs.in_place.hear_committer.Goals as goal
 
 pub returns-in-None : goal.returns-in-None

@@ -1,5 +1,5 @@
 use Rattle.std.proofs.Common.{rules, length}
-use Rattle.cg_group.specs.Committing.{commit_unheld}
+use Rattle.cg_turn.specs.Committing.{commit_unheld}
 use Rattle.cg_group.proofs.InPlace.{concluded_refused}
 use Rattle.cg_group.proofs.meeting.commit_apart.Goals as goal
 

@@ -1,6 +1,6 @@
 use Rattle.std.proofs.Common.{◌≡◌, ap, ◌∙◌}
-use Rattle.cg_group.specs.Joining.{new_group}
-use Rattle.cg_group.specs.Machine.{with_group, without_group}
+use Rattle.cg_member.specs.Joining.{new_group}
+use Rattle.cg_held.specs.Held.{with_group, without_group}
 use Rattle.cg_group.proofs.Made.{commit_made, unmade}
 use Rattle.cg_group.proofs.meeting.commit_new.Goals as goal
 

@@ -2,8 +2,9 @@ use Rattle.std.proofs.Common.{◌≡◌, Some, None, length, rules, ap, ◌∙�
 use Rattle.std.specs.Option.{option_copied}
 use Rattle.cg_names.specs.declared.code.Code.TheVariants.{InvalidGroupId}
 use Rattle.cg_group.specs.InPlace.{IsNamed}
-use Rattle.cg_group.specs.Committing.{commit_unheld}
-use Rattle.cg_group.specs.Machine.{at_moment, commit, concluded, find_group, outcome}
+use Rattle.cg_turn.specs.Committing.{commit_unheld}
+use Rattle.cg_group.specs.Machine.{commit, concluded}
+use Rattle.cg_held.specs.Held.{at_moment, find_group, outcome}
 use Rattle.cg_group.proofs.InPlace.{commit_refused, commit_taken, concluded_refused}
 use Rattle.cg_group.proofs.Made.{commit_absent, commit_unnamed}
 use Rattle.cg_group.proofs.meeting.meet_commit.Goals as goal

@@ -1,7 +1,7 @@
 use Rattle.std.proofs.Common.{List, sym, subst, ◌∙◌}
-use Rattle.cg_group.specs.declared.group.Group.{Group}
-use Rattle.cg_group.specs.Sessions.{AreKnown, is_home}
-use Rattle.cg_group.proofs.Framed.{framed-gone_in}
+use Rattle.cg_member.specs.declared.group.Group.{Group}
+use Rattle.cg_held.specs.Sessions.{AreKnown, is_home}
+use Rattle.cg_held.proofs.Framed.{framed-gone_in}
 use Rattle.cg_group.proofs.KnownSessions.{known-apart, known-left_all}
 use Rattle.cg_group.proofs.meeting.meet_gone.Goals as goal
 

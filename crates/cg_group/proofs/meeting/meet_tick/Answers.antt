@@ -1,9 +1,10 @@
 use Rattle.std.proofs.Common.{List, sym, subst, ◌∙◌}
-use Rattle.cg_group.specs.declared.event.Event.TheVariants as event
-use Rattle.cg_group.specs.declared.group.Group.{Group}
-use Rattle.cg_group.specs.Machine.{at_moment, everywhere, met}
-use Rattle.cg_group.specs.Sessions.{AreKnown, is_home}
-use Rattle.cg_group.proofs.Framed.{framed-ticked}
+use Rattle.cg_request.specs.declared.event.Event.TheVariants as event
+use Rattle.cg_member.specs.declared.group.Group.{Group}
+use Rattle.cg_group.specs.Machine.{met}
+use Rattle.cg_held.specs.Held.{at_moment, everywhere}
+use Rattle.cg_held.specs.Sessions.{AreKnown, is_home}
+use Rattle.cg_held.proofs.Framed.{framed-ticked}
 use Rattle.cg_group.proofs.KnownSessions.{known-met}
 use Rattle.cg_group.proofs.meeting.meet_tick.Goals as goal
 

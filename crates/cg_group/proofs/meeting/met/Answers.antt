@@ -1,9 +1,10 @@
 use Rattle.std.proofs.Common.{◌≡◌, sym, ap, ◌∙◌}
-use Rattle.cg_group.specs.declared.event.Event.TheVariants as event
-use Rattle.cg_group.specs.Leaving.{gone_in}
-use Rattle.cg_group.specs.Machine.{at_moment, beat, commit, concluded, deleting, everywhere, join, leave, met, outcome, standing, sync}
-use Rattle.cg_group.specs.Sessions.{is_home}
-use Rattle.cg_group.specs.Ticking.{ticked}
+use Rattle.cg_request.specs.declared.event.Event.TheVariants as event
+use Rattle.cg_member.specs.Leaving.{gone_in}
+use Rattle.cg_group.specs.Machine.{beat, commit, concluded, deleting, join, leave, met, sync}
+use Rattle.cg_held.specs.Held.{at_moment, everywhere, outcome, standing}
+use Rattle.cg_held.specs.Sessions.{is_home}
+use Rattle.cg_member.specs.Ticking.{ticked}
 use Rattle.cg_group.proofs.Beside.{concluded_beside, concluded_still, deleted_beside, everywhere_beside, everywhere_still}
 use Rattle.cg_group.proofs.KnownSessions.{known-after}
 use Rattle.cg_group.proofs.Quiet.{quiet-beat, quiet-gone_in, quiet-join, quiet-leave, quiet-sync, quiet-ticked}

@@ -1,7 +1,8 @@
 use Rattle.std.proofs.Common.{ap, sym, ◌∙◌}
-use Rattle.cg_group.specs.declared.event.Event.TheVariants as event
-use Rattle.cg_group.specs.Machine.{at_moment, concluded, met}
-use Rattle.cg_group.specs.Sessions.{is_home}
+use Rattle.cg_request.specs.declared.event.Event.TheVariants as event
+use Rattle.cg_group.specs.Machine.{concluded, met}
+use Rattle.cg_held.specs.Held.{at_moment}
+use Rattle.cg_held.specs.Sessions.{is_home}
 use Rattle.cg_group.proofs.KnownSessions.{known-after}
 use Rattle.cg_group.proofs.parking.meet_leave.Goals as goal
 

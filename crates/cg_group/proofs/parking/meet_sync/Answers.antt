@@ -1,6 +1,6 @@
 use Rattle.std.proofs.Common.{rules}
 use Rattle.cg_group.specs.InPlace.{IsSyncIn}
-use Rattle.cg_group.specs.Sessions.{is_home}
+use Rattle.cg_held.specs.Sessions.{is_home}
 use Rattle.cg_group.proofs.parking.meet_sync.Goals as goal
 
 pub returns-in-Some-clause-known : goal.returns-in-Some-clause-known

@@ -1,8 +1,9 @@
 use Rattle.std.proofs.Common.{List, ap, sym, subst, ◌∙◌}
-use Rattle.cg_group.specs.declared.event.Event.TheVariants as event
-use Rattle.cg_group.specs.declared.group.Group.{Group}
-use Rattle.cg_group.specs.Machine.{at_moment, concluded, met}
-use Rattle.cg_group.specs.Sessions.{AreKnown, is_home}
+use Rattle.cg_request.specs.declared.event.Event.TheVariants as event
+use Rattle.cg_member.specs.declared.group.Group.{Group}
+use Rattle.cg_group.specs.Machine.{concluded, met}
+use Rattle.cg_held.specs.Held.{at_moment}
+use Rattle.cg_held.specs.Sessions.{AreKnown, is_home}
 use Rattle.cg_group.proofs.KnownSessions.{known-after, known-more}
 use Rattle.cg_group.proofs.parking.meet_sync_apart.Goals as goal
 

@@ -2,7 +2,7 @@ use Rattle.std.proofs.Common.{◌≡◌, List, [], ◌∷◌, ◌∙◌, refl, r
 use Rattle.std.proofs.lemmas.List.{nil_from_length}
 use Rattle.cg_desk.specs.Books.{failing}
 use Rattle.cg_desk.specs.Held.{calls_of, replies_of}
-use Rattle.cg_group.specs.Waiting.{waiting_calls}
+use Rattle.cg_member.specs.Waiting.{waiting_calls}
 use Rattle.cg_desk.proofs.Leaving.{all_refused}
 use Rattle.cg_desk.proofs.serving.Serving.fail.Goals as goal
 

@@ -1,7 +1,7 @@
 use Rattle.std.proofs.Common.{List, sym, subst}
-use Rattle.cg_group.specs.declared.group.Group.{Group}
+use Rattle.cg_member.specs.declared.group.Group.{Group}
 use Rattle.cg_fold.specs.Snapshot.{groups_in, in_order}
-use Rattle.cg_group.specs.Sessions.{AreKnown, is_home}
+use Rattle.cg_held.specs.Sessions.{AreKnown, is_home}
 use Rattle.cg_group.proofs.KnownSessions.{known-revived}
 use Rattle.cg_group.proofs.groups.Groups.revive.Goals as goal
 

@@ -1,5 +1,5 @@
 use Rattle.std.proofs.Common.{◌∙◌, map}
-use Rattle.cg_group.specs.Names.{is_same}
+use Rattle.cg_request.specs.Names.{is_same}
 use Rattle.cg_line.proofs.Each.{any_seen}
 use Rattle.cg_line.specs.Parsing.{key_of}
 use Rattle.cg_line.proofs.parsing.keys.is_key_among.Goals as goal

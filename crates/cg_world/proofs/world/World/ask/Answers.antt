@@ -1,4 +1,4 @@
-use Rattle.cg_group.specs.Asking.{asked}
+use Rattle.cg_request.specs.Asking.{asked}
 use Rattle.cg_store.specs.Store.{front_of, has_failed}
 use Rattle.cg_desk.specs.Desks.{state_of}
 use Rattle.cg_desk.specs.Tokens.{call_of}

@@ -1,7 +1,0 @@
-use Rattle.std.proofs.Common.{rules}
-use Rattle.std.proofs.lemmas.Fn.{filter_same}
-use Rattle.cg_group.specs.Ticking.{outstays}
-use Rattle.cg_group.proofs.members.keep_outstaying.Goals as goal
-
-pub returns : goal.returns
-returns c = filter_same _ outstays _ (λ x b q k. search rules) _ _ c.retain.ensures.filtered

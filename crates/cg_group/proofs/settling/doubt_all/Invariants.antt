@@ -1,6 +1,0 @@
-use Rattle.std.proofs.Common.{◌≡◌, ℕ, List, true}
-use Rattle.cg_group.specs.Sessions.{is_home}
-use Rattle.cg_group.proofs.settling.doubt_all.Given as goal
-
-abbrev pub invariant-loop-ticket : goal.invariant-loop-ticket
-invariant-loop-ticket l = (q : ℕ) (x : List ℕ) → is_home l.initial.homes q x ≡ true → is_home l.homes q x ≡ true

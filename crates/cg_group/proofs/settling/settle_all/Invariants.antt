@@ -1,5 +1,0 @@
-use Rattle.cg_group.specs.Sessions.{AreKnown, is_home}
-use Rattle.cg_group.proofs.settling.settle_all.Given as goal
-
-abbrev pub invariant-loop-one : goal.invariant-loop-one
-invariant-loop-one l = AreKnown (is_home l.initial.homes) l.held → AreKnown (is_home l.homes) l.held

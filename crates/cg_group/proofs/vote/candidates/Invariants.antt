@@ -1,7 +1,0 @@
-use Rattle.std.proofs.Common.{◌≡◌, map, take, filter}
-use Rattle.cg_group.specs.Vote.{is_common}
-use Rattle.cg_group.proofs.vote.candidates.Given as goal
-
-abbrev pub invariant-loop-protocol : goal.invariant-loop-protocol
-invariant-loop-protocol l =
-    l.names ≡ filter (is_common l.members) (map (λ p. p.name) (take l.protocol-index l.protocol-items))

@@ -1,0 +1,344 @@
+-- Groups take their turns, one after the other, and are put into their places.
+use Rattle.std.proofs.Common.{◌≡◌, ℕ, Bool, true, false, ◌||◌, List, [], ◌∷◌, ◌++◌, cond, is_some, Some, None, refl, sym, ap, ◌∙◌, subst}
+use Rattle.std.specs.Prelude.{if◌then◌else◌}
+use Rattle.std.specs.List.{flat_map}
+use Rattle.std.specs.BTreeMap.{is_at}
+use Rattle.std.specs.Cmp.Lexicographic.{slice_cmp}
+use Rattle.std.specs.Map.{keys_of, lookup}
+use Rattle.std.specs.Ordering.{nat_cmp, match_ordering}
+use Rattle.std.specs.declared.cmp.Ordering.TheVariants.{Less, Equal}
+use Rattle.std.proofs.lemmas.Bool.{or_from, or_left, or_right}
+use Rattle.std.proofs.lemmas.Cmp.{nat_list_cmp_total}
+use Rattle.std.proofs.lemmas.List.{append_assoc, append-nil}
+use Rattle.std.proofs.lemmas.List.Folds.{list_any-append}
+use Rattle.std.proofs.lemmas.Map.Text.{is_eq-slice_cmp}
+use Rattle.cg_held.specs.declared.changes.Changes.{Changes}
+use Rattle.cg_record.specs.declared.command.Command.{Command}
+use Rattle.cg_member.specs.declared.effects.Effects.{Effects}
+use Rattle.cg_member.specs.declared.group.Group.{Group}
+use Rattle.cg_member.specs.declared.reply.Reply.{Reply}
+use Rattle.cg_request.specs.declared.ticket.Ticket.{Ticket}
+use Rattle.cg_member.specs.declared.turn.Turn.{Turn}
+use Rattle.cg_held.specs.Changes.{AreHeld, HaveTurned, among, changed, is_one_of}
+use Rattle.cg_held.specs.Held.{IsHeld, InOrder, effects_of, find_group, groups_after, with_group}
+use Rattle.cg_held.specs.Kept.{Ascending, ComeBefore, ComesBefore, Each}
+use Rattle.cg_request.specs.Names.{is_same}
+use Rattle.cg_member.specs.Rebalance.{turn_of}
+use Rattle.cg_held.proofs.Framed.{each-append}
+use Rattle.cg_held.proofs.InOrder.{before_found, come_before, differs_behind, found_alone, found_at, less_greater, none_found, same_order}
+use Rattle.cg_held.proofs.KeptLists.{found-with_group, group_ids, same_self}
+
+-- the first change, and no change
+pub changed-cons : (c : Group) (cs groups : List Group) → changed (c ∷ cs) groups ≡ changed cs (with_group c groups)
+unfolding changed
+changed-cons c cs groups = refl
+
+pub changed-nil : (groups : List Group) → changed [] groups ≡ groups
+unfolding changed
+changed-nil groups = refl
+
+changed-push : (cs : List Group) (c : Group) (groups : List Group) → changed (cs ++ c ∷ []) groups ≡ with_group c (changed cs groups)
+unfolding changed
+changed-push [] c groups = refl
+changed-push (x ∷ cs) c groups = changed-push cs c (with_group x groups)
+
+-- what is held stays so
+pub held-with_group : (c : Group) (cs groups : List Group) → AreHeld groups cs → AreHeld (with_group c groups) cs
+held-with_group c [] groups h = tt
+held-with_group c (x ∷ xs) groups h = (found-with_group x.id c groups (or_right (is_same c.id x.id) (is_some (find_group x.id groups)) h.0), held-with_group c xs groups h.1)
+
+-- names among others
+
+one_of-push : (ids : List (List ℕ)) (x y : List ℕ) → is_same y x ≡ false → is_one_of (ids ++ x ∷ []) y ≡ is_one_of ids y
+one_of-push ids x y apart = list_any-append (is_same y) ids (x ∷ []) ∙ last (is_one_of ids y) (or_from (is_same y x) false apart refl)
+  where
+    last : (b : Bool) {c : Bool} → c ≡ false → (b || c) ≡ b
+    last true e = refl
+    last false e = e
+
+one_of-last : (ids : List (List ℕ)) (x : List ℕ) → is_one_of (ids ++ x ∷ []) x ≡ true
+one_of-last ids x = list_any-append (is_same x) ids (x ∷ []) ∙ or_right (is_one_of ids x) (is_same x x || false) (or_left (is_same x x) false (same_self x))
+
+before_one_of : (ids : List (List ℕ)) (x : List ℕ) → ComeBefore ids x → is_one_of ids x ≡ false
+before_one_of [] x h = refl
+before_one_of (y ∷ ys) x h = or_from (is_same x y) (is_one_of ys x) (differs_behind y x h.0) (before_one_of ys x h.1)
+
+come_before-trans : (ids : List (List ℕ)) (x y : List ℕ) → slice_cmp nat_cmp x y ≡ Less → ComeBefore ids x → ComeBefore ids y
+come_before-trans [] x y e h = tt
+come_before-trans (z ∷ zs) x y e h = (nat_list_cmp_total.trans z x y h.0 e, come_before-trans zs x y e h.1)
+
+-- what is behind a name is not among those before it
+none_behind : (ids : List (List ℕ)) (x : List ℕ) (gs : List Group) → ComeBefore ids x → ComesBefore x (group_ids gs) → Each (λ (h : Group). is_one_of ids h.id ≡ false) gs
+none_behind ids x [] b h = tt
+none_behind ids x (g ∷ gs) b h = (before_one_of ids g.id (come_before-trans ids x g.id h.0 b), none_behind ids x gs b h.1)
+
+none_behind-push : (ids : List (List ℕ)) (x : List ℕ) (gs : List Group) → ComeBefore ids x → ComesBefore x (group_ids gs) → Each (λ (h : Group). is_one_of (ids ++ x ∷ []) h.id ≡ false) gs
+none_behind-push ids x [] b h = tt
+none_behind-push ids x (g ∷ gs) b h =
+    (one_of-push ids x g.id (differs_behind x g.id h.0) ∙ before_one_of ids g.id (come_before-trans ids x g.id h.0 b), none_behind-push ids x gs b h.1)
+
+module _ (turn : Group → Turn) where
+  took : (ids : List (List ℕ)) (g : Group) → is_one_of ids g.id ≡ true → among ids turn g ≡ turn g
+  took ids g e = ap (λ b. if b then turn g else turn_of g) e
+
+  stayed : (ids : List (List ℕ)) (g : Group) → is_one_of ids g.id ≡ false → among ids turn g ≡ turn_of g
+  stayed ids g e = ap (λ b. if b then turn g else turn_of g) e
+
+  among-push : (ids : List (List ℕ)) (x : List ℕ) (g : Group) → is_same g.id x ≡ false → among (ids ++ x ∷ []) turn g ≡ among ids turn g
+  among-push ids x g e = ap (λ b. if b then turn g else turn_of g) (one_of-push ids x g.id e)
+
+  -- where none takes a turn
+  still : (ids : List (List ℕ)) (gs : List Group) → Each (λ (h : Group). is_one_of ids h.id ≡ false) gs → groups_after (among ids turn) gs ≡ gs
+  still ids [] h = refl
+  still ids (g ∷ gs) h = ap (λ (t : Turn). t.group ∷ groups_after (among ids turn) gs) (stayed ids g h.0) ∙ ap (λ ys. g ∷ ys) (still ids gs h.1)
+
+  quiet : {A : Type 0} (f : Turn → List A) → ((g : Group) → f (turn_of g) ≡ []) → (ids : List (List ℕ)) (gs : List Group) → Each (λ (h : Group). is_one_of ids h.id ≡ false) gs → flat_map (λ g. f (among ids turn g)) gs ≡ []
+  quiet f none ids [] h = refl
+  quiet f none ids (g ∷ gs) h = ap (λ xs. xs ++ flat_map (λ g. f (among ids turn g)) gs) (ap f (stayed ids g h.0) ∙ none g) ∙ quiet f none ids gs h.1
+
+  -- one more takes its turn, behind all that did
+  made_next : {A : Type 0} (f : Turn → List A) → ((g : Group) → f (turn_of g) ≡ []) → (ids : List (List ℕ)) (g : Group) (gs : List Group) → InOrder gs → find_group g.id gs ≡ Some g → ComeBefore ids g.id
+      → flat_map (λ h. f (among (ids ++ g.id ∷ []) turn h)) gs ≡ flat_map (λ h. f (among ids turn h)) gs ++ f (turn g)
+  unfolding find_group
+  made_next f none ids g [] o found b = cc
+  made_next f none ids g (x ∷ xs) o found b =
+      let more : List (List ℕ) = ids ++ g.id ∷ [] in
+      let rest = flat_map (λ h. f (among ids turn h)) xs in
+      (elim (is_same x.id g.id) as (λ t. is_same x.id g.id ≡ t → cond t (Some x) (find_group g.id xs) ≡ Some g → flat_map (λ h. f (among more turn h)) (x ∷ xs) ≡ flat_map (λ h. f (among ids turn h)) (x ∷ xs) ++ f (turn g)) [
+        | true ↦ λ t e.
+            let own : x ≡ g = cc in
+            let B : Group → Type 0 = λ y. ComesBefore y.id (group_ids xs) in
+            let behind = subst B own o.0 in
+            ap (λ ys. f (among more turn x) ++ ys) (quiet f none more xs (none_behind-push ids g.id xs b behind))
+            ∙ append-nil (f (among more turn x))
+            ∙ ap (λ (y : Group). f (among more turn y)) own
+            ∙ ap f (took more g (one_of-last ids g.id))
+            ∙ sym (
+            ap (λ ys. (f (among ids turn x) ++ ys) ++ f (turn g)) (quiet f none ids xs (none_behind ids g.id xs b behind))
+            ∙ ap (λ ys. (ys ++ []) ++ f (turn g)) (ap (λ (y : Group). f (among ids turn y)) own ∙ ap f (stayed ids g (before_one_of ids g.id b)) ∙ none g))
+        | false ↦ λ t e.
+            ap (λ y. f y ++ flat_map (λ h. f (among more turn h)) xs) (among-push ids g.id x t)
+            ∙ ap (λ ys. f (among ids turn x) ++ ys) (made_next f none ids g xs o.1 e b)
+            ∙ sym (append_assoc (f (among ids turn x)) rest (f (turn g)))
+      ]) refl found
+
+  module _ (stays : (g : Group) → (turn g).group.id ≡ g.id) where
+    id-among : (ids : List (List ℕ)) (g : Group) → (among ids turn g).group.id ≡ g.id
+    id-among ids g = elim (is_one_of ids g.id) as (λ b. (if b then turn g else turn_of g).group.id ≡ g.id) [ true ↦ stays g | false ↦ refl ]
+
+    put_next : (ids : List (List ℕ)) (g : Group) (gs : List Group) → InOrder gs → find_group g.id gs ≡ Some g → ComeBefore ids g.id
+        → with_group (turn g).group (groups_after (among ids turn) gs) ≡ groups_after (among (ids ++ g.id ∷ []) turn) gs
+    unfolding find_group with_group
+    put_next ids g [] o found b = cc
+    put_next ids g (x ∷ xs) o found b =
+        let more : List (List ℕ) = ids ++ g.id ∷ [] in
+        let c : Group = (turn g).group in
+        let y : Group = (among ids turn x).group in
+        let rest = groups_after (among ids turn) xs in
+        (elim (is_same x.id g.id) as (λ t. is_same x.id g.id ≡ t → cond t (Some x) (find_group g.id xs) ≡ Some g → match_ordering (slice_cmp nat_cmp c.id y.id) (c ∷ y ∷ rest) (c ∷ rest) (y ∷ with_group c rest) ≡ groups_after (among more turn) (x ∷ xs)) [
+          | true ↦ λ t e.
+              let own : x ≡ g = cc in
+              let B : Group → Type 0 = λ z. ComesBefore z.id (group_ids xs) in
+              let behind = subst B own o.0 in
+              let ids_are : c.id ≡ y.id = stays g ∙ sym (id-among ids x ∙ ap (λ (z : Group). z.id) own) in
+              let level : slice_cmp nat_cmp c.id y.id ≡ Equal = ap (λ z. slice_cmp nat_cmp z y.id) ids_are ∙ same_order y.id in
+              ap (λ o. match_ordering o (c ∷ y ∷ rest) (c ∷ rest) (y ∷ with_group c rest)) level
+              ∙ ap (λ zs. c ∷ zs) (still ids xs (none_behind ids g.id xs b behind) ∙ sym (still more xs (none_behind-push ids g.id xs b behind)))
+              ∙ ap (λ (z : Turn). z.group ∷ groups_after (among more turn) xs) (sym (ap (among more turn) own ∙ took more g (one_of-last ids g.id)))
+          | false ↦ λ t e.
+              let apart = before_found x.id g.id xs g o.0 e in
+              let P : List ℕ → Type 0 = λ z. slice_cmp nat_cmp z c.id ≡ Less in
+              let Q : List ℕ → Type 0 = λ z. slice_cmp nat_cmp x.id z ≡ Less in
+              let behind = subst P (sym (id-among ids x)) (subst Q (sym (stays g)) apart) in
+              ap (λ o. match_ordering o (c ∷ y ∷ rest) (c ∷ rest) (y ∷ with_group c rest)) (less_greater y.id c.id behind)
+              ∙ ap (λ zs. y ∷ zs) (put_next ids g xs o.1 e b)
+              ∙ ap (λ (z : Turn). z.group ∷ groups_after (among more turn) xs) (sym (among-push ids g.id x t))
+        ]) refl found
+
+    pub turned_touched : (groups : List Group) (ids : List (List ℕ)) (g : Group) (was now : Changes) (t : Turn) → InOrder groups → find_group g.id groups ≡ Some g → ComeBefore ids g.id → HaveTurned turn groups ids was → t ≡ turn g
+        → now.groups.items ≡ was.groups.items ++ t.group ∷ []
+        → now.effects.commands ≡ was.effects.commands ++ t.commands
+        → now.effects.replies ≡ was.effects.replies ++ t.replies
+        → HaveTurned turn groups (ids ++ g.id ∷ []) now
+    turned_touched groups ids g was now t o found b h is put commands replies =
+        let P : List Group → Type 0 = λ cs. AreHeld groups cs in
+        let own : t.group.id ≡ g.id = ap (λ (u : Turn). u.group.id) is ∙ stays g in
+        let there : is_some (find_group t.group.id groups) ≡ true = ap (λ x. is_some (find_group x groups)) own ∙ ap is_some found in
+        record {
+          held = subst P (sym put) (each-append (λ (c : Group). IsHeld groups c.id) was.groups.items (t.group ∷ []) h.held (there, tt));
+          after = ap (λ cs. changed cs groups) put ∙ changed-push was.groups.items t.group groups ∙ ap (λ (u : Turn). with_group u.group (changed was.groups.items groups)) is ∙ ap (with_group (turn g).group) h.after ∙ put_next ids g groups o found b;
+          commands = commands ∙ ap (λ xs. xs ++ t.commands) h.commands ∙ ap (λ (u : Turn). (effects_of (among ids turn) groups).commands ++ u.commands) is ∙ sym (made_next (λ u. u.commands) (λ g. refl) ids g groups o found b);
+          replies = replies ∙ ap (λ xs. xs ++ t.replies) h.replies ∙ ap (λ (u : Turn). (effects_of (among ids turn) groups).replies ++ u.replies) is ∙ sym (made_next (λ u. u.replies) (λ g. refl) ids g groups o found b);
+        }
+
+  -- the same turns of each group
+  same_groups : (turn more : Group → Turn) (gs : List Group) → Each (λ h. turn h ≡ more h) gs → groups_after turn gs ≡ groups_after more gs
+  same_groups turn more [] h = refl
+  same_groups turn more (g ∷ gs) h = ap (λ (t : Turn). t.group ∷ groups_after turn gs) h.0 ∙ ap (λ ys. (more g).group ∷ ys) (same_groups turn more gs h.1)
+
+  same_made : {A : Type 0} (f : Turn → List A) (turn more : Group → Turn) (gs : List Group) → Each (λ h. turn h ≡ more h) gs → flat_map (λ g. f (turn g)) gs ≡ flat_map (λ g. f (more g)) gs
+  same_made f turn more [] h = refl
+  same_made f turn more (g ∷ gs) h = ap (λ t. f t ++ flat_map (λ g. f (turn g)) gs) h.0 ∙ ap (λ ys. f (more g) ++ ys) (same_made f turn more gs h.1)
+
+  turned_same : (groups : List Group) (ids more : List (List ℕ)) (done : Changes) → Each (λ h. among ids turn h ≡ among more turn h) groups → HaveTurned turn groups ids done → HaveTurned turn groups more done
+  turned_same groups ids more done same h = record {
+    held = h.held;
+    after = h.after ∙ same_groups (among ids turn) (among more turn) groups same;
+    commands = h.commands ∙ same_made (λ t. t.commands) (among ids turn) (among more turn) groups same;
+    replies = h.replies ∙ same_made (λ t. t.replies) (among ids turn) (among more turn) groups same;
+  }
+
+  -- no group has the id
+  pub turned_unheld : (groups : List Group) (ids : List (List ℕ)) (x : List ℕ) (done : Changes) → find_group x groups ≡ None → HaveTurned turn groups ids done → HaveTurned turn groups (ids ++ x ∷ []) done
+  turned_unheld groups ids x done none h = turned_same groups ids (ids ++ x ∷ []) done (each groups (none_found x groups none)) h
+    where
+      each : (gs : List Group) → Each (λ (h : Group). is_same h.id x ≡ false) gs → Each (λ h. among ids turn h ≡ among (ids ++ x ∷ []) turn h) gs
+      each [] h = tt
+      each (g ∷ gs) h = (sym (among-push ids x g h.0), each gs h.1)
+
+  -- the group with the id is not touched
+  pub turned_untouched : (groups : List Group) (ids : List (List ℕ)) (g : Group) (done : Changes) → InOrder groups → find_group g.id groups ≡ Some g → turn g ≡ turn_of g → HaveTurned turn groups ids done → HaveTurned turn groups (ids ++ g.id ∷ []) done
+  turned_untouched groups ids g done o found calm h = turned_same groups ids (ids ++ g.id ∷ []) done (each groups (found_alone g.id groups g o found)) h
+    where
+      calm_here : (x : Group) → x ≡ g → (i j : Bool) → (if i then turn x else turn_of x) ≡ (if j then turn x else turn_of x)
+      calm_here x e =
+          let same : turn x ≡ turn_of x = ap turn e ∙ calm ∙ ap turn_of (sym e) in
+          λ i j. chosen i ∙ sym (chosen j)
+        where
+          chosen : (i : Bool) → (if i then turn x else turn_of x) ≡ turn_of x
+          chosen true = ap turn e ∙ calm ∙ ap turn_of (sym e)
+          chosen false = refl
+
+      each : (gs : List Group) → Each (λ (h : Group). is_same h.id g.id ≡ true → h ≡ g) gs → Each (λ h. among ids turn h ≡ among (ids ++ g.id ∷ []) turn h) gs
+      each [] h = tt
+      each (x ∷ xs) h = (
+        (elim (is_same x.id g.id) as (λ b. is_same x.id g.id ≡ b → among ids turn x ≡ among (ids ++ g.id ∷ []) turn x) [
+          | true ↦ λ t. calm_here x (h.0 t) (is_one_of ids x.id) (is_one_of (ids ++ g.id ∷ []) x.id)
+          | false ↦ λ t. sym (among-push ids g.id x t)
+        ]) refl,
+        each xs h.1,
+      )
+
+  -- before any group took its turn
+  pub none_turned : (groups : List Group) (done : Changes) → done.groups.items ≡ [] → done.effects.commands ≡ [] → done.effects.replies ≡ [] → HaveTurned turn groups [] done
+  none_turned groups done put commands replies =
+      let P : List Group → Type 0 = λ cs. AreHeld groups cs in
+      record {
+        held = subst P (sym put) tt;
+        after = ap (λ cs. changed cs groups) put ∙ changed-nil groups ∙ sym (still [] groups (nobody groups));
+        commands = commands ∙ sym (quiet (λ t. t.commands) (λ g. refl) [] groups (nobody groups));
+        replies = replies ∙ sym (quiet (λ t. t.replies) (λ g. refl) [] groups (nobody groups));
+      }
+    where
+      nobody : (gs : List Group) → Each (λ (h : Group). is_one_of [] h.id ≡ false) gs
+      nobody [] = tt
+      nobody (g ∷ gs) = (refl, nobody gs)
+
+  -- all groups took their turns, or would have stayed as they are
+  abbrev pub Done : List Group → Changes → Type 0
+  Done groups done = AreHeld groups done.groups.items × (changed done.groups.items groups ≡ groups_after turn groups) × (done.effects ≡ effects_of turn groups)
+
+  pub all_turned : (groups : List Group) (ids : List (List ℕ)) (done : Changes) → Each (λ h. among ids turn h ≡ turn h) groups → HaveTurned turn groups ids done → Done groups done
+  all_turned groups ids done same h = (
+    h.held,
+    h.after ∙ same_groups (among ids turn) turn groups same,
+    same_effects done.effects (effects_of turn groups) (h.commands ∙ same_made (λ t. t.commands) (among ids turn) turn groups same) (h.replies ∙ same_made (λ t. t.replies) (among ids turn) turn groups same),
+  )
+    where
+      same_effects : (e f : Effects) → e.commands ≡ f.commands → e.replies ≡ f.replies → e ≡ f
+      same_effects e f commands replies =
+          let with_these : List Command → List (Ticket × Reply) → Effects = λ cs rs. record { commands = cs; replies = rs } in
+          ap (λ cs. with_these cs e.replies) commands ∙ ap (with_these f.commands) replies
+
+  -- all groups, one after the other
+
+  abbrev pub Onward : List Group → List Group → Changes → Type 0
+  Onward groups left done = (front : List Group) × (groups ≡ front ++ left) × HaveTurned turn groups (group_ids front) done
+
+  own_ids : (gs : List Group) → Each (λ (h : Group). is_one_of (group_ids gs) h.id ≡ true) gs
+  own_ids [] = tt
+  own_ids (g ∷ gs) = (or_left (is_same g.id g.id) (is_one_of (group_ids gs) g.id) (same_self g.id), more gs (own_ids gs))
+    where
+      more : (hs : List Group) → Each (λ (h : Group). is_one_of (group_ids gs) h.id ≡ true) hs → Each (λ (h : Group). is_one_of (group_ids (g ∷ gs)) h.id ≡ true) hs
+      more [] h = tt
+      more (x ∷ xs) h = (or_right (is_same x.id g.id) (is_one_of (group_ids gs) x.id) h.0, more xs h.1)
+
+  pub onward_end : (groups left : List Group) (done : Changes) → left ≡ [] → Onward groups left done → Done groups done
+  onward_end groups left done none (front, split, h) =
+      let whole : groups ≡ front = split ∙ ap (λ ys. front ++ ys) none ∙ append-nil front in
+      let P : List Group → Type 0 = λ fs. HaveTurned turn groups (group_ids fs) done in
+      all_turned groups (group_ids groups) done (each groups (own_ids groups)) (subst P (sym whole) h)
+    where
+      each : (hs : List Group) → Each (λ (h : Group). is_one_of (group_ids groups) h.id ≡ true) hs → Each (λ h. among (group_ids groups) turn h ≡ turn h) hs
+      each [] h = tt
+      each (x ∷ xs) h = (took (group_ids groups) x h.0, each xs h.1)
+
+  pub onward_next : (groups left rest : List Group) (g : Group) (was now : Changes) → InOrder groups → left ≡ g ∷ rest
+      → ((groups : List Group) (ids : List (List ℕ)) → InOrder groups → find_group g.id groups ≡ Some g → ComeBefore ids g.id → HaveTurned turn groups ids was → HaveTurned turn groups (ids ++ g.id ∷ []) now)
+      → Onward groups left was → Onward groups rest now
+  onward_next groups left rest g was now o first turned (front, split, h) =
+      let here : groups ≡ front ++ g ∷ rest = split ∙ ap (λ ys. front ++ ys) first in
+      let O : List Group → Type 0 = λ gs. InOrder gs in
+      let F : List Group → Type 0 = λ gs. find_group g.id gs ≡ Some g in
+      let B : List (List ℕ) → Type 0 = λ xs. Ascending xs in
+      let ordered = subst O here o in
+      let ids_are : group_ids (front ++ g ∷ rest) ≡ group_ids front ++ g.id ∷ group_ids rest = ids_of front in
+      let H : List (List ℕ) → Type 0 = λ ids. HaveTurned turn groups ids now in (
+        front ++ g ∷ [],
+        here ∙ sym (append_assoc front (g ∷ []) rest),
+        subst H (sym (last front)) (turned groups (group_ids front) o (subst F (sym here) (found_at front g rest ordered)) (come_before (group_ids front) g.id (group_ids rest) (subst B ids_are ordered)) h),
+      )
+    where
+      ids_of : (fs : List Group) → group_ids (fs ++ g ∷ rest) ≡ group_ids fs ++ g.id ∷ group_ids rest
+      ids_of [] = refl
+      ids_of (x ∷ xs) = ap (λ ys. x.id ∷ ys) (ids_of xs)
+
+      last : (fs : List Group) → group_ids (fs ++ g ∷ []) ≡ group_ids fs ++ g.id ∷ []
+      last [] = refl
+      last (x ∷ xs) = ap (λ ys. x.id ∷ ys) (last xs)
+
+  -- the groups with these ids, one after the other
+
+  abbrev pub Homeward : List Group → List (List ℕ) → List (List ℕ) → Changes → Type 0
+  Homeward groups all left done = (front : List (List ℕ)) × (all ≡ front ++ left) × HaveTurned turn groups front done
+
+  pub homeward_next : (groups : List Group) (all left rest : List (List ℕ)) (x : List ℕ) (was now : Changes) → Ascending all → left ≡ x ∷ rest
+      → ((ids : List (List ℕ)) → ComeBefore ids x → HaveTurned turn groups ids was → HaveTurned turn groups (ids ++ x ∷ []) now)
+      → Homeward groups all left was → Homeward groups all rest now
+  homeward_next groups all left rest x was now o first turned (front, split, h) =
+      let here : all ≡ front ++ x ∷ rest = split ∙ ap (λ ys. front ++ ys) first in
+      let B : List (List ℕ) → Type 0 = λ xs. Ascending xs in
+      (front ++ x ∷ [], here ∙ sym (append_assoc front (x ∷ []) rest), turned front (come_before front x rest (subst B here o)) h)
+
+  -- an entry has the id, or none has
+  keys_have : {X : Type 0} (x : List ℕ) (es : List (List ℕ × X)) → is_some (lookup (is_at (slice_cmp nat_cmp x)) es) ≡ is_one_of (keys_of es) x
+  keys_have x [] = refl
+  keys_have x (e ∷ es) =
+      ap (λ b. is_some (cond b (Some e.1) (lookup (is_at (slice_cmp nat_cmp x)) es))) (is_eq-slice_cmp x e.0)
+      ∙ (elim (is_same x e.0) as (λ b. is_some (cond b (Some e.1) (lookup (is_at (slice_cmp nat_cmp x)) es)) ≡ (b || is_one_of (keys_of es) x)) [ true ↦ refl | false ↦ keys_have x es ])
+
+  pub homeward_end : {X : Type 0} (groups : List Group) (es : List (List ℕ × X)) (left : List (List ℕ)) (done : Changes) → left ≡ []
+      → Each (λ (g : Group). is_some (lookup (is_at (slice_cmp nat_cmp g.id)) es) ≡ false → turn g ≡ turn_of g) groups
+      → Homeward groups (keys_of es) left done → Done groups done
+  homeward_end groups es left done none calm (front, split, h) =
+      let whole : keys_of es ≡ front = split ∙ ap (λ ys. front ++ ys) none ∙ append-nil front in
+      let P : List (List ℕ) → Type 0 = λ ids. HaveTurned turn groups ids done in
+      all_turned groups (keys_of es) done (each groups calm) (subst P (sym whole) h)
+    where
+      each : (gs : List Group) → Each (λ (g : Group). is_some (lookup (is_at (slice_cmp nat_cmp g.id)) es) ≡ false → turn g ≡ turn_of g) gs → Each (λ h. among (keys_of es) turn h ≡ turn h) gs
+      each [] h = tt
+      each (g ∷ gs) h = (
+        (elim (is_one_of (keys_of es) g.id) as (λ b. is_one_of (keys_of es) g.id ≡ b → (if b then turn g else turn_of g) ≡ turn g) [
+          | true ↦ λ e. refl
+          | false ↦ λ e. sym (h.0 (keys_have g.id es ∙ e))
+        ]) refl,
+        each gs h.1,
+      )
+
+  -- no group is touched
+  pub none_touched : (groups : List Group) (done : Changes) → Each (λ (g : Group). false ≡ false → turn g ≡ turn_of g) groups → HaveTurned turn groups [] done → Done groups done
+  none_touched groups done calm h = all_turned groups [] done (each groups calm) h
+    where
+      each : (gs : List Group) → Each (λ (g : Group). false ≡ false → turn g ≡ turn_of g) gs → Each (λ h. among [] turn h ≡ turn h) gs
+      each [] h = tt
+      each (g ∷ gs) h = (sym (h.0 refl), each gs h.1)

@@ -1,0 +1,130 @@
+-- Homes of sessions: what stays of them where an event was met.
+use Rattle.std.proofs.Common.{◌≡◌, ℕ, zero, suc, ◌+◌, ◌<◌, ◌≤◌, Bool, true, false, cond, List, [], ◌∷◌, length, get_or, is_some, inl, inr, Option, Some, None, refl, sym, ap, ◌∙◌, subst, arith}
+use Rattle.std.proofs.lemmas.Bool.{cases_lt, false≢true}
+use Rattle.std.specs.Prelude.{◌⊎◌}
+use Rattle.std.specs.BTreeMap.{BTreeMap, get, is_at}
+use Rattle.std.specs.Cmp.Lexicographic.{slice_cmp}
+use Rattle.std.proofs.lemmas.Map.Text.{is_eq-slice_cmp}
+use Rattle.std.specs.Ordering.{nat_cmp, is_eq}
+use Rattle.cg_member.specs.declared.group.Group.{Group}
+use Rattle.cg_member.specs.declared.member.Member.{Member}
+use Rattle.cg_member.specs.declared.member.Waits.{Waits}
+use Rattle.cg_member.specs.declared.member.Waits.TheVariants.{Nothing, Join, Sync}
+use Rattle.cg_held.specs.declared.sessions.Home.{Home}
+use Rattle.cg_held.specs.Kept.{Each}
+use Rattle.cg_held.specs.Held.{InOrder, find_group}
+use Rattle.cg_request.specs.Names.{is_same}
+use Rattle.cg_held.specs.Sessions.{AreKnown, Known, is_certain_in, is_known, is_lived_in, is_noted}
+use Rattle.cg_held.proofs.InOrder.{found_alone, found_named, none_found}
+use Rattle.cg_held.proofs.KeptLists.{same_names, same_self}
+
+-- another home than the one that is left
+pub others_stay : (id x : List ℕ) (before after : Option Home) → after ≡ cond (is_at (slice_cmp nat_cmp id) x) None before → (x ≡ id → ⊥) → is_some before ≡ true → is_some after ≡ true
+others_stay id x before after is apart h =
+    ap is_some (is ∙ ap (λ b. cond b None before) (is_eq-slice_cmp id x))
+    ∙ (elim (is_same id x) as (λ b. is_same id x ≡ b → is_some (cond b None before) ≡ true) [
+      | true ↦ λ e. absurd (apart (sym (same_names id x e)))
+      | false ↦ λ e. h
+    ]) refl
+
+-- a home that is lived in is not left
+pub lived_in_stay : (id x : List ℕ) (before after : Option Home) → after ≡ cond (is_at (slice_cmp nat_cmp id) x) None before → (x ≡ id → is_lived_in before ≡ false) → is_lived_in before ≡ true → is_lived_in after ≡ true
+lived_in_stay id x before after is doubtful h =
+    ap is_lived_in (is ∙ ap (λ b. cond b None before) (is_eq-slice_cmp id x))
+    ∙ (elim (is_same id x) as (λ b. is_same id x ≡ b → is_lived_in (cond b None before) ≡ true) [
+      | true ↦ λ e. absurd (false≢true (sym (doubtful (sym (same_names id x e))) ∙ h))
+      | false ↦ λ e. h
+    ]) refl
+
+-- more sessions
+pub known_more : (sessions more : ℕ → Bool) → ((q : ℕ) → sessions q ≡ true → more q ≡ true) → (w : Waits) → is_known sessions w ≡ true → is_known more w ≡ true
+known_more sessions more kept Nothing h = refl
+known_more sessions more kept (Join t) h = kept t.session h
+known_more sessions more kept (Sync t) h = kept t.session h
+
+pub known_members : (sessions more : ℕ → Bool) → ((q : ℕ) → sessions q ≡ true → more q ≡ true) → (ms : List Member) → Each (λ (m : Member). is_known sessions m.waits ≡ true) ms → Each (λ (m : Member). is_known more m.waits ≡ true) ms
+known_members sessions more kept [] h = tt
+known_members sessions more kept (m ∷ ms) h = (known_more sessions more kept m.waits h.0, known_members sessions more kept ms h.1)
+
+-- of each, by its place
+pub each_to_place : {X : Type 0} (P : X → Type 0) (xs : List X) → Each P xs → (k : ℕ) (d : X) → k < length xs → P (get_or xs k d)
+each_to_place P [] h k d lt = absurd (omega arith)
+each_to_place P (x ∷ xs) h zero d lt = h.0
+each_to_place P (x ∷ xs) h (suc k) d lt = each_to_place P xs h.1 k d (omega arith)
+
+pub each_from_place : {X : Type 0} (P : X → Type 0) (xs : List X) → ((k : ℕ) (d : X) → k < length xs → P (get_or xs k d)) → Each P xs
+each_from_place P [] h = tt
+each_from_place P (x ∷ xs) h = (h 0 x (omega arith), each_from_place P xs (λ k d lt. h (suc k) d (omega arith)))
+
+-- the group in which the event was met, and the others
+module _ (before after : ℕ → List ℕ → Bool) (id : List ℕ) (others : (q : ℕ) (x : List ℕ) → (x ≡ id → ⊥) → before q x ≡ true → after q x ≡ true) where
+  apart_stays : (g : Group) → is_same g.id id ≡ false → Known (λ q. before q g.id) g → Known (λ q. after q g.id) g
+  apart_stays g e h = known_members (λ q. before q g.id) (λ q. after q g.id) (λ q k. others q g.id (λ same. false≢true (sym e ∙ own g.id id same)) k) g.members h
+    where
+      own : (x y : List ℕ) → x ≡ y → is_same x y ≡ true
+      own x y e = sym (is_eq-slice_cmp x y) ∙ level x y e
+        where
+          level : (x y : List ℕ) → x ≡ y → is_eq (slice_cmp nat_cmp x y) ≡ true
+          level x y e = ap (λ z. is_eq (slice_cmp nat_cmp x z)) (sym e) ∙ is_eq-slice_cmp x x ∙ same_self x
+
+  -- no group has the id
+  pub settled_unheld : (gs : List Group) → find_group id gs ≡ None → AreKnown before gs → AreKnown after gs
+  settled_unheld gs none h = go gs (none_found id gs none) h
+    where
+      go : (hs : List Group) → Each (λ (g : Group). is_same g.id id ≡ false) hs → AreKnown before hs → AreKnown after hs
+      go [] e h = tt
+      go (g ∷ gs) e h = (apart_stays g e.0 h.0, go gs e.1 h.1)
+
+  -- its calls that wait have homes still
+  pub settled_held : (gs : List Group) (g : Group) → InOrder gs → find_group id gs ≡ Some g → (Known (λ q. before q id) g → Known (λ q. after q id) g) → AreKnown before gs → AreKnown after gs
+  settled_held gs g o found stays h = go gs (found_alone id gs g o found) h
+    where
+      here : (x : Group) → x ≡ g → Known (λ q. before q x.id) x → Known (λ q. after q x.id) x
+      here x same k =
+          let own : x.id ≡ id = ap (λ (y : Group). y.id) same ∙ found_named id gs g found in
+          let B : List ℕ → Type 0 = λ i. Known (λ q. before q i) x in
+          let A : List ℕ → Type 0 = λ i. Known (λ q. after q i) x in
+          let BG : Group → Type 0 = λ y. Known (λ q. before q id) y in
+          let AG : Group → Type 0 = λ y. Known (λ q. after q id) y in
+          subst A (sym own) (subst AG (sym same) (stays (subst BG same (subst B own k))))
+
+      go : (hs : List Group) → Each (λ (h : Group). is_same h.id id ≡ true → h ≡ g) hs → AreKnown before hs → AreKnown after hs
+      go [] e h = tt
+      go (x ∷ xs) e h = (
+        (elim (is_same x.id id) as (λ b. is_same x.id id ≡ b → Known (λ q. after q x.id) x) [
+          | true ↦ λ t. here x (e.0 t) h.0
+          | false ↦ λ t. apart_stays x t h.0
+        ]) refl,
+        go xs e.1 h.1,
+      )
+
+-- a home without doubt is a home
+lived_in : (o : Option Home) → is_lived_in o ≡ true → is_some o ≡ true
+lived_in None h = h
+lived_in (Some home) h = refl
+
+pub certain_home : (id : List ℕ) (groups : Option (BTreeMap (List ℕ) Home)) → is_certain_in id groups ≡ true → is_noted id groups ≡ true
+certain_home id None h = h
+certain_home id (Some groups) h = lived_in (get (slice_cmp nat_cmp) groups id) h
+
+at_any : {X : Type 0} (xs : List X) (i : ℕ) (c d : X) → i < length xs → get_or xs i c ≡ get_or xs i d
+at_any [] i c d lt = absurd (omega arith)
+at_any (x ∷ xs) zero c d lt = refl
+at_any (x ∷ xs) (suc i) c d lt = at_any xs i c d (omega arith)
+
+-- one more member whose call has a home without doubt
+pub affirmed : (first before sure after : ℕ → Bool) (ms : List Member) (i : ℕ) (m : Member) → i < length ms → m ≡ get_or ms i m
+    → ((q : ℕ) → first q ≡ true → before q ≡ true) → ((q : ℕ) → sure q ≡ true → after q ≡ true)
+    → (is_known before m.waits ≡ true → is_known after m.waits ≡ true)
+    → ((k : ℕ) (d : Member) → k < i → is_known first (get_or ms k d).waits ≡ true → is_known sure (get_or ms k d).waits ≡ true)
+    → (k : ℕ) (d : Member) → k < i + 1 → is_known first (get_or ms k d).waits ≡ true → is_known after (get_or ms k d).waits ≡ true
+affirmed first before sure after ms i m below here kept certain own h k d lt known = choose (cases_lt k i)
+  where
+    choose : (k < i) ⊎ (i ≤ k) → is_known after (get_or ms k d).waits ≡ true
+    choose (inl less) = known_more sure after certain (get_or ms k d).waits (h k d less known)
+    choose (inr more) =
+        let at : i ≡ k = omega arith in
+        let same : m ≡ get_or ms k d = here ∙ at_any ms i m d below ∙ ap (λ n. get_or ms n d) at in
+        let P : Member → Type 0 = λ x. is_known after x.waits ≡ true in
+        let Q : Member → Type 0 = λ x. is_known first x.waits ≡ true in
+        subst P same (own (known_more first before kept m.waits (subst Q (sym same) known)))

@@ -1,0 +1,11 @@
+pub mod Changed
+pub mod Recalled
+pub mod Framed
+pub mod Mapped
+pub mod InOrder
+pub mod Homing
+pub mod Kept
+pub mod KeptLists
+pub mod Removing
+pub mod Revived
+pub mod Untouched

@@ -1,0 +1,9 @@
+use Rattle.std.proofs.Common.{◌≡◌, ◌<◌, ℕ, List, true, get_or}
+use Rattle.cg_member.specs.declared.member.Member.{Member}
+use Rattle.cg_held.specs.Sessions.{is_certain, is_home, is_known}
+use Rattle.cg_held.proofs.settling.affirm_all.Given as goal
+
+abbrev pub invariant-loop-member : goal.invariant-loop-member
+invariant-loop-member l =
+    ((q : ℕ) (x : List ℕ) → is_home l.initial.homes q x ≡ true → is_home l.homes q x ≡ true)
+    × ((k : ℕ) (d : Member) → k < l.member-index → is_known (λ q. is_home l.initial.homes q l.id) (get_or l.members k d).waits ≡ true → is_known (λ q. is_certain l.homes q l.id) (get_or l.members k d).waits ≡ true)

@@ -1,0 +1,6 @@
+pub mod Describing
+pub mod Kept
+pub mod Sessions
+pub mod Held
+pub mod Changes
+pub mod Reviving

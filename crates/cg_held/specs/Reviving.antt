@@ -1,0 +1,64 @@
+-- The groups after a loading: those that have a record or an offset, as the last command on each left it.
+use Rattle.std.specs.Prelude.{ℕ, List, [], ◌∷◌, map, Option, Some, None}
+use Rattle.std.specs.FinMap as finmap
+use Rattle.cg_fold.specs.declared.record.GroupRecord.{GroupRecord}
+use Rattle.cg_fold.specs.Durable.{State}
+use Rattle.cg_fold.specs.Snapshot.{groups_in, in_order}
+use Rattle.cg_record.specs.declared.member.Member.{Member as KeptMember}
+use Rattle.cg_record.specs.Rosters.{RosterParts}
+use Rattle.cg_member.specs.declared.group.Group.{Group}
+use Rattle.cg_member.specs.declared.group.Phase.TheVariants.{Empty, Stable}
+use Rattle.cg_member.specs.declared.member.Member.{Member}
+use Rattle.cg_member.specs.declared.member.Waits.TheVariants.{Nothing}
+use Rattle.cg_member.specs.Joining.{new_group}
+use Rattle.cg_held.specs.Held.{Machine}
+
+-- a member is heard now, and its list is the chosen protocol alone
+unfoldable pub revived_member : ℕ → List ℕ → KeptMember → Member
+revived_member now protocol m = record {
+  id = m.id;
+  instance = m.instance;
+  client = m.client;
+  session = m.session;
+  rebalance = m.rebalance;
+  protocols = record { name = protocol; subscription = m.subscription } ∷ [];
+  assignment = m.assignment;
+  heard = now;
+  waits = Nothing;
+}
+
+-- a record with members is a stable group, one without an empty group
+unfoldable pub revived_with : ℕ → List ℕ → GroupRecord → Option RosterParts → Group
+revived_with now id r (Some roster) = record {
+  id = id;
+  phase = Stable;
+  generation = r.generation;
+  kind = Some r.kind;
+  protocol = Some roster.protocol;
+  leader = Some roster.leader;
+  members = map (revived_member now roster.protocol) roster.members;
+  started = 0;
+}
+revived_with now id r None = record {
+  id = id;
+  phase = Empty;
+  generation = r.generation;
+  kind = Some r.kind;
+  protocol = None;
+  leader = None;
+  members = [];
+  started = 0;
+}
+
+-- offsets without a record are an empty group of generation 0 without type
+abbrev pub revived_from : ℕ → List ℕ → Option GroupRecord → Group
+revived_from now id None = new_group id
+revived_from now id (Some r) = revived_with now id r r.roster
+
+-- the group with this id
+unfoldable pub revived : ℕ → State → List ℕ → Group
+revived now state id = revived_from now id (finmap.get state.records id)
+
+-- the machine that a loading begins with
+unfoldable pub revive : State → ℕ → Machine
+revive state now = record { groups = map (revived now state) (in_order (groups_in state)); offsets = state.offsets; last = now }

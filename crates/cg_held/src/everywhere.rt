@@ -1,0 +1,121 @@
+//! What an event does in each group that is held. A group that it does not touch stays where it is, without a copy.
+ghost use Rattle.std.specs.Prelude.{◌≡◌, ℕ, Some, List, [], ◌∷◌, ◌++◌, IfOk, OnOk};
+ghost use Rattle.cg_member.specs.declared.group.Group.{Group};
+ghost use Rattle.cg_held.specs.Changes.{AreHeld, HaveTurned, KeepIds, changed};
+ghost use Rattle.cg_held.specs.Kept.{ComeBefore};
+ghost use Rattle.cg_held.specs.Held.{InOrder, find_group, groups_after, effects_of};
+
+use crate::changes::{Answered, Changes};
+use crate::held::Held;
+use cg_member::group::Group;
+use cg_member::turn::Turn;
+use cg_names::Moment;
+use cg_turn::leaving::{gone_in, gone_touches};
+use cg_turn::ticking::{tick_touches, ticked};
+use std::alloc::{AllocError, Global};
+
+/// What one event does in each group.
+pub trait Turning {
+    ghost use Rattle.std.specs.Bool.{OnFalse};
+    ghost use Rattle.cg_member.specs.Rebalance.{turn_of};
+    ghost use Rattle.cg_member.specs.declared.group.Group.{Group};
+    ghost use Rattle.cg_member.specs.declared.turn.Turn.{Turn};
+
+    ghost turns: { Self → Group → Turn };
+
+    /// Whether the event touches the group. Takes no memory.
+    fn touches(&self, group: &Group) -> bool
+        ensures { OnFalse result (turns self.now group.now ≡ turn_of group.now) };
+
+    /// The turn of a group. Costs its whole size.
+    fn turn(&self, alloc: Global, group: &Group) -> Result<Turn, AllocError>
+        ensures { IfOk result (λ t. t ≡ turns self.now group.now) };
+}
+
+/// A Tick, at this moment.
+#[derive(Drop)]
+pub struct Ticking(pub Moment);
+
+impl Turning for Ticking {
+    ghost use Rattle.cg_member.specs.Ticking.{ticked};
+
+    ghost turns = { λ t g. ticked t.0 g };
+
+    #[tactic(auto, using(crate::proofs::Untouched::calm_ticked))]
+    fn touches(&self, group: &Group) -> bool {
+        tick_touches(self.0, group)
+    }
+
+    fn turn(&self, alloc: Global, group: &Group) -> Result<Turn, AllocError> {
+        ticked(alloc, self.0, group)
+    }
+}
+
+/// A session is closed, at this moment.
+#[derive(Drop)]
+pub struct Going {
+    pub now: Moment,
+    pub session: u64,
+}
+
+impl Turning for Going {
+    ghost use Rattle.cg_member.specs.Leaving.{gone_in};
+
+    ghost turns = { λ t g. gone_in t.now t.session g };
+
+    #[tactic(auto, using(crate::proofs::Untouched::calm_gone_in))]
+    fn touches(&self, group: &Group) -> bool {
+        gone_touches(self.session, group)
+    }
+
+    fn turn(&self, alloc: Global, group: &Group) -> Result<Turn, AllocError> {
+        gone_in(alloc, self.now, self.session, group)
+    }
+}
+
+/// A group takes its turn, where the event touches it.
+pub fn turn_one<T: Turning>(
+    alloc: Global,
+    turning: &T,
+    group: &Group,
+    done: &mut Changes,
+) -> Result<(), AllocError>
+    requires { KeepIds (T.turns turning.now) }
+    ensures { OnOk result
+        ((groups : List Group) (ids : List (List ℕ)) → InOrder groups → find_group group.now.id groups ≡ Some group.now → ComeBefore ids group.now.id
+        → HaveTurned (T.turns turning.now) groups ids done.old → HaveTurned (T.turns turning.now) groups (ids ++ group.now.id ∷ []) done.new) }
+{
+    if !turning.touches(group) {
+        return Ok(());
+    }
+    let id = group.id.clone()?;
+    let Turn {
+        group,
+        replies,
+        commands,
+    } = turning.turn(alloc, group)?;
+    done.groups.push(group)?;
+    done.effects.commands.append(commands)?;
+    done.effects.replies.append(replies)?;
+    let until = done.effects.replies.len();
+    done.answered.push(Answered { group: id, until })?;
+    Ok(())
+}
+
+/// Each group that the event touches takes its turn: what that changes, and what it makes. Nothing is changed yet.
+pub fn everywhere<T: Turning>(
+    alloc: Global,
+    turning: &T,
+    groups: &Held,
+) -> Result<Changes, AllocError>
+    requires { KeepIds (T.turns turning.now) }
+    ensures held { IfOk result (λ c. AreHeld groups.now c.groups.items) }
+    ensures groups { IfOk result (λ c. changed c.groups.items groups.now ≡ groups_after (T.turns turning.now) groups.now) }
+    ensures effects { IfOk result (λ c. c.effects ≡ effects_of (T.turns turning.now) groups.now) }
+{
+    let mut done = Changes::new(alloc);
+    for group in groups.iter() {
+        turn_one(alloc, turning, group, &mut done)?;
+    }
+    Ok(done)
+}

@@ -1,0 +1,164 @@
+//! The groups that are held, in a map by their ids.
+ghost use Rattle.std.specs.Prelude.{◌≡◌, ℕ, Some, None, [], length, is_some, slice_get, true, OnErr, OnOk};
+ghost use Rattle.std.specs.BTreeMap.{get, is_at};
+ghost use Rattle.std.specs.Cmp.Lexicographic.{slice_cmp};
+ghost use Rattle.std.specs.Map.{set_value};
+ghost use Rattle.std.specs.Map.Iter.{ShowsInOrder, deref};
+ghost use Rattle.std.specs.Option.{option_copied};
+ghost use Rattle.std.specs.Ordering.{nat_cmp};
+ghost use Rattle.cg_member.specs.declared.group.Group.{Group};
+ghost use Rattle.cg_held.specs.Held.{IsHeld, InOrder, find_group, with_group, without_group};
+ghost use Rattle.cg_member.specs.Membership.{hearing};
+ghost use Rattle.cg_member.specs.Waiting.{waiting_calls};
+
+use cg_member::calls::Calls;
+use cg_member::group::Group;
+use cg_names::{GroupId, MemberId, Moment};
+use cg_request::ticket::Ticket;
+use std::alloc::{AllocError, Global};
+use std::collections::BTreeMap;
+use std::collections::btree_map::Values;
+use std::marker::Model;
+
+/// Groups in their order, each under its own id. Contracts see the list.
+#[derive(Debug, Drop)]
+pub struct Held {
+    alloc: Global,
+    groups: BTreeMap<GroupId, Group>,
+}
+
+impl Model for Held {
+    ghost use Rattle.std.specs.Prelude.{List};
+    ghost use Rattle.std.specs.BTreeMap.{values};
+    ghost use Rattle.cg_member.specs.declared.group.Group.{Group};
+    ghost use Rattle.cg_held.specs.Held.{StandUnderIds, IsHeld, InOrder};
+
+    ghost Value = { List Group };
+
+    ghost view = { λ h. values h.groups };
+
+    ghost invariant = { λ h. StandUnderIds h.groups.entries × InOrder (values h.groups) };
+}
+
+#[tactic(auto, unfolding(cg_member::specs::Membership::hearing))]
+fn hear_in(now: Moment, id: &MemberId, group: &mut Group)
+    ensures { group.new ≡ hearing now id.now group.old }
+{
+    group.members.hear(id, now);
+}
+
+fn replace_in(groups: &mut BTreeMap<GroupId, Group>, group: Group)
+    requires { is_some (get (slice_cmp nat_cmp) groups.old group.id) ≡ true }
+    ensures { groups.new.entries ≡ set_value (is_at (slice_cmp nat_cmp group.id)) groups.old.entries group }
+{
+    if let Some(place) = groups.get_mut(&group.id) {
+        *place = group;
+    }
+}
+
+fn hear_among(groups: &mut BTreeMap<GroupId, Group>, own: &GroupId, id: &MemberId, now: Moment)
+    ensures some { (g : Group) → get (slice_cmp nat_cmp) groups.old own.now ≡ Some g → groups.new.entries ≡ set_value (is_at (slice_cmp nat_cmp own.now)) groups.old.entries (hearing now id.now g) }
+    ensures none { get (slice_cmp nat_cmp) groups.old own.now ≡ None → groups.new.entries ≡ groups.old.entries }
+{
+    if let Some(group) = groups.get_mut(own) {
+        hear_in(now, id, group);
+    }
+}
+
+impl Held {
+    /// No groups. Takes no memory.
+    pub fn new(alloc: Global) -> Self
+        ensures { result ≡ [] }
+    {
+        Held {
+            alloc,
+            groups: BTreeMap::new(alloc),
+        }
+    }
+
+    /// Where groups are kept.
+    pub fn allocator(&self) -> Global {
+        self.alloc
+    }
+
+    /// How many groups there are.
+    pub fn len(&self) -> usize
+        ensures { result ≡ length self.now }
+    {
+        self.groups.len()
+    }
+
+    /// The groups in their order.
+    pub fn iter(&self) -> Values<'_, GroupId, Group>
+        ensures rest { result ≡ self.now }
+        ensures runs { ShowsInOrder (deref {X = Group}) }
+        ensures in_order { InOrder self.now }
+    {
+        self.groups.values()
+    }
+
+    /// The group with this id. Costs a look-up.
+    pub fn find(&self, id: &GroupId) -> Option<&Group>
+        ensures found { option_copied result ≡ find_group id.now self.now }
+        ensures in_order { InOrder self.now }
+    {
+        self.groups.get(id)
+    }
+
+    /// The i-th call that waits, counted from 0, by group and joining order. Takes no memory.
+    #[tactic(auto, unfolding(cg_member::specs::Waiting::waiting_calls))]
+    pub fn parked(&self, i: u64) -> Option<Ticket>
+        ensures { result ≡ slice_get (waiting_calls self.now) i }
+    {
+        self.groups
+            .values()
+            .flat_map(|g| g.members.as_slice().iter())
+            .filter_map(|m| Calls::Any.called(m.waits))
+            .nth(i as usize)
+    }
+
+    // A group whose id is not held.
+    fn add(&mut self, group: Group) -> Result<(), AllocError>
+        ensures ok { OnOk result (self.new ≡ with_group group self.old) }
+        ensures err { OnErr result (self.new ≡ self.old) }
+    {
+        let id = group.id.clone()?;
+        self.groups.insert(id, group)?;
+        Ok(())
+    }
+
+    /// Puts a group in the place of its id. Takes memory only where the id is not held.
+    pub fn put(&mut self, group: Group) -> Result<(), AllocError>
+        ensures ok { OnOk result (self.new ≡ with_group group self.old) }
+        ensures err { OnErr result (self.new ≡ self.old) }
+    {
+        if self.groups.contains_key(&group.id) {
+            self.replace(group);
+            return Ok(());
+        }
+        self.add(group)?;
+        Ok(())
+    }
+
+    /// Puts a group in the place of the one with its id. Takes no memory.
+    pub fn replace(&mut self, group: Group)
+        requires { IsHeld self.old group.id }
+        ensures { self.new ≡ with_group group self.old }
+    {
+        replace_in(&mut self.groups, group);
+    }
+
+    /// Takes the group with this id away.
+    pub fn remove(&mut self, id: &GroupId)
+        ensures { self.new ≡ without_group id.now self.old }
+    {
+        let _group = self.groups.remove(id);
+    }
+
+    /// The member with this id, of this group, was heard now. Takes no memory.
+    pub fn hear(&mut self, group: &GroupId, id: &MemberId, now: Moment)
+        ensures { (g : Group) → find_group group.now self.old ≡ Some g → self.new ≡ with_group (hearing now id.now g) self.old }
+    {
+        hear_among(&mut self.groups, group, id, now);
+    }
+}

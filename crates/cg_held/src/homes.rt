@@ -1,0 +1,80 @@
+//! A session is closed: its homes alone take their turns.
+ghost use Rattle.std.specs.Prelude.{◌≡◌, ℕ, List, [], ◌∷◌, ◌++◌, false, IfOk, OnOk};
+ghost use Rattle.cg_member.specs.declared.group.Group.{Group};
+ghost use Rattle.cg_held.specs.Changes.{AreHeld, HaveTurned, KeepIds, changed};
+ghost use Rattle.cg_held.specs.Kept.{ComeBefore, Each};
+ghost use Rattle.cg_held.specs.Held.{effects_of, groups_after};
+ghost use Rattle.cg_member.specs.Rebalance.{turn_of};
+ghost use Rattle.cg_held.specs.Sessions.{is_home, is_noted};
+ghost use Rattle.std.specs.Prelude.{Some};
+
+use crate::changes::Changes;
+use crate::everywhere::{Turning, turn_one};
+use crate::held::Held;
+use crate::sessions::{Home, Homes};
+use cg_names::GroupId;
+use std::alloc::{AllocError, Global};
+use std::collections::BTreeMap;
+
+// The group with this id takes its turn, where it is held and the event touches it.
+fn turn_home<T: Turning>(
+    alloc: Global,
+    turning: &T,
+    groups: &Held,
+    id: &GroupId,
+    done: &mut Changes,
+) -> Result<(), AllocError>
+    requires { KeepIds (T.turns turning.now) }
+    ensures { OnOk result
+        ((ids : List (List ℕ)) → ComeBefore ids id.now
+        → HaveTurned (T.turns turning.now) groups.now ids done.old → HaveTurned (T.turns turning.now) groups.now (ids ++ id.now ∷ []) done.new) }
+{
+    let Some(group) = groups.find(id) else {
+        return Ok(());
+    };
+    turn_one(alloc, turning, group, done)?;
+    Ok(())
+}
+
+// The groups with these ids take their turns, in their order.
+fn turn_homes<T: Turning>(
+    alloc: Global,
+    turning: &T,
+    groups: &Held,
+    ids: &BTreeMap<GroupId, Home>,
+) -> Result<Changes, AllocError>
+    requires ids { KeepIds (T.turns turning.now) }
+    requires others { Each (λ g. is_noted g.id (Some ids.now) ≡ false → T.turns turning.now g ≡ turn_of g) groups.now }
+    ensures held { IfOk result (λ c. AreHeld groups.now c.groups.items) }
+    ensures groups { IfOk result (λ c. changed c.groups.items groups.now ≡ groups_after (T.turns turning.now) groups.now) }
+    ensures effects { IfOk result (λ c. c.effects ≡ effects_of (T.turns turning.now) groups.now) }
+{
+    let mut done = Changes::new(alloc);
+    for id in ids.keys() {
+        turn_home(alloc, turning, groups, id, &mut done)?;
+    }
+    Ok(done)
+}
+
+/// The homes of the session take their turns, in their order: what that changes, and what it makes. Nothing is changed yet.
+pub fn turn_there<T: Turning>(
+    alloc: Global,
+    turning: &T,
+    groups: &Held,
+    homes: &Homes,
+    session: u64,
+) -> Result<Changes, AllocError>
+    requires ids { KeepIds (T.turns turning.now) }
+    requires others { Each (λ g. is_home homes.now session g.id ≡ false → T.turns turning.now g ≡ turn_of g) groups.now }
+    ensures held { IfOk result (λ c. AreHeld groups.now c.groups.items) }
+    ensures groups { IfOk result (λ c. changed c.groups.items groups.now ≡ groups_after (T.turns turning.now) groups.now) }
+    ensures effects { IfOk result (λ c. c.effects ≡ effects_of (T.turns turning.now) groups.now) }
+{
+    match homes.get(&session) {
+        None => Ok(Changes::new(alloc)),
+        Some(ids) => {
+            let changes = turn_homes(alloc, turning, groups, ids)?;
+            Ok(changes)
+        }
+    }
+}

@@ -1,0 +1,160 @@
+//! The groups after a loading.
+ghost use Rattle.std.specs.Prelude.{◌≡◌, Some, None, IfOk, map};
+ghost use Rattle.cg_fold.specs.Snapshot.{groups_in, in_order};
+ghost use Rattle.cg_held.specs.Reviving.{revived_member, revived_with, revived};
+
+use crate::held::Held;
+use cg_fold::{Durable, GroupRecord};
+use cg_member::group::{Group, Phase};
+use cg_member::member::{Member, Waits};
+use cg_member::members::Members;
+use cg_names::{GroupId, Moment, ProtocolName};
+use cg_record::{Member as KeptMember, Roster};
+use cg_request::protocol::Protocol;
+use cg_request::protocols::Protocols;
+use cg_turn::joining::new_group;
+use std::alloc::{AllocError, Global};
+
+#[tactic(auto, unfolding(crate::specs::Reviving::revived_member))]
+fn revived_member(
+    alloc: Global,
+    now: Moment,
+    protocol: &ProtocolName,
+    member: &KeptMember,
+) -> Result<Member, AllocError>
+    ensures { IfOk result (λ m. m ≡ revived_member now protocol.now member.now) }
+{
+    let name = protocol.clone()?;
+    let subscription = member.subscription.clone()?;
+    let protocols = Protocols::only(alloc, Protocol { name, subscription })?;
+    let id = member.id.clone()?;
+    let instance = cg_member::copies::copied_name(&member.instance)?;
+    let client = member.client.clone()?;
+    let assignment = member.assignment.clone()?;
+    Ok(Member {
+        id,
+        instance,
+        client,
+        session: member.session,
+        rebalance: member.rebalance,
+        protocols,
+        assignment,
+        heard: now,
+        waits: Waits::Nothing,
+    })
+}
+
+fn revived_items(
+    alloc: Global,
+    now: Moment,
+    protocol: &ProtocolName,
+    members: &[KeptMember],
+) -> Result<Vec<Member>, AllocError>
+    ensures { IfOk result (λ ms. ms.items ≡ map (revived_member now protocol.now) members.now) }
+{
+    let mut revived = Vec::with_capacity(alloc, members.len())?;
+    for member in members {
+        revived.push(revived_member(alloc, now, protocol, member)?)?;
+    }
+    Ok(revived)
+}
+
+#[tactic(auto, using(crate::proofs::Recalled::revived_together))]
+fn revived_members(alloc: Global, now: Moment, roster: &Roster) -> Result<Members, AllocError>
+    ensures { IfOk result (λ ms. ms ≡ map (revived_member now roster.now.protocol) roster.now.members) }
+{
+    let items = revived_items(alloc, now, roster.protocol(), roster.members())?;
+    Ok(Members::from_vec(items))
+}
+
+// A stable group, as its record has it.
+#[tactic(auto, unfolding(crate::specs::Reviving::revived_with))]
+fn revived_stable(
+    alloc: Global,
+    now: Moment,
+    id: GroupId,
+    held: &GroupRecord,
+    roster: &Roster,
+) -> Result<Group, AllocError>
+    ensures { IfOk result (λ g. g ≡ revived_with now id held.now (Some roster.now)) }
+{
+    let members = revived_members(alloc, now, roster)?;
+    let kind = held.kind.clone()?;
+    let protocol = roster.protocol().clone()?;
+    let leader = roster.leader().clone()?;
+    Ok(Group {
+        id,
+        phase: Phase::Stable,
+        generation: held.generation.generation(),
+        kind: Some(kind),
+        protocol: Some(protocol),
+        leader: Some(leader),
+        members,
+        started: Moment::from_millis(0),
+    })
+}
+
+// A group without members, as its record has it.
+#[tactic(auto, unfolding(crate::specs::Reviving::revived_with))]
+fn revived_empty(
+    alloc: Global,
+    now: Moment,
+    id: GroupId,
+    held: &GroupRecord,
+) -> Result<Group, AllocError>
+    ensures { IfOk result (λ g. g ≡ revived_with now id held.now None) }
+{
+    let kind = held.kind.clone()?;
+    Ok(Group {
+        id,
+        phase: Phase::Empty,
+        generation: held.generation.generation(),
+        kind: Some(kind),
+        protocol: None,
+        leader: None,
+        members: Members::new(alloc),
+        started: Moment::from_millis(0),
+    })
+}
+
+// A group, as its record has it.
+fn revived_held(
+    alloc: Global,
+    now: Moment,
+    id: GroupId,
+    held: &GroupRecord,
+) -> Result<Group, AllocError>
+    ensures { IfOk result (λ g. g ≡ revived_with now id held.now held.now.roster) }
+{
+    match &held.roster {
+        None => revived_empty(alloc, now, id, held),
+        Some(roster) => revived_stable(alloc, now, id, held, roster),
+    }
+}
+
+/// The group with this id.
+#[tactic(auto, unfolding(crate::specs::Reviving::revived))]
+fn revived(alloc: Global, now: Moment, id: &GroupId, durable: &Durable) -> Result<Group, AllocError>
+    ensures { IfOk result (λ g. g ≡ revived now durable.now id.now) }
+{
+    let own = id.clone()?;
+    match durable.group(id) {
+        None => Ok(new_group(alloc, own)),
+        Some(held) => {
+            let group = revived_held(alloc, now, own, held)?;
+            Ok(group)
+        }
+    }
+}
+
+/// The groups that have a record or an offset, by the bytes of their ids.
+pub fn revived_all(alloc: Global, now: Moment, durable: &Durable) -> Result<Held, AllocError>
+    ensures { IfOk result (λ groups. groups ≡ map (revived now durable.now) (in_order (groups_in durable.now))) }
+{
+    let ids = durable.group_ids()?;
+    let mut groups = Held::new(alloc);
+    for id in ids.as_slice() {
+        groups.put(revived(alloc, now, id, durable)?)?;
+    }
+    Ok(groups)
+}

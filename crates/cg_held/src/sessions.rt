@@ -1,0 +1,144 @@
+//! The groups in which the calls of a session wait: where it is closed, the others are not gone through.
+ghost use Rattle.std.specs.Prelude.{◌≡◌, ℕ, List, Some, None, true, false, OnOk};
+ghost use Rattle.std.specs.BTreeMap.{get};
+ghost use Rattle.std.specs.Ordering.{nat_cmp};
+ghost use Rattle.std.specs.Cmp.Lexicographic.{slice_cmp};
+ghost use Rattle.cg_held.specs.Sessions.{is_certain, is_certain_in, is_home, is_noted};
+
+use cg_names::GroupId;
+use std::alloc::{AllocError, Global};
+use std::collections::BTreeMap;
+
+/// How a group is a home of a session.
+#[derive(Clone, Copy, Debug)]
+pub enum Home {
+    /// A call of the session waits in the group.
+    Certain,
+    /// Perhaps no call of the session waits there any more, and nothing more is known of it.
+    Doubtful,
+}
+
+/// For each session the groups in which a call of it waits.
+pub type Homes = BTreeMap<u64, BTreeMap<GroupId, Home>>;
+
+// The first home of a session.
+fn note_first(alloc: Global, homes: &mut Homes, session: u64, id: GroupId) -> Result<(), AllocError>
+    requires { get nat_cmp homes.old session ≡ None }
+    ensures kept { (q : ℕ) (x : List ℕ) → is_home homes.old q x ≡ true → is_home homes.new q x ≡ true }
+    ensures here { OnOk result (is_home homes.new session id ≡ true) }
+{
+    let mut groups = BTreeMap::new(alloc);
+    groups.insert(id, Home::Certain)?;
+    homes.insert(session, groups)?;
+    Ok(())
+}
+
+// One more home of a session.
+fn note_in(groups: &mut BTreeMap<GroupId, Home>, id: GroupId) -> Result<(), AllocError>
+    ensures kept { (x : List ℕ) → is_noted x (Some groups.old) ≡ true → is_noted x (Some groups.new) ≡ true }
+    ensures here { OnOk result (is_noted id (Some groups.new) ≡ true) }
+{
+    groups.insert(id, Home::Certain)?;
+    Ok(())
+}
+
+/// The group is a home of the session from now on.
+pub fn note(alloc: Global, homes: &mut Homes, session: u64, id: GroupId) -> Result<(), AllocError>
+    ensures kept { (q : ℕ) (x : List ℕ) → is_home homes.old q x ≡ true → is_home homes.new q x ≡ true }
+    ensures here { OnOk result (is_home homes.new session id ≡ true) }
+{
+    let Some(groups) = homes.get_mut(&session) else {
+        return note_first(alloc, homes, session, id);
+    };
+    note_in(groups, id)?;
+    Ok(())
+}
+
+fn doubt_in(groups: &mut BTreeMap<GroupId, Home>, id: &GroupId)
+    ensures { (x : List ℕ) → is_noted x (Some groups.old) ≡ true → is_noted x (Some groups.new) ≡ true }
+{
+    if let Some(home) = groups.get_mut(id) {
+        *home = Home::Doubtful;
+    }
+}
+
+/// A call of the session was answered in the group: it is a doubtful home of it, if it is one.
+pub fn doubt(homes: &mut Homes, session: u64, id: &GroupId)
+    ensures { (q : ℕ) (x : List ℕ) → is_home homes.old q x ≡ true → is_home homes.new q x ≡ true }
+{
+    if let Some(groups) = homes.get_mut(&session) {
+        doubt_in(groups, id);
+    }
+}
+
+fn affirm_in(groups: &mut BTreeMap<GroupId, Home>, id: &GroupId)
+    ensures kept { (x : List ℕ) → is_noted x (Some groups.old) ≡ true → is_noted x (Some groups.new) ≡ true }
+    ensures certain { (x : List ℕ) → is_certain_in x (Some groups.old) ≡ true → is_certain_in x (Some groups.new) ≡ true }
+    ensures here { is_noted id.now (Some groups.old) ≡ true → is_certain_in id.now (Some groups.new) ≡ true }
+{
+    if let Some(home) = groups.get_mut(id) {
+        *home = Home::Certain;
+    }
+}
+
+/// A call of the session waits in the group: it is no doubtful home of it.
+pub fn affirm(homes: &mut Homes, session: u64, id: &GroupId)
+    ensures kept { (q : ℕ) (x : List ℕ) → is_home homes.old q x ≡ true → is_home homes.new q x ≡ true }
+    ensures certain { (q : ℕ) (x : List ℕ) → is_certain homes.old q x ≡ true → is_certain homes.new q x ≡ true }
+    ensures here { is_home homes.old session id.now ≡ true → is_certain homes.new session id.now ≡ true }
+{
+    if let Some(groups) = homes.get_mut(&session) {
+        affirm_in(groups, id);
+    }
+}
+
+// Whether the group is a doubtful home.
+fn is_doubtful(groups: &BTreeMap<GroupId, Home>, id: &GroupId) -> bool
+    ensures { result ≡ true → is_certain_in id.now (Some groups.now) ≡ false }
+{
+    match groups.get(id) {
+        Some(Home::Doubtful) => true,
+        Some(Home::Certain) => false,
+        None => false,
+    }
+}
+
+fn leave_in(groups: &mut BTreeMap<GroupId, Home>, id: &GroupId)
+    ensures others { (x : List ℕ) → (x ≡ id.now → ⊥) → is_noted x (Some groups.old) ≡ true → is_noted x (Some groups.new) ≡ true }
+    ensures certain { (x : List ℕ) → is_certain_in x (Some groups.old) ≡ true → is_certain_in x (Some groups.new) ≡ true }
+{
+    if is_doubtful(groups, id) {
+        groups.remove(id);
+    }
+}
+
+// The homes of the session without the group, where it is a doubtful one; and whether none is left.
+fn leave_one(homes: &mut Homes, session: u64, id: &GroupId) -> bool
+    ensures others { (q : ℕ) (x : List ℕ) → (x ≡ id.now → ⊥) → is_home homes.old q x ≡ true → is_home homes.new q x ≡ true }
+    ensures certain { (q : ℕ) (x : List ℕ) → is_certain homes.old q x ≡ true → is_certain homes.new q x ≡ true }
+    ensures bare { result ≡ true → (x : List ℕ) → is_home homes.new session x ≡ false }
+    ensures calm { result ≡ true → (x : List ℕ) → is_certain homes.new session x ≡ false }
+{
+    let Some(groups) = homes.get_mut(&session) else {
+        return false;
+    };
+    leave_in(groups, id);
+    groups.is_empty()
+}
+
+/// A doubtful home of the session is none any more.
+pub fn leave(homes: &mut Homes, session: u64, id: &GroupId)
+    ensures others { (q : ℕ) (x : List ℕ) → (x ≡ id.now → ⊥) → is_home homes.old q x ≡ true → is_home homes.new q x ≡ true }
+    ensures certain { (q : ℕ) (x : List ℕ) → is_certain homes.old q x ≡ true → is_certain homes.new q x ≡ true }
+{
+    if leave_one(homes, session, id) {
+        let _left = homes.remove(&session);
+    }
+}
+
+/// A session that was closed has no homes any more.
+pub fn forget(homes: &mut Homes, session: u64)
+    ensures { (q : ℕ) (x : List ℕ) → (Some session ≡ Some q → ⊥) → is_home homes.old q x ≡ true → is_home homes.new q x ≡ true }
+{
+    let _closed = homes.remove(&session);
+}

@@ -1,0 +1,113 @@
+//! Once an event was met: groups in which no call of a session waits any more are no homes of it.
+ghost use Rattle.std.specs.Prelude.{◌≡◌, ℕ, List, true};
+ghost use Rattle.cg_member.specs.declared.member.Member.{Member};
+ghost use Rattle.cg_held.specs.Kept.{Each};
+ghost use Rattle.cg_held.specs.Sessions.{AreKnown, is_certain, is_home, is_known};
+
+use crate::changes::Answered;
+use crate::held::Held;
+use crate::sessions::{Homes, affirm, doubt, leave};
+use cg_member::calls::Calls;
+use cg_member::member::Member;
+use cg_member::reply::Reply;
+use cg_names::GroupId;
+use cg_request::ticket::Ticket;
+
+// The group is a doubtful home of each session that is answered.
+fn doubt_all(homes: &mut Homes, id: &GroupId, replies: &[(Ticket, Reply)])
+    ensures { (q : ℕ) (x : List ℕ) → is_home homes.old q x ≡ true → is_home homes.new q x ≡ true }
+{
+    for (ticket, _) in replies {
+        doubt(homes, ticket.session, id);
+    }
+}
+
+fn affirm_one(homes: &mut Homes, id: &GroupId, member: &Member)
+    ensures kept { (q : ℕ) (x : List ℕ) → is_home homes.old q x ≡ true → is_home homes.new q x ≡ true }
+    ensures certain { (q : ℕ) (x : List ℕ) → is_certain homes.old q x ≡ true → is_certain homes.new q x ≡ true }
+    ensures here { is_known (λ q. is_home homes.old q id.now) member.now.waits ≡ true → is_known (λ q. is_certain homes.new q id.now) member.now.waits ≡ true }
+{
+    if let Some(ticket) = Calls::Any.called(member.waits) {
+        affirm(homes, ticket.session, id);
+    }
+}
+
+// The group is a certain home of each session on which a call of its members waits.
+fn affirm_all(homes: &mut Homes, id: &GroupId, members: &[Member])
+    ensures kept { (q : ℕ) (x : List ℕ) → is_home homes.old q x ≡ true → is_home homes.new q x ≡ true }
+    ensures here { Each (λ (m : Member). is_known (λ q. is_home homes.old q id.now) m.waits ≡ true) members.now → Each (λ (m : Member). is_known (λ q. is_certain homes.new q id.now) m.waits ≡ true) members.now }
+{
+    for member in members {
+        affirm_one(homes, id, member);
+    }
+}
+
+// The group is no home of the sessions that are answered, where it is a doubtful one.
+fn leave_all(homes: &mut Homes, id: &GroupId, replies: &[(Ticket, Reply)])
+    ensures others { (q : ℕ) (x : List ℕ) → (x ≡ id.now → ⊥) → is_home homes.old q x ≡ true → is_home homes.new q x ≡ true }
+    ensures certain { (q : ℕ) (x : List ℕ) → is_certain homes.old q x ≡ true → is_certain homes.new q x ≡ true }
+{
+    for (ticket, _) in replies {
+        leave(homes, ticket.session, id);
+    }
+}
+
+/// After these replies to calls in the group. Takes no memory; costs a look-up for each of them and for each call that still waits
+/// there.
+pub fn settle(homes: &mut Homes, held: &Held, id: &GroupId, replies: &[(Ticket, Reply)])
+    ensures { AreKnown (is_home homes.old) held.now → AreKnown (is_home homes.new) held.now }
+{
+    doubt_all(homes, id, replies);
+    match held.find(id) {
+        None => leave_all(homes, id, replies),
+        Some(group) => {
+            affirm_all(homes, id, group.members.as_slice());
+            leave_all(homes, id, replies);
+        }
+    }
+}
+
+/// After these replies to calls in the group that a request names.
+pub fn settle_named(
+    homes: &mut Homes,
+    held: &Held,
+    id: &Option<GroupId>,
+    replies: &[(Ticket, Reply)],
+)
+    ensures { AreKnown (is_home homes.old) held.now → AreKnown (is_home homes.new) held.now }
+{
+    if let Some(id) = id {
+        settle(homes, held, id, replies);
+    }
+}
+
+// After the replies of one group, which begin at this one.
+fn settle_one(
+    homes: &mut Homes,
+    held: &Held,
+    answered: &Answered,
+    from: usize,
+    replies: &[(Ticket, Reply)],
+)
+    ensures { AreKnown (is_home homes.old) held.now → AreKnown (is_home homes.new) held.now }
+{
+    if let Some(own) = replies.get(from..answered.until) {
+        settle(homes, held, &answered.group, own);
+    }
+}
+
+/// After the replies of these groups, which stand one after the other.
+pub fn settle_all(
+    homes: &mut Homes,
+    held: &Held,
+    answered: &[Answered],
+    replies: &[(Ticket, Reply)],
+)
+    ensures { AreKnown (is_home homes.old) held.now → AreKnown (is_home homes.new) held.now }
+{
+    let mut from = 0;
+    for one in answered {
+        settle_one(homes, held, one, from, replies);
+        from = one.until;
+    }
+}

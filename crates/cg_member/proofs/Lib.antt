@@ -1,0 +1,6 @@
+pub mod Together
+pub mod Drawn
+pub mod Keeping
+pub mod Places
+pub mod Seats
+pub mod Votes

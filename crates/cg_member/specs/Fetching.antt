@@ -1,0 +1,19 @@
+-- FETCH (protocol guide, "OffsetFetch"): how far a group has read.
+use Rattle.std.specs.Prelude.{ℕ, List, map, Option, Some, None}
+use Rattle.std.specs.FinMap as finmap
+use Rattle.cg_names.specs.declared.code.Code.TheVariants.{InvalidGroupId}
+use Rattle.cg_fold.specs.Key.{key_of}
+use Rattle.cg_member.specs.Offsets.{OffsetMap}
+use Rattle.cg_member.specs.declared.reply.FetchedPartition.{FetchedPartition}
+use Rattle.cg_member.specs.declared.reply.Reply.{Reply}
+use Rattle.cg_member.specs.declared.reply.Reply.TheVariants.{Fetched, Refused}
+use Rattle.cg_request.specs.declared.topic_partition.TopicPartition.{TopicPartition}
+
+-- a partition, with what the group has committed for it, where it has committed anything
+abbrev pub fetched_partition : OffsetMap → List ℕ → TopicPartition → FetchedPartition
+fetched_partition offsets group p = record { topic = p.topic; partition = p.partition; stored = finmap.get offsets (key_of group p.topic p.partition) }
+
+-- the partitions in the order in which they were asked for; a group that is not held has committed nothing
+abbrev pub fetched : OffsetMap → Option (List ℕ) → List TopicPartition → Reply
+fetched offsets None partitions = Refused InvalidGroupId
+fetched offsets (Some group) partitions = Fetched (map (fetched_partition offsets group) partitions)

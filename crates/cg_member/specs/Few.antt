@@ -1,0 +1,9 @@
+-- The values of a list of few.
+use Rattle.std.specs.Prelude.{List}
+use Rattle.cg_member.specs.declared.few.Items.{Items}
+use Rattle.cg_member.specs.declared.few.Items.TheVariants.{One, Many}
+
+-- the values in their order
+abbrev pub items_of : {T : Type 0} → Items T → List T
+items_of (One values) = values
+items_of (Many values) = values.items

@@ -1,0 +1,16 @@
+pub mod Refusing
+pub mod Offsets
+pub mod Fetching
+pub mod Waiting
+pub mod Members
+pub mod Membership
+pub mod Fencing
+pub mod Vote
+pub mod Rebalance
+pub mod Joining
+pub mod Syncing
+pub mod Replacing
+pub mod Few
+pub mod Assignments
+pub mod Leaving
+pub mod Ticking

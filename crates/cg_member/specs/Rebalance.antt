@@ -1,0 +1,104 @@
+-- The join phase: how it begins, when it completes, and what its members are told (KIP-62; protocol guide, "JoinGroup").
+use Rattle.std.specs.Prelude.{ℕ, Bool, ◌&&◌, nat_le, List, [], ◌++◌, map, Option, Some, None, option_map, option_and_then, option_to_list, unwrap_or, find, if◌then◌else◌}
+use Rattle.std.specs.List.{list_any, list_all}
+use Rattle.cg_names.specs.Generations.{next_generation}
+use Rattle.cg_names.specs.declared.code.Code.TheVariants.{RebalanceInProgress}
+use Rattle.cg_member.specs.declared.calls.Calls.TheVariants.{Joins, Syncs}
+use Rattle.cg_record.specs.declared.command.Command.{Command}
+use Rattle.cg_record.specs.declared.command.Command.TheVariants as command
+use Rattle.cg_member.specs.declared.group.Group.{Group}
+use Rattle.cg_member.specs.declared.group.Phase.TheVariants.{Empty, Preparing, Completing}
+use Rattle.cg_member.specs.declared.member.Member.{Member}
+use Rattle.cg_request.specs.declared.protocol.Protocol.{Protocol}
+use Rattle.cg_member.specs.declared.reply.JoinedMember.{JoinedMember}
+use Rattle.cg_member.specs.declared.reply.Reply.{Reply}
+use Rattle.cg_member.specs.declared.reply.Reply.TheVariants as reply
+use Rattle.cg_member.specs.declared.turn.Turn.{Turn}
+use Rattle.cg_member.specs.Membership.{is_named, leads, is_empty, is_preparing}
+use Rattle.cg_member.specs.Vote.{elected}
+use Rattle.cg_member.specs.Waiting.{is_waiting, after_answers, answers, refusing}
+
+-- an event begins, and has done nothing yet
+abbrev pub turn_of : Group → Turn
+turn_of g = record { group = g; replies = []; commands = [] }
+
+-- Prepare: every SYNC that waits is told to join again, and the join phase begins now
+unfoldable pub prepared : ℕ → Turn → Turn
+prepared now t = record {
+  group = record t.group { phase = Preparing; started = now; members = after_answers Syncs now t.group.members };
+  replies = t.replies ++ answers Syncs (refusing RebalanceInProgress) t.group.members;
+  commands = t.commands;
+}
+
+-- what a member asks for in the words of the protocol
+unfoldable pub subscription_for : Option (List ℕ) → List Protocol → List ℕ
+subscription_for protocol protocols = unwrap_or (option_map (λ p. p.subscription) (find (λ p. is_named protocol p.name) protocols)) []
+
+abbrev pub joined_member : Option (List ℕ) → Member → JoinedMember
+joined_member protocol m = record { id = m.id; instance = m.instance; subscription = subscription_for protocol m.protocols }
+
+-- the members, for the leader alone
+unfoldable pub joined_members : Group → Member → List JoinedMember
+joined_members g m = if leads g m then map (joined_member g.protocol) g.members else []
+
+-- what a JOIN of the member is answered in the present generation
+unfoldable pub joined_reply : Group → Member → Reply
+joined_reply g m = reply.Joined (record {
+  generation = g.generation;
+  kind = g.kind;
+  protocol = g.protocol;
+  leader = g.leader;
+  member = m.id;
+  members = joined_members g m;
+})
+
+-- the leader stays where it waits; else the first member that waits leads
+unfoldable pub next_leader : Group → Option (List ℕ)
+next_leader g =
+    if list_any (λ m. leads g m && is_waiting Joins m) g.members
+    then g.leader
+    else option_map (λ m. m.id) (find (is_waiting Joins) g.members)
+
+-- the next generation, with the protocol that was voted for and its leader
+unfoldable pub next_round : Group → Group
+next_round g = record g {
+  phase = Completing;
+  generation = next_generation g.generation;
+  protocol = elected g.members;
+  leader = next_leader g;
+}
+
+-- the generation, where a join phase has completed it
+abbrev pub completed_generation : ℕ → Option ℕ
+completed_generation generation = if nat_le 1 generation then Some generation else None
+
+-- that a generation has no members; a group that never had a member has no type, and makes no such command
+unfoldable pub emptied_command : Group → List Command
+emptied_command g =
+    option_to_list (option_and_then (λ generation. option_map (λ kind. command.Emptied (record { group = g.id; generation = generation; kind = kind })) g.kind) (completed_generation g.generation))
+
+-- Complete, without members
+unfoldable pub emptied : Turn → Turn
+emptied t =
+    let g : Group = record t.group { phase = Empty; generation = next_generation t.group.generation; protocol = None; leader = None } in
+    record { group = g; replies = t.replies; commands = t.commands ++ emptied_command g }
+
+-- every JOIN that waits is answered
+unfoldable pub told_to_joins : ℕ → Turn → Turn
+told_to_joins now t = record {
+  group = record t.group { members = after_answers Joins now t.group.members };
+  replies = t.replies ++ answers Joins (joined_reply t.group) t.group.members;
+  commands = t.commands;
+}
+
+-- Complete
+unfoldable pub completed : ℕ → Turn → Turn
+completed now t = if is_empty t.group.members then emptied t else told_to_joins now (record t { group = next_round t.group })
+
+-- no member is left that does not wait for the join phase to complete
+unfoldable pub is_ready : Group → Bool
+is_ready g = is_preparing g.phase && list_all (is_waiting Joins) g.members
+
+-- Try
+unfoldable pub tried : ℕ → Turn → Turn
+tried now t = if is_ready t.group then completed now t else t

@@ -1,0 +1,87 @@
+-- A member takes the place of the one with its instance (KIP-345).
+use Rattle.std.specs.Prelude.{ℕ, Bool, false, ◌&&◌, List, [], ◌∷◌, ◌++◌, map, Option, Some, None, if◌then◌else◌}
+use Rattle.std.specs.List.{list_any}
+use Rattle.cg_names.specs.declared.code.Code.TheVariants.{FencedInstanceId}
+use Rattle.cg_record.specs.declared.command.Command.{Command}
+use Rattle.cg_record.specs.declared.command.Command.TheVariants as command
+use Rattle.cg_record.specs.declared.member.Member.{Member as KeptMember}
+use Rattle.cg_member.specs.declared.calls.Calls.TheVariants.{Any}
+use Rattle.cg_member.specs.declared.group.Group.{Group}
+use Rattle.cg_member.specs.declared.member.Member.{Member}
+use Rattle.cg_member.specs.declared.member.Waits.TheVariants.{Nothing}
+use Rattle.cg_member.specs.declared.reply.Reply.{Reply}
+use Rattle.cg_member.specs.declared.reply.Reply.TheVariants as reply
+use Rattle.cg_request.specs.declared.request.JoinRequest.{JoinRequest}
+use Rattle.cg_request.specs.declared.ticket.Ticket.{Ticket}
+use Rattle.cg_member.specs.declared.turn.Turn.{Turn}
+use Rattle.cg_member.specs.Joining.{new_member, rejoined}
+use Rattle.cg_member.specs.Membership.{has_instance, is_named, is_stable, leads}
+use Rattle.cg_member.specs.Syncing.{kept_member}
+use Rattle.cg_member.specs.Vote.{elected}
+use Rattle.cg_member.specs.Waiting.{answer, refusing}
+
+-- the new member in the place of one with its instance
+abbrev pub seated : Member → Member → Member
+seated new m = if has_instance new.instance m then new else m
+
+-- the members with the new one in the place of the one with its instance
+unfoldable pub seating : Member → List Member → List Member
+seating new members = map (seated new) members
+
+-- the leader is the one whose place is taken
+abbrev pub leads_and_goes : Member → Group → Member → Bool
+leads_and_goes new g m = has_instance new.instance m && leads g m
+
+-- the group with the new member in that place, and as leader where the one leads whose place it takes
+unfoldable pub replacing : Member → Group → Group
+replacing new g = record g {
+  members = seating new g.members;
+  leader = if list_any (leads_and_goes new g) g.members then Some new.id else g.leader;
+}
+
+-- the protocol that was voted for is the group's
+abbrev pub is_protocol : Group → Option (List ℕ) → Bool
+is_protocol g None = false
+is_protocol g (Some name) = is_named g.protocol name
+
+-- the group is stable, and its members vote for its protocol still
+unfoldable pub keeps_generation : Group → Bool
+keeps_generation g = is_stable g.phase && is_protocol g (elected g.members)
+
+-- the new member has the assignment of the old one, and waits for nothing
+abbrev pub successor : ℕ → JoinRequest → List ℕ → Member → Member
+successor now r id old = new_member now r id old.assignment Nothing
+
+-- the new member has its place; a call of the old one that waits is answered
+unfoldable pub replaced : Member → Member → Group → Turn
+replaced new old g = record { group = replacing new g; replies = answer Any (refusing FencedInstanceId) old; commands = [] }
+
+-- that the new member, as it is kept, has the place of the one with its instance
+abbrev pub replaced_command : KeptMember → Group → Command
+replaced_command new g = command.Replaced (record { group = g.id; member = new })
+
+-- the present generation, with the leader from before the replacement and no members
+abbrev pub replaced_reply : List ℕ → Group → Reply
+replaced_reply id before = reply.Joined (record {
+  generation = before.generation;
+  kind = before.kind;
+  protocol = before.protocol;
+  leader = before.leader;
+  member = id;
+  members = [];
+})
+
+-- the generation goes on with the new member
+unfoldable pub replaced_in_place : Ticket → KeptMember → Group → Turn → Turn
+replaced_in_place ticket new before t = record {
+  group = t.group;
+  replies = t.replies ++ (ticket, replaced_reply new.id before) ∷ [];
+  commands = t.commands ++ replaced_command new before ∷ [];
+}
+
+-- JOIN of a member that takes the place of the old one
+unfoldable pub join_replacing : ℕ → JoinRequest → List ℕ → Ticket → Member → Group → Turn
+join_replacing now r id ticket old g =
+    let new : Member = successor now r id old in
+    let t : Turn = replaced new old g in
+    if keeps_generation t.group then replaced_in_place ticket (kept_member g.protocol new) g t else rejoined now id ticket t

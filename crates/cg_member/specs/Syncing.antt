@@ -1,0 +1,108 @@
+-- SYNC (protocol guide, "SyncGroup"): the leader hands the assignments in, and each member gets its own.
+use Rattle.std.specs.Prelude.{ℕ, pos, not, List, [], ◌∷◌, ◌++◌, map, Option, Result, Ok, option_map, option_and_then, option_to_list, unwrap_or, find, if◌then◌else◌}
+use Rattle.std.specs.Ordering.{int_eq}
+use Rattle.cg_names.specs.declared.code.Code.{Code}
+use Rattle.cg_names.specs.declared.code.Code.TheVariants.{IllegalGeneration, RebalanceInProgress}
+use Rattle.cg_member.specs.declared.calls.Calls.TheVariants.{Syncs}
+use Rattle.cg_record.specs.declared.command.Command.{Command}
+use Rattle.cg_record.specs.declared.command.Command.TheVariants as command
+use Rattle.cg_record.specs.declared.member.Member.{Member as KeptMember}
+use Rattle.cg_record.specs.Rosters.{RosterParts, roster_of}
+use Rattle.cg_member.specs.declared.group.Group.{Group}
+use Rattle.cg_member.specs.declared.group.Phase.{Phase}
+use Rattle.cg_member.specs.declared.group.Phase.TheVariants.{Empty, Preparing, Completing, Stable}
+use Rattle.cg_member.specs.declared.member.Member.{Member}
+use Rattle.cg_member.specs.declared.member.Waits.TheVariants.{Sync}
+use Rattle.cg_member.specs.declared.reply.Reply.{Reply}
+use Rattle.cg_member.specs.declared.reply.Reply.TheVariants as reply
+use Rattle.cg_request.specs.declared.request.SyncEntry.{SyncEntry}
+use Rattle.cg_request.specs.declared.request.SyncRequest.{SyncRequest}
+use Rattle.cg_request.specs.declared.ticket.Ticket.{Ticket}
+use Rattle.cg_member.specs.declared.turn.Turn.{Turn}
+use Rattle.cg_member.specs.Fencing.{member_check}
+use Rattle.cg_member.specs.Joining.{waiting}
+use Rattle.cg_member.specs.Membership.{hearing, is_preparing, is_same, leads}
+use Rattle.cg_member.specs.Rebalance.{completed_generation, subscription_for, turn_of}
+use Rattle.cg_member.specs.Refusing.{◌>>=◌, refused_if}
+use Rattle.cg_member.specs.Waiting.{after_answers, answers}
+
+-- the bytes that the leader's entries have for the member, or none; entries for strangers are not looked at
+unfoldable pub assignment_for : List SyncEntry → List ℕ → List ℕ
+assignment_for entries id = unwrap_or (option_map (λ e. e.assignment) (find (λ e. is_same e.member id) entries)) []
+
+-- a member with what the leader assigned to it
+abbrev pub assigned : List SyncEntry → Member → Member
+assigned entries m = record m { assignment = assignment_for entries m.id }
+
+-- the group with its assignments
+unfoldable pub assigning : List SyncEntry → Group → Group
+assigning entries g = record g { phase = Stable; members = map (assigned entries) g.members }
+
+-- a member, as the command keeps it
+abbrev pub kept_member : Option (List ℕ) → Member → KeptMember
+kept_member protocol m = record {
+  id = m.id;
+  instance = m.instance;
+  client = m.client;
+  session = m.session;
+  rebalance = m.rebalance;
+  subscription = subscription_for protocol m.protocols;
+  assignment = m.assignment;
+}
+
+-- what the members of the group joined in
+abbrev pub kept_roster : List ℕ → List ℕ → Group → RosterParts
+kept_roster protocol leader g = roster_of protocol leader (map (kept_member g.protocol) g.members)
+
+-- that a generation has its assignments; it has a number, a type, a protocol and a leader then
+unfoldable pub assigned_command : Group → List Command
+assigned_command g =
+    option_to_list (option_and_then (λ generation. option_and_then (λ kind. option_and_then (λ protocol. option_map (λ leader. command.Assigned (record {
+      group = g.id;
+      generation = generation;
+      kind = kind;
+      roster = kept_roster protocol leader g;
+    })) g.leader) g.protocol) g.kind) (completed_generation g.generation))
+
+-- what a SYNC of the member is answered
+abbrev pub synced_reply : Member → Reply
+synced_reply m = reply.Synced m.assignment
+
+-- every SYNC that waits is answered
+unfoldable pub told_to_syncs : ℕ → Turn → Turn
+told_to_syncs now t = record {
+  group = record t.group { members = after_answers Syncs now t.group.members };
+  replies = t.replies ++ answers Syncs synced_reply t.group.members;
+  commands = t.commands;
+}
+
+-- the leader's SYNC: the assignments are set, and every SYNC that waits is answered
+unfoldable pub distributed : ℕ → List SyncEntry → Turn → Turn
+distributed now entries t =
+    let g : Group = assigning entries t.group in
+    told_to_syncs now (record { group = g; replies = t.replies; commands = t.commands ++ assigned_command g })
+
+-- SYNC while the leader works the assignments out: it waits, and the member is heard
+unfoldable pub sync_waits : ℕ → SyncRequest → List ℕ → Ticket → Member → Group → Turn
+sync_waits now r id ticket m g =
+    let t : Turn = waiting now id (Sync ticket) (turn_of (hearing now id g)) in
+    if leads g m then distributed now r.entries t else t
+
+-- SYNC in a stable group: the member is told its assignment, and heard
+unfoldable pub sync_current : ℕ → List ℕ → Ticket → Member → Group → Turn
+sync_current now id ticket m g = record { group = hearing now id g; replies = (ticket, synced_reply m) ∷ []; commands = [] }
+
+-- SYNC that is taken
+unfoldable pub sync_taken : ℕ → SyncRequest → List ℕ → Ticket → Member → Group → Phase → Turn
+sync_taken now r id ticket m g Completing = sync_waits now r id ticket m g
+sync_taken now r id ticket m g Stable = sync_current now id ticket m g
+sync_taken now r id ticket m g Empty = sync_current now id ticket m g
+sync_taken now r id ticket m g Preparing = sync_current now id ticket m g
+
+-- SYNC in a group that is held
+unfoldable pub sync_held : ℕ → SyncRequest → Ticket → Group → Result Turn Code
+sync_held now r ticket g = do
+  who ← member_check r.instance r.member g.members
+  _ ← refused_if (not (int_eq r.generation (pos g.generation))) IllegalGeneration
+  _ ← refused_if (is_preparing g.phase) RebalanceInProgress
+  Ok (sync_taken now r who.0 ticket who.1 g g.phase)

@@ -1,0 +1,67 @@
+//! Answers to calls that wait, all of a kind at once.
+ghost use Rattle.std.specs.Prelude.{◌≡◌, ◌++◌, OnOk, IfOk};
+ghost use Rattle.cg_member.specs.Waiting.{answer, answers, refusing};
+
+use crate::calls::Calls;
+use crate::few::Few;
+use crate::member::Member;
+use crate::reply::Reply;
+use cg_names::Code;
+use cg_request::ticket::Ticket;
+use std::alloc::AllocError;
+
+/// What each of several members is told.
+pub trait Telling {
+    ghost use Rattle.cg_member.specs.declared.member.Member.{Member};
+    ghost use Rattle.cg_member.specs.declared.reply.Reply.{Reply};
+
+    ghost tells: { Self → Member → Reply };
+
+    fn tell(&self, member: &Member) -> Result<Reply, AllocError>
+        ensures { IfOk result (λ reply. reply ≡ tells self.now member.now) };
+}
+
+/// Each is refused, for this reason.
+#[derive(Drop)]
+pub struct Refusing(pub Code);
+
+impl Telling for Refusing {
+    ghost use Rattle.cg_member.specs.Waiting.{refusing};
+
+    ghost tells = { λ r m. refusing r.0 m };
+
+    fn tell(&self, _member: &Member) -> Result<Reply, AllocError> {
+        Ok(Reply::Refused(self.0))
+    }
+}
+
+/// Answers the call of one member, where it waits with one of these.
+pub fn answer_one<T: Telling>(
+    which: Calls,
+    teller: &T,
+    member: &Member,
+    replies: &mut Few<(Ticket, Reply)>,
+) -> Result<(), AllocError>
+    ensures { OnOk result (replies.new ≡ replies.old ++ answer which (T.tells teller.now) member.now) }
+{
+    if let Some(ticket) = which.called(member.waits) {
+        replies.push((ticket, teller.tell(member)?))?;
+    }
+    Ok(())
+}
+
+/// Answers these calls, in joining order.
+#[tactic(auto, unfolding(crate::specs::Waiting::answers))]
+pub fn answer_all<T: Telling>(
+    which: Calls,
+    teller: &T,
+    members: &[Member],
+    replies: &mut Few<(Ticket, Reply)>,
+) -> Result<(), AllocError>
+    ensures { OnOk result (replies.new ≡ replies.old ++ answers which (T.tells teller.now) members.now) }
+{
+    for member in members {
+        answer_one(which, teller, member, replies)?;
+    }
+    Ok(())
+}

@@ -1,0 +1,34 @@
+ghost use Rattle.std.specs.Prelude.{◌≡◌, true, false, MatchOption};
+ghost use Rattle.cg_member.specs.Joining.{is_session_refused};
+
+use cg_record::SessionTimeout;
+use cg_request::request::JoinRequest;
+use std::marker::Model;
+
+/// A JOIN whose session time-out is one that the coordinator takes (KIP-62). Contracts see the request.
+#[derive(Debug, Drop)]
+pub struct CheckedJoin {
+    pub request: JoinRequest,
+    pub session: SessionTimeout,
+    ghost is_own: { session ≡ request.session_ms },
+}
+
+impl Model for CheckedJoin {
+    ghost use Rattle.cg_request.specs.declared.request.JoinRequest.{JoinRequest};
+
+    ghost Value = { JoinRequest };
+
+    ghost view = { λ c. c.request };
+}
+
+impl CheckedJoin {
+    /// None where the session time-out is refused.
+    pub fn new(request: JoinRequest) -> Option<Self>
+        ensures { MatchOption result
+            (is_session_refused request ≡ true)
+            (λ checked. (is_session_refused request ≡ false) × (checked ≡ request)) }
+    {
+        let session = SessionTimeout::new(request.session_ms)?;
+        Some(CheckedJoin { request, session })
+    }
+}

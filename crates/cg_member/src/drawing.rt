@@ -1,0 +1,56 @@
+//! The ids of new members.
+ghost use Rattle.std.specs.Prelude.{◌≡◌, IfOk};
+ghost use Rattle.cg_names.specs.Grammar.{IsName};
+ghost use Rattle.cg_names.specs.declared.name.TheConstants.{MEMBER_ID_BYTES_MAX, NAME_BYTES_MAX};
+ghost use Rattle.cg_member.specs.Joining.{drawn, own_name};
+
+use cg_names::{MemberId, NameFault};
+use cg_request::request::JoinRequest;
+use std::alloc::{AllocError, Global};
+use uuid::Uuid;
+
+// The member id that these bytes spell.
+fn member_id(alloc: Global, bytes: &[u8]) -> Result<MemberId, AllocError>
+    requires { IsName MEMBER_ID_BYTES_MAX bytes.now }
+    ensures { IfOk result (λ id. id ≡ bytes.now) }
+{
+    match MemberId::from_bytes(alloc, bytes) {
+        Ok(id) => Ok(id),
+        Err(NameFault::Memory) => Err(AllocError),
+        Err(NameFault::Empty | NameFault::TooLong | NameFault::BadByte | NameFault::Reserved) =>
+            unreachable!(),
+    }
+}
+
+// The bytes of the id of a new member.
+#[tactic(auto, unfolding(crate::specs::Joining::drawn))]
+fn drawn_bytes(alloc: Global, name: &[u8], fresh: Uuid) -> Result<Vec<u8>, AllocError>
+    ensures { IfOk result (λ bytes. bytes.items ≡ drawn name.now fresh) }
+{
+    let mut buffer = Uuid::encode_buffer();
+    let text = fresh.hyphenated().encode_lower(&mut buffer);
+    let mut bytes = Vec::from_slice(alloc, name)?;
+    bytes.push(b'-')?;
+    bytes.extend_from_slice(text.as_bytes())?;
+    Ok(bytes)
+}
+
+// What the id of a new member begins with.
+fn own_name(r: &JoinRequest) -> &[u8]
+    ensures value { result.now ≡ own_name r.now }
+    ensures name { IsName NAME_BYTES_MAX result.now }
+{
+    match &r.instance {
+        None => r.client.as_bytes(),
+        Some(instance) => instance.as_bytes(),
+    }
+}
+
+/// The id of a new member.
+pub fn drawn(alloc: Global, r: &JoinRequest, fresh: Uuid) -> Result<MemberId, AllocError>
+    ensures { IfOk result (λ id. id ≡ drawn (own_name r.now) fresh) }
+{
+    let bytes = drawn_bytes(alloc, own_name(r), fresh)?;
+    let id = member_id(alloc, bytes.as_slice())?;
+    Ok(id)
+}

@@ -1,0 +1,60 @@
+//! The member check: a call comes from a member of the group whose place no other has taken (KIP-345).
+ghost use Rattle.std.specs.Prelude.{◌≡◌, Ok, Err, Some, IfOk, MatchResult};
+ghost use Rattle.cg_member.specs.Fencing.{fencing, member_check};
+ghost use Rattle.cg_member.specs.Membership.{find_member, is_named};
+
+use crate::member::Member;
+use crate::members::Members;
+use cg_names::{Code, InstanceId, MemberId};
+
+fn is_named(given: &Option<MemberId>, id: &MemberId) -> bool
+    ensures { result ≡ is_named given.now id.now }
+{
+    match given {
+        None => false,
+        Some(given) => *given == *id,
+    }
+}
+
+#[tactic(auto, unfolding(crate::specs::Fencing::fencing))]
+fn fencing(
+    instance: &Option<InstanceId>,
+    member: &Option<MemberId>,
+    members: &Members,
+) -> Result<(), Code>
+    ensures { result ≡ fencing instance.now member.now members.now }
+{
+    if instance.is_none() {
+        return Ok(());
+    }
+    let Some(own) = members.find_instance(instance) else {
+        return Err(Code::UnknownMemberId);
+    };
+    if is_named(member, &own.id) {
+        Ok(())
+    } else {
+        Err(Code::FencedInstanceId)
+    }
+}
+
+/// The member that calls, by the instance and the id that are given. Goes through the members; takes no memory.
+#[tactic(auto, unfolding(crate::specs::Fencing::member_check))]
+pub fn checked_member<'a, 'b>(
+    instance: &Option<InstanceId>,
+    member: &'a Option<MemberId>,
+    members: &'b Members,
+) -> Result<(&'a MemberId, &'b Member), Code>
+    ensures check { MatchResult result
+        (λ who. member_check instance.now member.now members.now ≡ Ok (who.0.now, who.1.now))
+        (λ code. member_check instance.now member.now members.now ≡ Err code) }
+    ensures found { IfOk result (λ who. find_member who.0.now members.now ≡ Some who.1.now) }
+{
+    fencing(instance, member, members)?;
+    let Some(id) = member else {
+        return Err(Code::UnknownMemberId);
+    };
+    match members.find(id) {
+        None => Err(Code::UnknownMemberId),
+        Some(own) => Ok((id, own)),
+    }
+}

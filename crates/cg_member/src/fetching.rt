@@ -1,0 +1,69 @@
+//! FETCH: how far a group has read. It changes nothing, and asks the offsets alone.
+ghost use Rattle.std.specs.Prelude.{◌≡◌, IfOk, map};
+ghost use Rattle.std.specs.Option.{option_copied};
+ghost use Rattle.cg_member.specs.Fetching.{fetched, fetched_partition};
+
+use crate::reply::{FetchedPartition, Reply};
+use cg_fold::{Offsets, StoredOffset};
+use cg_names::{Code, GroupId};
+use cg_request::listed::Listed;
+use cg_request::request::FetchRequest;
+use cg_request::topic_partition::TopicPartition;
+use std::alloc::{AllocError, Global};
+
+fn copied_offset(stored: Option<&StoredOffset>) -> Result<Option<StoredOffset>, AllocError>
+    ensures { IfOk result (λ copy. copy ≡ option_copied stored.entry) }
+{
+    match stored {
+        None => Ok(None),
+        Some(stored) => {
+            let metadata = stored.metadata.clone()?;
+            Ok(Some(StoredOffset {
+                offset: stored.offset,
+                metadata,
+            }))
+        }
+    }
+}
+
+fn fetched_partition(
+    offsets: &Offsets,
+    group: &GroupId,
+    asked: TopicPartition,
+) -> Result<FetchedPartition, AllocError>
+    ensures { IfOk result (λ p. p ≡ fetched_partition offsets.now group.now asked) }
+{
+    let stored = copied_offset(offsets.get(group, &asked.topic, asked.partition))?;
+    Ok(FetchedPartition {
+        topic: asked.topic,
+        partition: asked.partition,
+        stored,
+    })
+}
+
+fn fetched_all(
+    alloc: Global,
+    offsets: &Offsets,
+    group: &GroupId,
+    asked: Vec<TopicPartition>,
+) -> Result<Vec<FetchedPartition>, AllocError>
+    ensures { IfOk result (λ ps. ps.items ≡ map (fetched_partition offsets.now group.now) asked.items) }
+{
+    let mut fetched = Vec::with_capacity(alloc, asked.len())?;
+    for partition in asked {
+        fetched.push(fetched_partition(offsets, group, partition)?)?;
+    }
+    Ok(fetched)
+}
+
+/// What a FETCH is answered. Costs a look-up for each partition, and copies the metadata.
+pub fn fetched(alloc: Global, offsets: &Offsets, r: FetchRequest) -> Result<Reply, AllocError>
+    ensures { IfOk result (λ reply. reply ≡ fetched offsets.now r.group r.partitions) }
+{
+    let FetchRequest { group, partitions } = r;
+    let Some(group) = group else {
+        return Ok(Reply::Refused(Code::InvalidGroupId));
+    };
+    let fetched = fetched_all(alloc, offsets, &group, partitions.into_vec())?;
+    Ok(Reply::Fetched(Listed::from_vec(fetched)))
+}

@@ -1,0 +1,125 @@
+//! Lists of which most have one value.
+ghost use Rattle.std.specs.Prelude.{◌≡◌, [], ◌∷◌, ◌++◌, length, OnOk, OnErr};
+ghost use Rattle.cg_member.specs.Few.{items_of};
+
+use std::alloc::{AllocError, Global};
+use std::marker::Model;
+use std::mem;
+
+/// The values of a list.
+#[derive(Debug, Drop)]
+pub enum Items<T> {
+    /// One alone takes no memory.
+    One([T; 1]),
+    Many(Vec<T>),
+}
+
+/// Some values in their order, mostly one. Contracts see the list.
+#[derive(Debug, Drop)]
+pub struct Few<T> {
+    alloc: Global,
+    items: Items<T>,
+}
+
+impl<T> Model for Few<T> {
+    ghost use Rattle.std.specs.Prelude.{List};
+    ghost use Rattle.cg_member.specs.Few.{items_of};
+
+    ghost Value = { List T };
+
+    ghost view = { λ f. items_of f.items };
+}
+
+impl<T> Few<T> {
+    /// No values. Takes no memory.
+    pub fn new(alloc: Global) -> Self
+        ensures { result ≡ [] }
+    {
+        let items = Items::Many(Vec::new(alloc));
+        Few { alloc, items }
+    }
+
+    /// One value. Takes no memory.
+    pub fn one(alloc: Global, value: T) -> Self
+        ensures { result ≡ value ∷ [] }
+    {
+        let items = Items::One([value]);
+        Few { alloc, items }
+    }
+
+    /// The values in their order.
+    pub fn as_slice(&self) -> &[T]
+        ensures { result.now ≡ self.now }
+    {
+        match &self.items {
+            Items::One(values) => values.as_slice(),
+            Items::Many(values) => values.as_slice(),
+        }
+    }
+
+    /// How many there are.
+    pub fn len(&self) -> usize
+        ensures { result ≡ length self.now }
+    {
+        self.as_slice().len()
+    }
+
+    /// The values, taken out as they stand.
+    pub fn into_items(self) -> Items<T>
+        ensures { items_of result ≡ self }
+    {
+        let Few { items, .. } = self;
+        items
+    }
+}
+
+impl<T: Drop> Few<T> {
+    /// Puts a value last. The first one takes no memory.
+    pub fn push(&mut self, value: T) -> Result<(), AllocError>
+        ensures ok { OnOk result (self.new ≡ self.old ++ value ∷ []) }
+        ensures err { OnErr result (self.new ≡ self.old) }
+    {
+        if self.len() == 0 {
+            self.items = Items::One([value]);
+            return Ok(());
+        }
+        put_last(self.alloc, &mut self.items, value)?;
+        Ok(())
+    }
+
+    /// Puts the values of another list last.
+    pub fn append(&mut self, other: Few<T>) -> Result<(), AllocError>
+        ensures ok { OnOk result (self.new ≡ self.old ++ other) }
+    {
+        match other.into_items() {
+            Items::One([value]) => {
+                self.push(value)?;
+            }
+            Items::Many(values) => {
+                for value in values {
+                    self.push(value)?;
+                }
+            }
+        }
+        Ok(())
+    }
+}
+
+// Puts a value last in a vector, which is made where one stands alone.
+fn put_last<T: Drop>(alloc: Global, items: &mut Items<T>, value: T) -> Result<(), AllocError>
+    ensures ok { OnOk result (items_of items.new ≡ items_of items.old ++ value ∷ []) }
+    ensures err { OnErr result (items_of items.new ≡ items_of items.old) }
+{
+    if let Items::Many(values) = items {
+        values.push(value)?;
+        return Ok(());
+    }
+    let mut values = Vec::with_capacity(alloc, 2)?;
+    match mem::replace(items, Items::Many(Vec::new(alloc))) {
+        Items::One([first]) => values.push_reserved(first),
+        Items::Many(_others) => unreachable!(),
+    }
+    values.push_reserved(value);
+    *items = Items::Many(values);
+    Ok(())
+}

@@ -1,0 +1,400 @@
+ghost use Rattle.std.specs.Prelude.{◌≡◌, ◌<◌, [], ◌∷◌, ◌++◌, true, false, Some, length, List, not, OnOk, OnErr, IfOk, filter, map, is_some};
+ghost use Rattle.std.specs.Option.{option_copied};
+ghost use Rattle.std.specs.List.{position, list_any, list_all};
+ghost use Rattle.cg_record.specs.declared.roster.TheConstants.{MEMBERS_MAX};
+ghost use Rattle.cg_request.specs.Names.{are_distinct};
+ghost use Rattle.cg_member.specs.Members.{AreMembers, instances};
+ghost use Rattle.cg_member.specs.Membership.{has_id, has_instance, find_member, find_instance, with_member, heard};
+ghost use Rattle.cg_member.specs.Replacing.{seating};
+ghost use Rattle.cg_member.specs.Waiting.{after_answer, after_answers, is_waiting};
+ghost use Rattle.cg_member.specs.Joining.{updated, waits_with};
+ghost use Rattle.cg_member.specs.Assignments.{IsIndex};
+ghost use Rattle.cg_member.specs.Syncing.{assigned};
+ghost use Rattle.cg_request.specs.declared.request.SyncEntry.{SyncEntry};
+ghost use Rattle.cg_member.specs.Ticking.{is_overdue, outstays};
+
+use crate::assignments::{Index, indexed, noted};
+use crate::calls::{Calls, is_waiting};
+use crate::checked::CheckedJoin;
+use crate::member::{Member, Waits};
+use cg_names::{InstanceId, MemberId, Moment};
+use cg_request::request::SyncEntry;
+use std::alloc::{AllocError, Global};
+use std::marker::Model;
+
+/// The members of a group in joining order: at most `MEMBERS_MAX`, no two of one id or one instance. Contracts see the list.
+#[derive(Debug, Drop)]
+pub struct Members {
+    items: Vec<Member>,
+}
+
+impl Model for Members {
+    ghost use Rattle.std.specs.Prelude.{List};
+    ghost use Rattle.cg_member.specs.Members.{AreMembers};
+    ghost use Rattle.cg_member.specs.declared.member.Member.{Member};
+
+    ghost Value = { List Member };
+
+    ghost view = { λ m. m.items.items };
+
+    ghost invariant = { λ m. AreMembers m.items.items };
+}
+
+// Where the member with this id stands.
+fn place_of(id: &MemberId, members: &[Member]) -> Option<usize>
+    ensures { result ≡ position (has_id id.now) members.now }
+{
+    members.iter().position(|m| m.id == *id)
+}
+
+// Where the member with this instance stands.
+fn seat_of(instance: &Option<InstanceId>, members: &[Member]) -> Option<usize>
+    ensures { result ≡ position (has_instance instance.now) members.now }
+{
+    members.iter().position(|m| has_instance(instance, m))
+}
+
+/// Whether the member has this instance, where one is given.
+pub fn has_instance(instance: &Option<InstanceId>, member: &Member) -> bool
+    ensures { result ≡ has_instance instance.now member.now }
+{
+    match instance {
+        None => false,
+        Some(instance) => has_own(instance, member),
+    }
+}
+
+fn has_own(instance: &InstanceId, member: &Member) -> bool
+    ensures { result ≡ has_instance (Some instance.now) member.now }
+{
+    match &member.instance {
+        None => false,
+        Some(own) => *own == *instance,
+    }
+}
+
+fn outstays(member: &Member) -> bool
+    ensures { result ≡ outstays member.now }
+{
+    member.instance.is_some() || is_waiting(Calls::Any, member)
+}
+
+fn has_id(member: &Member, id: &MemberId) -> bool
+    ensures { result ≡ has_id id.now member.now }
+{
+    member.id == *id
+}
+
+fn is_overdue(member: &Member, now: Moment) -> bool
+    ensures { result ≡ is_overdue now member.now }
+{
+    !is_waiting(Calls::Any, member) && now.is_past(member.heard, member.session.get())
+}
+
+fn answer_one(member: &mut Member, which: Calls, now: Moment)
+    ensures { member.new ≡ after_answer which now member.old }
+{
+    if is_waiting(which, member) {
+        member.heard = now;
+        member.waits = Waits::Nothing;
+    }
+}
+
+fn begin_to_wait(member: &mut Member, waits: Waits, now: Moment)
+    ensures { member.new ≡ waits_with now waits member.old }
+{
+    if is_waiting(Calls::Any, member) {
+        member.heard = now;
+    }
+    member.waits = waits;
+}
+
+fn take_over(member: &mut Member, join: CheckedJoin)
+    ensures { member.new ≡ updated join member.old }
+{
+    let CheckedJoin { request, session } = join;
+    member.session = session;
+    member.rebalance = request.rebalance;
+    member.protocols = request.protocols;
+}
+
+#[tactic(auto, using(crate::proofs::Places::placing))]
+fn hear_one(members: &mut Vec<Member>, id: &MemberId, now: Moment)
+    ensures { members.new.items ≡ with_member id.now (heard now) members.old.items }
+{
+    if let Some(place) = place_of(id, members.as_slice()) {
+        members[place].heard = now;
+    }
+}
+
+#[tactic(auto, using(crate::proofs::Places::placing))]
+fn wait_one(members: &mut Vec<Member>, id: &MemberId, waits: Waits, now: Moment)
+    ensures { members.new.items ≡ with_member id.now (waits_with now waits) members.old.items }
+{
+    if let Some(place) = place_of(id, members.as_slice()) {
+        begin_to_wait(&mut members[place], waits, now);
+    }
+}
+
+#[tactic(auto, using(crate::proofs::Places::placing))]
+fn update_one(members: &mut Vec<Member>, id: &MemberId, join: CheckedJoin)
+    ensures { members.new.items ≡ with_member id.now (updated join) members.old.items }
+{
+    if let Some(place) = place_of(id, members.as_slice()) {
+        take_over(&mut members[place], join);
+    }
+}
+
+#[tactic(auto, unfolding(crate::specs::Syncing::assignment_for))]
+fn assign_one(alloc: Global, index: &Index, member: &mut Member) -> Result<(), AllocError>
+    ensures { (entries : List SyncEntry) → IsIndex entries index.now → OnOk result (member.new ≡ assigned entries member.old) }
+{
+    let assignment = noted(alloc, index, &member.id)?;
+    member.assignment = assignment;
+    Ok(())
+}
+
+fn assign_each(
+    alloc: Global,
+    entries: &[SyncEntry],
+    members: &mut [Member],
+) -> Result<(), AllocError>
+    ensures { OnOk result (members.new ≡ map (assigned entries.now) members.old) }
+{
+    let index = indexed(alloc, entries)?;
+    for member in members.iter_mut() {
+        assign_one(alloc, &index, member)?;
+    }
+    Ok(())
+}
+
+fn answer_each(members: &mut [Member], which: Calls, now: Moment)
+    ensures { members.new ≡ map (after_answer which now) members.old }
+{
+    for member in members.iter_mut() {
+        answer_one(member, which, now);
+    }
+}
+
+fn answer_in(members: &mut Vec<Member>, which: Calls, now: Moment)
+    ensures { members.new.items ≡ map (after_answer which now) members.old.items }
+{
+    answer_each(members.as_mut_slice(), which, now);
+}
+
+fn assign_in(
+    alloc: Global,
+    entries: &[SyncEntry],
+    mut members: Vec<Member>,
+) -> Result<Vec<Member>, AllocError>
+    ensures { IfOk result (λ after. after.items ≡ map (assigned entries.now) members.items) }
+{
+    assign_each(alloc, entries, members.as_mut_slice())?;
+    Ok(members)
+}
+
+fn keep_others(members: &mut Vec<Member>, id: &MemberId)
+    ensures { members.new.items ≡ filter (λ m. not (has_id id.now m)) members.old.items }
+{
+    members.retain(|m| !has_id(m, id));
+}
+
+fn keep_timely(members: &mut Vec<Member>, now: Moment)
+    ensures { members.new.items ≡ filter (λ m. not (is_overdue now m)) members.old.items }
+{
+    members.retain(|m| !is_overdue(m, now));
+}
+
+fn keep_outstaying(members: &mut Vec<Member>)
+    ensures { members.new.items ≡ filter outstays members.old.items }
+{
+    members.retain(|m| outstays(m));
+}
+
+// Puts the member in the place of the one with its instance.
+#[tactic(auto, unfolding(crate::specs::Replacing::seating))]
+fn seat_one(members: &mut Vec<Member>, member: Member)
+    requires { are_distinct (instances members.old.items) ≡ true }
+    ensures { members.new.items ≡ seating member members.old.items }
+{
+    if let Some(place) = seat_of(&member.instance, members.as_slice()) {
+        members[place] = member;
+    }
+}
+
+impl Members {
+    /// No members. Takes no memory.
+    #[tactic(auto, using(crate::proofs::Together::none_together))]
+    pub fn new(alloc: Global) -> Self
+        ensures { result ≡ [] }
+    {
+        Members {
+            items: Vec::new(alloc),
+        }
+    }
+
+    /// These members.
+    pub fn from_vec(items: Vec<Member>) -> Self
+        requires { AreMembers items.items }
+        ensures { result ≡ items.items }
+    {
+        Members { items }
+    }
+
+    /// The members in joining order.
+    pub fn as_slice(&self) -> &[Member]
+        ensures value { result.now ≡ self.now }
+        ensures lawful { AreMembers self.now }
+    {
+        self.items.as_slice()
+    }
+
+    /// How many there are.
+    pub fn len(&self) -> usize
+        ensures { result ≡ length self.now }
+    {
+        self.items.len()
+    }
+
+    /// The member with this id.
+    #[tactic(auto, unfolding(crate::specs::Membership::find_member))]
+    pub fn find(&self, id: &MemberId) -> Option<&Member>
+        ensures { option_copied result ≡ find_member id.now self.now }
+    {
+        let items = self.items.as_slice();
+        items.iter().find(|m| m.id == *id)
+    }
+
+    /// The member with this instance, where one is given.
+    #[tactic(auto, unfolding(crate::specs::Membership::find_instance))]
+    pub fn find_instance(&self, instance: &Option<InstanceId>) -> Option<&Member>
+        ensures { option_copied result ≡ find_instance instance.now self.now }
+    {
+        let items = self.items.as_slice();
+        items.iter().find(|m| has_instance(instance, m))
+    }
+
+    /// The member with this instance.
+    #[tactic(auto, unfolding(crate::specs::Membership::find_instance))]
+    pub fn with_instance(&self, instance: &InstanceId) -> Option<&Member>
+        ensures { option_copied result ≡ find_instance (Some instance.now) self.now }
+    {
+        let items = self.items.as_slice();
+        items.iter().find(|m| has_own(instance, m))
+    }
+
+    /// Whether there is a member with this id.
+    pub fn has(&self, id: &MemberId) -> bool
+        ensures { result ≡ is_some (find_member id.now self.now) }
+    {
+        self.find(id).is_some()
+    }
+
+    /// Puts a member last.
+    #[tactic(auto, using(crate::proofs::Together::after_push))]
+    pub fn push(&mut self, member: Member) -> Result<(), AllocError>
+        requires room { length self.old < MEMBERS_MAX }
+        requires own_id { is_some (find_member member.id self.old) ≡ false }
+        requires own_instance { is_some (find_instance member.instance self.old) ≡ false }
+        ensures ok { OnOk result (self.new ≡ self.old ++ member ∷ []) }
+        ensures err { OnErr result (self.new ≡ self.old) }
+    {
+        self.items.push(member)?;
+        Ok(())
+    }
+
+    /// Puts a member in the place of the one with its instance.
+    #[tactic(auto, using(crate::proofs::Seats::after_seating))]
+    pub fn replace(&mut self, member: Member)
+        requires own_id { is_some (find_member member.id self.old) ≡ false }
+        ensures { self.new ≡ seating member self.old }
+    {
+        seat_one(&mut self.items, member);
+    }
+
+    /// The member with this id was heard now.
+    #[tactic(auto, using(crate::proofs::Together::after_hearing))]
+    pub fn hear(&mut self, id: &MemberId, now: Moment)
+        ensures { self.new ≡ with_member id.now (heard now) self.old }
+    {
+        hear_one(&mut self.items, id, now);
+    }
+
+    /// The member with this id waits with a call.
+    #[tactic(auto, using(crate::proofs::Together::after_waiting))]
+    pub fn wait(&mut self, id: &MemberId, waits: Waits, now: Moment)
+        ensures { self.new ≡ with_member id.now (waits_with now waits) self.old }
+    {
+        wait_one(&mut self.items, id, waits, now);
+    }
+
+    /// The member with this id takes the time-outs and protocols of a JOIN.
+    #[tactic(auto, using(crate::proofs::Together::after_update))]
+    pub fn update(&mut self, id: &MemberId, join: CheckedJoin)
+        ensures { self.new ≡ with_member id.now (updated join) self.old }
+    {
+        update_one(&mut self.items, id, join);
+    }
+
+    /// Each of these calls was answered now.
+    #[tactic(auto, unfolding(crate::specs::Waiting::after_answers), using(crate::proofs::Together::after_all_answers))]
+    pub fn answer(&mut self, which: Calls, now: Moment)
+        ensures { self.new ≡ after_answers which now self.old }
+    {
+        answer_in(&mut self.items, which, now);
+    }
+
+    /// Removes the member with this id.
+    #[tactic(auto, using(crate::proofs::Together::after_removing))]
+    pub fn remove(&mut self, id: &MemberId)
+        ensures { self.new ≡ filter (λ m. not (has_id id.now m)) self.old }
+    {
+        keep_others(&mut self.items, id);
+    }
+
+    /// Whether a member is overdue.
+    pub fn has_overdue(&self, now: Moment) -> bool
+        ensures { result ≡ list_any (is_overdue now) self.now }
+    {
+        self.items.as_slice().iter().any(|m| is_overdue(m, now))
+    }
+
+    /// Removes the members that are overdue.
+    #[tactic(auto, using(crate::proofs::Together::after_removing))]
+    pub fn remove_overdue(&mut self, now: Moment)
+        ensures { self.new ≡ filter (λ m. not (is_overdue now m)) self.old }
+    {
+        keep_timely(&mut self.items, now);
+    }
+
+    /// Removes the dynamic members that do not wait.
+    #[tactic(auto, using(crate::proofs::Together::after_removing))]
+    pub fn remove_idle(&mut self)
+        ensures { self.new ≡ filter outstays self.old }
+    {
+        keep_outstaying(&mut self.items);
+    }
+
+    /// Whether a member waits with one of these calls.
+    pub fn has_waiting(&self, which: Calls) -> bool
+        ensures { result ≡ list_any (is_waiting which) self.now }
+    {
+        self.items.as_slice().iter().any(|m| is_waiting(which, m))
+    }
+
+    /// Whether each member waits with one of these calls.
+    pub fn all_wait(&self, which: Calls) -> bool
+        ensures { result ≡ list_all (is_waiting which) self.now }
+    {
+        self.items.as_slice().iter().all(|m| is_waiting(which, m))
+    }
+
+    /// Gives each member what the leader's entries have for it.
+    #[tactic(auto, using(crate::proofs::Together::after_assigning))]
+    pub fn assigned(self, alloc: Global, entries: &[SyncEntry]) -> Result<Self, AllocError>
+        ensures { IfOk result (λ members. members ≡ map (assigned entries.now) self) }
+    {
+        let items = assign_in(alloc, entries, self.items)?;
+        Ok(Members { items })
+    }
+}

@@ -1,0 +1,35 @@
+-- What a COMMIT says of partitions, and what is kept of it.
+use Rattle.std.specs.Prelude.{◌≡◌, ◌≤◌, Bool, true, not, ◌&&◌, nat_lt, List, [], ◌∷◌, length}
+use Rattle.std.specs.List.{list_any}
+use Rattle.cg_record.specs.declared.entries.TheConstants.{ENTRIES_MAX}
+use Rattle.cg_record.specs.declared.entry.Entry.{Entry}
+use Rattle.cg_record.specs.declared.metadata.TheConstants.{METADATA_BYTES_MAX}
+use Rattle.cg_record.specs.Keys.{have_one_key}
+use Rattle.cg_request.specs.declared.commit_entry.CommitEntry.{CommitEntry}
+
+-- an entry, as the command keeps it
+abbrev pub kept_entry : CommitEntry → Entry
+kept_entry e = record { topic = e.topic; partition = e.partition; offset = e.offset; metadata = e.metadata }
+
+-- both are of one partition of one topic
+abbrev pub share_partition : CommitEntry → CommitEntry → Bool
+share_partition a b = have_one_key (kept_entry a) (kept_entry b)
+
+-- no partition comes twice
+unfoldable pub are_apart : List CommitEntry → Bool
+are_apart [] = true
+are_apart (e ∷ es) = not (list_any (share_partition e) es) && are_apart es
+
+-- the entries of one COMMIT
+pub record AreCommits (entries : List CommitEntry) : Type 0 where
+  pub some : 1 ≤ length entries
+  pub few : length entries ≤ ENTRIES_MAX
+  pub apart : are_apart entries ≡ true
+
+-- the metadata of an entry is longer than what is kept
+abbrev pub is_long : CommitEntry → Bool
+is_long e = nat_lt METADATA_BYTES_MAX (length e.metadata)
+
+-- so is that of one of the entries; entries within this limit are together within that of a whole commit, 262,144 bytes
+abbrev pub is_too_large : List CommitEntry → Bool
+is_too_large entries = list_any is_long entries

@@ -1,0 +1,6 @@
+pub mod Partitions
+pub mod Names
+pub mod Offers
+pub mod Handing
+pub mod Asking
+pub mod Commits

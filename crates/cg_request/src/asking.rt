@@ -1,0 +1,47 @@
+//! Requests, before the call that asks is known.
+ghost use Rattle.std.specs.Prelude.{◌≡◌};
+ghost use Rattle.cg_request.specs.Asking.{asked};
+
+use crate::event::Event;
+use crate::request::{
+    BeatRequest, CommitRequest, FetchRequest, JoinRequest, LeaveRequest, SyncRequest,
+};
+use crate::ticket::Ticket;
+use cg_names::GroupId;
+use uuid::Uuid;
+
+/// What a client asks for: an event of the machine without the ticket of its call.
+#[derive(Debug, Drop)]
+pub enum Request {
+    Join(JoinRequest),
+    Sync(SyncRequest),
+    Beat(BeatRequest),
+    Leave(LeaveRequest),
+    Commit(CommitRequest),
+    Fetch(FetchRequest),
+    /// DELETE (DeleteGroups request), of one group.
+    Delete(Option<GroupId>),
+    /// DESCRIBE (DescribeGroups request), of one group.
+    Describe(Option<GroupId>),
+    /// LIST (ListGroups request).
+    List,
+}
+
+impl Request {
+    /// The event of the call with this ticket; a JOIN takes the UUID to draw a member id with.
+    pub fn into_event(self, ticket: Ticket, fresh: Uuid) -> Event
+        ensures { result ≡ asked self ticket fresh }
+    {
+        match self {
+            Request::Join(request) => Event::Join(ticket, request, fresh),
+            Request::Sync(request) => Event::Sync(ticket, request),
+            Request::Beat(request) => Event::Beat(ticket, request),
+            Request::Leave(request) => Event::Leave(ticket, request),
+            Request::Commit(request) => Event::Commit(ticket, request),
+            Request::Fetch(request) => Event::Fetch(ticket, request),
+            Request::Delete(group) => Event::Delete(ticket, group),
+            Request::Describe(group) => Event::Describe(ticket, group),
+            Request::List => Event::List(ticket),
+        }
+    }
+}

@@ -1,0 +1,130 @@
+ghost use Rattle.std.specs.Prelude.{◌≡◌, ◌↔◌, false, true, map, IsTrue, IfOk, MatchResult, MatchOption};
+ghost use Rattle.std.specs.List.{list_any};
+ghost use Rattle.cg_request.specs.Commits.{AreCommits, are_apart, is_long, is_too_large, kept_entry, share_partition};
+
+use crate::commit_entry::CommitEntry;
+use cg_record::{ENTRIES_MAX, Entries, Entry, Metadata};
+use std::alloc::{AllocError, Global};
+use std::marker::Model;
+
+/// What a COMMIT says of partitions: at least one and at most `ENTRIES_MAX`, all different. Contracts see the list.
+#[derive(Debug, Drop)]
+pub struct Commits {
+    items: Vec<CommitEntry>,
+}
+
+impl Model for Commits {
+    ghost use Rattle.std.specs.Prelude.{List};
+    ghost use Rattle.cg_request.specs.Commits.{AreCommits};
+    ghost use Rattle.cg_request.specs.declared.commit_entry.CommitEntry.{CommitEntry};
+
+    ghost Value = { List CommitEntry };
+
+    ghost view = { λ c. c.items.items };
+
+    ghost invariant = { λ c. AreCommits c.items.items };
+}
+
+fn share_partition(a: &CommitEntry, b: &CommitEntry) -> bool
+    ensures { result ≡ share_partition a.now b.now }
+{
+    a.partition.get() == b.partition.get() && a.topic.as_bytes() == b.topic.as_bytes()
+}
+
+fn is_among(entry: &CommitEntry, others: &[CommitEntry]) -> bool
+    ensures { result ≡ list_any (share_partition entry.now) others.now }
+{
+    others.iter().any(|other| share_partition(entry, other))
+}
+
+// Whether no partition comes twice. Compares each entry with each.
+#[tactic(auto, unfolding(crate::specs::Commits::are_apart))]
+fn are_apart(entries: &[CommitEntry]) -> bool
+    ensures { result ≡ are_apart entries.now }
+{
+    match entries {
+        [] => true,
+        [first, others @ ..] => !is_among(first, others) && are_apart(others),
+    }
+}
+
+fn are_commits(entries: &[CommitEntry]) -> bool
+    ensures { IsTrue result ↔ AreCommits entries.now }
+{
+    !entries.is_empty() && entries.len() <= ENTRIES_MAX && are_apart(entries)
+}
+
+// The entry as it is kept; none where its metadata is too long.
+fn kept(entry: CommitEntry) -> Option<Entry>
+    ensures { MatchOption result
+        (is_long entry ≡ true)
+        (λ kept. (is_long entry ≡ false) × (kept ≡ kept_entry entry)) }
+{
+    let CommitEntry {
+        topic,
+        partition,
+        offset,
+        metadata,
+    } = entry;
+    match Metadata::from_vec(metadata.into_vec()) {
+        Ok(metadata) => Some(Entry {
+            topic,
+            partition,
+            offset,
+            metadata,
+        }),
+        Err(_) => None,
+    }
+}
+
+// The entries as they are kept, without a copy of what they say.
+fn all_kept(alloc: Global, items: Vec<CommitEntry>) -> Result<Option<Vec<Entry>>, AllocError>
+    ensures { IfOk result (λ o. MatchOption o
+        (is_too_large items.items ≡ true)
+        (λ entries. (is_too_large items.items ≡ false) × (entries.items ≡ map kept_entry items.items))) }
+{
+    let mut entries = Vec::with_capacity(alloc, items.len())?;
+    for item in items {
+        let Some(entry) = kept(item) else {
+            return Ok(None);
+        };
+        entries.push(entry)?;
+    }
+    Ok(Some(entries))
+}
+
+impl Commits {
+    /// What a COMMIT says, without a copy; what is none is given back. Compares each entry with each.
+    pub fn from_vec(items: Vec<CommitEntry>) -> Result<Self, Vec<CommitEntry>>
+        ensures { MatchResult result
+            (λ commits. AreCommits items.items × (commits ≡ items.items))
+            (λ back. (¬ AreCommits items.items) × (back ≡ items)) }
+    {
+        if are_commits(items.as_slice()) {
+            Ok(Commits { items })
+        } else {
+            Err(items)
+        }
+    }
+
+    /// The entries in the order in which they were given.
+    pub fn as_slice(&self) -> &[CommitEntry]
+        ensures value { result.now ≡ self.now }
+        ensures lawful { AreCommits self.now }
+    {
+        self.items.as_slice()
+    }
+
+    /// The entries as a command keeps them; none where the metadata of one is too long.
+    #[tactic(auto, using(crate::proofs::KeptEntries::entries_of_commits))]
+    pub fn into_entries(self, alloc: Global) -> Result<Option<Entries>, AllocError>
+        ensures { IfOk result (λ o. MatchOption o
+            (is_too_large self ≡ true)
+            (λ entries. (is_too_large self ≡ false) × (entries ≡ map kept_entry self))) }
+    {
+        let Some(items) = all_kept(alloc, self.items)? else {
+            return Ok(None);
+        };
+        Ok(Some(Entries::from_lawful(items)))
+    }
+}

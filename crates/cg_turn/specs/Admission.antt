@@ -1,0 +1,50 @@
+-- JOIN (protocol guide, "JoinGroup"; KIP-345): who may join, in the order of the refusals.
+use Rattle.std.specs.Prelude.{ℕ, Bool, false, nat_le, List, length, Option, Some, None, Result, Ok, is_some}
+use Rattle.cg_names.specs.declared.code.Code.{Code}
+use Rattle.cg_names.specs.declared.code.Code.TheVariants.{CoordinatorNotAvailable, InconsistentGroupProtocol, UnknownMemberId, GroupMaxSizeReached}
+use Rattle.cg_record.specs.declared.roster.TheConstants.{MEMBERS_MAX}
+use Rattle.cg_turn.specs.declared.bounds.TheConstants.{GROUPS_MAX}
+use Rattle.cg_member.specs.declared.group.Group.{Group}
+use Rattle.cg_member.specs.declared.member.Member.{Member}
+use Rattle.cg_request.specs.declared.request.JoinRequest.{JoinRequest}
+use Rattle.cg_request.specs.declared.ticket.Ticket.{Ticket}
+use Rattle.cg_member.specs.declared.turn.Turn.{Turn}
+use Rattle.cg_member.specs.Fencing.{member_check}
+use Rattle.cg_member.specs.Joining.{drawn, is_inconsistent, join_known, join_new, new_group, own_name}
+use Rattle.cg_member.specs.Membership.{find_instance, find_member}
+use Rattle.cg_member.specs.Refusing.{◌>>=◌, refused_if}
+use Rattle.cg_member.specs.Replacing.{join_replacing}
+
+-- one more member would be one too many; one that takes another's place is not one more
+abbrev pub is_full : Option Member → List Member → Bool
+is_full None members = nat_le MEMBERS_MAX (length members)
+is_full (Some old) members = false
+
+-- a new member joins, or takes the place of the old one with its instance
+abbrev pub join_placed : ℕ → JoinRequest → List ℕ → Ticket → Group → Option Member → Turn
+join_placed now r id ticket g None = join_new now r id ticket g
+join_placed now r id ticket g (Some old) = join_replacing now r id ticket old g
+
+-- JOIN under the id that was drawn
+unfoldable pub join_drawn : ℕ → JoinRequest → List ℕ → Ticket → Group → Result Turn Code
+join_drawn now r id ticket g = do
+  _ ← refused_if (is_some (find_member id g.members)) CoordinatorNotAvailable
+  Ok (join_placed now r id ticket g (find_instance r.instance g.members))
+
+-- JOIN in a group that is held
+unfoldable pub join_held : ℕ → JoinRequest → List ℕ → Ticket → Option (List ℕ) → Group → Result Turn Code
+join_held now r fresh ticket None g = do
+  _ ← refused_if (is_full (find_instance r.instance g.members) g.members) GroupMaxSizeReached
+  _ ← refused_if (is_inconsistent r g) InconsistentGroupProtocol
+  join_drawn now r (drawn (own_name r) fresh) ticket g
+join_held now r fresh ticket (Some id) g = do
+  who ← member_check r.instance (Some id) g.members
+  _ ← refused_if (is_inconsistent r g) InconsistentGroupProtocol
+  Ok (join_known now r who.0 ticket who.1 g)
+
+-- JOIN in a group that is not held
+unfoldable pub join_unheld : ℕ → JoinRequest → List ℕ → Ticket → ℕ → List ℕ → Result Turn Code
+join_unheld now r fresh ticket held id = do
+  _ ← refused_if (is_some r.member) UnknownMemberId
+  _ ← refused_if (nat_le GROUPS_MAX held) CoordinatorNotAvailable
+  Ok (join_new now r (drawn (own_name r) fresh) ticket (new_group id))

@@ -1,0 +1,29 @@
+-- BEAT (protocol guide, "Heartbeat").
+use Rattle.std.specs.Prelude.{ℕ, List, pos, not, [], ◌∷◌, Result, Ok, if◌then◌else◌}
+use Rattle.std.specs.Ordering.{int_eq}
+use Rattle.cg_names.specs.declared.code.Code.{Code}
+use Rattle.cg_names.specs.declared.code.Code.TheVariants.{IllegalGeneration, RebalanceInProgress}
+use Rattle.cg_member.specs.declared.group.Group.{Group}
+use Rattle.cg_member.specs.declared.reply.Reply.{Reply}
+use Rattle.cg_member.specs.declared.reply.Reply.TheVariants as reply
+use Rattle.cg_request.specs.declared.request.BeatRequest.{BeatRequest}
+use Rattle.cg_request.specs.declared.ticket.Ticket.{Ticket}
+use Rattle.cg_member.specs.declared.turn.Turn.{Turn}
+use Rattle.cg_member.specs.Fencing.{member_check}
+use Rattle.cg_member.specs.Membership.{hearing, is_preparing}
+use Rattle.cg_member.specs.Refusing.{◌>>=◌, refused_if}
+
+-- a member is told to join again while its group prepares
+unfoldable pub beat_reply : Group → Reply
+beat_reply g = if is_preparing g.phase then reply.Refused RebalanceInProgress else reply.Done
+
+-- BEAT that is taken: the member is heard, also where it is told to join again
+unfoldable pub beat_taken : ℕ → List ℕ → Ticket → Group → Turn
+beat_taken now id ticket g = record { group = hearing now id g; replies = (ticket, beat_reply g) ∷ []; commands = [] }
+
+-- BEAT in a group that is held
+unfoldable pub beat_held : ℕ → BeatRequest → Ticket → Group → Result Turn Code
+beat_held now r ticket g = do
+  who ← member_check r.instance r.member g.members
+  _ ← refused_if (not (int_eq r.generation (pos g.generation))) IllegalGeneration
+  Ok (beat_taken now who.0 ticket g)

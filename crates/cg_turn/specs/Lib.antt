@@ -1,0 +1,4 @@
+pub mod Admission
+pub mod Beating
+pub mod Committing
+pub mod Touching

@@ -1,0 +1,97 @@
+//! COMMIT: how far a group has read.
+ghost use Rattle.std.specs.Prelude.{◌≡◌, ℕ, List, Ok, Err, Some, IfOk, MatchResult};
+ghost use Rattle.std.specs.Option.{option_copied};
+ghost use Rattle.cg_turn.specs.Committing.{commit_effects, commit_of_member, commit_unheld, committer, keeping_entries};
+ghost use Rattle.cg_member.specs.Joining.{new_group};
+
+use crate::bounds::GROUPS_MAX;
+use cg_member::effects::Effects;
+use cg_member::fencing::checked_member;
+use cg_member::few::Few;
+use cg_member::group::{Group, Phase};
+use cg_member::reply::Reply;
+use cg_names::{Code, InstanceId, MemberId};
+use cg_record::{Command, Committed, Entries};
+use cg_request::commits::Commits;
+use cg_request::ticket::Ticket;
+use std::alloc::{AllocError, Global};
+
+// The member that commits to its group.
+#[tactic(auto, unfolding(crate::specs::Committing::commit_of_member))]
+fn committing_member<'a>(
+    generation: i32,
+    instance: &Option<InstanceId>,
+    member: &'a Option<MemberId>,
+    group: &Group,
+) -> Result<&'a MemberId, Code>
+    ensures { MatchResult result
+        (λ id. commit_of_member generation instance.now member.now group.now ≡ Ok (Some id.now))
+        (λ code. commit_of_member generation instance.now member.now group.now ≡ Err code) }
+{
+    let (id, _) = checked_member(instance, member, &group.members)?;
+    if i64::from(generation) != i64::from(group.generation.get()) {
+        return Err(Code::IllegalGeneration);
+    }
+    match group.phase {
+        Phase::Completing => Err(Code::RebalanceInProgress),
+        _ => Ok(id),
+    }
+}
+
+/// Who commits: a member, or nobody where the group has no members.
+#[tactic(auto, unfolding(crate::specs::Committing::committer))]
+pub fn committer<'a>(
+    generation: i32,
+    instance: &Option<InstanceId>,
+    member: &'a Option<MemberId>,
+    group: &Group,
+) -> Result<Option<&'a MemberId>, Code>
+    ensures { MatchResult result
+        (λ who. committer generation instance.now member.now group.now ≡ Ok (option_copied who))
+        (λ code. committer generation instance.now member.now group.now ≡ Err code) }
+{
+    if group.members.len() == 0 {
+        if generation < 0 {
+            return Ok(None);
+        }
+        return Err(Code::UnknownMemberId);
+    }
+    match committing_member(generation, instance, member, group) {
+        Ok(id) => Ok(Some(id)),
+        Err(code) => Err(code),
+    }
+}
+
+/// The command that keeps a commit, and the reply. Takes no memory.
+pub fn kept(alloc: Global, committed: Committed, ticket: Ticket) -> Effects
+    ensures { result ≡ commit_effects committed.entries ticket committed.group }
+{
+    Effects {
+        commands: Few::one(alloc, Command::Committed(committed)),
+        replies: Few::one(alloc, (ticket, Reply::Done)),
+    }
+}
+
+/// What a COMMIT in a group that is not held keeps, beside so many that are.
+#[tactic(auto, unfolding(crate::specs::Committing::commit_unheld, crate::specs::Committing::keeping_entries))]
+pub fn committing_unheld(
+    alloc: Global,
+    generation: i32,
+    entries: Commits,
+    held: usize,
+) -> Result<Result<Entries, Code>, AllocError>
+    ensures { IfOk result (λ o. MatchResult o
+        (λ kept. (ticket : Ticket) (id : List ℕ) → commit_unheld generation entries ticket held id ≡ Ok (keeping_entries kept ticket (new_group id)))
+        (λ code. (ticket : Ticket) (id : List ℕ) → commit_unheld generation entries ticket held id ≡ Err code)) }
+{
+    if generation >= 0 {
+        return Ok(Err(Code::IllegalGeneration));
+    }
+    let Some(entries) = entries.into_entries(alloc)? else {
+        return Ok(Err(Code::OffsetMetadataTooLarge));
+    };
+    if GROUPS_MAX <= held {
+        return Ok(Err(Code::CoordinatorNotAvailable));
+    }
+    Ok(Ok(entries))
+}

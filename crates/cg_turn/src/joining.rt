@@ -1,0 +1,225 @@
+//! JOIN: what it does with a new member, and with one that joins again.
+ghost use Rattle.std.specs.Prelude.{◌≡◌, ◌<◌, [], false, is_some, length, IfOk};
+ghost use Rattle.cg_record.specs.declared.roster.TheConstants.{MEMBERS_MAX};
+ghost use Rattle.cg_member.specs.Membership.{find_member, find_instance};
+ghost use Rattle.cg_member.specs.Joining.{new_group, new_member, admitted, in_join_phase, join_new, updating, waiting, rejoined, join_again, join_current, is_current, join_known};
+ghost use Rattle.cg_member.specs.declared.member.Waits.TheVariants.{Join};
+
+use crate::rebalance::{joined_reply, leads, prepared, tried, turn_of};
+use cg_member::answers::{Refusing, answer_one};
+use cg_member::calls::Calls;
+use cg_member::checked::CheckedJoin;
+use cg_member::copies::copied_group;
+use cg_member::group::{Group, Phase};
+use cg_member::member::{Member, Waits};
+use cg_member::members::Members;
+use cg_member::turn::Turn;
+use cg_names::{Code, Generation, GroupId, MemberId, Moment, ProtocolName};
+use cg_record::{Assignment, MEMBERS_MAX};
+use cg_request::request::JoinRequest;
+use cg_request::ticket::Ticket;
+use std::alloc::{AllocError, Global};
+
+/// A group that is not held yet. Takes no memory.
+#[tactic(auto, unfolding(cg_member::specs::Joining::new_group))]
+pub fn new_group(alloc: Global, id: GroupId) -> Group
+    ensures { result ≡ new_group id }
+{
+    Group {
+        id,
+        phase: Phase::Empty,
+        generation: Generation::ZERO,
+        kind: None,
+        protocol: None,
+        leader: None,
+        members: Members::new(alloc),
+        started: Moment::from_millis(0),
+    }
+}
+
+/// A member that joins under a new id, and the type of its protocols. Takes no memory.
+#[tactic(auto, unfolding(cg_member::specs::Joining::new_member))]
+pub fn new_member(
+    now: Moment,
+    r: CheckedJoin,
+    id: MemberId,
+    assignment: Assignment,
+    waits: Waits,
+) -> (Member, ProtocolName)
+    ensures member { result.0 ≡ new_member now r id assignment waits }
+    ensures kind { result.1 ≡ r.kind }
+{
+    let CheckedJoin { request, session } = r;
+    let member = Member {
+        id,
+        instance: request.instance,
+        client: request.client,
+        session,
+        rebalance: request.rebalance,
+        protocols: request.protocols,
+        assignment,
+        heard: now,
+        waits,
+    };
+    (member, request.kind)
+}
+
+// Puts the member last; in a group without members it leads, and its type is the group's.
+#[tactic(auto, unfolding(cg_member::specs::Joining::admitted))]
+fn admitted(member: Member, kind: ProtocolName, mut group: Group) -> Result<Group, AllocError>
+    requires room { length group.members < MEMBERS_MAX }
+    requires own_id { is_some (find_member member.id group.members) ≡ false }
+    requires own_instance { is_some (find_instance member.instance group.members) ≡ false }
+    ensures { IfOk result (λ g. g ≡ admitted member kind group) }
+{
+    if group.members.len() == 0 {
+        let leader = member.id.clone()?;
+        group.leader = Some(leader);
+        group.kind = Some(kind);
+    }
+    group.members.push(member)?;
+    Ok(group)
+}
+
+fn in_join_phase(now: Moment, turn: Turn) -> Result<Turn, AllocError>
+    ensures { IfOk result (λ t. t ≡ in_join_phase now turn) }
+{
+    match turn.group.phase {
+        Phase::Preparing => Ok(turn),
+        _ => prepared(now, turn),
+    }
+}
+
+/// JOIN of a new member.
+#[tactic(auto, unfolding(cg_member::specs::Joining::join_new, cg_member::specs::Joining::new_member))]
+pub fn join_new(
+    alloc: Global,
+    now: Moment,
+    r: CheckedJoin,
+    id: MemberId,
+    ticket: Ticket,
+    group: Group,
+) -> Result<Turn, AllocError>
+    requires room { length group.members < MEMBERS_MAX }
+    requires own_id { is_some (find_member id group.members) ≡ false }
+    requires own_instance { is_some (find_instance r.instance group.members) ≡ false }
+    ensures { IfOk result (λ t. t ≡ join_new now r id ticket group) }
+{
+    let (member, kind) = new_member(now, r, id, Assignment::empty(alloc), Waits::Join(ticket));
+    let group = admitted(member, kind, group)?;
+    let turn = in_join_phase(now, turn_of(alloc, group))?;
+    tried(alloc, now, turn)
+}
+
+#[tactic(auto, unfolding(cg_member::specs::Joining::updating))]
+fn updating(r: CheckedJoin, id: &MemberId, mut group: Group) -> Group
+    ensures { result ≡ updating r id.now group }
+{
+    group.members.update(id, r);
+    group
+}
+
+/// A call of the member waits; one that waited before is told to join again.
+#[tactic(auto, unfolding(cg_member::specs::Joining::waiting))]
+pub fn waiting(now: Moment, id: &MemberId, waits: Waits, turn: Turn) -> Result<Turn, AllocError>
+    ensures { IfOk result (λ t. t ≡ waiting now id.now waits turn) }
+{
+    let Turn {
+        mut group,
+        mut replies,
+        commands,
+    } = turn;
+    if let Some(member) = group.members.find(id) {
+        let refusing = Refusing(Code::RebalanceInProgress);
+        answer_one(Calls::Any, &refusing, member, &mut replies)?;
+    }
+    group.members.wait(id, waits, now);
+    Ok(Turn {
+        group,
+        replies,
+        commands,
+    })
+}
+
+/// The member joins with the others.
+#[tactic(auto, unfolding(cg_member::specs::Joining::rejoined))]
+pub fn rejoined(
+    alloc: Global,
+    now: Moment,
+    id: &MemberId,
+    ticket: Ticket,
+    turn: Turn,
+) -> Result<Turn, AllocError>
+    ensures { IfOk result (λ t. t ≡ rejoined now id.now ticket turn) }
+{
+    let turn = in_join_phase(now, turn)?;
+    let turn = waiting(now, id, Waits::Join(ticket), turn)?;
+    tried(alloc, now, turn)
+}
+
+#[tactic(auto, unfolding(cg_member::specs::Joining::join_again))]
+fn join_again(
+    alloc: Global,
+    now: Moment,
+    r: CheckedJoin,
+    id: &MemberId,
+    ticket: Ticket,
+    group: Group,
+) -> Result<Turn, AllocError>
+    ensures { IfOk result (λ t. t ≡ join_again now r id.now ticket group) }
+{
+    let turn = turn_of(alloc, updating(r, id, group));
+    rejoined(alloc, now, id, ticket, turn)
+}
+
+#[tactic(auto, unfolding(cg_member::specs::Joining::join_current, cg_member::specs::Membership::hearing))]
+fn join_current(
+    alloc: Global,
+    now: Moment,
+    id: &MemberId,
+    ticket: Ticket,
+    member: &Member,
+    group: &Group,
+) -> Result<Turn, AllocError>
+    ensures { IfOk result (λ t. t ≡ join_current now id.now ticket member.now group.now) }
+{
+    let reply = joined_reply(alloc, group, member)?;
+    let mut turn = turn_of(alloc, copied_group(alloc, group)?);
+    turn.group.members.hear(id, now);
+    turn.replies.push((ticket, reply))?;
+    Ok(turn)
+}
+
+// Whether a JOIN of the member changes nothing.
+#[tactic(auto, unfolding(cg_member::specs::Joining::is_current))]
+fn is_current(r: &JoinRequest, member: &Member, group: &Group) -> bool
+    ensures { result ≡ is_current r.now member.now group.now group.now.phase }
+{
+    match group.phase {
+        Phase::Preparing => false,
+        Phase::Completing => member.protocols.as_slice() == r.protocols.as_slice(),
+        Phase::Stable => !leads(group, member)
+            && member.protocols.as_slice() == r.protocols.as_slice(),
+        Phase::Empty => true,
+    }
+}
+
+/// JOIN of a member by its id.
+#[tactic(auto, unfolding(cg_member::specs::Joining::join_known))]
+pub fn join_known(
+    alloc: Global,
+    now: Moment,
+    r: CheckedJoin,
+    id: &MemberId,
+    ticket: Ticket,
+    member: &Member,
+    group: &Group,
+) -> Result<Turn, AllocError>
+    ensures { IfOk result (λ t. t ≡ join_known now r id.now ticket member.now group.now) }
+{
+    if is_current(&r.request, member, group) {
+        join_current(alloc, now, id, ticket, member, group)
+    } else {
+        join_again(alloc, now, r, id, ticket, copied_group(alloc, group)?)
+    }
+}

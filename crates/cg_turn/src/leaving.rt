@@ -1,0 +1,195 @@
+//! LEAVE, and sessions that are closed.
+ghost use Rattle.std.specs.Prelude.{◌≡◌, Ok, Err, Some, not, IfOk, MatchResult};
+ghost use Rattle.cg_member.specs.Leaving.{after_removal, left, leave_taken, may_be, leaver, leave_held, gone_in};
+ghost use Rattle.cg_turn.specs.Touching.{gone_touches};
+ghost use Rattle.cg_member.specs.Membership.{has_id, is_named, keeping, leader_among};
+ghost use Rattle.std.specs.List.{list_any};
+
+use crate::rebalance::{leads, prepared, tried, turn_of};
+use cg_member::answers::{Refusing, answer_all, answer_one};
+use cg_member::calls::{Calls, is_waiting};
+use cg_member::copies::copied_group;
+use cg_member::few::Few;
+use cg_member::group::{Group, Phase};
+use cg_member::member::Member;
+use cg_member::members::Members;
+use cg_member::reply::Reply;
+use cg_member::turn::Turn;
+use cg_names::{Code, InstanceId, MemberId, Moment};
+use cg_request::request::LeaveRequest;
+use cg_request::ticket::Ticket;
+use std::alloc::{AllocError, Global};
+
+fn has_leader(group: &Group) -> bool
+    ensures { result ≡ list_any (λ m. is_named group.now.leader m.id) group.now.members }
+{
+    group.members.as_slice().iter().any(|m| leads(group, m))
+}
+
+/// The leader, where it is still a member.
+pub fn checked_leader(mut group: Group) -> Group
+    ensures { result ≡ record group { leader = leader_among group.members group.leader } }
+{
+    if !has_leader(&group) {
+        group.leader = None;
+    }
+    group
+}
+
+/// Prepares, where the members had joined; then tries.
+#[tactic(auto, unfolding(cg_member::specs::Leaving::after_removal))]
+pub fn after_removal(alloc: Global, now: Moment, turn: Turn) -> Result<Turn, AllocError>
+    ensures { IfOk result (λ t. t ≡ after_removal now turn) }
+{
+    let turn = match turn.group.phase {
+        Phase::Completing | Phase::Stable => prepared(now, turn)?,
+        _ => turn,
+    };
+    tried(alloc, now, turn)
+}
+
+#[tactic(auto, unfolding(cg_member::specs::Membership::keeping))]
+fn without(alloc: Global, id: &MemberId, group: &Group) -> Result<Group, AllocError>
+    ensures { IfOk result (λ g. g ≡ keeping (λ other. not (has_id id.now other)) group.now) }
+{
+    let mut own = copied_group(alloc, group)?;
+    own.members.remove(id);
+    Ok(checked_leader(own))
+}
+
+#[tactic(auto, unfolding(cg_member::specs::Leaving::left))]
+fn left(
+    alloc: Global,
+    id: &MemberId,
+    ticket: Ticket,
+    member: &Member,
+    group: &Group,
+) -> Result<Turn, AllocError>
+    ensures { IfOk result (λ t. t ≡ left id.now ticket member.now group.now) }
+{
+    let group = without(alloc, id, group)?;
+    let mut replies = Few::new(alloc);
+    let refusing = Refusing(Code::UnknownMemberId);
+    answer_one(Calls::Any, &refusing, member, &mut replies)?;
+    replies.push((ticket, Reply::Done))?;
+    Ok(Turn {
+        group,
+        replies,
+        commands: Few::new(alloc),
+    })
+}
+
+#[tactic(auto, unfolding(cg_member::specs::Leaving::leave_taken))]
+fn leave_taken(
+    alloc: Global,
+    now: Moment,
+    id: &MemberId,
+    ticket: Ticket,
+    member: &Member,
+    group: &Group,
+) -> Result<Turn, AllocError>
+    ensures { IfOk result (λ t. t ≡ leave_taken now id.now ticket member.now group.now) }
+{
+    let turn = left(alloc, id, ticket, member, group)?;
+    let turn = after_removal(alloc, now, turn)?;
+    Ok(turn)
+}
+
+// Whether no id is given, or this one.
+fn may_be(given: &Option<MemberId>, id: &MemberId) -> bool
+    ensures { result ≡ may_be given.now id.now }
+{
+    match given {
+        None => true,
+        Some(given) => *given == *id,
+    }
+}
+
+// The member with the instance, where its id may be the one that is given.
+#[tactic(auto, unfolding(cg_member::specs::Leaving::leaver))]
+fn static_leaver<'a>(
+    instance: &InstanceId,
+    member: &Option<MemberId>,
+    members: &'a Members,
+) -> Result<&'a Member, Code>
+    ensures { MatchResult result
+        (λ m. leaver (Some instance.now) member.now members.now ≡ Ok m.now)
+        (λ code. leaver (Some instance.now) member.now members.now ≡ Err code) }
+{
+    let Some(own) = members.with_instance(instance) else {
+        return Err(Code::UnknownMemberId);
+    };
+    if may_be(member, &own.id) {
+        Ok(own)
+    } else {
+        Err(Code::FencedInstanceId)
+    }
+}
+
+// Who leaves.
+#[tactic(auto, unfolding(cg_member::specs::Leaving::leaver))]
+fn leaver<'a>(r: &LeaveRequest, members: &'a Members) -> Result<&'a Member, Code>
+    ensures { MatchResult result
+        (λ m. leaver r.now.instance r.now.member members.now ≡ Ok m.now)
+        (λ code. leaver r.now.instance r.now.member members.now ≡ Err code) }
+{
+    if let Some(instance) = &r.instance {
+        return static_leaver(instance, &r.member, members);
+    }
+    let Some(id) = &r.member else {
+        return Err(Code::UnknownMemberId);
+    };
+    match members.find(id) {
+        None => Err(Code::UnknownMemberId),
+        Some(own) => Ok(own),
+    }
+}
+
+/// LEAVE in a group that is held.
+#[tactic(auto, unfolding(cg_member::specs::Leaving::leave_held))]
+pub fn leave_held(
+    alloc: Global,
+    now: Moment,
+    r: &LeaveRequest,
+    ticket: Ticket,
+    group: &Group,
+) -> Result<Result<Turn, Code>, AllocError>
+    ensures { IfOk result (λ o. o ≡ leave_held now r.now ticket group.now) }
+{
+    match leaver(r, &group.members) {
+        Err(code) => Ok(Err(code)),
+        Ok(member) => {
+            let turn = leave_taken(alloc, now, &member.id, ticket, member, group)?;
+            Ok(Ok(turn))
+        }
+    }
+}
+
+/// Whether a call of the session waits in the group: one pass over its members. Takes no memory.
+pub fn gone_touches(session: u64, group: &Group) -> bool
+    ensures { result ≡ gone_touches session group.now }
+{
+    let which = Calls::OfSession(session);
+    group
+        .members
+        .as_slice()
+        .iter()
+        .any(|m| is_waiting(which, m))
+}
+
+/// A closed session, in one group.
+#[tactic(auto, unfolding(cg_member::specs::Leaving::gone_in))]
+pub fn gone_in(alloc: Global, now: Moment, session: u64, group: &Group) -> Result<Turn, AllocError>
+    ensures { IfOk result (λ t. t ≡ gone_in now session group.now) }
+{
+    let mut turn = turn_of(alloc, copied_group(alloc, group)?);
+    let refusing = Refusing(Code::CoordinatorNotAvailable);
+    answer_all(
+        Calls::OfSession(session),
+        &refusing,
+        group.members.as_slice(),
+        &mut turn.replies,
+    )?;
+    turn.group.members.answer(Calls::OfSession(session), now);
+    Ok(turn)
+}

@@ -1,0 +1,178 @@
+//! A member takes the place of the one with its instance.
+ghost use Rattle.std.specs.Prelude.{◌≡◌, Some, false, is_some, IfOk, IsSome};
+ghost use Rattle.std.specs.List.{list_any};
+ghost use Rattle.cg_record.specs.declared.member.Member.{Member as KeptMember};
+ghost use Rattle.cg_member.specs.Joining.{new_member, rejoined};
+ghost use Rattle.cg_member.specs.Membership.{find_instance, find_member};
+ghost use Rattle.cg_member.specs.Replacing.{leads_and_goes, replacing, is_protocol, keeps_generation, successor, replaced, replaced_command, replaced_reply, replaced_in_place, join_replacing};
+ghost use Rattle.cg_member.specs.Syncing.{kept_member};
+
+use crate::joining::{new_member, rejoined};
+use crate::rebalance::leads;
+use crate::syncing::kept_member;
+use cg_member::answers::{Refusing, answer_one};
+use cg_member::calls::Calls;
+use cg_member::checked::CheckedJoin;
+use cg_member::copies::{copied_group, copied_name};
+use cg_member::few::Few;
+use cg_member::group::{Group, Phase};
+use cg_member::member::{Member, Waits};
+use cg_member::members::has_instance;
+use cg_member::reply::{Joined, Reply};
+use cg_member::turn::Turn;
+use cg_member::vote::elected;
+use cg_names::{Code, MemberId, Moment, ProtocolName};
+use cg_record::{Command, Replaced, StaticMember};
+use cg_request::listed::Listed;
+use cg_request::ticket::Ticket;
+use std::alloc::{AllocError, Global};
+
+// Whether the leader is the one whose place the new member takes.
+fn leader_goes(new: &Member, group: &Group) -> bool
+    ensures { result ≡ list_any (leads_and_goes new.now group.now) group.now.members }
+{
+    group
+        .members
+        .as_slice()
+        .iter()
+        .any(|m| has_instance(&new.instance, m) && leads(group, m))
+}
+
+// The group with the new member in the place of the one with its instance.
+#[tactic(auto, unfolding(cg_member::specs::Replacing::replacing))]
+fn replacing(new: Member, mut group: Group) -> Result<Group, AllocError>
+    requires own_id { is_some (find_member new.id group.members) ≡ false }
+    ensures { IfOk result (λ g. g ≡ replacing new group) }
+{
+    if leader_goes(&new, &group) {
+        let leader = new.id.clone()?;
+        group.leader = Some(leader);
+    }
+    group.members.replace(new);
+    Ok(group)
+}
+
+fn is_protocol(group: &Group, name: &Option<ProtocolName>) -> bool
+    ensures { result ≡ is_protocol group.now name.now }
+{
+    match (&group.protocol, name) {
+        (Some(own), Some(name)) => *own == *name,
+        _ => false,
+    }
+}
+
+// Whether the group is stable, and its members vote for its protocol still.
+#[tactic(auto, unfolding(cg_member::specs::Replacing::keeps_generation))]
+fn keeps_generation(alloc: Global, group: &Group) -> Result<bool, AllocError>
+    ensures { IfOk result (λ b. b ≡ keeps_generation group.now) }
+{
+    match group.phase {
+        Phase::Stable => {
+            let protocol = elected(alloc, group.members.as_slice())?;
+            Ok(is_protocol(group, &protocol))
+        }
+        _ => Ok(false),
+    }
+}
+
+// The new member has its place; a call of the old one that waits is answered.
+#[tactic(auto, unfolding(cg_member::specs::Replacing::replaced))]
+fn replaced(alloc: Global, new: Member, old: &Member, group: &Group) -> Result<Turn, AllocError>
+    requires own_id { is_some (find_member new.id group.now.members) ≡ false }
+    ensures { IfOk result (λ t. t ≡ replaced new old.now group.now) }
+{
+    let mut replies = Few::new(alloc);
+    let refusing = Refusing(Code::FencedInstanceId);
+    answer_one(Calls::Any, &refusing, old, &mut replies)?;
+    let own = copied_group(alloc, group)?;
+    let group = replacing(new, own)?;
+    Ok(Turn {
+        group,
+        replies,
+        commands: Few::new(alloc),
+    })
+}
+
+// What the new member is told: the leader from before the replacement, and no members.
+fn replaced_reply(alloc: Global, id: MemberId, before: &Group) -> Result<Reply, AllocError>
+    ensures { IfOk result (λ reply. reply ≡ replaced_reply id before.now) }
+{
+    let kind = copied_name(&before.kind)?;
+    let protocol = copied_name(&before.protocol)?;
+    let leader = copied_name(&before.leader)?;
+    Ok(Reply::Joined(Joined {
+        generation: before.generation,
+        kind,
+        protocol,
+        leader,
+        member: id,
+        members: Listed::new(alloc),
+    }))
+}
+
+// The new member as the command keeps it.
+fn kept_successor(alloc: Global, new: &Member, group: &Group) -> Result<StaticMember, AllocError>
+    requires { IsSome new.now.instance }
+    ensures { IfOk result (λ kept. kept ≡ kept_member group.now.protocol new.now) }
+{
+    let kept = kept_member(alloc, &group.protocol, new)?;
+    Ok(StaticMember::from_lawful(kept))
+}
+
+// The generation goes on with the new member.
+#[tactic(auto, unfolding(cg_member::specs::Replacing::replaced_in_place))]
+fn replaced_in_place(
+    alloc: Global,
+    ticket: Ticket,
+    kept: StaticMember,
+    before: &Group,
+    turn: Turn,
+) -> Result<Turn, AllocError>
+    ensures { IfOk result (λ t. t ≡ replaced_in_place ticket kept before.now turn) }
+{
+    let Turn {
+        group,
+        mut replies,
+        mut commands,
+    } = turn;
+    let id = kept.member().id.clone()?;
+    let reply = replaced_reply(alloc, id, before)?;
+    replies.push((ticket, reply))?;
+    let group_id = before.id.clone()?;
+    commands.push(Command::Replaced(Replaced {
+        group: group_id,
+        member: kept,
+    }))?;
+    Ok(Turn {
+        group,
+        replies,
+        commands,
+    })
+}
+
+/// JOIN of a member that takes the place of the old one. Its id is a new one.
+#[tactic(auto, unfolding(cg_member::specs::Replacing::join_replacing, cg_member::specs::Joining::new_member))]
+pub fn join_replacing(
+    alloc: Global,
+    now: Moment,
+    r: CheckedJoin,
+    id: MemberId,
+    ticket: Ticket,
+    old: &Member,
+    group: &Group,
+) -> Result<Turn, AllocError>
+    requires own_id { is_some (find_member id group.now.members) ≡ false }
+    requires given { IsSome r.instance }
+    ensures { IfOk result (λ t. t ≡ join_replacing now r id ticket old.now group.now) }
+{
+    let own = id.clone()?;
+    let assignment = old.assignment.clone()?;
+    let (new, _kind) = new_member(now, r, id, assignment, Waits::Nothing);
+    let kept = kept_successor(alloc, &new, group)?;
+    let turn = replaced(alloc, new, old, group)?;
+    if keeps_generation(alloc, &turn.group)? {
+        replaced_in_place(alloc, ticket, kept, group, turn)
+    } else {
+        rejoined(alloc, now, &own, ticket, turn)
+    }
+}

@@ -1,0 +1,126 @@
+//! Time-outs: sessions that expire, and the deadline of the join phase.
+ghost use Rattle.std.specs.Prelude.{◌≡◌, IfOk};
+ghost use Rattle.cg_member.specs.Ticking.{can_complete, expired, greatest_rebalance, is_due, ended, at_deadline, ticked};
+ghost use Rattle.cg_turn.specs.Touching.{tick_touches};
+
+use crate::leaving::{after_removal, checked_leader};
+use crate::rebalance::{completed, is_preparing, is_ready, tried, turn_of};
+use cg_member::calls::Calls;
+use cg_member::copies::copied_group;
+use cg_member::group::Group;
+use cg_member::member::Member;
+use cg_member::members::Members;
+use cg_member::turn::Turn;
+use cg_names::Moment;
+use std::alloc::{AllocError, Global};
+
+#[tactic(auto, unfolding(cg_member::specs::Ticking::expired, cg_member::specs::Membership::keeping))]
+fn expired(alloc: Global, now: Moment, turn: Turn) -> Result<Turn, AllocError>
+    ensures { IfOk result (λ t. t ≡ expired now turn) }
+{
+    if !turn.group.members.has_overdue(now) {
+        return tried(alloc, now, turn);
+    }
+    let Turn {
+        mut group,
+        replies,
+        commands,
+    } = turn;
+    group.members.remove_overdue(now);
+    let group = checked_leader(group);
+    after_removal(
+        alloc,
+        now,
+        Turn {
+            group,
+            replies,
+            commands,
+        },
+    )
+}
+
+#[tactic(auto, unfolding(cg_member::specs::Ticking::greatest_rebalance))]
+fn greatest_rebalance(members: &[Member]) -> u32
+    ensures { result ≡ greatest_rebalance members.now }
+{
+    let mut greatest = 0;
+    for member in members {
+        greatest = member.rebalance.get().max(greatest);
+    }
+    greatest
+}
+
+fn is_due(now: Moment, group: &Group) -> bool
+    ensures { result ≡ is_due now group.now }
+{
+    is_preparing(group.phase)
+        && now.is_past(group.started, greatest_rebalance(group.members.as_slice()))
+}
+
+fn can_complete(members: &Members) -> bool
+    ensures { result ≡ can_complete members.now }
+{
+    members.len() == 0 || members.has_waiting(Calls::Any)
+}
+
+#[tactic(auto, unfolding(cg_member::specs::Ticking::ended))]
+fn ended(alloc: Global, now: Moment, turn: Turn) -> Result<Turn, AllocError>
+    ensures { IfOk result (λ t. t ≡ ended now turn) }
+{
+    if can_complete(&turn.group.members) {
+        return completed(alloc, now, turn);
+    }
+    let Turn {
+        mut group,
+        replies,
+        commands,
+    } = turn;
+    group.started = now;
+    Ok(Turn {
+        group,
+        replies,
+        commands,
+    })
+}
+
+#[tactic(auto, unfolding(cg_member::specs::Ticking::at_deadline, cg_member::specs::Membership::keeping))]
+fn at_deadline(alloc: Global, now: Moment, turn: Turn) -> Result<Turn, AllocError>
+    ensures { IfOk result (λ t. t ≡ at_deadline now turn) }
+{
+    if !is_due(now, &turn.group) {
+        return Ok(turn);
+    }
+    let Turn {
+        mut group,
+        replies,
+        commands,
+    } = turn;
+    group.members.remove_idle();
+    let group = checked_leader(group);
+    ended(
+        alloc,
+        now,
+        Turn {
+            group,
+            replies,
+            commands,
+        },
+    )
+}
+
+/// Whether a Tick touches the group: one pass over its members. Takes no memory.
+pub fn tick_touches(now: Moment, group: &Group) -> bool
+    ensures { result ≡ tick_touches now group.now }
+{
+    group.members.has_overdue(now) || is_ready(group) || is_due(now, group)
+}
+
+/// A Tick, in one group.
+#[tactic(auto, unfolding(cg_member::specs::Ticking::ticked))]
+pub fn ticked(alloc: Global, now: Moment, group: &Group) -> Result<Turn, AllocError>
+    ensures { IfOk result (λ t. t ≡ ticked now group.now) }
+{
+    let turn = turn_of(alloc, copied_group(alloc, group)?);
+    let turn = expired(alloc, now, turn)?;
+    at_deadline(alloc, now, turn)
+}
