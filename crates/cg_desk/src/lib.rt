@@ -30,6 +30,3 @@ pub use laws::{
 pub use outgoing::Outgoing;
 pub use permit::Permit;
 pub use token::ReplyToken;
-
-#[cfg(test)]
-mod tests;

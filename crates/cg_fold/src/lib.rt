@@ -21,6 +21,3 @@ pub use key::{OffsetKey, StoredOffset};
 pub use law::snapshots_make_the_state_anew;
 pub use offsets::Offsets;
 pub use record::GroupRecord;
-
-#[cfg(test)]
-mod tests;

@@ -8,8 +8,6 @@ mod line_fault;
 mod parsing;
 mod printing;
 mod running;
-#[cfg(test)]
-mod tests;
 mod words;
 
 pub use backend::Backend;

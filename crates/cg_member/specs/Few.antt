@@ -1,5 +1,5 @@
 -- The values of a list of few.
-use Rattle.std.specs.Prelude.{List}
+use Rattle.std.specs.Prelude.{◌≡◌, List, length, take}
 use Rattle.cg_member.specs.declared.few.Items.{Items}
 use Rattle.cg_member.specs.declared.few.Items.TheVariants.{One, Many}
 
@@ -7,3 +7,7 @@ use Rattle.cg_member.specs.declared.few.Items.TheVariants.{One, Many}
 abbrev pub items_of : {T : Type 0} → Items T → List T
 items_of (One values) = values
 items_of (Many values) = values.items
+
+-- the values are the first of these
+abbrev pub AreFirst : {T : Type 0} → List T → List T → Type 0
+AreFirst values all = take (length values) all ≡ values

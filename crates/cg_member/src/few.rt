@@ -1,6 +1,6 @@
 //! Lists of which most have one value.
 ghost use Rattle.std.specs.Prelude.{◌≡◌, [], ◌∷◌, ◌++◌, length, OnOk, OnErr};
-ghost use Rattle.cg_member.specs.Few.{items_of};
+ghost use Rattle.cg_member.specs.Few.{AreFirst, items_of};
 
 use std::alloc::{AllocError, Global};
 use std::marker::Model;
@@ -87,9 +87,10 @@ impl<T: Drop> Few<T> {
         Ok(())
     }
 
-    /// Puts the values of another list last.
+    /// Puts the values of another list last; where memory is refused, those that there was room for.
     pub fn append(&mut self, other: Few<T>) -> Result<(), AllocError>
         ensures ok { OnOk result (self.new ≡ self.old ++ other) }
+        ensures err { OnErr result (AreFirst self.new (self.old ++ other)) }
     {
         match other.into_items() {
             Items::One([value]) => {

@@ -57,6 +57,3 @@ pub use replaced::{Replaced, StaticMember};
 pub use roster::{MEMBERS_MAX, Roster};
 pub use sizes::{COMMAND_BYTES_MAX, size};
 pub use writing::write;
-
-#[cfg(test)]
-mod tests;

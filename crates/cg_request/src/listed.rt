@@ -63,13 +63,4 @@ impl<T: Drop> Listed<T> {
         self.items.push(value)?;
         Ok(())
     }
-
-    /// Puts the values of another list last.
-    pub fn append(&mut self, other: Listed<T>) -> Result<(), AllocError>
-        ensures ok { OnOk result (self.new ≡ self.old ++ other) }
-    {
-        let mut items = other.items;
-        self.items.append(&mut items)?;
-        Ok(())
-    }
 }

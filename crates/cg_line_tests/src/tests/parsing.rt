@@ -1,6 +1,6 @@
 //! Lines and the requests that they spell, with memory enough.
-use crate::{LineFault, parse};
 use cg_group::{CommitRequest, FetchRequest, JoinRequest, Request, SyncRequest};
+use cg_line::{LineFault, parse};
 use std::test::Fail;
 
 const WELL_FORMED: [&str; 25] = [

@@ -1,4 +1,4 @@
-use crate::{Durable, Offsets};
+use cg_fold::{Durable, Offsets};
 use cg_names::{GroupId, Topic};
 use cg_record::{Command, Committed, Entries, Entry, Metadata, Offset, Partition};
 use std::alloc::Global;

@@ -1,11 +1,11 @@
 //! Replies of each kind, beside lines that were written by hand from the table of the protocol.
 use super::name;
-use crate::print;
 use cg_fold::StoredOffset;
 use cg_group::{
     Described, DescribedMember, FetchedPartition, Joined, JoinedMember, Listed, Listing, Phase,
     Reply,
 };
+use cg_line::print;
 use cg_names::{Code, Generation};
 use cg_record::{Assignment, Metadata, Offset, Partition, Subscription};
 use std::alloc::Global;

@@ -1,6 +1,6 @@
 //! Streams of lines, served from a slice into a `Vec`.
-use crate::{Backend, RunEnd, RunFault, run};
 use cg_group::{Listed, Reply, Request};
+use cg_line::{Backend, RunEnd, RunFault, run};
 use cg_names::Code;
 use std::alloc::Global;
 use std::io::{self, ErrorKind, Read, Write};

@@ -1,7 +1,7 @@
 mod commits;
 mod snapshots;
 
-use super::*;
+use cg_fold::Durable;
 use cg_names::{GroupId, Name, Topic};
 use cg_record::{Partition, read};
 use std::alloc::AllocError;

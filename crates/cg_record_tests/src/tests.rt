@@ -1,4 +1,7 @@
-use super::*;
+use cg_record::{
+    Assigned, Command, Committed, Deleted, Emptied, RecordFault, Replaced, Roster, read, size,
+    write,
+};
 use std::alloc::{AllocError, Global};
 use std::test::*;
 

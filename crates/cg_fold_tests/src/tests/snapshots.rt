@@ -1,6 +1,6 @@
 use super::commits::{commit, entry};
 use super::{ASSIGNED, COMMITTED, EMPTIED, REPLACED, apply, apply_with};
-use crate::Durable;
+use cg_fold::Durable;
 use cg_record::{Command, write};
 use std::alloc::Global;
 use std::process::Abort;
