@@ -15,7 +15,7 @@ use Rattle.cg_request.specs.declared.ticket.Ticket.{Ticket}
 use Rattle.cg_member.specs.declared.turn.Turn.{Turn}
 use Rattle.cg_member.specs.Joining.{in_join_phase}
 use Rattle.cg_member.specs.Leaving.{after_removal, gone_in, has_joined}
-use Rattle.cg_member.specs.Membership.{heard, is_empty, is_preparing, keeping}
+use Rattle.cg_member.specs.Membership.{is_empty, is_preparing, keeping}
 use Rattle.cg_member.specs.Rebalance.{completed, emptied, is_ready, joined_reply, next_round, prepared, told_to_joins, tried, turn_of}
 use Rattle.cg_member.specs.Syncing.{synced_reply, told_to_syncs}
 use Rattle.cg_member.specs.Ticking.{at_deadline, can_complete, ended, expired, is_due, is_overdue, outstays, ticked}

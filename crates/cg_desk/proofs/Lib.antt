@@ -1,6 +1,7 @@
 pub mod Found
 pub mod Leaving
 pub mod FrontLaws
+pub mod FullTexts
 pub mod Taken
 pub mod Parting
 pub mod Alike

@@ -1,7 +1,6 @@
 -- A session that is closed makes no command.
 use Rattle.std.proofs.Common.{◌≡◌, ℕ, List, [], ◌∷◌, refl}
 use Rattle.std.specs.List.{flat_map}
-use Rattle.cg_record.specs.declared.command.Command.{Command}
 use Rattle.cg_request.specs.declared.event.Event.TheVariants.{Gone}
 use Rattle.cg_member.specs.declared.group.Group.{Group}
 use Rattle.cg_member.specs.Leaving.{gone_in}

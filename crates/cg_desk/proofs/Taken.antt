@@ -1,5 +1,5 @@
 -- A batch that is taken.
-use Rattle.std.proofs.Common.{◌≡◌, ℕ, Bool, true, false, List, [], take, drop, refl, sym, ap, ◌∙◌}
+use Rattle.std.proofs.Common.{◌≡◌, false, List, take, drop, refl, sym, ap, ◌∙◌}
 use Rattle.cg_record.specs.declared.command.Command.{Command}
 use Rattle.cg_desk.specs.Books.{Books, next_batch, queue_after, taking}
 use Rattle.cg_desk.specs.Flights.{Course, Idle, Away, Returned, is_away, is_returned}

@@ -1,8 +1,7 @@
 -- Tickets by their weights.
-use Rattle.std.proofs.Common.{◌≡◌, ℕ, ◌+◌, ◌<◌, Bool, true, false, List, [], ◌∷◌, ◌++◌, length, get_or, map, take, cond, refl, ap, sym, ◌∙◌, subst, arith}
+use Rattle.std.proofs.Common.{◌≡◌, ℕ, ◌+◌, Bool, true, false, List, [], ◌∷◌, ◌++◌, length, get_or, map, take, refl, ap, arith}
 use Rattle.std.specs.Prelude.{Option, Some, None, is_some, if◌then◌else◌}
-use Rattle.std.specs.List.{position, remove, sum_by}
-use Rattle.std.specs.List.Sorted.{IsPermutation}
+use Rattle.std.specs.List.{position, remove}
 use Rattle.std.proofs.lemmas.List.{get_or_default}
 use Rattle.std.proofs.lemmas.List.Quantifiers.{position-Some}
 use Rattle.std.proofs.lemmas.List.Sorted.{IsPermutation-remove, sum_by-IsPermutation}
@@ -16,7 +15,7 @@ use Rattle.cg_request.specs.declared.ticket.Ticket.{Ticket}
 use Rattle.cg_group.specs.Machine.{step}
 use Rattle.cg_member.specs.Waiting.{waiting_calls}
 use Rattle.cg_desk.specs.Answering.{after_answering, answering, answering_one, refusal, refused}
-use Rattle.cg_desk.specs.Books.{Books, Served, failing, is_short, letting_go, served, settling, stepped}
+use Rattle.cg_desk.specs.Books.{Books, failing, is_short, letting_go, served, settling, stepped}
 use Rattle.cg_desk.specs.Desks.{Answer, State, Loading, Serving, Failed, at_rest, failing_on, gone_on, request_on, serving, settle_on, tick_on}
 use Rattle.cg_desk.specs.Held.{calls_of, released, replies_of}
 use Rattle.cg_desk.specs.Laws.{AreKept, TicketsAreKept, tokens_of, weight_of, weight_out}

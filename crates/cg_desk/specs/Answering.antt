@@ -1,5 +1,5 @@
 -- Replies that leave: each takes the token of its call with it.
-use Rattle.std.specs.Prelude.{ℕ, List, [], ◌∷◌, ◌++◌, map, if◌then◌else◌}
+use Rattle.std.specs.Prelude.{List, [], ◌∷◌, ◌++◌, if◌then◌else◌}
 use Rattle.cg_member.specs.declared.reply.Reply.{Reply}
 use Rattle.cg_member.specs.declared.reply.Reply.TheVariants.{Refused}
 use Rattle.cg_request.specs.declared.ticket.Ticket.{Ticket}

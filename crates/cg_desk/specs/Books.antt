@@ -1,5 +1,5 @@
 -- A desk that serves: what contracts see of it, and what each call does.
-use Rattle.std.specs.Prelude.{◌≡◌, ◌+◌, ◌-◌, ◌*◌, ℕ, Bool, List, [], ◌∷◌, ◌++◌, length, map, take, drop, nat_lt, true, false, Option, Some, None}
+use Rattle.std.specs.Prelude.{◌≡◌, ◌+◌, ◌-◌, ◌*◌, ℕ, Bool, List, [], ◌++◌, length, map, take, drop, nat_lt, true, false, Option, Some, None}
 use Rattle.cg_member.specs.declared.effects.Effects.{Effects}
 use Rattle.cg_request.specs.declared.event.Event.{Event}
 use Rattle.cg_request.specs.declared.ticket.Ticket.{Ticket}

@@ -1,7 +1,6 @@
 -- Where the batch stands that was taken last.
 use Rattle.std.specs.Prelude.{ℕ, Bool, true, false, List, []}
 use Rattle.cg_record.specs.declared.command.Command.{Command}
-use Rattle.cg_store.specs.declared.batch.Batch.{Batch}
 use Rattle.cg_desk.specs.declared.flight.Flight.{Flight}
 use Rattle.cg_desk.specs.declared.flight.Flight.TheVariants as flight
 

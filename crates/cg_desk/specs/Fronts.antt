@@ -1,8 +1,8 @@
 -- The commands that go to the disk together: as many from the front on as fit one frame.
-use Rattle.std.specs.Prelude.{ℕ, suc, ◌+◌, List, [], ◌∷◌, length, nat_le, if◌then◌else◌}
+use Rattle.std.specs.Prelude.{◌≡◌, ◌≤◌, ℕ, suc, ◌+◌, List, [], ◌∷◌, length, nat_le, if◌then◌else◌, Option, Some, None}
 use Rattle.cg_frame.specs.declared.segment.TheConstants.{LARGEST_PAYLOAD_BYTES}
 use Rattle.cg_record.specs.declared.command.Command.{Command}
-use Rattle.cg_record.specs.Spelling.{command_text}
+use Rattle.cg_record.specs.Spelling.{command_text, spelling}
 
 -- how many of the commands fit behind the bytes that are used of a payload
 unfoldable pub fitting : ℕ → List Command → ℕ
@@ -15,3 +15,16 @@ fitting used (c ∷ cs) =
 -- how many of the commands one frame holds: its text begins with one byte
 abbrev pub in_frame : List Command → ℕ
 in_frame commands = fitting 1 commands
+
+-- the commands of a text, where there is one
+abbrev pub spelled : Option (List Command) → List Command
+spelled None = []
+spelled (Some commands) = commands
+
+-- one frame holds the text
+abbrev pub FitsFrame : Option (List Command) → Type 0
+FitsFrame text = length (spelling (spelled text)) ≤ LARGEST_PAYLOAD_BYTES
+
+-- of the commands that come behind the text none fits the frame any more
+abbrev pub IsFull : Option (List Command) → List Command → Type 0
+IsFull text behind = fitting (length (spelling (spelled text))) behind ≡ 0

@@ -7,41 +7,30 @@ ghost use Rattle.cg_desk.specs.Queues.{commands_of};
 
 use crate::fault::{SettleFault, TakeFault};
 use crate::flight::Flight;
-use crate::fronts::{batch_of, in_frame, put_back, taken_front};
 use crate::held::HeldStep;
 use crate::outgoing::Outgoing;
 use crate::permit::Permit;
 use crate::queue::Queue;
 use crate::serving::Serving;
 use cg_store::{Batch, Commands, Receipt};
-use std::alloc::{AllocError, Global};
+use std::alloc::AllocError;
 use std::mem;
 
 // Takes as many commands from the front of the queue as one frame holds: their batch, and they again, to know it by. Want of memory
 // takes none.
-fn take_front(
-    alloc: Global,
-    queue: &mut Queue,
-    settled: u64,
-) -> Result<Option<(Batch, Commands)>, AllocError>
+fn take_front(queue: &mut Queue, settled: u64) -> Result<Option<(Batch, Commands)>, AllocError>
     requires { settled + length (commands_of queue.old) < 2 ^ 64 }
     ensures none { IfOk result (λ o. MatchOption o (commands_of queue.old ≡ []) (λ t. ⊤)) }
     ensures batch { IfOk result (λ o. MatchOption o ⊤ (λ t. (t.0.first ≡ settled + 1) × (t.0.commands ≡ take (in_frame (commands_of queue.old)) (commands_of queue.old)) × (t.1 ≡ take (in_frame (commands_of queue.old)) (commands_of queue.old)))) }
     ensures rest { OnOk result (commands_of queue.new ≡ drop (in_frame (commands_of queue.old)) (commands_of queue.old)) }
     ensures err { OnErr result (commands_of queue.new ≡ commands_of queue.old) }
 {
-    queue.gather()?;
-    let count = in_frame(&queue.front);
-    if count == 0 {
-        return Ok(None);
-    }
-    let commands = taken_front(alloc, &mut queue.front, count)?;
-    match batch_of(alloc, settled + 1, commands) {
-        Ok(taken) => Ok(Some(taken)),
-        Err(commands) => {
-            put_back(&mut queue.front, commands);
-            Err(AllocError)
-        }
+    match queue.take()? {
+        None => Ok(None),
+        Some((leaving, kept)) => match Batch::new(settled + 1, leaving) {
+            Ok(batch) => Ok(Some((batch, kept))),
+            Err(_) => unreachable!(),
+        },
     }
 }
 
@@ -116,7 +105,7 @@ impl Serving {
         }
         // A look at the number, for its range.
         let _numbered = self.numbered;
-        match take_front(self.alloc, &mut self.queue, self.settled)? {
+        match take_front(&mut self.queue, self.settled)? {
             None => Ok(None),
             Some(taken) => {
                 let (batch, commands) = taken;

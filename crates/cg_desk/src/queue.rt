@@ -1,19 +1,31 @@
 //! Commands that have their numbers and wait for the disk.
-ghost use Rattle.std.specs.Prelude.{◌≡◌, ◌≤◌, ◌<◌, ◌+◌, ◌++◌, [], length, OnOk};
+ghost use Rattle.std.specs.Prelude.{◌≡◌, ◌≤◌, ◌<◌, ◌+◌, ◌++◌, ⊤, [], true, false, length, take, drop, IfOk, OnOk, OnErr, MatchOption};
 ghost use Rattle.std.specs.List.{flat_map};
 ghost use Rattle.std.specs.VecDeque.{deque_capacity, deque_len};
+ghost use Rattle.cg_store.specs.Batches.{IsBatch};
+ghost use Rattle.cg_desk.specs.Fronts.{FitsFrame, IsFull, in_frame, spelled};
 
+use crate::filling::{spell, spell_front};
 use cg_group::{Few, Items};
 use cg_record::Command;
+use cg_store::Commands;
 use std::alloc::{AllocError, Global};
 use std::collections::VecDeque;
+use std::mem;
 
-/// Commands in the order of their numbers: those in front one by one, and behind them the lists that steps made.
-/// A list waits as a whole until a batch is taken, so that a step needs room for one list, whatever it makes.
+/// Commands in the order of their numbers: first the text of the next batch, behind it commands one by one, and behind these the
+/// lists that steps made. A command that a step made alone goes into the text at once, while nothing else waits behind that: its
+/// fields are let go then. A list waits as a whole until a batch is taken, so that a step needs room for one list, whatever it
+/// makes.
 #[derive(Debug, Drop)]
 pub struct Queue {
+    alloc: Global,
+    pub text: Option<Commands>,
+    // The bytes in which a command is spelled.
+    room: Vec<u8>,
     pub front: VecDeque<Command>,
     pub lists: VecDeque<Few<Command>>,
+    ghost fits: { FitsFrame text },
 }
 
 // Puts commands last, in room that was kept for them.
@@ -44,10 +56,14 @@ impl Queue {
     ghost use Rattle.cg_desk.specs.Queues.{commands_of, has_room};
 
     /// No commands. Takes no memory.
+    #[tactic(auto, using(crate::proofs::FullTexts::none_fits))]
     pub fn new(alloc: Global) -> Self
         ensures { commands_of result ≡ [] }
     {
         Queue {
+            alloc,
+            text: None,
+            room: Vec::new(alloc),
             front: VecDeque::new(alloc),
             lists: VecDeque::new(alloc),
         }
@@ -62,16 +78,36 @@ impl Queue {
         Ok(())
     }
 
+    // Spells a command that a step made alone, where nothing waits behind the text; whether it did.
+    fn spell_alone(&mut self, commands: &Few<Command>) -> bool
+        ensures spelled { result ≡ true → commands_of self.new ≡ commands_of self.old ++ commands.now }
+        ensures kept { result ≡ false → commands_of self.new ≡ commands_of self.old }
+        ensures room { has_room self.old → has_room self.new }
+    {
+        if !self.front.is_empty() || !self.lists.is_empty() {
+            return false;
+        }
+        match commands.as_slice() {
+            [command] => match spell(self.alloc, &mut self.text, &mut self.room, command) {
+                Ok(is_put) => is_put,
+                Err(_) => false,
+            },
+            _ => false,
+        }
+    }
+
     /// Puts the commands of a step last, in the room that was kept.
     pub fn put(&mut self, commands: Few<Command>)
         requires { has_room self.old }
         ensures { commands_of self.new ≡ commands_of self.old ++ commands }
     {
-        put_list(&mut self.lists, commands);
+        if !self.spell_alone(&commands) {
+            put_list(&mut self.lists, commands);
+        }
     }
 
-    /// Takes the lists apart, so that every command stands in front. Want of memory leaves the rest as lists.
-    pub fn gather(&mut self) -> Result<(), AllocError>
+    // Takes the lists apart, so that every command stands in front. Want of memory leaves the rest as lists.
+    fn gather(&mut self) -> Result<(), AllocError>
         ensures commands { commands_of self.new ≡ commands_of self.old }
         ensures ok { OnOk result (self.new.lists.items ≡ []) }
     {
@@ -83,5 +119,40 @@ impl Queue {
             }
         }
         Ok(())
+    }
+
+    // Makes the text as long as one frame holds. Want of memory leaves the rest as it waits.
+    fn fill(&mut self) -> Result<(), AllocError>
+        ensures commands { commands_of self.new ≡ commands_of self.old }
+        ensures lists { OnOk result (self.new.lists.items ≡ []) }
+        ensures full { OnOk result (IsFull self.new.text self.new.front.items) }
+        ensures first { OnOk result (spelled self.new.text ≡ [] → self.new.front.items ≡ []) }
+    {
+        self.gather()?;
+        spell_front(self.alloc, &mut self.text, &mut self.room, &mut self.front)
+    }
+
+    /// Takes as many commands from the front as one frame holds, twice: to go, and to be known by. None where nothing waits.
+    /// Want of memory takes none.
+    pub fn take(&mut self) -> Result<Option<(Commands, Commands)>, AllocError>
+        ensures none { IfOk result (λ o. MatchOption o (commands_of self.old ≡ []) (λ t. IsBatch t.0)) }
+        ensures taken { IfOk result (λ o. MatchOption o ⊤ (λ t. (t.0 ≡ take (in_frame (commands_of self.old)) (commands_of self.old)) × (t.1 ≡ t.0))) }
+        ensures rest { OnOk result (commands_of self.new ≡ drop (in_frame (commands_of self.old)) (commands_of self.old)) }
+        ensures err { OnErr result (commands_of self.new ≡ commands_of self.old) }
+    {
+        self.fill()?;
+        let kept = match &self.text {
+            None => return Ok(None),
+            Some(text) => {
+                if text.len() == 0 {
+                    return Ok(None);
+                }
+                text.clone()?
+            }
+        };
+        match mem::replace(&mut self.text, None) {
+            Some(leaving) => Ok(Some((leaving, kept))),
+            None => unreachable!(),
+        }
     }
 }

@@ -137,8 +137,9 @@ fn put_deleted(out: &mut Vec<u8>, deleted: &Deleted) -> Result<(), AllocError>
     Ok(())
 }
 
+/// Puts the text of a command behind what is there: `size` bytes. Where memory is refused, a part of it may stand there.
 #[tactic(auto, unfolding(crate::specs::Spelling::command_text))]
-fn put_command(out: &mut Vec<u8>, command: &Command) -> Result<(), AllocError>
+pub fn put_command(out: &mut Vec<u8>, command: &Command) -> Result<(), AllocError>
     ensures ok { OnOk result (out.new.items ≡ out.old.items ++ command_text command.now) }
     ensures lawful { OnOk result (IsCommand command.now) }
 {

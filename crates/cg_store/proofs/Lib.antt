@@ -1,4 +1,5 @@
 pub mod Spelled
+pub mod Longer
 pub mod Whole
 pub mod Reading
 pub mod Loaded

@@ -1,10 +1,10 @@
 //! Commands as they go to the disk.
-ghost use Rattle.std.specs.Prelude.{◌≡◌, ◌↔◌, length, IfOk, IsTrue};
+ghost use Rattle.std.specs.Prelude.{◌≡◌, ◌<◌, ◌^◌, ◌↔◌, ◌++◌, ◌∷◌, [], length, IfOk, OnOk, OnErr, IsTrue};
 ghost use Rattle.cg_record.specs.Lawful.{AreCommands};
 ghost use Rattle.cg_record.specs.Spelling.{spelling};
 ghost use Rattle.cg_store.specs.Texts.{IsText, told};
 
-use cg_record::Command;
+use cg_record::{Command, put_command};
 use std::alloc::{AllocError, Global};
 use std::marker::Model;
 
@@ -30,10 +30,27 @@ impl Model for Commands {
 // Bytes from which commands are read: they are the one spelling of these.
 fn spelling_of(bytes: &[u8]) -> &[u8]
     requires { IsText bytes.now }
+    ensures same { result.now ≡ bytes.now }
     ensures spelled { result.now ≡ spelling (told bytes.now) }
     ensures lawful { AreCommands (told bytes.now) }
 {
     bytes
+}
+
+// Puts the text of a command behind a text.
+fn put_text(bytes: &mut Vec<u8>, room: &mut Vec<u8>, command: &Command) -> Result<(), AllocError>
+    requires { IsText bytes.old.items }
+    ensures text { OnOk result (IsText bytes.new.items) }
+    ensures told { OnOk result (told bytes.new.items ≡ told bytes.old.items ++ command.now ∷ []) }
+    ensures few { OnOk result (length (told bytes.new.items) < 2 ^ 64) }
+    ensures err { OnErr result (bytes.new.items ≡ bytes.old.items) }
+{
+    // A look at the text, for the commands that it spells.
+    let _text = spelling_of(bytes.as_slice());
+    room.clear();
+    put_command(room, command)?;
+    bytes.extend_from_slice(room.as_slice())?;
+    Ok(())
 }
 
 impl Commands {
@@ -44,6 +61,17 @@ impl Commands {
         let len = commands.len();
         let bytes = cg_record::write(alloc, commands)?;
         Ok(Commands { len, bytes })
+    }
+
+    /// Puts a command last. Its text is spelled in `room` first, whose bytes do not matter before and after. Where memory is
+    /// refused, the commands are as they were.
+    pub fn push(&mut self, room: &mut Vec<u8>, command: &Command) -> Result<(), AllocError>
+        ensures ok { OnOk result (self.new ≡ self.old ++ command.now ∷ []) }
+        ensures err { OnErr result (self.new ≡ self.old) }
+    {
+        put_text(&mut self.bytes, room, command)?;
+        self.len += 1;
+        Ok(())
     }
 
     /// How many there are.

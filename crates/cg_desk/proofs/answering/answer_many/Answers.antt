@@ -1,10 +1,10 @@
-use Rattle.std.proofs.Common.{◌≡◌, ℕ, List, [], ◌∷◌, ◌++◌, length, sym, ap, ◌∙◌, rules, arith}
+use Rattle.std.proofs.Common.{◌≡◌, List, [], ◌∷◌, ◌++◌, length, sym, ap, ◌∙◌, rules, arith}
 use Rattle.std.specs.Vec.Iter.{into_iter_items}
 use Rattle.std.proofs.lemmas.List.{nil_from_length}
 use Rattle.cg_member.specs.declared.reply.Reply.{Reply}
 use Rattle.cg_request.specs.declared.ticket.Ticket.{Ticket}
 use Rattle.cg_desk.specs.Answering.{after_answering, answering}
-use Rattle.cg_desk.proofs.Leaving.{Told, told_here, told_one, told_out, told_then, told_tokens}
+use Rattle.cg_desk.proofs.Leaving.{told_one, told_out, told_then, told_tokens}
 use Rattle.cg_desk.proofs.answering.answer_many.Goals as goal
 
 pub loop-reply-preserved : goal.loop-reply-preserved

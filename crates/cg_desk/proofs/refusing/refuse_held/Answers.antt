@@ -1,5 +1,4 @@
-use Rattle.std.proofs.Common.{◌≡◌, List, ◌∷◌, [], ◌++◌, map, ap, sym, ◌∙◌, rules}
-use Rattle.std.proofs.lemmas.List.{nil_from_length}
+use Rattle.std.proofs.Common.{◌≡◌, List, ◌∷◌, [], map, ap, ◌∙◌, rules}
 use Rattle.cg_desk.specs.Answering.{refusal}
 use Rattle.cg_desk.specs.Held.{calls_of, replies_of}
 use Rattle.cg_desk.specs.declared.held.HeldStep.{HeldStep}

@@ -1,11 +1,11 @@
-use Rattle.std.proofs.Common.{◌≡◌, ℕ, List, [], ◌∷◌, ◌++◌, length, map, sym, ap, ◌∙◌, rules, arith}
+use Rattle.std.proofs.Common.{◌≡◌, List, [], ◌∷◌, ◌++◌, length, map, sym, ap, ◌∙◌, rules, arith}
 use Rattle.std.specs.Vec.Iter.{into_iter_items}
 use Rattle.std.proofs.lemmas.List.{nil_from_length}
 use Rattle.cg_member.specs.declared.reply.Reply.{Reply}
 use Rattle.cg_request.specs.declared.ticket.Ticket.{Ticket}
 use Rattle.cg_desk.specs.Answering.{after_answering, answering, refusal}
 use Rattle.cg_desk.specs.Held.{calls_of}
-use Rattle.cg_desk.proofs.Leaving.{Told, told_here, told_one, told_out, told_then, told_tokens}
+use Rattle.cg_desk.proofs.Leaving.{told_one, told_out, told_then, told_tokens}
 use Rattle.cg_desk.proofs.refusing.refuse_many.Goals as goal
 
 pub loop-reply-preserved : goal.loop-reply-preserved

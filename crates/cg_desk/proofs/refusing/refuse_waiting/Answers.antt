@@ -1,4 +1,4 @@
-use Rattle.std.proofs.Common.{◌≡◌, ◌+◌, ◌<◌, ◌≤◌, List, ◌∷◌, [], ◌++◌, length, map, take, drop, ap, sym, ◌∙◌, rules}
+use Rattle.std.proofs.Common.{◌≡◌, ◌+◌, ◌<◌, ◌≤◌, length, map, take, drop, ap, rules}
 use Rattle.std.specs.Prelude.{slice_get, Some, None}
 use Rattle.cg_member.specs.Waiting.{waiting_calls}
 use Rattle.cg_desk.specs.Answering.{refusal}

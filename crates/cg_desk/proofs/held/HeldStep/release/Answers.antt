@@ -1,7 +1,7 @@
-use Rattle.std.proofs.Common.{◌≡◌, ◌<◌, ◌≤◌, ◌∷◌, [], ◌++◌, length, ap, sym, ◌∙◌, rules}
+use Rattle.std.proofs.Common.{◌≡◌, ◌<◌, ◌≤◌, [], length, ap, sym, ◌∙◌, rules}
 use Rattle.std.proofs.lemmas.List.{nil_from_length}
 use Rattle.cg_desk.specs.Permits.{front_of}
-use Rattle.cg_desk.specs.Held.{ready, released, still_held}
+use Rattle.cg_desk.specs.Held.{ready, released}
 use Rattle.cg_desk.proofs.Leaving.{all-held, front_is, none-released, ready-none, released-front, still-front, told_many, told_out, told_then, told_tokens}
 use Rattle.cg_desk.proofs.held.HeldStep.release.Goals as goal
 

@@ -1,4 +1,4 @@
-use Rattle.std.proofs.Common.{◌≡◌, List, [], ◌∷◌, ◌∙◌, refl, rules}
+use Rattle.std.proofs.Common.{◌≡◌, [], refl, rules}
 use Rattle.std.proofs.lemmas.List.{nil_from_length}
 use Rattle.cg_desk.specs.Books.{failing}
 use Rattle.cg_desk.specs.Held.{calls_of, replies_of}

@@ -1,6 +1,5 @@
-use Rattle.std.proofs.Common.{◌≡◌, ◌+◌, List, [], take, drop, sym, ap, ◌∙◌, refl, rules}
-use Rattle.cg_record.specs.declared.command.Command.{Command}
-use Rattle.cg_desk.specs.Books.{Books, next_batch}
+use Rattle.std.proofs.Common.{◌≡◌, ◌+◌, [], sym, ap, ◌∙◌, rules}
+use Rattle.cg_desk.specs.Books.{next_batch}
 use Rattle.cg_desk.specs.Flights.{Course, Idle, Away, Returned, course_of}
 use Rattle.cg_desk.specs.Queues.{commands_of}
 use Rattle.cg_desk.specs.Serving.{books}

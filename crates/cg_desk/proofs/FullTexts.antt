@@ -1,0 +1,85 @@
+-- A text that grows by a command, and when it is full.
+use Rattle.std.proofs.Common.{◌≡◌, ℕ, suc, ◌+◌, ◌<◌, ◌≤◌, Bool, true, false, List, [], ◌∷◌, ◌++◌, length, get_or, take, drop, cond, leb, refl, ap, ◌∙◌, subst, arith, length-append}
+use Rattle.std.specs.List.{flat_map}
+use Rattle.std.proofs.lemmas.Bool.{leb-true, leb-false}
+use Rattle.std.proofs.Math.Seq.{take-append_seam, drop-append_seam}
+use Rattle.cg_frame.specs.declared.segment.TheConstants.{LARGEST_PAYLOAD_BYTES}
+use Rattle.cg_record.specs.declared.command.Command.{Command}
+use Rattle.cg_record.specs.Spelling.{command_text, spelling}
+use Rattle.cg_desk.specs.Fronts.{fitting, in_frame}
+
+-- the bytes of commands, without the one of the version
+abbrev pub text_len : List Command → ℕ
+text_len commands = length (flat_map command_text commands)
+
+pub text_len-cons : (c : Command) (cs : List Command) → text_len (c ∷ cs) ≡ length (command_text c) + text_len cs
+text_len-cons c cs = length-append (command_text c) (flat_map command_text cs)
+
+pub spelling-len : (cs : List Command) → length (spelling cs) ≡ 1 + text_len cs
+unfolding spelling
+spelling-len cs = omega arith
+
+text_len-push : (cs : List Command) (c : Command) → text_len (cs ++ c ∷ []) ≡ text_len cs + length (command_text c)
+text_len-push [] c = omega (arith, text_len-cons c [])
+text_len-push (d ∷ cs) c = omega (arith, text_len-push cs c, text_len-cons d cs, text_len-cons d (cs ++ c ∷ []))
+
+pub longer_by : (cs : List Command) (c : Command) → length (spelling (cs ++ c ∷ [])) ≡ length (spelling cs) + length (command_text c)
+longer_by cs c = omega (arith, spelling-len cs, spelling-len (cs ++ c ∷ []), text_len-push cs c)
+
+-- a command that does not fit is the first that does not
+stops-at : (b : Bool) (n : ℕ) → b ≡ false → cond b (suc n) 0 ≡ 0
+stops-at true n is = absurd (cc)
+stops-at false n is = refl
+
+no_leb : (a b : ℕ) (c : Bool) → leb a b ≡ c → b < a → c ≡ false
+no_leb a b true is less = absurd (let le = leb-true a b is in omega arith)
+no_leb a b false is less = refl
+
+pub no_more : (used : ℕ) (c : Command) (cs : List Command) → LARGEST_PAYLOAD_BYTES < used + length (command_text c) → fitting used (c ∷ cs) ≡ 0
+unfolding fitting
+no_more used c cs past =
+    stops-at (leb (used + length (command_text c)) LARGEST_PAYLOAD_BYTES) (fitting (used + length (command_text c)) cs) (no_leb (used + length (command_text c)) LARGEST_PAYLOAD_BYTES (leb (used + length (command_text c)) LARGEST_PAYLOAD_BYTES) refl past)
+
+-- what fits, and then nothing more, is as long as it is
+goes-at : (b : Bool) (n m : ℕ) → b ≡ true → n ≡ m → cond b (suc n) 0 ≡ suc m
+goes-at true n m is same = ap suc same
+goes-at false n m is same = absurd (cc)
+
+yes_leb : (a b : ℕ) (c : Bool) → leb a b ≡ c → a ≤ b → c ≡ true
+yes_leb a b true is le = refl
+yes_leb a b false is le = absurd (let less = leb-false a b is in omega arith)
+
+fitting-all : (used : ℕ) (cs rest : List Command) → used + text_len cs ≤ LARGEST_PAYLOAD_BYTES → fitting (used + text_len cs) rest ≡ 0 → fitting used (cs ++ rest) ≡ length cs
+unfolding fitting
+fitting-all used [] rest fits full = subst (λ (n : ℕ). fitting n rest ≡ 0) (omega arith) full
+fitting-all used (c ∷ cs) rest fits full =
+    let one = text_len-cons c cs in
+    let more = fitting-all (used + length (command_text c)) cs rest (omega (arith, one, fits)) (subst (λ (n : ℕ). fitting n rest ≡ 0) (omega (arith, one)) full) in
+    goes-at (leb (used + length (command_text c)) LARGEST_PAYLOAD_BYTES) (fitting (used + length (command_text c)) (cs ++ rest)) (length cs) (yes_leb (used + length (command_text c)) LARGEST_PAYLOAD_BYTES (leb (used + length (command_text c)) LARGEST_PAYLOAD_BYTES) refl (omega (arith, one, fits))) more
+
+pub all_in_frame : (cs rest : List Command) → length (spelling cs) ≤ LARGEST_PAYLOAD_BYTES → fitting (length (spelling cs)) rest ≡ 0 → in_frame (cs ++ rest) ≡ length cs
+all_in_frame cs rest fits full =
+    let len = spelling-len cs in
+    fitting-all 1 cs rest (omega (arith, len, fits)) (subst (λ (n : ℕ). fitting n rest ≡ 0) len full)
+
+pub full_before : (used : ℕ) (next : Command) (cs : List Command) → 0 < length cs → next ≡ get_or cs 0 next → LARGEST_PAYLOAD_BYTES < used + length (command_text next) → fitting used cs ≡ 0
+full_before used next [] some is past = absurd (omega arith)
+full_before used next (c ∷ cs) some is past = no_more used c cs (subst (λ (k : Command). LARGEST_PAYLOAD_BYTES < used + length (command_text k)) is past)
+
+pub full_empty : (used : ℕ) (cs : List Command) → length cs ≤ 0 → fitting used cs ≡ 0
+unfolding fitting
+full_empty used [] none = refl
+full_empty used (c ∷ cs) none = absurd (omega arith)
+
+pub none_fits : length (spelling []) ≤ LARGEST_PAYLOAD_BYTES
+none_fits = omega (arith, spelling-len [])
+
+-- a text that is full has as many of the commands as one frame holds
+pub is_front : (all cs rest : List Command) → all ≡ cs ++ rest → length (spelling cs) ≤ LARGEST_PAYLOAD_BYTES → fitting (length (spelling cs)) rest ≡ 0
+    → (take (in_frame all) all ≡ cs) × (drop (in_frame all) all ≡ rest)
+is_front all cs rest is fits full =
+    let count = all_in_frame cs rest fits full in
+    let at : in_frame all ≡ length cs = ap in_frame is ∙ count in (
+      ap (λ (n : ℕ). take n all) at ∙ ap (take (length cs)) is ∙ take-append_seam cs rest,
+      ap (λ (n : ℕ). drop n all) at ∙ ap (drop (length cs)) is ∙ drop-append_seam cs rest,
+    )

@@ -1,0 +1,79 @@
+//! The text of the next batch: as many commands as one frame holds.
+ghost use Rattle.std.specs.Prelude.{◌≡◌, ◌≤◌, ◌<◌, ◌+◌, ◌++◌, ◌∷◌, [], true, false, length, if◌then◌else◌, IfOk, OnOk, OnErr};
+ghost use Rattle.cg_frame.specs.declared.segment.TheConstants.{LARGEST_PAYLOAD_BYTES};
+ghost use Rattle.cg_record.specs.Spelling.{command_text, spelling};
+ghost use Rattle.cg_desk.specs.Fronts.{FitsFrame, IsFull, spelled};
+
+use cg_frame::LARGEST_PAYLOAD_BYTES;
+use cg_record::{Command, size};
+use cg_store::Commands;
+use std::alloc::{AllocError, Global};
+use std::collections::VecDeque;
+
+// Puts a command behind the text, where the frame has room for both.
+fn put_behind(
+    text: &mut Commands,
+    room: &mut Vec<u8>,
+    command: &Command,
+) -> Result<bool, AllocError>
+    ensures put { IfOk result (λ is_put. text.new ≡ text.old ++ (if is_put then command.now ∷ [] else [])) }
+    ensures fits { length (spelling text.old) ≤ LARGEST_PAYLOAD_BYTES → length (spelling text.new) ≤ LARGEST_PAYLOAD_BYTES }
+    ensures full { IfOk result (λ is_put. is_put ≡ false → LARGEST_PAYLOAD_BYTES < length (spelling text.old) + length (command_text command.now)) }
+    ensures first { IfOk result (λ is_put. text.old ≡ [] → is_put ≡ true) }
+    ensures err { OnErr result (text.new ≡ text.old) }
+{
+    let used = text.as_bytes().len() as u64;
+    if used.saturating_add(size(command)) > LARGEST_PAYLOAD_BYTES {
+        return Ok(false);
+    }
+    text.push(room, command)?;
+    Ok(true)
+}
+
+/// Puts a command behind the text, which is begun where there is none; false: the frame has no room for both.
+pub fn spell(
+    alloc: Global,
+    text: &mut Option<Commands>,
+    room: &mut Vec<u8>,
+    command: &Command,
+) -> Result<bool, AllocError>
+    requires { FitsFrame text.old }
+    ensures put { IfOk result (λ is_put. spelled text.new ≡ spelled text.old ++ (if is_put then command.now ∷ [] else [])) }
+    ensures fits { FitsFrame text.new }
+    ensures full { IfOk result (λ is_put. is_put ≡ false → LARGEST_PAYLOAD_BYTES < length (spelling (spelled text.old)) + length (command_text command.now)) }
+    ensures first { IfOk result (λ is_put. spelled text.old ≡ [] → is_put ≡ true) }
+    ensures err { OnErr result (spelled text.new ≡ spelled text.old) }
+{
+    match text {
+        Some(text) => put_behind(text, room, command),
+        None => {
+            let mut begun = Commands::new(alloc, &[])?;
+            let is_put = put_behind(&mut begun, room, command)?;
+            *text = Some(begun);
+            Ok(is_put)
+        }
+    }
+}
+
+/// Puts as many commands behind the text as the frame has room for. Want of memory leaves the rest as they are.
+pub fn spell_front(
+    alloc: Global,
+    text: &mut Option<Commands>,
+    room: &mut Vec<u8>,
+    front: &mut VecDeque<Command>,
+) -> Result<(), AllocError>
+    requires { FitsFrame text.old }
+    ensures commands { spelled text.new ++ front.new.items ≡ spelled text.old ++ front.old.items }
+    ensures fits { FitsFrame text.new }
+    ensures full { OnOk result (IsFull text.new front.new.items) }
+    ensures first { OnOk result (spelled text.new ≡ [] → front.new.items ≡ []) }
+{
+    while let Some(next) = front.front() {
+        let is_put = spell(alloc, text, room, next)?;
+        if !is_put {
+            break;
+        }
+        let _ = front.pop_front();
+    }
+    Ok(())
+}
