@@ -1,10 +1,10 @@
 -- What a gate that is written, and sectors that are laid behind one, leave.
-use Rattle.std.proofs.Common.{◌≡◌, ◌⊎◌, ℕ, suc, ◌+◌, ◌*◌, ◌<◌, ◌≤◌, List, length, take, drop, get_or, refl, sym, ◌∙◌, ap, subst, inl, inr, arith, add-zero}
+use Rattle.std.proofs.Common.{◌≡◌, ℕ, ◌+◌, ◌<◌, List, get_or, sym, ◌∙◌, ap, inl, inr, arith, add-zero}
 use Rattle.std.proofs.lemmas.Bool.{cases_eq}
 use Rattle.std.proofs.lemmas.List.{get_or-take}
-use Rattle.cg_disk.specs.Disk.{Image, Moment, History, Changes, LeavesOnly, AllBut, Holds, IsImage, IsSynced, IsDisturbed, present, sector}
-use Rattle.cg_disk.proofs.Moments.{Changes-present, Changes-wider, Changes-then, IsDisturbed-wider, IsSynced-image, AllBut-wider, AllBut-then, LeavesOnly-starts, LeavesOnly-goes_on, AllBut-image}
-use Rattle.cg_frame.specs.Frames.{IsOpen, IsClosed}
+use Rattle.cg_disk.specs.Disk.{Image, Moment, History, Changes, LeavesOnly, Holds, IsImage, IsSynced, present, sector}
+use Rattle.cg_disk.proofs.Moments.{Changes-present, IsDisturbed-wider, IsSynced-image, AllBut-wider, AllBut-then, LeavesOnly-starts, LeavesOnly-goes_on, AllBut-image}
+use Rattle.cg_frame.specs.Frames.{IsClosed}
 use Rattle.cg_frame.specs.Outcomes.{IsLaid, Lays}
 
 first_of_sector : (bytes : List ℕ) → get_or (sector bytes 0) 0 0 ≡ get_or bytes 0 0

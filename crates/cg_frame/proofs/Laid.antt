@@ -1,12 +1,12 @@
 -- Sectors that were laid, seen as a frame.
-use Rattle.std.proofs.Common.{◌≡◌, ◌⊎◌, ℕ, suc, ◌+◌, ◌*◌, ◌/◌, ◌^◌, ◌<◌, ◌≤◌, List, length, take, drop, get_or, refl, sym, ◌∙◌, ap, subst, inl, inr, arith, add-zero}
+use Rattle.std.proofs.Common.{◌≡◌, ℕ, ◌+◌, ◌*◌, ◌^◌, ◌<◌, ◌≤◌, List, length, take, drop, get_or, ◌∙◌, ap, inl, inr, arith, add-zero}
 use Rattle.std.proofs.lemmas.List.{get_or-take, get_or-drop, take-take}
-use Rattle.cg_disk.specs.Disk.{Image, Moment, History, LeavesOnly, IsImage, Holds, present, sector, sector_count, span}
-use Rattle.cg_disk.proofs.Moments.{AllBut-wider, AllBut-image, span-holds_front, LeavesOnly-starts, LeavesOnly-weaker, LeavesOnly-present}
-use Rattle.cg_frame.specs.Frames.{IsClosed, FrameAt, body, body_sectors, next_gate}
+use Rattle.cg_disk.specs.Disk.{Image, Moment, History, LeavesOnly, IsImage, present, sector, sector_count, span}
+use Rattle.cg_disk.proofs.Moments.{AllBut-wider, AllBut-image, span-holds_front, LeavesOnly-starts, LeavesOnly-weaker}
+use Rattle.cg_frame.specs.Frames.{IsClosed, body, body_sectors, next_gate}
 use Rattle.cg_frame.specs.Outcomes.{IsLaid, Lays, StandsLast, Appended, KeepsFramesTo, IsBeforeOrAfter}
 use Rattle.cg_frame.specs.declared.segment.Segment.{Segment}
-use Rattle.cg_frame.proofs.Standing.{IsBeforeOrAfter-appended, HasFramesTo-appended}
+use Rattle.cg_frame.proofs.Standing.{IsBeforeOrAfter-appended}
 
 -- the first byte of a later sector
 sector_first : (bytes : List ℕ) (i : ℕ) → get_or (sector bytes i) 0 0 ≡ get_or bytes (512 * i) 0

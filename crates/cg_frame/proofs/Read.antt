@@ -1,8 +1,8 @@
 -- What was read of a segment, seen as a frame.
-use Rattle.std.proofs.Common.{◌≡◌, ◌≢◌, ℕ, zero, suc, ◌+◌, ◌-◌, ◌*◌, ◌/◌, ◌^◌, ◌<◌, ◌≤◌, List, [], ◌∷◌, ◌++◌, length, take, drop, get_or, refl, sym, ◌∙◌, ap, subst, arith, append_assoc, zero-add}
-use Rattle.std.proofs.lemmas.List.{length-take, length-drop, length-append, take-append-drop, take-append-le, take_all, drop-drop}
+use Rattle.std.proofs.Common.{◌≡◌, ◌≢◌, ℕ, zero, suc, ◌+◌, ◌-◌, ◌<◌, List, [], ◌∷◌, ◌++◌, length, take, drop, get_or, sym, ◌∙◌, ap, subst, arith, append_assoc}
+use Rattle.std.proofs.lemmas.List.{length-drop, length-append, take-append-drop, take-append-le, take_all, drop-drop}
 use Rattle.cg_disk.specs.Disk.{Image, Holds, span, sector}
-use Rattle.cg_frame.specs.Frames.{IsOpen, IsClosed, IsFront, FrameAt, HeadAt, body, body_sectors, next_gate, word}
+use Rattle.cg_frame.specs.Frames.{IsOpen, IsClosed, IsFront, FrameAt, HeadAt, body_sectors, next_gate, word}
 use Rattle.cg_frame.specs.declared.segment.Segment.{Segment}
 use Rattle.cg_frame.proofs.Gates.{first_byte}
 use Rattle.cg_frame.proofs.Words.{length-word}

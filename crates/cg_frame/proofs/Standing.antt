@@ -1,8 +1,8 @@
 -- Frames and the chains that they make: for the crates above.
-use Rattle.std.proofs.Common.{◌≡◌, ◌⊎◌, ℕ, zero, suc, ◌+◌, ◌-◌, ◌*◌, ◌/◌, ◌^◌, ◌<◌, ◌≤◌, List, [], ◌∷◌, ◌++◌, length, take, drop, get_or, refl, sym, ◌∙◌, ap, subst, inl, inr, arith, append_assoc}
+use Rattle.std.proofs.Common.{◌≡◌, ℕ, ◌+◌, ◌-◌, ◌^◌, ◌<◌, ◌≤◌, List, [], ◌∷◌, ◌++◌, length, take, drop, get_or, refl, sym, ◌∙◌, ap, subst, inl, inr, arith}
 use Rattle.std.proofs.lemmas.Bool.{cases_lt}
 use Rattle.std.proofs.lemmas.List.{length-take, length-append, take-take, take-append-le, take_at, drop_at, append_cancel_left}
-use Rattle.cg_disk.specs.Disk.{Image, Moment, IsImage, AllBut, span}
+use Rattle.cg_disk.specs.Disk.{Image, Moment, AllBut, span}
 use Rattle.cg_disk.proofs.Moments.{span-same, span-add}
 use Rattle.cg_frame.specs.Frames.{IsOpen, IsClosed, FrameAt, Chain, HasFrames, HasFramesTo, body, body_sectors, next_gate, word}
 use Rattle.cg_frame.specs.Outcomes.{Appended, StandsLast, KeepsFramesTo, IsBeforeOrAfter}

@@ -1,5 +1,5 @@
 -- What an append and a scan leave and tell.
-use Rattle.std.specs.Prelude.{◌≡◌, ◌⊎◌, ℕ, ◌+◌, List, [], ◌∷◌, ◌++◌, length, Bool, true, false, Result, Ok, Err}
+use Rattle.std.specs.Prelude.{◌⊎◌, ℕ, ◌+◌, List, [], ◌∷◌, ◌++◌, length, Bool, true, false, Result, Ok, Err}
 use Rattle.cg_disk.specs.Disk.{Image, Moment, AllBut, IsImage, Holds}
 use Rattle.cg_frame.specs.Frames.{IsOpen, IsClosed, FrameAt, HasFrames, HasFramesTo, body_sectors, next_gate}
 use Rattle.cg_frame.specs.declared.segment.Segment.{Segment}

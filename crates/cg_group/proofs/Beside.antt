@@ -7,7 +7,7 @@ use Rattle.cg_member.specs.declared.group.Group.{Group}
 use Rattle.cg_request.specs.declared.ticket.Ticket.{Ticket}
 use Rattle.cg_member.specs.declared.turn.Turn.{Turn}
 use Rattle.cg_group.specs.Machine.{concluded, deleted}
-use Rattle.cg_held.specs.Held.{Machine, Outcome, at_moment, everywhere, outcome, outcome_beside, standing}
+use Rattle.cg_held.specs.Held.{Outcome, at_moment, everywhere, outcome, outcome_beside, standing}
 use Rattle.cg_member.specs.Offsets.{OffsetMap, offsets_after}
 use Rattle.cg_group.proofs.OffsetsKept.{AreQuiet, quiet-offsets}
 use Rattle.cg_group.proofs.Quiet.{Quiet, quiet-all, quiet-concluded}

@@ -1,5 +1,5 @@
 -- Each group of the offsets is held: each event keeps it.
-use Rattle.std.proofs.Common.{◌≡◌, ℕ, Bool, true, false, not, ◌||◌, List, [], ◌∷◌, ◌++◌, cond, is_some, refl, sym, ap, ◌∙◌, subst, Option, Some, None, Result, Ok, Err, max}
+use Rattle.std.proofs.Common.{◌≡◌, ℕ, Bool, true, false, not, ◌||◌, List, [], ◌∷◌, cond, is_some, refl, sym, ap, ◌∙◌, subst, Option, Some, None, Result, Ok, Err, max}
 use Rattle.std.specs.List.{flat_map, fold}
 use Rattle.std.specs.Ordering.{eq_by_cmp, is_eq}
 use Rattle.std.specs.FinMap as finmap
@@ -10,7 +10,6 @@ use Rattle.std.proofs.lemmas.Bool.{or_left, or_right, false≢true}
 use Rattle.std.proofs.lemmas.Cmp.{nat_list_eq_equiv}
 use Rattle.cg_names.specs.declared.code.Code.{Code}
 use Rattle.cg_record.specs.declared.entry.Entry.{Entry}
-use Rattle.cg_record.specs.declared.command.Command.{Command}
 use Rattle.cg_fold.specs.declared.key.OffsetKey.{OffsetKey}
 use Rattle.cg_fold.specs.declared.key.StoredOffset.{StoredOffset}
 use Rattle.cg_fold.specs.Durable.{State, after, effect, is_of_other, with_entry}
@@ -25,7 +24,7 @@ use Rattle.cg_turn.specs.Committing.{keeping_entries}
 use Rattle.cg_group.specs.Laws.{after_all, commands_of}
 use Rattle.cg_member.specs.Leaving.{gone_in}
 use Rattle.cg_group.specs.Machine.{beat, commit, concluded, deleted, deleting, join, leave, met, step, sync}
-use Rattle.cg_held.specs.Held.{Machine, everywhere, find_group, groups_after, with_group, without_group}
+use Rattle.cg_held.specs.Held.{Machine, everywhere, find_group, with_group}
 use Rattle.cg_member.specs.Membership.{is_same}
 use Rattle.cg_member.specs.Offsets.{OffsetMap, offsets_after}
 use Rattle.cg_held.specs.Reviving.{revive}
@@ -33,7 +32,7 @@ use Rattle.cg_member.specs.Ticking.{ticked}
 use Rattle.cg_group.proofs.KeptMachine.{found-turns}
 use Rattle.cg_held.proofs.Framed.{Framed, framed-gone_in, framed-ticked}
 use Rattle.cg_held.proofs.KeptLists.{found-with_group, same_self}
-use Rattle.cg_group.proofs.OffsetsKept.{AreQuiet, after-append, offsets-after, quiet-offsets}
+use Rattle.cg_group.proofs.OffsetsKept.{after-append, offsets-after, quiet-offsets}
 use Rattle.cg_group.proofs.Quiet.{Quiet, quiet-all, quiet-beat, quiet-gone_in, quiet-join, quiet-leave, quiet-sync, quiet-ticked}
 use Rattle.cg_held.proofs.Removing.{found-without}
 use Rattle.cg_group.proofs.Requests.{Fine, fine-commit}

@@ -4,7 +4,7 @@ use Rattle.std.specs.Prelude.{if◌then◌else◌}
 use Rattle.std.specs.List.{list_any}
 use Rattle.std.specs.Option.{option_to_list}
 use Rattle.cg_record.specs.declared.member.Member.{Member as KeptMember}
-use Rattle.cg_member.specs.declared.calls.Calls.TheVariants.{OfSession, Any}
+use Rattle.cg_member.specs.declared.calls.Calls.TheVariants.{OfSession}
 use Rattle.cg_member.specs.declared.member.Member.{Member}
 use Rattle.cg_member.specs.declared.member.Waits.TheVariants.{Join, Sync}
 use Rattle.cg_member.specs.declared.group.Group.{Group}
@@ -29,8 +29,7 @@ use Rattle.cg_member.specs.Ticking.{at_deadline, can_complete, ended, expired, i
 use Rattle.cg_member.specs.Replacing.{join_replacing, keeps_generation, replaced, replaced_in_place, replacing, successor}
 use Rattle.cg_member.proofs.Keeping.{map-same, map-with_member, keep-after_answers, keep-hearing, keep-waiting, keep-in_join_phase, keep-told_to_syncs, keep-completed, keep-tried, keep-after_removal}
 use Rattle.cg_member.proofs.Seats.{distinct-seating}
-use Rattle.cg_member.proofs.Together.{distinct-filter, distinct-filter_instances, distinct-members-push, distinct-names, lasting_id, lasting_instance, no_instance_found}
-use Rattle.cg_member.specs.Waiting.{is_waiting}
+use Rattle.cg_member.proofs.Together.{distinct-filter, distinct-filter_instances, distinct-members-push, distinct-names, lasting_id, lasting_instance}
 
 -- the members of the group are distinct
 abbrev pub Distinct : Group → Type 0

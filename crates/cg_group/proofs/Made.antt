@@ -1,14 +1,12 @@
 -- A COMMIT in a group that is not held.
-use Rattle.std.proofs.Common.{◌≡◌, ℕ, List, length, refl, sym, ap, ◌∙◌, subst, Option, Some, None, Result, Ok, Err, ok_or}
+use Rattle.std.proofs.Common.{◌≡◌, ℕ, List, length, refl, sym, ap, ◌∙◌, Option, Some, None, Ok, Err, ok_or}
 use Rattle.std.specs.Prelude.{IsErr}
-use Rattle.cg_names.specs.declared.code.Code.{Code}
 use Rattle.cg_names.specs.declared.code.Code.TheVariants.{InvalidGroupId, UnknownMemberId}
 use Rattle.cg_record.specs.declared.entry.Entry.{Entry}
 use Rattle.cg_member.specs.declared.effects.Effects.{Effects}
 use Rattle.cg_member.specs.declared.group.Group.{Group}
 use Rattle.cg_request.specs.declared.request.CommitRequest.{CommitRequest}
 use Rattle.cg_request.specs.declared.ticket.Ticket.{Ticket}
-use Rattle.cg_member.specs.declared.turn.Turn.{Turn}
 use Rattle.cg_turn.specs.Committing.{commit_effects, commit_unheld, keeping_entries}
 use Rattle.cg_member.specs.Joining.{new_group}
 use Rattle.cg_group.specs.Machine.{commit, commit_in, concluded, named_group}

@@ -1,19 +1,13 @@
 -- What commands do to the offsets.
-use Rattle.std.proofs.Common.{◌≡◌, ℕ, Bool, true, false, List, [], ◌∷◌, ◌++◌, cond, not, is_some, refl, sym, ap, ◌∙◌, Option, Some, None}
+use Rattle.std.proofs.Common.{◌≡◌, ℕ, Bool, true, false, List, [], ◌∷◌, ◌++◌, refl, sym, ap, ◌∙◌, Option, Some, None}
 use Rattle.std.specs.List.{fold}
-use Rattle.std.specs.Ordering.{eq_by_cmp}
 use Rattle.std.specs.FinMap as finmap
-use Rattle.std.specs.FinMap.{get-insert, get-retain_keys}
 use Rattle.std.proofs.lemmas.Bool.{false≢true}
 use Rattle.cg_record.specs.declared.command.Command.{Command}
 use Rattle.cg_record.specs.declared.command.Command.TheVariants.{Assigned, Emptied, Replaced, Committed, Deleted}
-use Rattle.cg_record.specs.declared.entry.Entry.{Entry}
 use Rattle.cg_record.specs.declared.member.Member.{Member as KeptMember}
-use Rattle.cg_fold.specs.declared.key.OffsetKey.{OffsetKey}
 use Rattle.cg_fold.specs.declared.record.GroupRecord.{GroupRecord}
 use Rattle.cg_fold.specs.Durable.{State, after, effect, is_of_other, with_entry, with_member}
-use Rattle.cg_fold.specs.Key.{key_cmp, kept_of}
-use Rattle.cg_fold.proofs.KeyOrder.{key_same, key_total}
 use Rattle.cg_held.specs.Kept.{Each}
 use Rattle.cg_member.specs.Offsets.{OffsetMap, offsets_after}
 

@@ -1,8 +1,7 @@
 -- A Replaced command has the assignment of the member whose place it takes; nothing but a replacement makes one.
-use Rattle.std.proofs.Common.{◌≡◌, ℕ, Bool, true, false, not, ◌&&◌, ◌||◌, max, List, [], ◌∷◌, ◌++◌, find, cond, refl, ap, ◌∙◌, Option, Some, None, Result, Ok, Err}
+use Rattle.std.proofs.Common.{◌≡◌, ℕ, Bool, true, false, ◌&&◌, ◌||◌, max, List, [], ◌∷◌, find, cond, refl, ap, ◌∙◌, Some, Result, Ok, Err}
 use Rattle.std.specs.Prelude.{if◌then◌else◌}
 use Rattle.std.specs.List.{list_any, flat_map}
-use Rattle.std.specs.Option.{option_to_list, option_map, option_and_then}
 use Rattle.std.proofs.lemmas.Bool.{and_from, or_left, or_right}
 use Rattle.cg_names.specs.declared.code.Code.{Code}
 use Rattle.cg_record.specs.declared.command.Command.{Command}
@@ -11,30 +10,22 @@ use Rattle.cg_request.specs.declared.commit_entry.CommitEntry.{CommitEntry}
 use Rattle.cg_request.specs.declared.event.Event.{Event}
 use Rattle.cg_request.specs.declared.event.Event.TheVariants as event
 use Rattle.cg_member.specs.declared.group.Group.{Group}
-use Rattle.cg_member.specs.declared.group.Phase.{Phase}
-use Rattle.cg_member.specs.declared.group.Phase.TheVariants.{Empty, Preparing, Completing, Stable}
 use Rattle.cg_member.specs.declared.member.Member.{Member}
-use Rattle.cg_member.specs.declared.member.Waits.{Waits}
-use Rattle.cg_member.specs.declared.member.Waits.TheVariants.{Join, Sync}
 use Rattle.cg_request.specs.declared.request.JoinRequest.{JoinRequest}
-use Rattle.cg_request.specs.declared.request.SyncEntry.{SyncEntry}
-use Rattle.cg_request.specs.declared.request.SyncRequest.{SyncRequest}
 use Rattle.cg_request.specs.declared.ticket.Ticket.{Ticket}
 use Rattle.cg_member.specs.declared.turn.Turn.{Turn}
-use Rattle.cg_turn.specs.Beating.{beat_taken}
 use Rattle.cg_turn.specs.Committing.{committed, hearing_committer, keeping_entries}
-use Rattle.cg_member.specs.Joining.{admitted, in_join_phase, is_current, join_again, join_current, join_known, join_new, new_group, new_member, rejoined, updating, waiting}
+use Rattle.cg_member.specs.Joining.{new_group, new_member, rejoined}
 use Rattle.cg_held.specs.Kept.{Each}
 use Rattle.cg_group.specs.Laws.{AssignmentsAreEarned, after_all, is_passed_on, passes_assignment}
-use Rattle.cg_member.specs.Leaving.{after_removal, gone_in, has_joined, leave_taken, left}
+use Rattle.cg_member.specs.Leaving.{gone_in}
 use Rattle.cg_group.specs.Machine.{beat, commit, concluded, deleted, deleting, join, leave, met, step, sync}
 use Rattle.cg_held.specs.Held.{Machine, everywhere, find_group}
-use Rattle.cg_member.specs.Membership.{find_instance, has_instance, hearing, is_empty, is_preparing, is_same, keeping, leads}
-use Rattle.cg_member.specs.Rebalance.{completed, completed_generation, emptied, emptied_command, is_ready, next_round, prepared, told_to_joins, tried, turn_of}
+use Rattle.cg_member.specs.Membership.{find_instance, has_instance, is_same}
 use Rattle.cg_member.specs.Replacing.{join_replacing, keeps_generation, replaced, replaced_command, replaced_in_place, successor}
 use Rattle.cg_held.specs.Reviving.{revive}
-use Rattle.cg_member.specs.Syncing.{assigned_command, assigning, distributed, kept_member, kept_roster, sync_current, sync_taken, sync_waits, told_to_syncs}
-use Rattle.cg_member.specs.Ticking.{at_deadline, can_complete, ended, expired, is_due, is_overdue, outstays, ticked}
+use Rattle.cg_member.specs.Syncing.{kept_member}
+use Rattle.cg_member.specs.Ticking.{ticked}
 use Rattle.cg_group.proofs.Earned.{replies_are_earned}
 use Rattle.cg_held.proofs.Framed.{each-append}
 use Rattle.cg_held.proofs.KeptLists.{same_self}

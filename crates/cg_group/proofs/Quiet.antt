@@ -1,10 +1,8 @@
 -- Turns other than a commit's make no command on offsets.
-use Rattle.std.proofs.Common.{◌≡◌, ℕ, true, false, List, [], ◌∷◌, ◌++◌, refl, Result, Ok, Err}
+use Rattle.std.proofs.Common.{ℕ, true, false, List, refl, Result, Ok, Err}
 use Rattle.std.specs.Prelude.{if◌then◌else◌}
 use Rattle.std.specs.List.{flat_map}
 use Rattle.cg_names.specs.declared.code.Code.{Code}
-use Rattle.cg_record.specs.declared.command.Command.{Command}
-use Rattle.cg_record.specs.declared.member.Member.{Member as KeptMember}
 use Rattle.cg_member.specs.declared.group.Group.{Group}
 use Rattle.cg_member.specs.declared.member.Member.{Member}
 use Rattle.cg_request.specs.declared.request.BeatRequest.{BeatRequest}
@@ -17,7 +15,7 @@ use Rattle.cg_member.specs.Joining.{new_group, rejoined}
 use Rattle.cg_member.specs.Leaving.{gone_in}
 use Rattle.cg_group.specs.Machine.{beat, concluded, join, leave, sync}
 use Rattle.cg_held.specs.Held.{Machine}
-use Rattle.cg_member.specs.Replacing.{join_replacing, keeps_generation, replaced, replaced_command, replaced_in_place, successor}
+use Rattle.cg_member.specs.Replacing.{join_replacing, keeps_generation, replaced, replaced_in_place, successor}
 use Rattle.cg_member.specs.Syncing.{kept_member}
 use Rattle.cg_member.specs.Ticking.{ticked}
 use Rattle.cg_group.proofs.Making.{makes-all, makes-beat_taken, makes-gone_in, makes-join_known, makes-join_new, makes-leave_taken, makes-rejoined, makes-sync_taken, makes-ticked}

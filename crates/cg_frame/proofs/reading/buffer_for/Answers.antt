@@ -1,4 +1,4 @@
-use Rattle.std.proofs.Common.{◌≡◌, ◌++◌, take, replicate, ap, sym, ◌∙◌, arith, rules}
+use Rattle.std.proofs.Common.{◌≡◌, arith, rules}
 use Rattle.cg_frame.proofs.Parts.{take-filled}
 use Rattle.cg_frame.proofs.reading.buffer_for.Goals as goal
 

@@ -1,5 +1,4 @@
-use Rattle.std.proofs.Common.{◌≡◌, ◌<◌, ℕ, true, false, subst, ◌++◌, take, drop, ap, sym, ◌∙◌, arith, rules}
-use Rattle.std.proofs.lemmas.Bool.Decides.{nat_tests}
+use Rattle.std.proofs.Common.{◌≡◌, ◌<◌, ℕ, true, false, subst, ◌++◌, take, drop, ap, sym, ◌∙◌, arith}
 use Rattle.cg_frame.specs.Frames.{word, next_gate}
 use Rattle.cg_frame.proofs.Parts.{two_words, IsFront-words}
 use Rattle.cg_frame.proofs.reading.head_of.Goals as goal

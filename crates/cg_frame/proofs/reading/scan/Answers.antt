@@ -1,4 +1,4 @@
-use Rattle.std.proofs.Common.{◌≡◌, ℕ, ◌+◌, ◌-◌, List, ◌++◌, length, take, drop, Ok, refl, ap, sym, ◌∙◌, arith, rules}
+use Rattle.std.proofs.Common.{◌≡◌, ℕ, ◌+◌, ◌-◌, List, ◌++◌, length, take, drop, Ok, refl, ap, ◌∙◌, arith, rules}
 use Rattle.cg_disk.specs.Disk.{present, span, Holds}
 use Rattle.std.proofs.lemmas.List.{length-drop, take_all}
 use Rattle.cg_disk.proofs.Moments.{span-stays}

@@ -1,6 +1,5 @@
-use Rattle.std.proofs.Common.{◌≡◌, ◌^◌, ◌<◌, ap, sym, ◌∙◌, subst, arith, rules}
+use Rattle.std.proofs.Common.{arith}
 use Rattle.cg_disk.proofs.Moments.{LeavesOnly-present}
-use Rattle.cg_frame.specs.Frames.{next_gate}
 use Rattle.cg_frame.proofs.Laid.{IsStaged-shown, StandsLast-laid, Appended-starts, frames-starts, Appended-run, frames-run}
 use Rattle.cg_frame.proofs.Standing.{HasFramesTo-appended}
 use Rattle.cg_frame.proofs.writing.append.Goals as goal

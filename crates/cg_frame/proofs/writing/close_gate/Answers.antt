@@ -1,4 +1,4 @@
-use Rattle.std.proofs.Common.{◌≡◌, arith, rules}
+use Rattle.std.proofs.Common.{◌≡◌, arith}
 use Rattle.cg_disk.specs.Disk.{sector_count}
 use Rattle.cg_disk.proofs.Moments.{LeavesOnly-changes}
 use Rattle.cg_frame.proofs.Gates.{IsClosed-written}

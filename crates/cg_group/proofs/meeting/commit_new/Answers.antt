@@ -1,4 +1,4 @@
-use Rattle.std.proofs.Common.{◌≡◌, ap, ◌∙◌}
+use Rattle.std.proofs.Common.{ap, ◌∙◌}
 use Rattle.cg_member.specs.Joining.{new_group}
 use Rattle.cg_held.specs.Held.{with_group, without_group}
 use Rattle.cg_group.proofs.Made.{commit_made, unmade}

@@ -1,8 +1,8 @@
-use Rattle.std.proofs.Common.{◌≡◌, sym, ap, ◌∙◌}
+use Rattle.std.proofs.Common.{ap, ◌∙◌}
 use Rattle.cg_request.specs.declared.event.Event.TheVariants as event
 use Rattle.cg_member.specs.Leaving.{gone_in}
-use Rattle.cg_group.specs.Machine.{beat, commit, concluded, deleting, join, leave, met, sync}
-use Rattle.cg_held.specs.Held.{at_moment, everywhere, outcome, standing}
+use Rattle.cg_group.specs.Machine.{beat, commit, deleting, join, leave, met, sync}
+use Rattle.cg_held.specs.Held.{standing}
 use Rattle.cg_held.specs.Sessions.{is_home}
 use Rattle.cg_member.specs.Ticking.{ticked}
 use Rattle.cg_group.proofs.Beside.{concluded_beside, concluded_still, deleted_beside, everywhere_beside, everywhere_still}

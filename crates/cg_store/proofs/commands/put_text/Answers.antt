@@ -1,4 +1,4 @@
-use Rattle.std.proofs.Common.{rules, arith, ◌≡◌, ◌<◌, ◌≤◌, ◌^◌, ◌++◌, ◌∷◌, [], length, ℕ, ◌+◌, List, ap, sym, ◌∙◌, subst}
+use Rattle.std.proofs.Common.{rules, arith, ◌≡◌, ◌<◌, ◌^◌, ◌++◌, length, ap, sym, ◌∙◌, subst}
 use Rattle.cg_record.specs.Spelling.{command_text, spelling}
 use Rattle.cg_store.specs.Texts.{IsText, told}
 use Rattle.cg_store.proofs.Longer.{IsLonger, longer}
