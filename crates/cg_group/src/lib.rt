@@ -1,6 +1,7 @@
 //! The group machine: what a coordinator answers to its clients, and which commands it makes, as one pure step from event to event.
-//! Its rules are the definitions of `specs/`, in the order of the protocol guide; the code is their plain body.
-//! Stands on the commands of `cg_record` and the durable state of `cg_fold`; a drawn member id ends in a `uuid`.
+//! Its rules are the definitions of `specs/`, here and in the crates below it, in the order of the protocol guide; the code is their
+//! plain body. Stands on the groups of `cg_held`, the turns of `cg_turn`, the members and replies of `cg_member` and the requests of
+//! `cg_request`, and hands on what its callers name of them; these stand on the commands of `cg_record` and the state of `cg_fold`.
 #![tactic(auto)]
 
 mod concluding;
