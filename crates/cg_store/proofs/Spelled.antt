@@ -13,12 +13,9 @@ use Rattle.cg_record.proofs.CommandLaws.{commands_again}
 use Rattle.cg_fold.specs.Durable.{State, after, effect, empty, folded}
 use Rattle.cg_store.specs.Carried.{Spell, counted, frame_of, joined}
 use Rattle.cg_store.specs.Loading.{IsNoText, IsTextOf}
+use Rattle.cg_store.proofs.Longer.{all-push}
 
 -- ---- one batch more
-
-lawful-push : (batches : List (List Command)) (commands : List Command) → AllByRecursion AreCommands batches → AreCommands commands → AllByRecursion AreCommands (batches ++ commands ∷ [])
-lawful-push [] commands are is = (is, tt)
-lawful-push (b ∷ batches) commands are is = (are.0, lawful-push batches commands are.1 is)
 
 joined-push : (batches : List (List Command)) (commands : List Command) → joined (batches ++ commands ∷ []) ≡ joined batches ++ commands
 joined-push batches commands =
@@ -40,7 +37,7 @@ Spell-push frames n state count payload commands spell text =
       batches = spell.batches ++ commands ∷ [];
       frames_are = ap (λ (l : List (ℕ × List ℕ)). l ++ (count, payload) ∷ []) spell.frames_are
           ∙ ap (λ (f : ℕ × List ℕ). map frame_of spell.batches ++ f ∷ []) (frame-is count payload commands text) ∙ sym (map-append frame_of spell.batches (commands ∷ []));
-      lawful = lawful-push spell.batches commands spell.lawful text.lawful;
+      lawful = all-push AreCommands spell.batches commands spell.lawful text.lawful;
       number = omega (arith, spell.number, text.number, ap length all, length-append (joined spell.batches) commands);
       state_is = ap (λ s. after s commands) spell.state_is ∙ sym (fold-append effect empty (joined spell.batches) commands) ∙ sym (ap folded all);
     }
