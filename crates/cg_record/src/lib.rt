@@ -56,4 +56,4 @@ pub use reading::read;
 pub use replaced::{Replaced, StaticMember};
 pub use roster::{MEMBERS_MAX, Roster};
 pub use sizes::{COMMAND_BYTES_MAX, size};
-pub use writing::{put_command, write};
+pub use writing::{append_command, write};

@@ -1,4 +1,4 @@
-ghost use Rattle.std.specs.Prelude.{◌≡◌, ◌<◌, ◌≤◌, ◌+◌, ◌++◌, Ok, length, sum_by, IfOk, OnOk};
+ghost use Rattle.std.specs.Prelude.{◌≡◌, ◌<◌, ◌≤◌, ◌+◌, ◌++◌, Ok, length, sum_by, IfOk, OnOk, OnErr};
 ghost use Rattle.std.specs.List.{flat_map, AllByRecursion};
 ghost use Rattle.cg_names.specs.Grammar.{IsName};
 ghost use Rattle.cg_record.specs.Lawful.{IsEntry, IsAssigned, IsEmptied, IsReplaced, IsDeleted, IsCommitted, IsCommand, AreCommands};
@@ -137,9 +137,8 @@ fn put_deleted(out: &mut Vec<u8>, deleted: &Deleted) -> Result<(), AllocError>
     Ok(())
 }
 
-/// Puts the text of a command behind what is there: `size` bytes. Where memory is refused, a part of it may stand there.
 #[tactic(auto, unfolding(crate::specs::Spelling::command_text))]
-pub fn put_command(out: &mut Vec<u8>, command: &Command) -> Result<(), AllocError>
+fn put_command(out: &mut Vec<u8>, command: &Command) -> Result<(), AllocError>
     ensures ok { OnOk result (out.new.items ≡ out.old.items ++ command_text command.now) }
     ensures lawful { OnOk result (IsCommand command.now) }
 {
@@ -165,6 +164,23 @@ pub fn put_command(out: &mut Vec<u8>, command: &Command) -> Result<(), AllocErro
             put_deleted(out, deleted)?;
         }
     }
+    Ok(())
+}
+
+/// Puts the text of a command behind what is there: `size` bytes. It is spelled in `room` first, whose bytes do not matter before
+/// and after. Where memory is refused, the text is as it was.
+pub fn append_command(
+    text: &mut Vec<u8>,
+    room: &mut Vec<u8>,
+    command: &Command,
+) -> Result<(), AllocError>
+    ensures ok { OnOk result (text.new.items ≡ text.old.items ++ command_text command.now) }
+    ensures lawful { OnOk result (IsCommand command.now) }
+    ensures err { OnErr result (text.new.items ≡ text.old.items) }
+{
+    room.clear();
+    put_command(room, command)?;
+    text.extend_from_slice(room.as_slice())?;
     Ok(())
 }
 

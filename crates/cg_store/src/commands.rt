@@ -4,7 +4,7 @@ ghost use Rattle.cg_record.specs.Lawful.{AreCommands};
 ghost use Rattle.cg_record.specs.Spelling.{spelling};
 ghost use Rattle.cg_store.specs.Texts.{IsText, told};
 
-use cg_record::{Command, put_command};
+use cg_record::{Command, append_command};
 use std::alloc::{AllocError, Global};
 use std::marker::Model;
 
@@ -47,9 +47,7 @@ fn put_text(bytes: &mut Vec<u8>, room: &mut Vec<u8>, command: &Command) -> Resul
 {
     // A look at the text, for the commands that it spells.
     let _text = spelling_of(bytes.as_slice());
-    room.clear();
-    put_command(room, command)?;
-    bytes.extend_from_slice(room.as_slice())?;
+    append_command(bytes, room, command)?;
     Ok(())
 }
 
