@@ -1,13 +1,29 @@
-# sim: runs the script program on standard input, proved and built by LLVM.
-# try: the same without waiting for proofs.
+# demo: runs the script of examples/ without waiting for a proof.
+# sim: proves the script program, builds it and runs it on standard input.
+# try: runs the script program on a script, without proof: make try < SCRIPT
 # test: the whole gate.
-.PHONY: sim try test
+# mutants [CRATE ..]: tries every edit that the prover must refuse, over kept work.
+.PHONY: demo sim try test mutants
+
+demo:
+	@bash scripts/demo.sh
 
 sim:
-	@cd crates/cg_sim && rt run
+	@python3 scripts/gate sim
 
 try:
-	@cd crates/cg_sim && rt try
+	@bash scripts/try.sh
 
 test:
-	@bash scripts/gate.sh
+	@python3 scripts/gate test
+
+# The words after `mutants` are names of crates.
+ifeq (mutants,$(firstword $(MAKECMDGOALS)))
+crates := $(wordlist 2,$(words $(MAKECMDGOALS)),$(MAKECMDGOALS))
+.PHONY: $(crates)
+$(crates):
+	@:
+endif
+
+mutants:
+	@python3 scripts/gate mutants $(crates)

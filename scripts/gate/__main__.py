@@ -1,0 +1,217 @@
+"""The gate of this repository, and its parts. Run by `make`:
+
+  gate sim                proves the script program and what it uses, over kept work, and runs it on standard input
+  gate test               proves every crate from nothing, in a copy, with tests, edits, programs and example scripts;
+                          the last line is 'N passed, M failed'
+  gate mutants [CRATE ..] tries every edit of the crates (all by default) over kept work; goes on where it was stopped;
+                          the last line is 'N refused, M not refused'
+"""
+import os
+import shutil
+import subprocess
+import sys
+import tempfile
+import time
+
+import lanes
+from cases import run_cases
+from edits import edits_of, key_of, try_edits
+from kit import crates_of, processors, rtlib
+from lanes import Task
+from proofs import prove, prove_tests, run_program
+
+EDITS_A_TASK = 8
+BEGUN = time.time()
+
+
+def say(text):
+    print(f"[{(time.time() - BEGUN) / 60:5.1f} min] {text}", flush=True)
+
+
+def named(crates, name):
+    return next(it for it in crates if it.name == name)
+
+
+def task(words):
+    """Does one task, in the process that lanes started for it, and returns the exit status."""
+    verb, name, *rest, jobs = words
+    crates = crates_of(os.getcwd())
+    crate = named(crates, name)
+    if verb == "prove":
+        return not prove(crate, crates, int(jobs))
+    if verb == "tests":
+        return not prove_tests(crate, int(jobs))
+    all_refused = True
+
+    def report(edit, refused, line):
+        nonlocal all_refused
+        all_refused = all_refused and refused
+        print(line, flush=True)
+        with open(f"{crate.folder}/out/edits", "a", encoding="utf-8") as file:
+            file.write(f"{key_of(crate, edit)} {'refused' if refused else 'not-refused'} {os.path.relpath(edit, crate.folder)}\n")
+
+    try_edits(crate, rest, report)
+    return not all_refused
+
+
+def proofs_of(crates):
+    """Returns a task a crate, lowest first, each after those of the crates that it uses."""
+    made = {}
+    for crate in crates:
+        after = [made[it.name] for it in crate.below()]
+        made[crate.name] = Task(f"{crate.name}", ["prove", crate.name], after, crate.count(rb"\n"), takes_jobs=True)
+    return made
+
+
+def outcomes(crate):
+    """Returns the last outcome of each edit of the crate as it is now: True where it was refused. One that was not tried is not there."""
+    path, said = f"{crate.folder}/out/edits", {}
+    if os.path.isfile(path):
+        with open(path, encoding="utf-8") as file:
+            said = {key: word == "refused" for key, word, _ in map(str.split, file)}
+    keys = {edit: key_of(crate, edit) for edit in edits_of(crate)}
+    return {edit: said[key] for edit, key in keys.items() if key in said}
+
+
+def edit_tasks(crate, edits, after):
+    parts = [edits[at : at + EDITS_A_TASK] for at in range(0, len(edits), EDITS_A_TASK)]
+    return [Task(f"{crate.name} edits {at + 1}", ["edits", crate.name, *part], after) for at, part in enumerate(parts)]
+
+
+def run_tasks(tasks):
+    """Runs the tasks and shows each as it ends, with what the failed ones said."""
+    number = 0
+
+    def on_end(it):
+        nonlocal number
+        number += 1
+        seconds = f" in {it.wall:.0f} s, {it.processor:.0f} s of processor time" if it.was_run else ""
+        outcome = "ok" if it.ended_well else "FAILED" if it.was_run else "left out: what it needs failed"
+        if not it.ended_well or "edits" in it.words[:1] or "tests" in it.words[:1]:
+            print(it.said, end="", flush=True)
+        say(f"{number}/{len(tasks)} {it.name}: {outcome}{seconds}")
+
+    lanes.run_all(tasks, processors(), on_end, lambda names: say(f"still at {', '.join(names)}"))
+
+
+def sim():
+    crates = crates_of(os.getcwd())
+    program = named(crates, "cg_sim")
+    needed = [*program.below(), program]
+    held = rtlib.lock(needed)
+    tasks = [*proofs_of([it for it in crates if it in needed]).values()]
+    run_tasks(tasks)
+    if not all(it.ended_well for it in tasks):
+        return 1
+    for it in held:
+        os.close(it)
+    say("proved; running crates/cg_sim/out/cg_sim on standard input")
+    return subprocess.run([f"{program.folder}/out/{program.name}"]).returncode
+
+
+def mutants(names):
+    crates = crates_of(os.getcwd())
+    unknown = [it for it in names if it not in [crate.name for crate in crates]]
+    if unknown:
+        print(f"gate: crates.txt names no crate {unknown[0]}")
+        return 2
+    chosen = [it for it in crates if (not names or it.name in names) and edits_of(it)]
+    needed = [it for it in crates if it in chosen or any(it in other.below() for other in chosen)]
+    _held = rtlib.lock(needed)
+    proofs = proofs_of(needed)
+    tasks = [*proofs.values()]
+    for crate in chosen:
+        known = outcomes(crate)
+        tasks += edit_tasks(crate, [it for it in edits_of(crate) if not known.get(it)], [proofs[crate.name]])
+    run_tasks(tasks)
+    refused = not_refused = 0
+    for crate in chosen:
+        known = outcomes(crate)
+        for edit in edits_of(crate):
+            if known.get(edit):
+                refused += 1
+            else:
+                not_refused += 1
+                print(f"{crate.name}/{os.path.basename(edit)}: {'NOT REFUSED' if edit in known else 'not tried'}")
+    print(f"{refused} refused, {not_refused} not refused")
+    return 1 if not_refused else 0
+
+
+def test(root):
+    """The gate itself, in a copy of what git would commit, so that nothing which an earlier run left is used."""
+    listed = subprocess.run(["git", "ls-files", "-z", "-co", "--exclude-standard"], capture_output=True, check=True).stdout
+    with tempfile.TemporaryDirectory(prefix="gate-") as room:
+        for path in listed.decode().split("\0"):
+            if path and os.path.isfile(path):
+                os.makedirs(os.path.dirname(f"{room}/{path}"), exist_ok=True)
+                shutil.copy(path, f"{room}/{path}")
+        os.mkdir(f"{room}/.git")
+        os.chdir(room)
+        try:
+            return test_copy(room)
+        finally:
+            os.chdir(root)
+
+
+def test_copy(room):
+    crates = crates_of(room)
+    proofs = proofs_of(crates)
+    tasks, counted = [*proofs.values()], {}
+    for crate in crates:
+        after = [proofs[crate.name]]
+        if crate.has_tests():
+            after = [Task(f"{crate.name} tests", ["tests", crate.name], after, 1)]
+            tasks += after
+        edits = edits_of(crate, ["must-fail"])
+        counted[crate.name] = edits
+        tasks += edit_tasks(crate, edits, after)
+    run_tasks(tasks)
+    failed = [it.name for it in tasks if not it.ended_well and it.words[0] != "edits"]
+    passed = sum(it.ended_well and it.words[0] != "edits" for it in tasks)
+    for crate in crates:
+        known = outcomes(crate)
+        failed += [os.path.relpath(it, room) for it in counted[crate.name] if not known.get(it)]
+        passed += sum(known.get(it, False) for it in counted[crate.name])
+        if crate.is_program and proofs[crate.name].ended_well:
+            ran = run_program(crate)
+            passed, failed = passed + ran, failed + [f"{crate.name} (run)"] * (not ran)
+    program = f"{room}/crates/cg_sim/out/cg_sim"
+    if os.path.isfile(program):
+        well, differ = run_cases(program, f"{room}/crates/cg_sim/cases")
+        say(f"{well} example scripts print what they must")
+        passed, failed = passed + well, failed + differ
+    show_times(tasks)
+    for it in failed:
+        print(f"FAILED: {it}")
+    print(f"{passed} passed, {len(failed)} failed")
+    return 1 if failed else 0
+
+
+def show_times(tasks):
+    """Shows the processor time of each crate: its proof, its tests and its edits."""
+    rows = {}
+    for it in tasks:
+        row = rows.setdefault(it.words[1], {"prove": 0.0, "tests": 0.0, "edits": 0.0})
+        row[it.words[0]] += it.processor
+    print(f"{'seconds of processor time':26} {'proof':>7} {'tests':>7} {'edits':>7}")
+    for name, row in rows.items():
+        print(f"{name:26} {row['prove']:7.0f} {row['tests']:7.0f} {row['edits']:7.0f}")
+    total = sum(it.processor for it in tasks) / 60
+    print(f"in all {total:.0f} minutes of processor time, {(time.time() - BEGUN) / 60:.0f} minutes by the clock, {processors()} side by side", flush=True)
+
+
+def main(words):
+    if words[:1] == ["task"]:
+        return task(words[1:])
+    if words == ["sim"]:
+        return sim()
+    if words == ["test"]:
+        return test(os.getcwd())
+    if words[:1] == ["mutants"]:
+        return mutants(words[1:])
+    print(__doc__, file=sys.stderr)
+    return 2
+
+
+if __name__ == "__main__":
+    sys.exit(main(sys.argv[1:]))
