@@ -16,7 +16,7 @@ import time
 import lanes
 from cases import run_cases
 from edits import edits_of, key_of, try_edits
-from kit import crates_of, processors, rtlib
+from kit import crates_of, processors, rt, rtlib
 from lanes import Task
 from proofs import prove, prove_tests, run_program
 
@@ -38,7 +38,7 @@ def task(words):
     crates = crates_of(os.getcwd())
     crate = named(crates, name)
     if verb == "prove":
-        return not prove(crate, crates, int(jobs))
+        return not prove(crate, crates, int(jobs), rest)
     if verb == "tests":
         return not prove_tests(crate, int(jobs))
     all_refused = True
@@ -54,12 +54,12 @@ def task(words):
     return not all_refused
 
 
-def proofs_of(crates):
-    """Returns a task a crate, lowest first, each after those of the crates that it uses."""
+def proofs_of(crates, backends=("llvm",)):
+    """Returns a task a crate, lowest first, each after those of the crates that it uses. A program is built by these compilers."""
     made = {}
     for crate in crates:
         after = [made[it.name] for it in crate.below()]
-        made[crate.name] = Task(f"{crate.name}", ["prove", crate.name], after, crate.count(rb"\n"), takes_jobs=True)
+        made[crate.name] = Task(crate.name, ["prove", crate.name, *backends], after, crate.count(rb"\n"), takes_jobs=True)
     return made
 
 
@@ -155,7 +155,7 @@ def test(root):
 
 def test_copy(room):
     crates = crates_of(room)
-    proofs = proofs_of(crates)
+    proofs = proofs_of(crates, rt.BACKENDS)
     tasks, counted = [*proofs.values()], {}
     for crate in crates:
         after = [proofs[crate.name]]

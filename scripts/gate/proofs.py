@@ -29,14 +29,14 @@ def refusal_of_text(crate, crates):
     return None
 
 
-def prove(crate, crates, jobs):
-    """Proves and builds the crate over its kept work. Returns whether it is proved."""
+def prove(crate, crates, jobs, backends):
+    """Proves and builds the crate over its kept work, a program by these compilers. Returns whether it is proved."""
     why = refusal_of_text(crate, crates)
     if why:
         print(f"{crate.name}: {why}")
         return False
     os.makedirs(f"{crate.folder}/out", exist_ok=True)
-    return not (_program(crate, jobs) if crate.is_program else _library(crate, jobs))
+    return not (_program(crate, jobs, backends) if crate.is_program else _library(crate, jobs))
 
 
 def _words(crate, jobs, tests=False):
@@ -56,28 +56,30 @@ def _library(crate, jobs):
     return status
 
 
-def _program(crate, jobs):
-    """Builds the program as both compilers make it: the second build is over what the first one proved."""
+def _program(crate, jobs, backends):
+    """Proves the program, and builds it over what the check kept."""
     stamp, stamped = crate.stamp(), f"{crate.folder}/out/{crate.name}.stamp"
     if rtlib.text_of(stamped) == stamp + rtlib.sum_of(f"{crate.folder}/out/{crate.name}"):
         return 0
-    for backend, ending in rt.BACKENDS.items():
-        made = f"out/{crate.name}{ending}"
-        status = crate.prove(["build", *_words(crate, jobs), *TOOLCHAIN, "--backend", backend, "-o", f"{made}.o"])
-        status = status or crate.link(f"{made}.o", made)
-        if status:
-            return status
-    if stamp == crate.stamp():
+    status = crate.prove(["check", *_words(crate, jobs)])
+    for backend in backends:
+        status = status or _compile(crate, _words(crate, 1), backend, f"out/{crate.name}{rt.BACKENDS[backend]}")
+    if not status and stamp == crate.stamp():
         with open(stamped, "w", encoding="utf-8") as file:
             file.write(stamp + rtlib.sum_of(f"{crate.folder}/out/{crate.name}"))
-    return 0
+    return status
+
+
+def _compile(crate, words, backend, made):
+    """Compiles and links what is proved. The check that this repeats takes its work from the folder of kept work."""
+    status = crate.call(rtlib.RATTLE, "build", *words, *TOOLCHAIN, "--backend", backend, "-o", f"{made}.o")
+    return status or crate.link(f"{made}.o", made)
 
 
 def prove_tests(crate, jobs):
     """Proves, builds and runs the crate's tests over its kept work. Returns whether they passed."""
-    made = f"out/{crate.name}_tests"
-    words = [*_words(crate, jobs, tests=True), *TOOLCHAIN, "--backend", "llvm", "-o", f"{made}.o"]
-    if crate.prove(["build", *words]) or crate.link(f"{made}.o", made):
+    words = _words(crate, jobs, tests=True)
+    if crate.prove(["check", *words]) or _compile(crate, words, "llvm", f"out/{crate.name}_tests"):
         return False
     return rt.run(crate, True)
 
