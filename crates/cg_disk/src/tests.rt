@@ -1,6 +1,6 @@
 ghost use Rattle.std.specs.Prelude.{◌≡◌, ◌*◌, ◌^◌, ◌<◌, IfOk, OnOk, length};
 
-use crate::{Crash, DiskFault, FileDisk, FuseDisk, MemDisk, SECTOR_BYTES, SectorDisk};
+use crate::{Crash, FileDisk, MemDisk, SECTOR_BYTES, SectorDisk};
 use std::alloc::{AllocError, Global};
 use std::fs;
 use std::process::Abort;
@@ -53,29 +53,6 @@ fn a_crash_keeps_or_loses_what_is_not_synced(rt: HostRuntime) -> Result<(), Fail
             "after {kind:?}, then Lose"
         );
     }
-    Ok(())
-}
-
-#[test]
-fn a_fuse_fails_each_call_once_it_is_burnt(rt: HostRuntime) -> Result<(), Fail> {
-    let alloc = rt.alloc();
-    let bytes = sectors(alloc, 8, 1)?;
-    let mut buffer = sectors(alloc, 1, 1)?;
-    let mut disk = FuseDisk::new(MemDisk::new(alloc, 4)?, 2);
-    disk.write(3, &bytes)?;
-    disk.sync()?;
-    assert_eq!(rt; disk.write(2, &bytes), Err(DiskFault::Device));
-    assert_eq!(rt; disk.sync(), Err(DiskFault::Device));
-    assert_eq!(rt; disk.read(3, &mut buffer), Err(DiskFault::Device));
-    disk.set(Some(1));
-    disk.sync()?;
-    assert_eq!(rt; disk.sync(), Err(DiskFault::Device));
-    disk.set(None);
-    assert_eq!(rt; first_bytes(&rt, alloc, &mut disk)?, (0, 0, 0, 8));
-    assert_eq!(rt;
-        first_bytes(&rt, alloc, &mut disk.into_inner())?,
-        (0, 0, 0, 8)
-    );
     Ok(())
 }
 

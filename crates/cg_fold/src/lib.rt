@@ -15,6 +15,8 @@ mod renewals;
 mod rows;
 mod shelves;
 mod snapshots;
+#[cfg(test)]
+mod tests;
 
 pub use durable::Durable;
 pub use key::{OffsetKey, StoredOffset};

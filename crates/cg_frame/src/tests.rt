@@ -4,7 +4,7 @@ use crate::{
     FrameFault, LARGEST_PAYLOAD_BYTES, SEGMENT_SECTORS, ScanFault, Segment, append, close_gate,
     fits, scan,
 };
-use cg_disk::{Crash, FuseDisk, MemDisk, SectorDisk};
+use cg_disk::{FuseDisk, MemDisk, SectorDisk};
 use std::alloc::{AllocError, Global};
 use std::process::Abort;
 use std::test::Fail;
@@ -72,56 +72,6 @@ fn small() -> Segment
     }
 }
 
-// Whether the frame of an append stands where the device fails after that many calls, and then crashes.
-fn stands_after(rt: &impl Abort, alloc: Global, calls: u64, kind: Crash) -> Result<bool, Fail> {
-    let payload = payload_of(alloc, 20)?;
-    let mut disk = MemDisk::new(alloc, 8)?;
-    close_gate(&mut disk, small(), 0)?;
-    let mut disk = FuseDisk::new(disk, calls);
-    let told = append(alloc, &mut disk, small(), 0, 9, &payload);
-    assert_eq!(rt;
-        told,
-        if calls < 4 {
-            Err(FrameFault::Device)
-        } else {
-            Ok(2)
-        }
-    );
-    let mut disk = disk.into_inner().crash(kind);
-    match scan(alloc, &mut disk, small(), 0)? {
-        None => Ok(false),
-        Some(frame) => {
-            assert_eq!(rt; (frame.count, frame.next), (9, 2));
-            assert!(rt; frame.payload == payload);
-            Ok(true)
-        }
-    }
-}
-
-#[test]
-fn an_append_that_fails_leaves_all_or_nothing(rt: HostRuntime) -> Result<(), Fail> {
-    // The third call is the write of the gate, and the fourth its sync.
-    for (calls, kept, lost) in [
-        (0, false, false),
-        (1, false, false),
-        (2, false, false),
-        (3, true, false),
-        (4, true, true),
-    ] {
-        assert_eq!(rt;
-            stands_after(&rt, rt.alloc(), calls, Crash::Keep)?,
-            kept,
-            "{calls}"
-        );
-        assert_eq!(rt;
-            stands_after(&rt, rt.alloc(), calls, Crash::Lose)?,
-            lost,
-            "{calls}"
-        );
-    }
-    Ok(())
-}
-
 // An open gate, and a sector that begins with a count and a length.
 fn front_of(alloc: Global, count: u64, bytes: u64) -> Result<Vec<u8>, AllocError>
     ensures { IfOk result (λ front. length front.items ≡ 1024) }
@@ -133,50 +83,51 @@ fn front_of(alloc: Global, count: u64, bytes: u64) -> Result<Vec<u8>, AllocError
     Ok(front)
 }
 
+// Where a front is written, its count and length, where the scan looks, and whether it reports damage.
+const FRONTS: [(u64, u64, u64, u64, bool); 7] = [
+    (0, 1, 1520, 0, false),
+    (0, 1, 1521, 0, true),
+    (0, 1, u64::MAX, 0, true),
+    (0, 0, 20, 0, true),
+    (2, 1, 496, 2, false),
+    (3, 1, 0, 3, true),
+    (3, 1 << 56, 0, 4, true),
+];
+
 #[test]
-fn damage_behind_an_open_gate_is_told(rt: HostRuntime) -> Result<(), Fail> {
+fn damage_behind_an_open_gate_is_reported(rt: HostRuntime) -> Result<(), Fail> {
     let alloc = rt.alloc();
-    // Where a front is written, a count, a length, where the scan looks, whether it tells damage.
-    for (at, count, bytes, pos, bad) in [
-        (0, 1, 1520, 0, false),
-        (0, 1, 1521, 0, true),
-        (0, 1, u64::MAX, 0, true),
-        (0, 0, 20, 0, true),
-        (2, 1, 496, 2, false),
-        (3, 1, 0, 3, true),
-        (3, 1 << 56, 0, 4, true),
-    ] {
-        let front = front_of(alloc, count, bytes)?;
+    for (at, count, bytes, position, is_bad) in FRONTS {
         let mut disk = MemDisk::new(alloc, 8)?;
-        disk.write(3 + at, &front)?;
-        let told = scan(alloc, &mut disk, small(), pos).err();
+        disk.write(3 + at, &front_of(alloc, count, bytes)?)?;
+        let fault = scan(alloc, &mut disk, small(), position).err();
         assert_eq!(rt;
-            told,
-            bad.then_some(ScanFault::BadLength),
-            "{count} {bytes} at {pos}"
+            fault,
+            is_bad.then_some(ScanFault::BadLength),
+            "{count} {bytes} at {position}"
         );
     }
     Ok(())
 }
 
-#[test]
-fn a_scan_tells_a_failed_read(rt: HostRuntime) -> Result<(), Fail> {
-    let alloc = rt.alloc();
+// The fault of a scan for which the device passes this many calls.
+fn fault_after(alloc: Global, calls: u64) -> Result<Option<ScanFault>, Fail> {
     let payload = payload_of(alloc, 600)?;
     let mut disk = MemDisk::new(alloc, 8)?;
-    close_gate(&mut disk, small(), 0)?;
     append(alloc, &mut disk, small(), 0, 1, &payload)?;
-    let mut disk = FuseDisk::new(disk, 0);
-    assert_eq!(rt;
-        scan(alloc, &mut disk, small(), 0).err(),
-        Some(ScanFault::Device)
-    );
-    disk.set(Some(1));
-    assert_eq!(rt;
-        scan(alloc, &mut disk, small(), 0).err(),
-        Some(ScanFault::Device)
-    );
-    disk.set(Some(2));
-    assert!(rt; scan(alloc, &mut disk, small(), 0)?.is_some());
+    let mut disk = FuseDisk::new(disk, calls);
+    Ok(scan(alloc, &mut disk, small(), 0).err())
+}
+
+#[test]
+fn a_scan_reports_a_failed_read(rt: HostRuntime) -> Result<(), Fail> {
+    // The gate is read first, then the body.
+    for (calls, fault) in [
+        (0, Some(ScanFault::Device)),
+        (1, Some(ScanFault::Device)),
+        (2, None),
+    ] {
+        assert_eq!(rt; fault_after(rt.alloc(), calls)?, fault, "{calls}");
+    }
     Ok(())
 }

@@ -8,6 +8,8 @@ mod line_fault;
 mod parsing;
 mod printing;
 mod running;
+#[cfg(test)]
+mod tests;
 mod words;
 
 pub use backend::Backend;

@@ -33,6 +33,8 @@ mod reading;
 mod replaced;
 mod roster;
 mod sizes;
+#[cfg(test)]
+mod tests;
 mod writing;
 
 pub use assigned::Assigned;

@@ -11,8 +11,6 @@ mod serving;
 mod step;
 mod stepping;
 mod storing;
-#[cfg(test)]
-mod tests;
 mod trace;
 mod transit;
 mod wanting;

@@ -1,0 +1,131 @@
+//! Snapshots of what commands make. The commands are their bytes, without the version, as `docs/FORMATS.md` has them.
+use crate::Durable;
+use cg_record::{read, write};
+use std::alloc::{AllocError, Global};
+use std::test::Fail;
+
+// Group g, generation 7, type k, protocol r, leader m; the member m with the instance i, the subscription 9 and the
+// assignment 8; the member n without instance and bytes.
+const ASSIGNED: &[u8] =
+    b"\x01\x01g\0\0\0\x07\x01k\x01r\x01m\x02\x01m\x01i\x01c\0\0\x17\x70\0\0\0\x05\0\0\0\x01\x09\0\0\0\x01\x08\x01n\0\x01c\0\0\x17\x70\0\0\0\x05\0\0\0\0\0\0\0\0";
+
+// The same group after the member p, with the assignment 3, or m with that assignment took the place of instance i.
+const ASSIGNED_P: &[u8] =
+    b"\x01\x01g\0\0\0\x07\x01k\x01r\x01p\x02\x01p\x01i\x01c\0\0\x17\x70\0\0\0\x05\0\0\0\0\0\0\0\x01\x03\x01n\0\x01c\0\0\x17\x70\0\0\0\x05\0\0\0\0\0\0\0\0";
+
+const ASSIGNED_M: &[u8] =
+    b"\x01\x01g\0\0\0\x07\x01k\x01r\x01m\x02\x01m\x01i\x01c\0\0\x17\x70\0\0\0\x05\0\0\0\0\0\0\0\x01\x03\x01n\0\x01c\0\0\x17\x70\0\0\0\x05\0\0\0\0\0\0\0\0";
+
+// The member p takes the place of instance i in group g; then the same with another group, instance or member id.
+const REPLACED: &[u8] = b"\x03\x01g\x01p\x01i\x01c\0\0\x17\x70\0\0\0\x05\0\0\0\0\0\0\0\x01\x03";
+
+const REPLACED_IN_H: &[u8] =
+    b"\x03\x01h\x01p\x01i\x01c\0\0\x17\x70\0\0\0\x05\0\0\0\0\0\0\0\x01\x03";
+
+const REPLACED_J: &[u8] = b"\x03\x01g\x01p\x01j\x01c\0\0\x17\x70\0\0\0\x05\0\0\0\0\0\0\0\x01\x03";
+
+const REPLACED_BY_N: &[u8] =
+    b"\x03\x01g\x01n\x01i\x01c\0\0\x17\x70\0\0\0\x05\0\0\0\0\0\0\0\x01\x03";
+
+const REPLACED_BY_M: &[u8] =
+    b"\x03\x01g\x01m\x01i\x01c\0\0\x17\x70\0\0\0\x05\0\0\0\0\0\0\0\x01\x03";
+
+// Groups b and g, generation 8, type k.
+const EMPTIED_B: &[u8] = b"\x02\x01b\0\0\0\x08\x01k";
+
+const EMPTIED: &[u8] = b"\x02\x01g\0\0\0\x08\x01k";
+
+// Of topic t partition 0: the offset 42 for groups a, g and h, then 43 for g.
+const COMMITTED_A: &[u8] = b"\x04\x01a\x01\x01t\0\0\0\0\0\0\0\0\0\0\0\x2a\0\0\0\0";
+
+const COMMITTED: &[u8] = b"\x04\x01g\x01\x01t\0\0\0\0\0\0\0\0\0\0\0\x2a\0\0\0\0";
+
+const COMMITTED_H: &[u8] = b"\x04\x01h\x01\x01t\0\0\0\0\0\0\0\0\0\0\0\x2a\0\0\0\0";
+
+const COMMITTED_43: &[u8] = b"\x04\x01g\x01\x01t\0\0\0\0\0\0\0\0\0\0\0\x2b\0\0\0\0";
+
+// Group g.
+const DELETED: &[u8] = b"\x05\x01g";
+
+// Commands, and the snapshot of what they make.
+const ROWS: [(&[&[u8]], &[&[u8]]); 16] = [
+    (&[], &[]),
+    (&[COMMITTED], &[COMMITTED]),
+    (&[COMMITTED, EMPTIED], &[EMPTIED, COMMITTED]),
+    (&[COMMITTED_A, EMPTIED], &[COMMITTED_A, EMPTIED]),
+    (&[ASSIGNED], &[ASSIGNED]),
+    (&[ASSIGNED, EMPTIED], &[EMPTIED]),
+    (&[ASSIGNED, EMPTIED, DELETED], &[]),
+    (&[REPLACED], &[]),
+    (&[ASSIGNED, REPLACED], &[ASSIGNED_P]),
+    (&[ASSIGNED, REPLACED_BY_M], &[ASSIGNED_M]),
+    (&[ASSIGNED, REPLACED_IN_H], &[ASSIGNED]),
+    (&[ASSIGNED, REPLACED_J], &[ASSIGNED]),
+    (&[ASSIGNED, REPLACED_BY_N], &[ASSIGNED]),
+    (
+        &[COMMITTED, COMMITTED_H, COMMITTED_43],
+        &[COMMITTED_43, COMMITTED_H],
+    ),
+    (&[COMMITTED, COMMITTED_H, DELETED], &[COMMITTED_H]),
+    (
+        &[COMMITTED_H, COMMITTED_A, EMPTIED, COMMITTED, EMPTIED_B],
+        &[COMMITTED_A, EMPTIED_B, EMPTIED, COMMITTED, COMMITTED_H],
+    ),
+];
+
+// The version and then the parts.
+fn payload(alloc: Global, parts: &[&[u8]]) -> Result<Vec<u8>, AllocError> {
+    let mut bytes = vec![in alloc; 1]?;
+    for part in parts {
+        bytes.extend_from_slice(part)?;
+    }
+    Ok(bytes)
+}
+
+// The bytes of the snapshot of what the commands of the parts make.
+fn snapshot_after(alloc: Global, parts: &[&[u8]]) -> Result<Vec<u8>, Fail> {
+    let bytes = payload(alloc, parts)?;
+    let commands = read(alloc, &bytes)?;
+    let mut durable = Durable::new(alloc);
+    for command in &commands {
+        durable.apply(command)?;
+    }
+    let snapshot = durable.snapshot()?;
+    Ok(write(alloc, &snapshot)?)
+}
+
+#[test]
+fn a_snapshot_has_the_records_and_offsets(rt: HostRuntime) -> Result<(), Fail> {
+    for (commands, snapshot) in ROWS {
+        assert_eq!(rt;
+            snapshot_after(rt.alloc(), commands)?,
+            payload(rt.alloc(), snapshot)?,
+            "{commands:?}"
+        );
+    }
+    Ok(())
+}
+
+// A commit of group g: of topic t this many partitions from the first one on, each with the offset 7 and the metadata m.
+fn commit(alloc: Global, first: u32, count: u8) -> Result<Vec<u8>, AllocError> {
+    let mut bytes = Vec::from_slice(alloc, b"\x04\x01g")?;
+    bytes.push(count)?;
+    for i in 0..count {
+        bytes.extend_from_slice(b"\x01t")?;
+        bytes.extend_from_slice(&first.saturating_add(u32::from(i)).to_be_bytes())?;
+        bytes.extend_from_slice(b"\0\0\0\0\0\0\0\x07\0\0\0\x01m")?;
+    }
+    Ok(bytes)
+}
+
+#[test]
+fn seventy_offsets_make_two_commits(rt: HostRuntime) -> Result<(), Fail> {
+    let alloc = rt.alloc();
+    let commits = [commit(alloc, 35, 35)?, commit(alloc, 0, 35)?];
+    let wanted = [commit(alloc, 0, 64)?, commit(alloc, 64, 6)?];
+    assert_eq!(rt;
+        snapshot_after(alloc, &[&commits[0], &commits[1]])?,
+        payload(alloc, &[&wanted[0], &wanted[1]])?
+    );
+    Ok(())
+}

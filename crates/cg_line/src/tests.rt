@@ -1,0 +1,318 @@
+//! Lines that are no request, and streams of lines in pieces, with faults of the reader and the writer.
+use crate::{Backend, LineFault, RunEnd, RunFault, parse, print, run};
+use cg_group::{Listed, Reply, Request};
+use cg_names::Code;
+use std::alloc::{AllocError, Global};
+use std::io::{self, ErrorKind, Read, Write};
+use std::test::Fail;
+
+const MALFORMED: [&str; 74] = [
+    "",
+    " ",
+    "list",
+    "LIST ",
+    " LIST",
+    "LIST g",
+    "LIST\r",
+    "NONE g",
+    "DESCRIBE",
+    "DESCRIBE ",
+    "DESCRIBE g h",
+    "DESCRIBE  g",
+    "DESCRIBE g ",
+    "DESCRIBE g\n",
+    "DESCRIBE g:h",
+    "DELETE",
+    "DELETE \u{e9}",
+    "JOIN g - - c 10000 20000 consumer",
+    "JOIN g - - c 10000 20000 consumer ",
+    "JOIN g - - c 10000 20000 consumer a=x b=x c=x d=x e=x",
+    "JOIN g - - c 10000 20000 consumer a=x a=x00",
+    "JOIN g - - - 10000 20000 consumer a=x",
+    "JOIN g - - c 10000 20000 - a=x",
+    "JOIN g - - c 10000 20000 consumer -=x",
+    "JOIN g - - c 10000 20000 consumer =x",
+    "JOIN g - - c 10000 20000 consumer a",
+    "JOIN g - - c 10000 20000 consumer a=",
+    "JOIN g - - c 10000 20000 consumer a=-",
+    "JOIN g - - c 10000 20000 consumer a=00",
+    "JOIN g - - c 10000 20000 consumer a=x0",
+    "JOIN g - - c 10000 20000 consumer a=xAB",
+    "JOIN g - - c 10000 20000 consumer a=X00",
+    "JOIN g - - c 10000 20000 consumer a=x0g",
+    "JOIN g - - c 10000 20000 consumer a=x=x",
+    "JOIN g - - c 2147483648 20000 consumer a=x",
+    "JOIN g - - c 10000 2147483648 consumer a=x",
+    "JOIN g - - c -1 20000 consumer a=x",
+    "JOIN g - - c 010000 20000 consumer a=x",
+    "JOIN g - - c 10000  20000 consumer a=x",
+    "SYNC g 1 m",
+    "SYNC g 1 m - ",
+    "SYNC g 1 m - -=x",
+    "SYNC g 1 m - m=x m=x",
+    "SYNC g 1 m - m",
+    "SYNC g - m -",
+    "BEAT g 01 m -",
+    "BEAT g -0 m -",
+    "BEAT g -01 m -",
+    "BEAT g +1 m -",
+    "BEAT g --1 m -",
+    "BEAT g 2147483648 m -",
+    "BEAT g -2147483649 m -",
+    "BEAT g 18446744073709551616 m -",
+    "BEAT g 1a m -",
+    "BEAT g 1 m",
+    "BEAT g 1 m - -",
+    "LEAVE g m",
+    "LEAVE g m - -",
+    "COMMIT g 1 m -",
+    "COMMIT g 1 m - t:0:0",
+    "COMMIT g 1 m - t:0:0:x:x",
+    "COMMIT g 1 m - t:0:0:00",
+    "COMMIT g 1 m - t:00:0:x",
+    "COMMIT g 1 m - t:2147483648:0:x",
+    "COMMIT g 1 m - t:0:9223372036854775808:x",
+    "COMMIT g 1 m - t:0:-1:x",
+    "COMMIT g 1 m - -:0:0:x",
+    "COMMIT g 1 m - t:0:0:x t:0:1:x00",
+    "FETCH g",
+    "FETCH g t",
+    "FETCH g t:",
+    "FETCH g t:0:0",
+    "FETCH g t:0 u:0 t:0",
+    "FETCH g t:0 ",
+];
+
+#[test]
+fn lines_that_are_no_request(rt: HostRuntime) -> Result<(), Fail> {
+    for line in MALFORMED {
+        let fault = parse(rt.alloc(), line.as_bytes()).err();
+        assert_eq!(rt; fault, Some(LineFault::Malformed), "at {line:?}");
+    }
+    let numbers = (
+        LineFault::Memory as u8,
+        LineFault::Malformed as u8,
+        LineFault::TooLong as u8,
+    );
+    assert_eq!(rt; numbers, (0, 1, 2));
+    let refused = Reply::Refused(Code::UnknownServerError);
+    assert_eq!(rt;
+        print(rt.alloc(), &refused)?.as_slice(),
+        b"ERR -1 UNKNOWN_SERVER_ERROR".as_slice()
+    );
+    Ok(())
+}
+
+// Answers each kind of request with a reply of its own, and counts them.
+#[derive(Drop)]
+struct Counting {
+    alloc: Global,
+    asked: u64,
+}
+
+impl Backend for Counting {
+    ghost gives = { λ _ _ _ _. Unit {0} };
+
+    fn answer(&mut self, request: Request) -> Reply {
+        self.asked = self.asked.saturating_add(1);
+        match request {
+            Request::List => Reply::Groups(Listed::new(self.alloc)),
+            Request::Describe(_) => Reply::Described(None),
+            Request::Commit(_) => Reply::Done,
+            _ => Reply::Refused(Code::GroupIdNotFound),
+        }
+    }
+}
+
+// Gives at most three bytes a read, is interrupted before each, and fails at the end where it is to.
+#[derive(Drop)]
+struct InPieces {
+    bytes: &'static [u8],
+    is_interrupted: bool,
+    fails: bool,
+}
+
+impl Read for InPieces {
+    fn read(&mut self, buf: &mut [u8]) -> io::Result<usize> {
+        self.is_interrupted = !self.is_interrupted;
+        if self.is_interrupted {
+            return Err(ErrorKind::Interrupted.into());
+        }
+        if self.bytes.is_empty() && self.fails {
+            return Err(ErrorKind::Other.into());
+        }
+        let most = if buf.len() < 3 { buf.len() } else { 3 };
+        self.bytes.read(&mut buf[..most])
+    }
+}
+
+// Takes this many bytes, one a write, and then fails.
+#[derive(Drop)]
+struct TakesSome {
+    bytes: Vec<u8>,
+    room: usize,
+}
+
+impl Write for TakesSome {
+    fn write(&mut self, bytes: &[u8]) -> io::Result<usize> {
+        let Some(first) = bytes.first() else {
+            return Ok(0);
+        };
+        if self.bytes.len() >= self.room || self.bytes.push(*first).is_err() {
+            return Err(ErrorKind::Other.into());
+        }
+        Ok(1)
+    }
+
+    fn flush(&mut self) -> io::Result<()> {
+        Ok(())
+    }
+}
+
+const END: Result<RunEnd, RunFault> = Ok(RunEnd::End);
+
+// What a stream has, whether its reader fails at the end, and how many bytes its writer takes; how its run ends, what is
+// written, and how often the backend is asked.
+const STREAMS: [(&str, bool, usize, Result<RunEnd, RunFault>, &str, u64); 16] = [
+    ("", false, 1_000, END, "", 0),
+    ("LIST\n", false, 1_000, END, "GROUPS\n", 1),
+    ("LIST\nLIST\n", false, 1_000, END, "GROUPS\nGROUPS\n", 2),
+    ("LIST\nLIST", false, 1_000, END, "GROUPS\n", 1),
+    ("\n", false, 1_000, END, "ERR 42 INVALID_REQUEST\n", 0),
+    ("DESCRIBE g\n", false, 1_000, END, "GROUP Dead 0 - -\n", 1),
+    ("COMMIT g -1 - - t:0:1:xff\n", false, 1_000, END, "OK\n", 1),
+    (
+        "COMMIT g -1 - - t:0:01:xff\n",
+        false,
+        1_000,
+        END,
+        "ERR 42 INVALID_REQUEST\n",
+        0,
+    ),
+    (
+        "DELETE g\n",
+        false,
+        1_000,
+        END,
+        "ERR 69 GROUP_ID_NOT_FOUND\n",
+        1,
+    ),
+    ("list\n", false, 1_000, END, "ERR 42 INVALID_REQUEST\n", 0),
+    ("LIST\r\n", false, 1_000, END, "ERR 42 INVALID_REQUEST\n", 0),
+    (
+        " LIST\nLIST\n",
+        false,
+        1_000,
+        END,
+        "ERR 42 INVALID_REQUEST\nGROUPS\n",
+        1,
+    ),
+    (
+        "LIST\n\nLIST \nLIST\nunfinished",
+        false,
+        1_000,
+        END,
+        "GROUPS\nERR 42 INVALID_REQUEST\nERR 42 INVALID_REQUEST\nGROUPS\n",
+        2,
+    ),
+    (
+        "LIST\nLIS T\nLIST\nLIS",
+        false,
+        1_000,
+        END,
+        "GROUPS\nERR 42 INVALID_REQUEST\nGROUPS\n",
+        2,
+    ),
+    (
+        "LIST\nLIS T\nLIST\nLIS",
+        true,
+        1_000,
+        Err(RunFault::Read),
+        "GROUPS\nERR 42 INVALID_REQUEST\nGROUPS\n",
+        2,
+    ),
+    (
+        "LIST\nLIST\nLIST\n",
+        false,
+        9,
+        Err(RunFault::Write),
+        "GROUPS\nGR",
+        2,
+    ),
+];
+
+#[test]
+fn each_line_is_answered_by_one_line(rt: HostRuntime) {
+    let alloc = rt.alloc();
+    for (input, fails, room, end, output, asked) in STREAMS {
+        let mut reader = InPieces {
+            bytes: input.as_bytes(),
+            is_interrupted: false,
+            fails,
+        };
+        let mut writer = TakesSome {
+            bytes: Vec::new(alloc),
+            room,
+        };
+        let mut backend = Counting { alloc, asked: 0 };
+        let result = run(alloc, &mut reader, &mut writer, &mut backend);
+        assert_eq!(rt;
+            (result, writer.bytes.as_slice(), backend.asked),
+            (end, output.as_bytes(), asked),
+            "at {:?}",
+            input
+        );
+    }
+}
+
+// A COMMIT line of this many bytes between two others, the last of them without its line feed where it is not ended.
+fn around(alloc: Global, length: usize, is_ended: bool) -> Result<Vec<u8>, AllocError> {
+    let mut bytes = Vec::from_slice(alloc, b"LIST\nCOMMIT gg -1 - - t:0:0:x")?;
+    let digits = vec![in alloc; b'0'; length.saturating_sub(24)]?;
+    bytes.extend_from_slice(&digits)?;
+    if is_ended {
+        bytes.extend_from_slice(b"\nLIST\n")?;
+    }
+    Ok(bytes)
+}
+
+const LONG: [(usize, bool, RunEnd, &str); 5] = [
+    (
+        1_048_575,
+        true,
+        RunEnd::End,
+        "GROUPS\nERR 42 INVALID_REQUEST\nGROUPS\n",
+    ),
+    (1_048_576, true, RunEnd::End, "GROUPS\nOK\nGROUPS\n"),
+    (1_048_576, false, RunEnd::End, "GROUPS\n"),
+    (
+        1_048_577,
+        true,
+        RunEnd::TooLong,
+        "GROUPS\nERR 42 INVALID_REQUEST\n",
+    ),
+    (
+        1_048_577,
+        false,
+        RunEnd::TooLong,
+        "GROUPS\nERR 42 INVALID_REQUEST\n",
+    ),
+];
+
+#[test]
+fn a_line_that_is_too_long_ends_the_stream(rt: HostRuntime) -> Result<(), Fail> {
+    let alloc = rt.alloc();
+    for (length, is_ended, end, output) in LONG {
+        let input = around(alloc, length, is_ended)?;
+        let mut reader = input.as_slice();
+        let mut written = Vec::new(alloc);
+        let mut backend = Counting { alloc, asked: 0 };
+        let result = run(alloc, &mut reader, &mut written, &mut backend);
+        assert_eq!(rt;
+            (result, written.as_slice()),
+            (Ok(end), output.as_bytes()),
+            "at {length}"
+        );
+    }
+    Ok(())
+}

@@ -1,7 +1,0 @@
-mod asking;
-mod lines;
-mod lives;
-mod rows;
-mod stops;
-
-use super::*;
