@@ -1,9 +1,18 @@
 # demo: runs the script of examples/ without waiting for a proof.
 # sim: proves the script program, builds it and runs it on standard input.
 # try: runs the script program on a script, without proof: make try < SCRIPT
+# check [CRATE ..]: proves crates and runs their tests, over kept work.
 # test: the whole gate.
 # mutants [CRATE ..]: tries every edit that the prover must refuse, over kept work.
-.PHONY: demo sim try test mutants
+.PHONY: demo sim try check test mutants
+
+# The words after `check` and `mutants` are names of crates.
+ifneq (,$(filter check mutants,$(firstword $(MAKECMDGOALS))))
+crates := $(wordlist 2,$(words $(MAKECMDGOALS)),$(MAKECMDGOALS))
+.PHONY: $(crates)
+$(crates):
+	@:
+endif
 
 demo:
 	@bash scripts/demo.sh
@@ -14,16 +23,12 @@ sim:
 try:
 	@bash scripts/try.sh
 
+check:
+	@python3 scripts/gate check $(crates)
+
 test:
 	@python3 scripts/gate test
 
-# The words after `mutants` are names of crates.
-ifeq (mutants,$(firstword $(MAKECMDGOALS)))
-crates := $(wordlist 2,$(words $(MAKECMDGOALS)),$(MAKECMDGOALS))
-.PHONY: $(crates)
-$(crates):
-	@:
-endif
 
 mutants:
 	@python3 scripts/gate mutants $(crates)

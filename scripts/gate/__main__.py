@@ -1,6 +1,7 @@
 """The gate of this repository, and its parts. Run by `make`:
 
   gate sim                proves the script program and what it uses, over kept work, and runs it on standard input
+  gate check [CRATE ..]   proves the crates (all by default), what they use and their tests, over kept work
   gate test               proves every crate from nothing, in a copy, with tests, edits, programs and example scripts;
                           the last line is 'N passed, M failed'
   gate mutants [CRATE ..] tries every edit of the crates (all by default) over kept work; goes on where it was stopped;
@@ -63,6 +64,10 @@ def proofs_of(crates, backends=("llvm",)):
     return made
 
 
+def tests_task(crate, proofs):
+    return Task(f"{crate.name} tests", ["tests", crate.name], [proofs[crate.name]], 1, takes_jobs=True)
+
+
 def outcomes(crate):
     """Returns the last outcome of each edit of the crate as it is now: True where it was refused. One that was not tried is not there."""
     path, said = f"{crate.folder}/out/edits", {}
@@ -109,14 +114,28 @@ def sim():
     return subprocess.run([f"{program.folder}/out/{program.name}"]).returncode
 
 
+def chosen_of(crates, names):
+    """Returns the named crates, or all where none is named, and with them those that they use, lowest first."""
+    for name in names:
+        if name not in [crate.name for crate in crates]:
+            sys.exit(f"gate: crates.txt names no crate {name}")
+    chosen = [it for it in crates if not names or it.name in names]
+    return chosen, [it for it in crates if it in chosen or any(it in other.below() for other in chosen)]
+
+
+def check(names):
+    chosen, needed = chosen_of(crates_of(os.getcwd()), names)
+    _held = rtlib.lock(needed)
+    proofs = proofs_of(needed)
+    tasks = [*proofs.values(), *[tests_task(it, proofs) for it in chosen if it.has_tests()]]
+    run_tasks(tasks)
+    failed = [it.name for it in tasks if not it.ended_well]
+    print(f"{len(tasks) - len(failed)} passed, {len(failed)} failed")
+    return 1 if failed else 0
+
+
 def mutants(names):
-    crates = crates_of(os.getcwd())
-    unknown = [it for it in names if it not in [crate.name for crate in crates]]
-    if unknown:
-        print(f"gate: crates.txt names no crate {unknown[0]}")
-        return 2
-    chosen = [it for it in crates if (not names or it.name in names) and edits_of(it)]
-    needed = [it for it in crates if it in chosen or any(it in other.below() for other in chosen)]
+    chosen, needed = chosen_of(crates_of(os.getcwd()), names)
     _held = rtlib.lock(needed)
     proofs = proofs_of(needed)
     tasks = [*proofs.values()]
@@ -160,7 +179,7 @@ def test_copy(room):
     for crate in crates:
         after = [proofs[crate.name]]
         if crate.has_tests():
-            after = [Task(f"{crate.name} tests", ["tests", crate.name], after, 1)]
+            after = [tests_task(crate, proofs)]
             tasks += after
         edits = edits_of(crate, ["must-fail"])
         counted[crate.name] = edits
@@ -207,6 +226,8 @@ def main(words):
         return sim()
     if words == ["test"]:
         return test(os.getcwd())
+    if words[:1] == ["check"]:
+        return check(words[1:])
     if words[:1] == ["mutants"]:
         return mutants(words[1:])
     print(__doc__, file=sys.stderr)

@@ -1,6 +1,7 @@
 //! Runs a script of requests and steps against a coordinator over a disk in memory, and prints what it answers.
 #![tactic(auto)]
 
+mod advice;
 mod call;
 mod line;
 mod loaded;
@@ -21,8 +22,13 @@ use std::process::ExitCode;
 
 fn main(rt: HostRuntime) -> ExitCode {
     let mut writer = io::writer(&rt);
-    match BufReader::new(rt.alloc(), rt.reader()) {
-        Ok(mut reader) => ExitCode::from(script::script(rt.alloc(), &mut reader, &mut writer)),
-        Err(_) => ExitCode::from(script::refuse_script(&mut writer)),
+    let Ok(mut reader) = BufReader::new(rt.alloc(), rt.reader()) else {
+        return ExitCode::from(script::refuse_script(&mut writer));
+    };
+    let mut problem = None;
+    let status = script::explained_script(rt.alloc(), &mut reader, &mut writer, &mut problem);
+    if let Some((number, problem)) = problem {
+        let _unwritten = eprintln!(rt; "cg_sim: line {number}: {problem}");
     }
+    ExitCode::from(status)
 }

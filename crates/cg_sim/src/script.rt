@@ -7,6 +7,7 @@ ghost use Rattle.cg_sim.specs.Ending.{Ends, WritesThen, status_of};
 ghost use Rattle.cg_sim.specs.Reading.{IsNext, IsWithoutEnd};
 ghost use Rattle.cg_sim.specs.Telling.{bad_line, stop_text};
 
+use crate::advice::{Problem, problem_of};
 use crate::player::Player;
 use crate::stage::Stage;
 use crate::stop::Stop;
@@ -87,6 +88,14 @@ fn emit_before<W: Write>(
     Ok(())
 }
 
+// The number of the line at which a script stopped and what is wrong with it, if it was a bad one.
+fn problem_at(stop: Stop, line: &[u8]) -> Option<(u64, Problem)> {
+    match stop {
+        Stop::BadLine(number) => Some((number, problem_of(line))),
+        Stop::Io | Stop::Memory | Stop::Device => None,
+    }
+}
+
 // Plays the lines that are left, after what came before them.
 fn serve_lines<R: BufRead, W: Write>(
     alloc: Global,
@@ -95,6 +104,7 @@ fn serve_lines<R: BufRead, W: Write>(
     out: &mut Vec<u8>,
     reader: &mut R,
     writer: &mut W,
+    problem: &mut Option<(u64, Problem)>,
 ) -> (Stage, Result<(), Stop>)
     ensures written { (result.1 ≡ Err Stop.Io) ⊎ ((said : List ℕ) × Appends (W.contents writer.old) (W.contents writer.new) said) }
     ensures end { (input : List ℕ) → R.remaining reader.old ≡ Some input → result.1 ≡ Ok tt → R.remaining reader.new ≡ Some [] }
@@ -104,6 +114,7 @@ fn serve_lines<R: BufRead, W: Write>(
     let mut played = before;
     for number in 1..u64::MAX {
         if let Err(stop) = emit_before(writer, out, played) {
+            *problem = problem_at(stop, without_end(&line));
             return (stage, Err(stop));
         }
         match read_line(reader, &mut line) {
@@ -116,14 +127,19 @@ fn serve_lines<R: BufRead, W: Write>(
     (stage, Err(Stop::Io))
 }
 
-fn run<R: BufRead, W: Write>(alloc: Global, reader: &mut R, writer: &mut W) -> Result<(), Stop>
+fn run<R: BufRead, W: Write>(
+    alloc: Global,
+    reader: &mut R,
+    writer: &mut W,
+    problem: &mut Option<(u64, Problem)>,
+) -> Result<(), Stop>
     ensures written { (result ≡ Err Stop.Io) ⊎ ((said : List ℕ) × Appends (W.contents writer.old) (W.contents writer.new) said) }
     ensures end { (input : List ℕ) → R.remaining reader.old ≡ Some input → result ≡ Ok tt → R.remaining reader.new ≡ Some [] }
 {
     let mut out = Vec::new(alloc);
     let unloaded = Unloaded::new(alloc, formatted(alloc)?);
     let (stage, loaded) = unloaded.load(alloc, Moment::from_millis(0), &mut out);
-    let (stage, ended) = serve_lines(alloc, stage, loaded, &mut out, reader, writer);
+    let (stage, ended) = serve_lines(alloc, stage, loaded, &mut out, reader, writer, problem);
     let _ = stage.end(alloc);
     ended
 }
@@ -172,13 +188,27 @@ pub fn refuse_script<W: Write>(writer: &mut W) -> u8
     }
 }
 
-/// Runs a script over a disk in memory, and answers the exit status: `STATUS_DONE` where it came to its end; `STATUS_BAD_LINE`
-/// behind a line `BAD SCRIPT LINE`, `STATUS_SHORT` behind a last line `FAULT`, and `STATUS_IO` where a read or a write failed.
+/// Runs a script over a disk in memory and returns the exit status: `STATUS_DONE` at its end; `STATUS_BAD_LINE` after a line
+/// `BAD SCRIPT LINE`, `STATUS_SHORT` after a last line `FAULT`, and `STATUS_IO` if a read or a write failed.
 pub fn script<R: BufRead, W: Write>(alloc: Global, reader: &mut R, writer: &mut W) -> u8
     ensures ends { Ends result (W.contents writer.old) (W.contents writer.new) }
     ensures end { (input : List ℕ) → R.remaining reader.old ≡ Some input → result ≡ STATUS_DONE → R.remaining reader.new ≡ Some [] }
 {
-    let Err(stop) = run(alloc, reader, writer) else {
+    let mut problem = None;
+    explained_script(alloc, reader, writer, &mut problem)
+}
+
+/// Runs a script as `script` does, and sets `problem` to the number of a bad line and what is wrong with it.
+pub fn explained_script<R: BufRead, W: Write>(
+    alloc: Global,
+    reader: &mut R,
+    writer: &mut W,
+    problem: &mut Option<(u64, Problem)>,
+) -> u8
+    ensures ends { Ends result (W.contents writer.old) (W.contents writer.new) }
+    ensures end { (input : List ℕ) → R.remaining reader.old ≡ Some input → result ≡ STATUS_DONE → R.remaining reader.new ≡ Some [] }
+{
+    let Err(stop) = run(alloc, reader, writer, problem) else {
         return STATUS_DONE;
     };
     match tell_stop(writer, stop) {

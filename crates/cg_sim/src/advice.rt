@@ -1,0 +1,147 @@
+//! What is wrong with a bad script line and what would be right, for a person to read on standard error.
+use crate::text::{self, NUMBER_MAX};
+use std::fmt;
+
+/// The requests, each with the form of its line.
+const REQUESTS: [(&[u8], &str); 9] = [
+    (
+        b"JOIN",
+        "JOIN group member instance client session-ms rebalance-ms type protocol=xBYTES ..",
+    ),
+    (
+        b"SYNC",
+        "SYNC group generation member instance member=xBYTES ..",
+    ),
+    (b"BEAT", "BEAT group generation member instance"),
+    (b"LEAVE", "LEAVE group member instance"),
+    (
+        b"COMMIT",
+        "COMMIT group generation member instance topic:partition:offset:xBYTES ..",
+    ),
+    (b"FETCH", "FETCH group topic:partition .."),
+    (b"DESCRIBE", "DESCRIBE group"),
+    (b"DELETE", "DELETE group"),
+    (b"LIST", "LIST"),
+];
+
+/// What is wrong with a script line.
+#[derive(Clone, Copy, Debug, PartialEq, Eq)]
+pub enum Problem {
+    /// The line ends in a carriage return.
+    CarriageReturn,
+    /// There are two spaces in a row, or one at the beginning or the end.
+    Spaces,
+    /// `load` while something is loaded.
+    AlreadyLoaded,
+    /// A session is no `s` with 1 to 6 digits.
+    Session,
+    /// A number is out of range, or is not in plain decimal.
+    Number,
+    /// The word after the session names no request.
+    UnknownRequest,
+    /// The request has this form, and the line does not.
+    Form(&'static str),
+    /// The first word begins no script line.
+    UnknownLine,
+}
+
+impl fmt::Display for Problem {
+    fn fmt<W: fmt::Write>(&self, f: &mut fmt::Formatter<W>) -> fmt::Result {
+        match self {
+            Problem::CarriageReturn => {
+                write!(
+                    f,
+                    "the line ends in a carriage return; end lines with a line feed alone"
+                )
+            }
+            Problem::Spaces => write!(f, "words are separated by one space, with none at the ends"),
+            Problem::AlreadyLoaded => {
+                write!(
+                    f,
+                    "something is loaded already; use `stop keep` or `stop lose` first, or `reload`"
+                )
+            }
+            Problem::Session => write!(f, "a session is `s` and 1 to 6 digits, as in s1"),
+            Problem::Number => {
+                write!(
+                    f,
+                    "a number is decimal, from 0 to {NUMBER_MAX}, without leading zeros or a sign"
+                )
+            }
+            Problem::UnknownRequest => write!(
+                f,
+                "a request is JOIN, SYNC, BEAT, LEAVE, COMMIT, FETCH, DESCRIBE, DELETE or LIST"
+            ),
+            Problem::Form(form) => write!(
+                f,
+                "a value is missing, left over, out of range or repeated; the form is {form}"
+            ),
+            Problem::UnknownLine => write!(
+                f,
+                "a line is s<digits> REQUEST, at, tick, gone, take, append, settle, flush, fuse, stop keep, stop lose, load, reload or close"
+            ),
+        }
+    }
+}
+
+/// Returns what is wrong with a line that is bad. Goes through the line a few times and allocates nothing.
+pub fn problem_of(line: &[u8]) -> Problem {
+    if line.ends_with(b"\r") {
+        return Problem::CarriageReturn;
+    }
+    if has_stray_space(line) {
+        return Problem::Spaces;
+    }
+    match text::cut(line, b' ') {
+        Some((word, rest)) => problem_after(word, rest),
+        None => problem_after(line, b""),
+    }
+}
+
+// The problem of a line with this first word.
+fn problem_after(word: &[u8], rest: &[u8]) -> Problem {
+    if word == b"load".as_slice() && rest.is_empty() {
+        return Problem::AlreadyLoaded;
+    }
+    if word == b"gone".as_slice() {
+        return Problem::Session;
+    }
+    if [b"at".as_slice(), b"tick", b"fuse"]
+        .iter()
+        .any(|own| *own == word)
+    {
+        return Problem::Number;
+    }
+    if text::session_number(word).is_some() {
+        return request_problem(rest);
+    }
+    match text::behind(word, b"s") {
+        Some(digits) if digits.iter().all(|b| b.is_ascii_digit()) => Problem::Session,
+        _ => Problem::UnknownLine,
+    }
+}
+
+// The problem of a request line.
+fn request_problem(line: &[u8]) -> Problem {
+    let word = match text::cut(line, b' ') {
+        Some((word, _)) => word,
+        None => line,
+    };
+    match REQUESTS.iter().find(|request| request.0 == word) {
+        Some(request) => Problem::Form(request.1),
+        None => Problem::UnknownRequest,
+    }
+}
+
+// Whether a space is the first or last byte, or follows another.
+fn has_stray_space(line: &[u8]) -> bool {
+    let mut was_space = true;
+    for byte in line {
+        let is_space = *byte == b' ';
+        if is_space && was_space {
+            return true;
+        }
+        was_space = is_space;
+    }
+    was_space && !line.is_empty()
+}
