@@ -1,0 +1,47 @@
+#!/usr/bin/env bash
+# Runs one benchmark: proves and builds crates/bench, and runs a subcommand of it.
+# FILE is made on the disk to be measured, and removed (frames makes FILE.plain too).
+set -eu
+usage="usage: bench/run.sh frames FILE | groups | fold | desk FILE | lines"
+subcommand=${1:?$usage}
+case $subcommand in
+frames | desk) file=$(realpath -m "${2:?$usage}") ;;
+groups | fold | lines) ;;
+*)
+    echo "$usage" >&2
+    exit 2
+    ;;
+esac
+
+cd "$(dirname "$0")/../crates/bench"
+rt run >/dev/null
+
+# Where a run waits for syncs it is bound to one processor, the last that this shell may run on: else a sync may wake it on another one,
+# with other caches, and runs differ by more than what is measured.
+bound=()
+if [ -n "${file-}" ] && command -v taskset >/dev/null; then
+    processors=$(taskset -pc $$)
+    bound=(taskset -c "${processors##*[ ,-]}")
+fi
+
+case $subcommand in
+frames)
+    "${bound[@]}" out/bench frames "$file"
+    ;;
+desk)
+    "${bound[@]}" out/bench desk commits "$file"
+    "${bound[@]}" out/bench desk settles
+    "${bound[@]}" out/bench desk requests
+    ;;
+fold)
+    out/bench fold
+    # Each part alone for its peak of memory, by GNU time, in KiB.
+    env time -f "peak without a part: %M KiB" out/bench >/dev/null
+    for part in state snapshot revive step; do
+        env time -f "peak of $part: %M KiB" out/bench fold "$part"
+    done
+    ;;
+*)
+    out/bench "$subcommand"
+    ;;
+esac

@@ -1,0 +1,103 @@
+//! The command line: which benchmark runs, and over which file.
+use crate::desk::DeskPart;
+use crate::fold::part::{NAMES, Part, named};
+use clap::{Arg, ArgMatches, Command};
+use std::alloc::{AllocError, Global};
+
+/// What the command line asks for.
+#[derive(Clone, Copy)]
+pub enum Benchmark<'a> {
+    /// Frames appended to a segment, in memory and in this file.
+    Frames(&'a str),
+    /// Events of the group machine.
+    Groups,
+    /// The durable state: each part in turn, for growing numbers of groups.
+    Fold,
+    /// One part of the durable state, once.
+    FoldPart(Part),
+    /// The desk with its store.
+    Desk(DeskPart<'a>),
+    /// Lines that are read and printed.
+    Lines,
+}
+
+fn file<'a>(alloc: Global) -> Arg<'a> {
+    Arg::new(alloc, "FILE").required(true).help(
+        "A file on the disk to be measured; it is made and removed",
+    )
+}
+
+fn frames<'a>(alloc: Global) -> Result<Command<'a>, AllocError> {
+    Command::new(alloc, "frames")
+        .about("Frames appended per second, beside a plain program")
+        .arg(file(alloc))
+}
+
+fn fold<'a>(alloc: Global) -> Result<Command<'a>, AllocError> {
+    let part = Arg::new(alloc, "PART")
+        .value_parser(NAMES.as_slice())
+        .help("One part, run once, for its peak of memory");
+    Command::new(alloc, "fold")
+        .about("The durable state: apply, snapshot, load and step")
+        .arg(part)
+}
+
+fn desk<'a>(alloc: Global) -> Result<Command<'a>, AllocError> {
+    let commits = Command::new(alloc, "commits")
+        .about("Commits per second, beside the disk alone")
+        .arg(file(alloc))?;
+    let settles = Command::new(alloc, "settles").about(
+        "The settling of a batch, by the replies that leave and those that stay",
+    );
+    let requests = Command::new(alloc, "requests").about(
+        "Requests per second, by the calls whose replies are held",
+    );
+    Command::new(alloc, "desk")
+        .about("The desk with its store")
+        .subcommand_required(true)
+        .subcommand(commits)?
+        .subcommand(settles)?
+        .subcommand(requests)
+}
+
+/// Describes the command line.
+pub fn command<'a>(alloc: Global) -> Result<Command<'a>, AllocError> {
+    let groups = Command::new(alloc, "groups").about("Events of the group machine per second");
+    let lines = Command::new(alloc, "lines").about("Bytes of lines read and printed per second");
+    Command::new(alloc, "bench")
+        .about("Measures one part of the coordinator, and prints what it took")
+        .subcommand_required(true)
+        .subcommand(frames(alloc)?)?
+        .subcommand(groups)?
+        .subcommand(fold(alloc)?)?
+        .subcommand(desk(alloc)?)?
+        .subcommand(lines)
+}
+
+fn desk_part<'a>(matches: &ArgMatches<'a>) -> Option<DeskPart<'a>> {
+    match matches.subcommand()? {
+        ("commits", commits) => commits.get_str("FILE").map(DeskPart::Commits),
+        ("settles", _) => Some(DeskPart::Settles),
+        ("requests", _) => Some(DeskPart::Requests),
+        _ => None,
+    }
+}
+
+fn fold_part(matches: &ArgMatches<'_>) -> Option<Part> {
+    named(matches.get_str("PART")?)
+}
+
+/// Returns the benchmark that was asked for. Words that `command` accepts ask for one.
+pub fn chosen<'a>(matches: &ArgMatches<'a>) -> Option<Benchmark<'a>> {
+    match matches.subcommand()? {
+        ("frames", frames) => frames.get_str("FILE").map(Benchmark::Frames),
+        ("groups", _) => Some(Benchmark::Groups),
+        ("fold", fold) => match fold_part(fold) {
+            None => Some(Benchmark::Fold),
+            Some(part) => Some(Benchmark::FoldPart(part)),
+        },
+        ("desk", desk) => desk_part(desk).map(Benchmark::Desk),
+        ("lines", _) => Some(Benchmark::Lines),
+        _ => None,
+    }
+}

@@ -1,0 +1,35 @@
+//! The desk with its store: commits per second beside the disk's own calls, the settling of a batch by the replies that leave and those
+//! that stay, and requests by the calls whose replies are held.
+mod batch;
+mod commits;
+mod requests;
+mod scene;
+mod settles;
+mod store;
+
+use anyhow::{Context, Result};
+use std::alloc::Global;
+use std::rt::{Clock, Files};
+
+/// A part of the benchmark.
+#[derive(Clone, Copy)]
+pub enum DeskPart<'a> {
+    /// Commits, over a disk in memory and in this file.
+    Commits(&'a str),
+    /// The settling of batches.
+    Settles,
+    /// Requests beside held replies.
+    Requests,
+}
+
+/// Measures one part.
+pub fn measure<R: Clock + Files + Print + Alloc<A = Global>>(
+    rt: &R,
+    part: DeskPart<'_>,
+) -> Result<()> {
+    match part {
+        DeskPart::Commits(file) => commits::measure(rt, file).context("measuring commits"),
+        DeskPart::Settles => settles::measure(rt).context("measuring settles"),
+        DeskPart::Requests => requests::measure(rt).context("measuring requests"),
+    }
+}

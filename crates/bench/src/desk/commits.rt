@@ -1,0 +1,264 @@
+//! Commits per second, and beside them the calls that the disk gets for them.
+ghost use Rattle.std.specs.Prelude.{◌≡◌, ◌≤◌, ◌+◌, IfOk, OnOk};
+ghost use Rattle.std.specs.VecDeque.{deque_len};
+ghost use Rattle.cg_disk.specs.Mem.{mem_size};
+ghost use Rattle.cg_store.specs.Store.{front_of};
+ghost use Rattle.cg_store.specs.declared.segment.TheConstants.{DISK_SECTORS};
+
+use crate::desk::batch::{BatchSize, batch_size, commit_batch};
+use crate::desk::scene::{add_commits, desk, groups, step_all};
+use crate::desk::store::opened;
+use crate::plain_frames::{FILE_FRAMES_MAX, PlainFrames};
+use crate::tally::{ROUNDS, Tally, hundredths};
+use anyhow::{Result, ensure};
+use cg_desk::Desk;
+use cg_disk::{Crash, FileDisk, MemDisk, SectorDisk};
+use cg_frame::{SEGMENT_SECTORS, Segment};
+use cg_group::Request;
+use cg_store::{DISK_SECTORS, FIRST_SEGMENT_SECTOR, Store};
+use std::alloc::Global;
+use std::collections::VecDeque;
+use std::fs;
+use std::rt::{Clock, Files};
+use std::time::Instant;
+
+/// The segment of a store.
+const SEGMENT: Segment = Segment {
+    first: FIRST_SEGMENT_SECTOR,
+    sectors: SEGMENT_SECTORS,
+};
+
+/// More commits than a frame holds.
+const MORE_THAN_FIT: usize = 24_000;
+
+/// The batches of one run.
+#[derive(Clone, Copy)]
+struct Batches {
+    size: BatchSize,
+    count: u64,
+}
+
+/// The times of a batch: through the desk and the store, of the machine alone, and of the disk alone.
+#[derive(Drop)]
+struct Times {
+    desk: Tally,
+    machine: Tally,
+    plain: Tally,
+}
+
+impl Times {
+    fn new(alloc: Global) -> Times {
+        Times {
+            desk: Tally::new(alloc),
+            machine: Tally::new(alloc),
+            plain: Tally::new(alloc),
+        }
+    }
+}
+
+// Times one batch. The clock runs from its first request, which was made before, until its replies have left.
+fn timed<R: Clock, D: SectorDisk>(
+    rt: &R,
+    alloc: Global,
+    desk: &mut Desk,
+    store: &mut Store<D>,
+    requests: &mut VecDeque<Request>,
+    tally: &mut Tally,
+) -> Result<()>
+    ensures { OnOk result (front_of store.new ≡ front_of store.old + deque_len requests.old) }
+{
+    let commits = requests.len() as u64;
+    let start = Instant::now(rt)?;
+    commit_batch(alloc, desk, store, requests)?;
+    tally.add(rt, start, commits)
+}
+
+fn timed_all<R: Clock, D: SectorDisk>(
+    rt: &R,
+    alloc: Global,
+    desk: &mut Desk,
+    store: &mut Store<D>,
+    batches: Batches,
+    tally: &mut Tally,
+) -> Result<()> {
+    let mut requests = VecDeque::new(alloc);
+    for _ in 0..batches.count {
+        add_commits(alloc, &mut requests, batches.size.commits)?;
+        timed(rt, alloc, desk, store, &mut requests, tally)?;
+    }
+    Ok(())
+}
+
+// Commits to a new desk over a formatted store. Returns the disk.
+fn through<R: Clock, D: SectorDisk + Drop>(
+    rt: &R,
+    alloc: Global,
+    disk: D,
+    batches: Batches,
+    tally: &mut Tally,
+) -> Result<D>
+    requires { DISK_SECTORS ≤ D.size disk }
+    ensures { IfOk result (λ disk. DISK_SECTORS ≤ D.size disk) }
+{
+    let mut store = opened(alloc, disk)?;
+    let mut desk = desk(alloc)?;
+    let outcome = timed_all(rt, alloc, &mut desk, &mut store, batches, tally);
+    let _ = desk.close();
+    outcome?;
+    Ok(store.into_disk())
+}
+
+// Steps the machine without a desk, and after each batch calls the disk alone, so that both follow a sync as they do in a desk.
+fn apart<R: Clock, D: SectorDisk>(
+    rt: &R,
+    alloc: Global,
+    disk: &mut D,
+    batches: Batches,
+    plain: &PlainFrames,
+    times: &mut Times,
+) -> Result<()>
+    requires { DISK_SECTORS ≤ D.size disk.old }
+    ensures { D.size disk.new ≡ D.size disk.old }
+{
+    let mut groups = groups(alloc)?;
+    let mut requests = VecDeque::new(alloc);
+    let commits = batches.size.commits;
+    for number in 0..batches.count {
+        add_commits(alloc, &mut requests, commits)?;
+        let start = Instant::now(rt)?;
+        step_all(&mut groups, &mut requests)?;
+        times.machine.add(rt, start, commits as u64)?;
+        let start = Instant::now(rt)?;
+        let fits = plain.put(disk, SEGMENT, number)?;
+        times.plain.add(rt, start, commits as u64)?;
+        ensure!(fits, "the disk alone has no room for as many frames");
+    }
+    Ok(())
+}
+
+fn round<R: Clock, D: SectorDisk + Drop>(
+    rt: &R,
+    alloc: Global,
+    disk: D,
+    batches: Batches,
+    plain: &PlainFrames,
+    times: &mut Times,
+) -> Result<D>
+    requires { DISK_SECTORS ≤ D.size disk }
+    ensures { IfOk result (λ disk. DISK_SECTORS ≤ D.size disk) }
+{
+    let mut disk = through(rt, alloc, disk, batches, &mut times.desk)?;
+    apart(rt, alloc, &mut disk, batches, plain, times)?;
+    apart(rt, alloc, &mut disk, batches, plain, times)?;
+    through(rt, alloc, disk, batches, &mut times.desk)
+}
+
+// After each round the disk crashes, which empties its record of what was replaced.
+fn in_memory<R: Clock>(
+    rt: &R,
+    alloc: Global,
+    batches: Batches,
+    plain: &PlainFrames,
+) -> Result<Times> {
+    let mut disk = MemDisk::new(alloc, DISK_SECTORS)?;
+    let mut times = Times::new(alloc);
+    for number in 0..ROUNDS {
+        if number == 1 {
+            times = Times::new(alloc);
+        }
+        disk = round(rt, alloc, disk, batches, plain, &mut times)?.crash(Crash::Keep);
+    }
+    Ok(times)
+}
+
+fn in_file<R: Clock + Files>(
+    rt: &R,
+    alloc: Global,
+    path: &str,
+    batches: Batches,
+    plain: &PlainFrames,
+) -> Result<Times> {
+    let mut disk = FileDisk::open(rt, path, Some(DISK_SECTORS))?;
+    let mut times = Times::new(alloc);
+    for number in 0..ROUNDS {
+        if number == 1 {
+            times = Times::new(alloc);
+        }
+        disk = round(rt, alloc, disk, batches, plain, &mut times)?;
+    }
+    Ok(times)
+}
+
+// Prints a time by the commits of a batch, and in hundredths of the disk's time.
+fn report_added<R: Print>(rt: &R, who: &str, added: u64, count: u64, plain: u64) -> Result<()> {
+    let a_commit = added.checked_div(count).unwrap_or(0);
+    let of = hundredths(added, plain);
+    println!(rt; "  {who}: {a_commit} ns a commit, {of} hundredths of the disk's time")?;
+    Ok(())
+}
+
+fn report<R: Print>(rt: &R, disk: &str, batches: Batches, times: Times) -> Result<()> {
+    let Batches {
+        size: BatchSize { commits, bytes },
+        count: batches,
+    } = batches;
+    let Times {
+        desk,
+        machine,
+        plain,
+    } = times;
+    let desk = desk.median();
+    let machine = machine.median();
+    let plain = plain.median();
+    let rate = desk.items_per_second();
+    let alone = plain.items_per_second();
+    println!(rt;
+        "{disk}, batches of {commits} ({bytes} bytes), {batches} a go: {rate} commits a second, the disk alone {alone}"
+    )?;
+    let count = commits as u64;
+    let plain = plain.nanoseconds();
+    let machine = machine.nanoseconds();
+    let added = desk.nanoseconds().saturating_sub(plain);
+    let rest = added.saturating_sub(machine);
+    report_added(rt, "the machine alone", machine, count, plain)?;
+    report_added(rt, "desk and store", rest, count, plain)?;
+    report_added(rt, "all three", added, count, plain)
+}
+
+fn measure_size<R: Clock + Files + Print>(
+    rt: &R,
+    alloc: Global,
+    path: &str,
+    most: usize,
+) -> Result<()> {
+    let size = batch_size(alloc, most)?;
+    let payload = vec![in alloc; 7; size.bytes as usize]?;
+    let plain = PlainFrames::new(alloc, &payload)?;
+    let count = plain.room();
+    let batches = Batches { size, count };
+    report(
+        rt,
+        "MemDisk",
+        batches,
+        in_memory(rt, alloc, batches, &plain)?,
+    )?;
+    let count = count.min(FILE_FRAMES_MAX);
+    let batches = Batches { size, count };
+    report(
+        rt,
+        "FileDisk",
+        batches,
+        in_file(rt, alloc, path, batches, &plain)?,
+    )
+}
+
+/// Measures batches of as many commits as fit a frame, and of 256, 16 and 1, over a disk in memory and in a file, which it makes and
+/// removes. The largest come first, so that later runs reuse memory that the process already has.
+pub fn measure<R: Clock + Files + Print + Alloc<A = Global>>(rt: &R, path: &str) -> Result<()> {
+    let alloc = rt.alloc();
+    for commits in [MORE_THAN_FIT, 256, 16, 1] {
+        measure_size(rt, alloc, path, commits)?;
+    }
+    fs::remove_file(rt, path)?;
+    Ok(())
+}

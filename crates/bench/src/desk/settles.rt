@@ -1,0 +1,82 @@
+//! The settling of a batch, by the replies that leave and those that stay after them.
+use crate::desk::batch::{ask_all, settled, taken};
+use crate::desk::scene::{commits, desk};
+use crate::desk::store::{appended, opened};
+use crate::tally::{RUNS, Tally, hundredths};
+use anyhow::{Result, ensure};
+use cg_desk::Desk;
+use cg_disk::MemDisk;
+use cg_store::{DISK_SECTORS, Store};
+use std::alloc::Global;
+use std::rt::Clock;
+use std::time::Instant;
+
+/// The factor of the replies that stay, where they are many.
+const MANY: usize = 16;
+
+/// How many replies leave, and how many stay.
+#[derive(Clone, Copy)]
+struct Replies {
+    leaving: usize,
+    staying: usize,
+}
+
+// The clock runs while the batch is settled.
+fn timed<R: Clock>(
+    rt: &R,
+    alloc: Global,
+    desk: &mut Desk,
+    store: &mut Store<MemDisk>,
+    replies: Replies,
+    tally: &mut Tally,
+) -> Result<()> {
+    let Replies { leaving, staying } = replies;
+    ask_all(desk, 0, &mut commits(alloc, leaving)?)?;
+    let batch = taken(desk)?;
+    ask_all(desk, leaving as u64, &mut commits(alloc, staying)?)?;
+    let receipt = appended(alloc, store, batch, leaving)?;
+    let start = Instant::now(rt)?;
+    let out = settled(desk, receipt)?;
+    tally.add(rt, start, leaving as u64)?;
+    ensure!(out.len() == leaving, "another number of replies left");
+    Ok(())
+}
+
+// Each run has a desk of its own.
+fn run<R: Clock>(rt: &R, alloc: Global, replies: Replies, tally: &mut Tally) -> Result<()> {
+    let mut store = opened(alloc, MemDisk::new(alloc, DISK_SECTORS)?)?;
+    let mut desk = desk(alloc)?;
+    let outcome = timed(rt, alloc, &mut desk, &mut store, replies, tally);
+    let _ = desk.close();
+    outcome
+}
+
+// Returns the picoseconds of a settling for each reply that leaves.
+fn per_reply<R: Clock>(rt: &R, alloc: Global, replies: Replies) -> Result<u64> {
+    let mut tally = Tally::new(alloc);
+    for _ in 0..RUNS {
+        run(rt, alloc, replies, &mut tally)?;
+    }
+    Ok(tally.median().picoseconds_per_item())
+}
+
+fn compare<R: Clock + Print>(rt: &R, alloc: Global, leaving: usize) -> Result<()> {
+    let staying = leaving;
+    let few = per_reply(rt, alloc, Replies { leaving, staying })?;
+    let staying = leaving.saturating_mul(MANY);
+    let many = per_reply(rt, alloc, Replies { leaving, staying })?;
+    let of = hundredths(many, few);
+    println!(rt;
+        "{leaving} replies leave: {few} ps a reply where as many stay, {many} ps where {staying} do ({of} hundredths)"
+    )?;
+    Ok(())
+}
+
+/// Measures settlings at which 16, 256, 1,024 and 4,096 replies leave, where as many stay, and 16 times as many.
+pub fn measure<R: Clock + Print + Alloc<A = Global>>(rt: &R) -> Result<()> {
+    let alloc = rt.alloc();
+    for leaving in [16, 256, 1_024, 4_096] {
+        compare(rt, alloc, leaving)?;
+    }
+    Ok(())
+}

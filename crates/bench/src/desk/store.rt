@@ -1,0 +1,40 @@
+//! A store under a desk.
+ghost use Rattle.std.specs.Prelude.{◌≡◌, ◌≤◌, ◌+◌, OnOk};
+ghost use Rattle.cg_store.specs.Store.{front_of};
+ghost use Rattle.cg_store.specs.declared.segment.TheConstants.{DISK_SECTORS};
+
+use anyhow::{Result, ensure};
+use cg_disk::SectorDisk;
+use cg_store::{Batch, Receipt, Store, format};
+use std::alloc::Global;
+
+/// Formats a disk and opens a store without commands on it.
+pub fn opened<D: SectorDisk + Drop>(alloc: Global, disk: D) -> Result<Store<D>>
+    requires { DISK_SECTORS ≤ D.size disk }
+{
+    let mut disk = disk;
+    format(&mut disk)?;
+    match Store::open(alloc, disk) {
+        Ok((store, _, _)) => Ok(store),
+        Err((fault, _)) => Err(fault.into()),
+    }
+}
+
+/// Appends a batch of `commits` commands.
+pub fn appended<D: SectorDisk>(
+    alloc: Global,
+    store: &mut Store<D>,
+    batch: Batch,
+    commits: usize,
+) -> Result<Receipt>
+    ensures { OnOk result (front_of store.new ≡ front_of store.old + commits) }
+{
+    ensure!(
+        batch.commands.len() == commits,
+        "a batch has another number of commands"
+    );
+    match store.append(alloc, batch) {
+        Ok(receipt) => Ok(receipt),
+        Err((fault, _)) => Err(fault.into()),
+    }
+}

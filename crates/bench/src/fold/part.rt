@@ -1,0 +1,82 @@
+//! One part alone, so that the process's peak of memory is that part's.
+use crate::fold::commands::push_group;
+use crate::fold::commits::{commit_events, count_done};
+use crate::fold::state::apply_all;
+use crate::machine::revived;
+use anyhow::{Result, ensure};
+use cg_fold::Durable;
+use cg_group::{GROUPS_MAX, Groups};
+use std::alloc::Global;
+
+/// A part, run once over `GROUPS_MAX` groups.
+#[derive(Clone, Copy)]
+pub enum Part {
+    /// Makes the state, from the commands of one group at a time.
+    State,
+    /// Makes the state and takes a snapshot of it.
+    Snapshot,
+    /// Makes the state and loads the groups from it.
+    Revive,
+    /// Makes the state, loads the groups, and commits to each once.
+    Step,
+}
+
+/// The names of the parts on the command line.
+pub static NAMES: [&str; 4] = ["state", "snapshot", "revive", "step"];
+
+/// Returns the part with this name.
+pub fn named(word: &str) -> Option<Part> {
+    match word {
+        "state" => Some(Part::State),
+        "snapshot" => Some(Part::Snapshot),
+        "revive" => Some(Part::Revive),
+        "step" => Some(Part::Step),
+        _ => None,
+    }
+}
+
+fn state(alloc: Global) -> Result<Durable> {
+    let mut durable = Durable::new(alloc);
+    for number in 0..GROUPS_MAX as u64 {
+        let mut commands = Vec::new(alloc);
+        push_group(alloc, &mut commands, number)?;
+        apply_all(&mut durable, &commands)?;
+    }
+    Ok(durable)
+}
+
+fn snapshot(durable: &Durable) -> Result<()> {
+    let commands = durable.snapshot()?;
+    ensure!(!commands.is_empty(), "a snapshot is empty");
+    Ok(())
+}
+
+fn revive(alloc: Global, durable: Durable) -> Result<Groups> {
+    let groups = revived(alloc, durable)?;
+    ensure!(groups.held() == GROUPS_MAX as u64, "a group is not loaded");
+    Ok(groups)
+}
+
+fn step(alloc: Global, groups: &mut Groups) -> Result<()> {
+    let events = commit_events(alloc, GROUPS_MAX as u64)?;
+    let done = count_done(groups, events)?;
+    ensure!(done == GROUPS_MAX as u64, "a commit is refused");
+    Ok(())
+}
+
+/// Runs a part, and prints how much the state has.
+pub fn run<R: Print + Alloc<A = Global>>(rt: &R, part: Part) -> Result<()> {
+    let alloc = rt.alloc();
+    let durable = state(alloc)?;
+    let (records, offsets) = durable.counts();
+    match part {
+        Part::State => {}
+        Part::Snapshot => snapshot(&durable)?,
+        Part::Revive => {
+            let _groups = revive(alloc, durable)?;
+        }
+        Part::Step => step(alloc, &mut revive(alloc, durable)?)?,
+    }
+    println!(rt; "{records} records, {offsets} offsets")?;
+    Ok(())
+}

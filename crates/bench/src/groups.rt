@@ -1,0 +1,128 @@
+//! Events of the group machine per second, for few groups and many, and for few members and many.
+mod scene;
+
+use crate::tally::{RUNS, Tally, print_row};
+use anyhow::Result;
+use cg_group::GROUPS_MAX;
+use scene::{GroupEvent, Scene, SharedEvent};
+use std::alloc::Global;
+use std::rt::Clock;
+use std::time::Instant;
+
+/// Events of a run, where each names one group and leaves it as it is.
+const EVENTS: usize = 4_096;
+
+/// Events of a run, where none names a group.
+const EVENTS_EVERYWHERE: usize = 64;
+
+/// Events of a run, where each needs a group of its own.
+const EVENTS_ONCE: usize = 32;
+
+// Returns the events per second of one sort. The clock does not run while they are made.
+fn rate<R: Clock>(
+    rt: &R,
+    alloc: Global,
+    scene: &mut Scene,
+    sort: SharedEvent,
+    count: usize,
+) -> Result<u64> {
+    let mut tally = Tally::new(alloc);
+    for _ in 0..RUNS {
+        let events = scene.events(sort, count)?;
+        let start = Instant::now(rt)?;
+        scene.step_all(events)?;
+        tally.add(rt, start, count as u64)?;
+    }
+    Ok(tally.median().items_per_second())
+}
+
+// Returns the events per second of a sort whose events each need a group of their own, beside `groups` others, or as many of these as
+// leave room for them. Each run has a machine of its own.
+fn rate_once<R: Clock>(
+    rt: &R,
+    alloc: Global,
+    sort: GroupEvent,
+    groups: u64,
+    members: u64,
+) -> Result<u64> {
+    let groups = groups.min((GROUPS_MAX - EVENTS_ONCE) as u64);
+    let mut tally = Tally::new(alloc);
+    for _ in 0..RUNS {
+        let mut scene = Scene::new(alloc, groups, members)?;
+        let events = scene.events_once(sort, EVENTS_ONCE)?;
+        let start = Instant::now(rt)?;
+        scene.step_all(events)?;
+        tally.add(rt, start, EVENTS_ONCE as u64)?;
+    }
+    Ok(tally.median().items_per_second())
+}
+
+/// Events of each sort per second.
+#[derive(Clone, Copy)]
+struct Rates {
+    beat: u64,
+    sync: u64,
+    join: u64,
+    new_group: u64,
+    leader_sync: u64,
+    session_closed: u64,
+    idle_session_closed: u64,
+    tick: u64,
+}
+
+fn measure_rates<R: Clock>(rt: &R, alloc: Global, groups: u64, members: u64) -> Result<Rates> {
+    let mut scene = Scene::new(alloc, groups, members)?;
+    Ok(Rates {
+        beat: rate(rt, alloc, &mut scene, SharedEvent::Beat, EVENTS)?,
+        sync: rate(rt, alloc, &mut scene, SharedEvent::Sync, EVENTS)?,
+        join: rate(rt, alloc, &mut scene, SharedEvent::Join, EVENTS)?,
+        new_group: rate_once(rt, alloc, GroupEvent::Join, groups, members)?,
+        leader_sync: rate_once(rt, alloc, GroupEvent::LeaderSync, groups, members)?,
+        session_closed: rate_once(rt, alloc, GroupEvent::Gone, groups, members)?,
+        idle_session_closed: rate(rt, alloc, &mut scene, SharedEvent::Gone, EVENTS_EVERYWHERE)?,
+        tick: rate(rt, alloc, &mut scene, SharedEvent::Tick, EVENTS_EVERYWHERE)?,
+    })
+}
+
+fn report_rate<R: Print>(rt: &R, sort: &str, rate: u64, base: u64) -> Result<()> {
+    print_row(rt, sort, rate, "a second", base)
+}
+
+fn report<R: Print>(rt: &R, groups: u64, members: u64, rates: Rates, base: Rates) -> Result<()> {
+    println!(rt; "groups {groups}, members {members} (in hundredths of one group of 8)")?;
+    report_rate(rt, "BEAT", rates.beat, base.beat)?;
+    report_rate(rt, "SYNC", rates.sync, base.sync)?;
+    report_rate(rt, "JOIN", rates.join, base.join)?;
+    report_rate(
+        rt,
+        "JOIN that makes a group",
+        rates.new_group,
+        base.new_group,
+    )?;
+    report_rate(rt, "SYNC of a leader", rates.leader_sync, base.leader_sync)?;
+    report_rate(
+        rt,
+        "Gone, a call waits",
+        rates.session_closed,
+        base.session_closed,
+    )?;
+    report_rate(
+        rt,
+        "Gone, idle",
+        rates.idle_session_closed,
+        base.idle_session_closed,
+    )?;
+    report_rate(rt, "Tick", rates.tick, base.tick)
+}
+
+/// Measures one group of 8 members, then 64 and 4,096 of them, and then one group of 2, 16 and 64 members.
+pub fn measure<R: Clock + Print + Alloc<A = Global>>(rt: &R) -> Result<()> {
+    let alloc = rt.alloc();
+    let base = measure_rates(rt, alloc, 1, 8)?;
+    report(rt, 1, 8, base, base)?;
+    for (groups, members) in [(64, 8), (4_096, 8), (1, 2), (1, 16), (1, 64)] {
+        let rates = measure_rates(rt, alloc, groups, members)?;
+        report(rt, groups, members, rates, base)?;
+    }
+    Ok(())
+}

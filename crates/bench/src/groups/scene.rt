@@ -1,0 +1,280 @@
+//! Stable groups of equally many members, and events for them.
+ghost use Rattle.std.specs.Prelude.{◌≡◌, IfOk, vec_len};
+
+use crate::machine::{now, revived, step, ticket};
+use crate::values::{name, rebalance_timeout};
+use anyhow::{Result, bail};
+use cg_fold::Durable;
+use cg_group::{
+    BeatRequest, Effects, Event, Groups, JoinRequest, Protocol, Protocols, Reply, SyncEntries,
+    SyncEntry, SyncRequest, Ticket,
+};
+use cg_names::{GroupId, MemberId};
+use cg_record::{Assignment, Subscription};
+use std::alloc::Global;
+use uuid::Uuid;
+
+/// The generation of each group: the first member joins alone, and then all join together.
+const GENERATION: i32 = 2;
+
+/// A session without a parked request.
+const IDLE_SESSION: u64 = 2;
+
+/// The first of the sessions with a parked request.
+const WAITING_SESSION: u64 = 3;
+
+/// The sort of an event that leaves the groups stable, so that many can share a group.
+#[derive(Clone, Copy)]
+pub enum SharedEvent {
+    Beat,
+    Sync,
+    /// A JOIN with the list of protocols that the member has.
+    Join,
+    /// A session without a parked request is closed.
+    Gone,
+    /// A Tick at which nothing is due.
+    Tick,
+}
+
+/// The sort of an event that needs a group of its own.
+#[derive(Clone, Copy)]
+pub enum GroupEvent {
+    /// A JOIN that makes a group.
+    Join,
+    /// The SYNC of a leader, with an assignment for each member.
+    LeaderSync,
+    /// The session on which the SYNC of a member is parked is closed.
+    Gone,
+}
+
+/// Loaded groups, with a follower of each.
+#[derive(Drop)]
+pub struct Scene {
+    alloc: Global,
+    groups: Groups,
+    members: u64,
+    drawn: u64,
+    followers: Vec<(GroupId, MemberId)>,
+}
+
+fn join_request(
+    alloc: Global,
+    group: GroupId,
+    member: Option<MemberId>,
+    client: &str,
+) -> Result<JoinRequest> {
+    let protocol = Protocol {
+        name: name(alloc, "range")?,
+        subscription: Subscription::empty(alloc),
+    };
+    Ok(JoinRequest {
+        group: Some(group),
+        member,
+        instance: None,
+        client: name(alloc, client)?,
+        session_ms: 10_000,
+        rebalance: rebalance_timeout()?,
+        kind: name(alloc, "consumer")?,
+        protocols: Protocols::only(alloc, protocol)?,
+    })
+}
+
+// Returns the member that the last reply names.
+fn last_joined(effects: &Effects) -> Result<MemberId> {
+    match effects.replies.as_slice().last() {
+        Some((_, Reply::Joined(joined))) => {
+            let member = joined.member.clone()?;
+            Ok(member)
+        }
+        _ => bail!("a JOIN has no reply"),
+    }
+}
+
+// Makes an assignment for each member in the leader's reply.
+fn assignments(alloc: Global, joined: &Effects) -> Result<SyncEntries> {
+    let mut entries = Vec::new(alloc);
+    for (_, reply) in joined.replies.as_slice() {
+        if let Reply::Joined(joined) = reply {
+            for member in joined.members.as_slice() {
+                entries.push(SyncEntry {
+                    member: member.id.clone()?,
+                    assignment: Assignment::from_bytes(alloc, b"partition 0")?,
+                })?;
+            }
+        }
+    }
+    match SyncEntries::from_vec(entries) {
+        Ok(entries) => Ok(entries),
+        Err(_) => bail!("a reply names a member twice"),
+    }
+}
+
+impl Scene {
+    /// Makes `count` stable groups of `members` each, which are two at least.
+    pub fn new(alloc: Global, count: u64, members: u64) -> Result<Scene> {
+        let mut scene = Scene {
+            alloc,
+            groups: revived(alloc, Durable::new(alloc))?,
+            members,
+            drawn: 0,
+            followers: Vec::new(alloc),
+        };
+        for number in 0..count {
+            let id = format!(in alloc; "group-{number:04}")?;
+            scene.add_stable_group(&id)?;
+        }
+        Ok(scene)
+    }
+
+    fn join(&mut self, id: &str, member: Option<MemberId>, client: u64) -> Result<Effects> {
+        self.drawn = self.drawn.wrapping_add(1);
+        let group = name(self.alloc, id)?;
+        let client = format!(in self.alloc; "client-{client}")?;
+        let request = join_request(self.alloc, group, member, &client)?;
+        let fresh = Uuid::from_u128(u128::from(self.drawn));
+        step(
+            &mut self.groups,
+            Event::Join(ticket(), request, fresh),
+            now(),
+        )
+    }
+
+    // Has the first member join, then the others, then the first one again. Returns the leader and the last effects; the group then
+    // waits for the leader's SYNC.
+    fn gather(&mut self, id: &str) -> Result<(MemberId, Effects)> {
+        let leader = last_joined(&self.join(id, None, 0)?)?;
+        for client in 1..self.members {
+            self.join(id, None, client)?;
+        }
+        let joined = self.join(id, Some(leader.clone()?), 0)?;
+        Ok((leader, joined))
+    }
+
+    // Adds a group, made stable by its leader's SYNC.
+    fn add_stable_group(&mut self, id: &str) -> Result<()> {
+        let (leader, joined) = self.gather(id)?;
+        let follower = last_joined(&joined)?;
+        let group = name(self.alloc, id)?;
+        let sync = self.sync(ticket(), group, leader, SyncEntries::none(self.alloc));
+        step(&mut self.groups, sync, now())?;
+        self.followers.push((name(self.alloc, id)?, follower))?;
+        Ok(())
+    }
+
+    // Parks the SYNC of a follower on a session of its own. Returns the session.
+    fn park_sync(&mut self, id: &str, n: usize) -> Result<u64> {
+        let (_, joined) = self.gather(id)?;
+        let follower = last_joined(&joined)?;
+        let session = WAITING_SESSION.saturating_add(n as u64);
+        let call = Ticket { session, number: 0 };
+        let group = name(self.alloc, id)?;
+        let sync = self.sync(call, group, follower, SyncEntries::none(self.alloc));
+        step(&mut self.groups, sync, now())?;
+        Ok(session)
+    }
+
+    fn sync(
+        &self,
+        ticket: Ticket,
+        group: GroupId,
+        member: MemberId,
+        entries: SyncEntries,
+    ) -> Event {
+        Event::Sync(
+            ticket,
+            SyncRequest {
+                group: Some(group),
+                generation: GENERATION,
+                member: Some(member),
+                instance: None,
+                entries,
+            },
+        )
+    }
+
+    fn event(&self, sort: SharedEvent, group: GroupId, member: MemberId) -> Result<Event> {
+        match sort {
+            SharedEvent::Beat => Ok(Event::Beat(
+                ticket(),
+                BeatRequest {
+                    group: Some(group),
+                    generation: GENERATION,
+                    member: Some(member),
+                    instance: None,
+                },
+            )),
+            SharedEvent::Sync => Ok(self.sync(
+                ticket(),
+                group,
+                member,
+                SyncEntries::none(self.alloc),
+            )),
+            SharedEvent::Join => {
+                let request = join_request(self.alloc, group, Some(member), "client-1")?;
+                Ok(Event::Join(ticket(), request, Uuid::from_u128(0)))
+            }
+            SharedEvent::Gone => Ok(Event::Gone(IDLE_SESSION)),
+            SharedEvent::Tick => Ok(Event::Tick),
+        }
+    }
+
+    /// Makes `count` events of a sort, from group to group.
+    pub fn events(&self, sort: SharedEvent, count: usize) -> Result<Vec<Event>>
+        ensures { IfOk result (λ events. vec_len events ≡ count) }
+    {
+        let mut events = Vec::new(self.alloc);
+        for n in 0..count {
+            let Some((group, member)) = self.followers.get(n % self.followers.len().max(1)) else {
+                bail!("there is no group");
+            };
+            let event = self.event(sort, group.clone()?, member.clone()?)?;
+            events.push(event)?;
+        }
+        Ok(events)
+    }
+
+    // Makes the n-th of `count` events of a sort that need groups of their own.
+    fn event_once(&mut self, sort: GroupEvent, n: usize, count: usize) -> Result<Event> {
+        let number = n
+            .saturating_mul(self.followers.len())
+            .checked_div(count)
+            .unwrap_or(0);
+        let id = format!(in self.alloc; "group-{number:04}-once-{n}")?;
+        match sort {
+            GroupEvent::Join => {
+                let request = join_request(self.alloc, name(self.alloc, &id)?, None, "client-0")?;
+                Ok(Event::Join(ticket(), request, Uuid::from_u128(0)))
+            }
+            GroupEvent::LeaderSync => {
+                let (leader, joined) = self.gather(&id)?;
+                let entries = assignments(self.alloc, &joined)?;
+                Ok(self.sync(ticket(), name(self.alloc, &id)?, leader, entries))
+            }
+            GroupEvent::Gone => {
+                let session = self.park_sync(&id, n)?;
+                Ok(Event::Gone(session))
+            }
+        }
+    }
+
+    /// Makes `count` events of a sort that need groups of their own. The ids of these groups are spread evenly among those of the loaded
+    /// ones.
+    pub fn events_once(&mut self, sort: GroupEvent, count: usize) -> Result<Vec<Event>>
+        ensures { IfOk result (λ events. vec_len events ≡ count) }
+    {
+        let mut events = Vec::new(self.alloc);
+        for n in 0..count {
+            let once = self.event_once(sort, n, count)?;
+            events.push(once)?;
+        }
+        Ok(events)
+    }
+
+    /// Steps the machine by each event.
+    pub fn step_all(&mut self, events: Vec<Event>) -> Result<()> {
+        for event in events {
+            step(&mut self.groups, event, now())?;
+        }
+        Ok(())
+    }
+}

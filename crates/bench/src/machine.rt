@@ -1,0 +1,31 @@
+//! The group machine, and what its events have in common.
+use anyhow::Result;
+use cg_fold::Durable;
+use cg_group::{Effects, Event, Groups, Ticket};
+use cg_names::Moment;
+use std::alloc::Global;
+
+/// Returns the moment of each event, but for those that follow a loading.
+pub fn now() -> Moment {
+    Moment::from_millis(0)
+}
+
+/// Returns the ticket of a request that no later one is told from.
+pub fn ticket() -> Ticket {
+    Ticket {
+        session: 1,
+        number: 0,
+    }
+}
+
+/// Loads the groups of a durable state.
+pub fn revived(alloc: Global, durable: Durable) -> Result<Groups> {
+    let groups = Groups::revive(alloc, durable, now()).map_err(|(refused, _)| refused)?;
+    Ok(groups)
+}
+
+/// Steps the machine by one event.
+pub fn step(groups: &mut Groups, event: Event, now: Moment) -> Result<Effects> {
+    let effects = groups.step(event, now)?;
+    Ok(effects)
+}
