@@ -241,28 +241,43 @@ const STREAMS: [(&str, bool, usize, Result<RunEnd, RunFault>, &str, u64); 16] = 
     ),
 ];
 
+// How the run over a stream in pieces ends, what is written, and how often the backend is asked.
+fn served_in_pieces(
+    alloc: Global,
+    bytes: &'static [u8],
+    fails: bool,
+    room: usize,
+) -> (Result<RunEnd, RunFault>, Vec<u8>, u64) {
+    let mut reader = InPieces {
+        bytes,
+        is_interrupted: false,
+        fails,
+    };
+    let mut writer = TakesSome {
+        bytes: Vec::new(alloc),
+        room,
+    };
+    let mut backend = Counting { alloc, asked: 0 };
+    let result = run(alloc, &mut reader, &mut writer, &mut backend);
+    (result, writer.bytes, backend.asked)
+}
+
 #[test]
 fn each_line_is_answered_by_one_line(rt: HostRuntime) {
-    let alloc = rt.alloc();
     for (input, fails, room, end, output, asked) in STREAMS {
-        let mut reader = InPieces {
-            bytes: input.as_bytes(),
-            is_interrupted: false,
-            fails,
-        };
-        let mut writer = TakesSome {
-            bytes: Vec::new(alloc),
-            room,
-        };
-        let mut backend = Counting { alloc, asked: 0 };
-        let result = run(alloc, &mut reader, &mut writer, &mut backend);
-        assert_eq!(rt;
-            (result, writer.bytes.as_slice(), backend.asked),
-            (end, output.as_bytes(), asked),
-            "at {:?}",
-            input
-        );
+        let (result, written, count) = served_in_pieces(rt.alloc(), input.as_bytes(), fails, room);
+        assert_eq!(rt; (result, count), (end, asked), "at {input:?}");
+        assert_eq!(rt; written.as_slice(), output.as_bytes(), "at {input:?}");
     }
+}
+
+// How the run over a slice ends, and what is written.
+fn served(alloc: Global, bytes: &[u8]) -> (Result<RunEnd, RunFault>, Vec<u8>) {
+    let mut reader = bytes;
+    let mut written = Vec::new(alloc);
+    let mut backend = Counting { alloc, asked: 0 };
+    let result = run(alloc, &mut reader, &mut written, &mut backend);
+    (result, written)
 }
 
 // A COMMIT line of this many bytes between two others, the last of them without its line feed where it is not ended.
@@ -301,18 +316,11 @@ const LONG: [(usize, bool, RunEnd, &str); 5] = [
 
 #[test]
 fn a_line_that_is_too_long_ends_the_stream(rt: HostRuntime) -> Result<(), Fail> {
-    let alloc = rt.alloc();
     for (length, is_ended, end, output) in LONG {
-        let input = around(alloc, length, is_ended)?;
-        let mut reader = input.as_slice();
-        let mut written = Vec::new(alloc);
-        let mut backend = Counting { alloc, asked: 0 };
-        let result = run(alloc, &mut reader, &mut written, &mut backend);
-        assert_eq!(rt;
-            (result, written.as_slice()),
-            (Ok(end), output.as_bytes()),
-            "at {length}"
-        );
+        let input = around(rt.alloc(), length, is_ended)?;
+        let (result, written) = served(rt.alloc(), &input);
+        assert_eq!(rt; result, Ok(end), "at {length}");
+        assert_eq!(rt; written.as_slice(), output.as_bytes(), "at {length}");
     }
     Ok(())
 }
