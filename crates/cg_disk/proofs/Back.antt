@@ -7,7 +7,7 @@ use Rattle.cg_disk.specs.declared.record.Call.{Call}
 use Rattle.cg_disk.specs.declared.record.Call.TheVariants.{Sync}
 use Rattle.cg_disk.proofs.Recorded.{is_unsynced-append}
 
--- one call further back
+-- one more undone call
 pub GoesBack-further : (bytes b b' : List ℕ) (calls cs cs' : List Call) (call : Call) → GoesBack bytes calls b cs → cs ≡ cs' ++ call ∷ [] → is_unsynced_call call ≡ true → b' ≡ before_call call b → GoesBack bytes calls b' cs'
 GoesBack-further bytes b b' calls cs cs' call back last unsynced is = record {
   undone_calls = call ∷ back.undone_calls;
@@ -24,7 +24,7 @@ GoesBackToSync-sync bytes b calls cs cs' back last = record {
   synced = λ s. ap (λ (l : List Call). is_unsynced l s false) last ∙ is_unsynced-append cs' (Sync ∷ []) s false;
 }
 
--- what holds of all calls holds of the last and of those before it
+-- a property of all calls holds for the last one and for those before it
 pub within-last : (p : Call → Bool) (cs cs' : List Call) (call : Call) → list_all p cs ≡ true → cs ≡ cs' ++ call ∷ [] → (list_all p cs' ≡ true) × (p call ≡ true)
 within-last p cs cs' call all last = both (list_all p cs') (p call) (rw (list_all-append p cs' (call ∷ []), and-true (p call)) at (ap (list_all p) (sym last) ∙ all))
   where

@@ -1,4 +1,4 @@
--- Bytes with others in the place of some of them, and the sectors of such bytes.
+-- Bytes that are overwritten in part, and their sectors.
 use Rattle.std.proofs.Common.{◌≡◌, ℕ, zero, suc, ◌+◌, ◌-◌, ◌*◌, ◌<◌, ◌≤◌, List, ◌++◌, length, take, drop, get_or, replicate, inl, inr, refl, sym, ◌∙◌, ap, arith, append_assoc}
 use Rattle.std.proofs.lemmas.List.{places, same_lists, length-append, length-take, length-drop, drop-drop, drop_all, take_all, append-nil, take-take, drop-take, get_or-take, get_or-drop, get_or_past}
 use Rattle.std.proofs.lemmas.Bool.{cases_lt}
@@ -10,17 +10,17 @@ pub length-overwritten : (xs : List ℕ) (a : ℕ) (new : List ℕ) → a + leng
 unfolding overwritten
 length-overwritten xs a new le = simp (length-append, length-take, length-drop) (omega arith)
 
--- what a write to a part of a slice leaves
+-- the result of a write to a part of a slice
 pub put_mid-overwritten : (xs new : List ℕ) (a : ℕ) → put_mid a (length new) xs new ≡ overwritten xs a new
 unfolding overwritten
 put_mid-overwritten xs new a = simp (append_assoc, drop-drop)
 
--- the bytes before the one that is put back
+-- overwriting and writing the old bytes back changes nothing
 pub overwritten-overwritten : (xs : List ℕ) (a : ℕ) (new : List ℕ) → a + length new ≤ length xs → overwritten (overwritten xs a new) a (take (length new) (drop a xs)) ≡ xs
 unfolding overwritten
 overwritten-overwritten xs a new le = same_lists _ _ (simp (length-append, length-take, length-drop) (omega arith)) (λ k d h. grind (arith, places))
 
--- the w bytes from x on, below, above and among those that were written
+-- the w bytes from x, below, above and within those that were written
 module _ (xs : List ℕ) (a : ℕ) (new : List ℕ) (x w : ℕ) (le : a + length new ≤ length xs) where
   part-overwritten_below : x + w ≤ a → take w (drop x (overwritten xs a new)) ≡ take w (drop x xs)
   unfolding overwritten
@@ -46,7 +46,7 @@ pub sector-overwritten_within : (xs : List ℕ) (at : ℕ) (new : List ℕ) (i :
 unfolding sector
 sector-overwritten_within xs at new i le lt = part-overwritten_within xs (512 * at) new (512 * (at + i)) 512 le (512 * i) (omega arith) lt
 
--- what such a write leaves of the vector that the slice is
+-- the result of such a write in the vector of the slice
 pub written-overwritten : (items new old ys : List ℕ) (a b k n : ℕ) → old ≡ items → ys ≡ new → a ≡ b → k ≡ length new → n ≡ length items → b + length new ≤ length items → take n (put_mid a k old ys ++ drop (length (put_mid a k old ys)) items) ≡ overwritten items b new
 written-overwritten items new old ys a b k n o y ab kl nl le =
     let whole : put_mid a k old ys ≡ overwritten items b new = rw (o, y, ab, kl) (put_mid-overwritten items new b) in

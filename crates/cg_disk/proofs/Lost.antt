@@ -1,4 +1,4 @@
--- What a crash loses.
+-- The content that a crash loses.
 use Rattle.std.proofs.Common.{◌≡◌, ◌⊎◌, ℕ, ◌+◌, ◌-◌, ◌*◌, ◌/◌, ◌%◌, ◌<◌, ◌≤◌, Bool, true, false, ◌&&◌, ◌||◌, leb, ltb, eqb, List, [], ◌∷◌, ◌++◌, length, take, drop, refl, sym, ◌∙◌, ap, subst, zero-add, suc-add, inl, inr, arith}
 use Rattle.std.specs.List.{list_all}
 use Rattle.std.proofs.lemmas.List.{length-append, take-append-drop, take_at, drop_at, drop-drop}
@@ -20,7 +20,7 @@ and-parts false b e = cc
 and-made : (a b : Bool) → a ≡ true → b ≡ true → (a && b) ≡ true
 and-made a b p q = rw (p, q) refl
 
--- what such a call asks
+-- the condition of `is_within` for a write
 fits : (n at : ℕ) (r : List ℕ) → (leb (512 * at + length r) n && eqb (length r % 512) 0) ≡ true → (512 * at + length r ≤ n) × (length r % 512 ≡ 0)
 fits n at r e = (grind (arith, nat_tests), grind (arith, nat_tests))
 
@@ -69,13 +69,13 @@ module _ (bytes b : List ℕ) (calls : List Call) (within : list_all (is_within 
   lost_within : list_all (is_within (length bytes)) lost ≡ true
   lost_within = (and-parts _ _ (sym (list_all-append (is_within (length bytes)) kept lost) ∙ ap (list_all (is_within (length bytes))) (sym to.back.split) ∙ within)).1
 
-  -- what is left is an image
+  -- the remaining content is an image
   pub IsImage-lost : (s : ℕ) → is_unsynced calls s false ≡ false → sector b s ≡ sector bytes s
   IsImage-lost s e =
       let marks : is_unsynced lost s (is_unsynced kept s false) ≡ false = sym (is_unsynced-append kept lost s false) ∙ ap (λ (l : List Call). is_unsynced l s false) (sym to.back.split) ∙ e in
       ap (λ (l : List ℕ). sector l s) to.back.undoes ∙ (unmarked lost bytes s (is_unsynced kept s false) lost_within to.back.no_sync marks).1
 
-  -- the moment to which is gone back, and those after it
+  -- the moment that the disk goes back to, and those after it
   at_sync : take (length kept) calls ≡ kept
   at_sync = ap (λ (l : List Call). take (length kept) l) to.back.split ∙ take_at kept lost (length kept) refl
 
@@ -91,7 +91,7 @@ module _ (bytes b : List ℕ) (calls : List Call) (within : list_all (is_within 
   parts_hold : (p : Call → Bool) (j : ℕ) → list_all p lost ≡ true → (list_all p (take j lost) ≡ true) × (list_all p (drop j lost) ≡ true)
   parts_hold p j all = and-parts _ _ (sym (list_all-append p (take j lost) (drop j lost)) ∙ ap (list_all p) (take-append-drop j lost) ∙ all)
 
-  -- where all was synced again since, the content was the same
+  -- if the disk was synced again since, the content was the same
   same_since : (j : ℕ) (s : ℕ) → is_unsynced (take (length kept + j) calls) s false ≡ false → sector b s ≡ sector (undone (drop (length kept + j) calls) bytes) s
   same_since j s e =
       let early = undone (drop j lost) bytes in

@@ -1,4 +1,4 @@
--- How runs of device calls go on: for the crates above, one lemma for each call.
+-- Sequences of disk calls, with one lemma for each call, for the crates above.
 use Rattle.std.proofs.Common.{◌≡◌, ◌⊎◌, ℕ, zero, suc, ◌+◌, ◌*◌, ◌<◌, ◌≤◌, false, cond, ◌&&◌, leb, ltb, List, ◌++◌, length, take, drop, refl, sym, ◌∙◌, ap, subst, zero-add, add-zero, suc-add, append_assoc, inl, inr, arith}
 use Rattle.std.proofs.lemmas.Bool.{cases_lt}
 use Rattle.std.proofs.lemmas.Bool.Decides.{nat_tests}
@@ -14,7 +14,7 @@ IsKept-refl m s = record { content = refl; synced = λ e. e }
 pub IsKept-then : (a b c : Moment) (s : ℕ) → IsKept a b s → IsKept b c s → IsKept a c s
 IsKept-then a b c s ab bc = record { content = bc.content ∙ ab.content; synced = λ e. bc.synced (ab.synced e) }
 
--- the same, said of more sectors
+-- the same for a larger range of sectors
 pub IsDisturbed-wider : (at n at' n' : ℕ) (a b : Moment) → at' ≤ at → at + n ≤ at' + n' → IsDisturbed at n a b → IsDisturbed at' n' a b
 IsDisturbed-wider at n at' n' a b low high d = record { below = λ s lt. d.below s (omega arith); above = λ s le. d.above s (omega arith) }
 
@@ -29,7 +29,7 @@ IsDisturbed-then at n a b c ab bc = record {
 pub Changes-refl : (at n : ℕ) (h : History) → Changes at n h h
 Changes-refl at n h = record { later = omega arith; keeps = λ k le. refl; each = λ k lt le. absurd (omega arith) }
 
--- of the present, as of each new moment
+-- the present differs as each new moment does
 pub Changes-present : (at n : ℕ) (old new : History) → Changes at n old new → IsDisturbed at n (present old) (present new)
 Changes-present at n old new c = elim (cases_lt old.now new.now) [
   | inl lt ↦ c.each new.now lt (omega arith)
@@ -42,7 +42,7 @@ Changes-present at n old new c = elim (cases_lt old.now new.now) [
 pub Changes-wider : (at n at' n' : ℕ) (old new : History) → at' ≤ at → at + n ≤ at' + n' → Changes at n old new → Changes at' n' old new
 Changes-wider at n at' n' old new low high c = record { later = c.later; keeps = c.keeps; each = λ k lt le. IsDisturbed-wider at n at' n' _ _ low high (c.each k lt le) }
 
--- what stays changes no sector of any range
+-- a history without changes has no changes in any range
 pub Changes-stays : (at n : ℕ) (old new : History) → Stays old new → Changes at n old new
 Changes-stays at n old new c = record { later = c.later; keeps = c.keeps; each = λ k lt le. let d = c.each k lt le in record { below = λ s b. d.above s (omega arith); above = λ s b. d.above s (omega arith) } }
 
@@ -56,7 +56,7 @@ Changes-then at n old mid new a b = record {
   ];
 }
 
--- what stays has the content and no new unsynced sector
+-- a history without changes keeps the content, and no sector becomes unsynced
 pub Stays-content : (old new : History) → Stays old new → (s : ℕ) → (present new).content s ≡ (present old).content s
 Stays-content old new c s = ((Changes-present 0 0 old new c).above s (omega arith)).content
 
@@ -73,7 +73,7 @@ IsImage-content m s e = refl
 pub IsSynced-image : (m : Moment) (image : Image) → IsSynced m → IsImage m image → (s : ℕ) → image s ≡ m.content s
 IsSynced-image m image synced is s = is s (synced s)
 
--- an image of a disturbed moment is one of the moment before it, but for the sectors that were disturbed
+-- an image of the later moment is one of the earlier moment, except for the changed sectors
 pub AllBut-disturbed : (at n : ℕ) (a b : Moment) (image : Image) → IsDisturbed at n a b → IsImage b image → AllBut at n a image
 AllBut-disturbed at n a b image d is = record {
   base = base;
@@ -101,15 +101,15 @@ AllBut-disturbed at n a b image d is = record {
       ]
     ]
 
--- the same, said of more sectors
+-- the same for a larger range of sectors
 pub AllBut-wider : (at n at' n' : ℕ) (m : Moment) (image : Image) → at' ≤ at → at + n ≤ at' + n' → AllBut at n m image → AllBut at' n' m image
 AllBut-wider at n at' n' m image low high a = record { base = a.base; was = a.was; below = λ s lt. a.below s (omega arith); above = λ s le. a.above s (omega arith) }
 
--- an image is itself but for nothing
+-- an image is one except for no sectors
 pub AllBut-image : (at n : ℕ) (m : Moment) (image : Image) → IsImage m image → AllBut at n m image
 AllBut-image at n m image is = record { base = image; was = is; below = λ s lt. refl; above = λ s le. refl }
 
--- of an image that is so to an image that is so
+-- two changes of the same range in sequence
 pub AllBut-then : (at n : ℕ) (a b : Moment) (image : Image) → IsDisturbed at n a b → AllBut at n b image → AllBut at n a image
 AllBut-then at n a b image d but =
     let first = AllBut-disturbed at n a b but.base d but.was in
@@ -125,7 +125,7 @@ LeavesOnly-starts h P here = record {
   each = λ k lt le image is. here image (subst (λ (j : ℕ). IsImage (h.at j) image) (let same : k ≡ h.now = omega arith in same) is);
 }
 
--- one call more, after which each image has P
+-- one more call, after which each image has P
 pub LeavesOnly-goes_on : (at n : ℕ) (old mid new : History) (P : Image → Type 0) → LeavesOnly old mid P → Changes at n mid new → ((image : Image) → AllBut at n (present mid) image → P image) → LeavesOnly old new P
 LeavesOnly-goes_on at n old mid new P so_far c here = record {
   later = omega (arith, so_far.later, c.later);
@@ -147,7 +147,7 @@ LeavesOnly-stays old mid new P so_far c = record {
   ];
 }
 
--- two runs are one
+-- two sequences in a row
 pub LeavesOnly-then : (old mid new : History) (P : Image → Type 0) → LeavesOnly old mid P → LeavesOnly mid new P → LeavesOnly old new P
 LeavesOnly-then old mid new P a b = record {
   later = omega (arith, a.later, b.later);
@@ -158,28 +158,28 @@ LeavesOnly-then old mid new P a b = record {
   ];
 }
 
--- less is said
+-- a weaker property
 pub LeavesOnly-weaker : (old new : History) (P Q : Image → Type 0) → ((image : Image) → P image → Q image) → LeavesOnly old new P → LeavesOnly old new Q
 LeavesOnly-weaker old new P Q less run = record { later = run.later; keeps = run.keeps; each = λ k ge le image is. less image (run.each k ge le image is) }
 
--- both are said
+-- both properties
 pub LeavesOnly-both : (old new : History) (P Q : Image → Type 0) → LeavesOnly old new P → LeavesOnly old new Q → LeavesOnly old new (λ image. P image × Q image)
 LeavesOnly-both old new P Q p q = record { later = p.later; keeps = p.keeps; each = λ k ge le image is. (p.each k ge le image is, q.each k ge le image is) }
 
--- of each image of the present
+-- the property of each image of the present
 pub LeavesOnly-present : (old new : History) (P : Image → Type 0) → LeavesOnly old new P → (image : Image) → IsImage (present new) image → P image
 LeavesOnly-present old new P run image is = run.each new.now run.later (omega arith) image is
 
--- of each image of the moment at which the run began
+-- the property of each image of the moment at the start
 pub LeavesOnly-first : (old new : History) (P : Image → Type 0) → LeavesOnly old new P → (image : Image) → IsImage (present old) image → P image
 LeavesOnly-first old new P run image is = run.each old.now (omega arith) run.later image (subst (λ (m : Moment). IsImage m image) (sym (run.keeps old.now (omega arith))) is)
 
--- a call that changes some sectors leaves each image as it was but for these
+-- a call that changes some sectors keeps each image except for these
 pub LeavesOnly-changes : (at n : ℕ) (old new : History) → Changes at n old new → LeavesOnly old new (AllBut at n (present old))
 LeavesOnly-changes at n old new c =
     LeavesOnly-goes_on at n old old new (AllBut at n (present old)) (LeavesOnly-starts old (AllBut at n (present old)) (AllBut-image at n (present old))) c (λ image but. but)
 
--- a synced disk that stays has its content alone
+-- a synced disk without changes has its content as its only image
 pub LeavesOnly-synced : (old new : History) → IsSynced (present old) → Stays old new → LeavesOnly old new (λ image. (s : ℕ) → image s ≡ (present old).content s)
 LeavesOnly-synced old new synced c =
     LeavesOnly-stays old old new (λ image. (s : ℕ) → image s ≡ (present old).content s) (LeavesOnly-starts old _ (λ image is s. is s (synced s))) c
@@ -195,7 +195,7 @@ span-same a b at (suc n) same =
 pub span-stays : (old new : History) (at n : ℕ) → Stays old new → span (present new).content at n ≡ span (present old).content at n
 span-stays old new at n c = span-same (present new).content (present old).content at n (λ s ge lt. Stays-content old new c s)
 
--- the sectors of a span, one part behind the other
+-- a span is its parts in sequence
 pub span-add : (image : Image) (at m n : ℕ) → span image at (m + n) ≡ span image at m ++ span image (at + m) n
 span-add image at zero n = ap (span image at) (zero-add n) ∙ ap (λ (k : ℕ). span image k n) (sym (add-zero at))
 span-add image at (suc m) n =
@@ -203,7 +203,7 @@ span-add image at (suc m) n =
     ∙ sym (append_assoc (image at) (span image (suc at) m) (span image (suc at + m) n))
     ∙ ap (λ (k : ℕ). image at ++ span image (suc at) m ++ span image k n) (let e : suc at + m ≡ at + suc m = omega arith in e)
 
--- where sectors have these bytes, so does their span
+-- if sectors hold these bytes, so does their span
 pub span-holds : (image : Image) (at n : ℕ) (bytes : List ℕ) → length bytes ≡ 512 * n → Holds image at n bytes → span image at n ≡ bytes
 unfolding sector
 span-holds image at zero bytes long holds = sym (nil_from_length bytes (omega arith))
@@ -215,7 +215,7 @@ span-holds image at (suc n) bytes long holds =
     ∙ ap (λ (k : ℕ). take 512 (drop k bytes)) (let e : 512 * suc i ≡ 512 + 512 * i = omega arith in e) ∙ ap (take 512) (sym (drop-drop (512 * i) 512 bytes))) in
     ap (λ (l : List ℕ). l ++ span image (suc at) n) first ∙ ap (λ (l : List ℕ). take 512 bytes ++ l) rest ∙ take-append-drop 512 bytes
 
--- the sectors from the front on
+-- a prefix of the sectors
 pub Holds-front : (image : Image) (at n m : ℕ) (bytes : List ℕ) → m ≤ n → Holds image at n bytes → Holds image at m (take (512 * m) bytes)
 Holds-front image at n m bytes le holds i lt =
     holds i (omega arith) ∙ ap (sector bytes) (sym (zero-add i)) ∙ sector-part bytes (take (512 * m) bytes) 0 0 (512 * m) i refl refl (omega arith)
@@ -223,7 +223,7 @@ Holds-front image at n m bytes le holds i lt =
 pub span-holds_front : (image : Image) (at n m : ℕ) (bytes : List ℕ) → length bytes ≡ 512 * n → m ≤ n → Holds image at n bytes → span image at m ≡ take (512 * m) bytes
 span-holds_front image at n m bytes long le holds = span-holds image at m (take (512 * m) bytes) (simp length-take (omega arith)) (Holds-front image at n m bytes le holds)
 
--- a sector that has bytes of a buffer has 512
+-- a sector that holds bytes of a buffer has 512 bytes
 pub length-holds : (image : Image) (at n : ℕ) (bytes : List ℕ) (i : ℕ) → length bytes ≡ 512 * n → Holds image at n bytes → i < n → length (image (at + i)) ≡ 512
 unfolding sector
 length-holds image at n bytes i long holds lt = ap length (holds i lt) ∙ simp (length-take, length-drop) (omega arith)

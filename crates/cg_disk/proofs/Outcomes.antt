@@ -1,7 +1,7 @@
 -- Calls that may fail.
 use Rattle.std.proofs.Common.{◌≡◌, true, false, Result, Ok, Err, is_ok, is_err, OnOk, refl}
 
--- what holds where a call did not fail
+-- a fact if a call did not fail
 pub OnOk-from : {T E : Type 0} (r : Result T E) (P : Type 0) → (is_err r ≡ false → P) → OnOk r P
 OnOk-from (Ok x) P there = there refl
 OnOk-from (Err e) P there = tt

@@ -1,4 +1,4 @@
--- The moments that a record of calls tells.
+-- The moments of a record of calls.
 use Rattle.std.proofs.Common.{◌≡◌, ℕ, ◌+◌, ◌*◌, ◌/◌, ◌%◌, ◌<◌, ◌≤◌, Bool, true, false, cond, List, [], ◌∷◌, ◌++◌, length, take, drop, refl, sym, ◌∙◌, ap, subst, arith}
 use Rattle.std.proofs.lemmas.List.{drop_all, take_all, length_push, take-append-le, drop-append-le}
 use Rattle.std.proofs.lemmas.List.{length-take, length-drop}
@@ -26,7 +26,7 @@ content-present bytes calls s = ap (λ (l : List Call). sector (undone l bytes) 
 pub unsynced-present : (bytes : List ℕ) (calls : List Call) (s : ℕ) → (present (recorded bytes calls)).unsynced s ≡ is_unsynced calls s false
 unsynced-present bytes calls s = ap (λ (l : List Call). is_unsynced l s false) (take_all (length calls) calls (omega arith))
 
--- one call more keeps each moment before it
+-- one more call keeps each earlier moment
 moment_after-push : (bytes new : List ℕ) (calls : List Call) (call : Call) (k : ℕ) → before_call call new ≡ bytes → k ≤ length calls → moment_after new (calls ++ call ∷ []) k ≡ moment_after bytes calls k
 moment_after-push bytes new calls call k before le =
     let content : undone (drop k (calls ++ call ∷ [])) new ≡ undone (drop k calls) bytes =
@@ -35,7 +35,7 @@ moment_after-push bytes new calls call k before le =
     ap (λ (l : List ℕ). record { content = sector l; unsynced = λ s. is_unsynced (take k (calls ++ call ∷ [])) s false }) content
     ∙ ap (λ (l : List Call). record { content = sector (undone (drop k calls) bytes); unsynced = λ s. is_unsynced l s false }) marks
 
--- what such a call does to the disk, where it disturbs n sectors from `at` on
+-- the effect of a call that changes n sectors from position `at`
 pub Changes-push : (bytes new : List ℕ) (calls later : List Call) (call : Call) (at n : ℕ) → later ≡ calls ++ call ∷ [] → before_call call new ≡ bytes
     → ((s : ℕ) → s < at → sector new s ≡ sector bytes s) → ((s : ℕ) → at + n ≤ s → sector new s ≡ sector bytes s)
     → ((s : ℕ) → s < at → is_marked call s false ≡ false) → ((s : ℕ) → at + n ≤ s → is_marked call s false ≡ false)
@@ -57,19 +57,19 @@ Changes-push bytes new calls later call at n is before below above safe_below sa
       synced = λ was. unsynced-present new (calls ++ call ∷ []) s ∙ is_unsynced-append calls (call ∷ []) s false ∙ ap (is_marked call s) (sym (unsynced-present bytes calls s) ∙ was) ∙ safe;
     }
 
--- a call that puts nothing down
+-- a call that writes nothing
 pub Stays-push : (bytes : List ℕ) (calls later : List Call) (call : Call) → later ≡ calls ++ call ∷ [] → before_call call bytes ≡ bytes → ((s : ℕ) → is_marked call s false ≡ false) → Stays (recorded bytes calls) (recorded bytes later)
 Stays-push bytes calls later call is before safe = Changes-push bytes bytes calls later call 0 0 is before (λ s lt. refl) (λ s le. refl) (λ s lt. safe s) (λ s le. safe s)
 
--- no call at all
+-- no call
 pub Changes-none : (at n : ℕ) (h : History) → Changes at n h h
 Changes-none at n h = record { later = omega arith; keeps = λ k le. refl; each = λ k lt le. absurd (omega arith) }
 
--- after a sync all is synced
+-- after a sync the whole disk is synced
 pub unsynced-sync : (bytes : List ℕ) (calls : List Call) (s : ℕ) → (present (recorded bytes (calls ++ Sync ∷ []))).unsynced s ≡ false
 unsynced-sync bytes calls s = unsynced-present bytes (calls ++ Sync ∷ []) s ∙ is_unsynced-append calls (Sync ∷ []) s false
 
--- a call that puts nothing down, noted where there was room for it
+-- a call that writes nothing, recorded if the allocation succeeded
 pub Stays-noted : (b : Bool) (bytes : List ℕ) (calls later : List Call) (call : Call) → later ≡ cond b (calls ++ call ∷ []) calls → before_call call bytes ≡ bytes → ((s : ℕ) → is_marked call s false ≡ false) → Stays (recorded bytes calls) (recorded bytes later)
 Stays-noted true bytes calls later call is before safe = Stays-push bytes calls later call is before safe
 Stays-noted false bytes calls later call is before safe = rw is (Changes-none 0 0 (recorded bytes calls))
@@ -77,7 +77,7 @@ Stays-noted false bytes calls later call is before safe = rw is (Changes-none 0 
 pub IsSynced-noted : (bytes : List ℕ) (calls later : List Call) (b : Bool) → later ≡ cond b (calls ++ Sync ∷ []) calls → b ≡ true → IsSynced (present (recorded bytes later))
 IsSynced-noted bytes calls later b is ok s = rw (is, ok) (unsynced-sync bytes calls s)
 
--- what such a write put down
+-- the content after such a write
 pub Holds-write : (bytes new : List ℕ) (at : ℕ) → 512 * at + length new ≤ length bytes → length new % 512 ≡ 0 → (later : List Call) → Holds (present (recorded (overwritten bytes (512 * at) new) later)).content at (length new / 512) new
 Holds-write bytes new at fits whole later i lt = content-present (overwritten bytes (512 * at) new) later (at + i) ∙ sector-overwritten_within bytes at new i fits (omega arith)
 
@@ -85,7 +85,7 @@ module _ (bytes new : List ℕ) (at : ℕ) (replaced : Vec ℕ Global) (fits : 5
   long : length replaced.items ≡ length new
   long = ap length was ∙ simp (length-take, length-drop) (omega arith)
 
-  -- a write, where there was room to note it
+  -- a write that was recorded
   pub Changes-write : (calls later : List Call) → later ≡ calls ++ Write at replaced ∷ [] → Changes at (length new / 512) (recorded bytes calls) (recorded (overwritten bytes (512 * at) new) later)
   Changes-write calls later is =
       Changes-push bytes (overwritten bytes (512 * at) new) calls later (Write at replaced) at (length new / 512) is

@@ -1,4 +1,4 @@
--- A write of a disk in memory, whether or not there was room to note it.
+-- A write of a disk in memory, whether or not the allocation for its record succeeded.
 use Rattle.std.proofs.Common.{◌≡◌, ℕ, ◌+◌, ◌*◌, ◌/◌, ◌%◌, ◌≤◌, true, false, List, [], ◌∷◌, ◌++◌, length, take, drop, Result, Ok, Err, OnOk, OnErr, is_err, ◌∙◌, ap, arith}
 use Rattle.std.specs.Prelude.{Vec}
 use Rattle.std.specs.List.{list_all}
@@ -12,7 +12,7 @@ use Rattle.cg_disk.specs.declared.record.Call.{Call}
 use Rattle.cg_disk.specs.declared.record.Call.TheVariants.{Write}
 use Rattle.cg_disk.proofs.Recorded.{Changes-write, Changes-none, Holds-write, IsUnsynced-write}
 
--- the record of calls with such a write behind them
+-- the record of calls with such a write appended
 abbrev pub Notes : List ℕ → List ℕ → ℕ → List Call → List Call → Type 0
 Notes bytes new at calls later = (replaced : Vec ℕ Global) × (replaced.items ≡ take (length new) (drop (512 * at) bytes)) × (later ≡ calls ++ Write at replaced ∷ [])
 

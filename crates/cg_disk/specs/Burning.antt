@@ -1,7 +1,7 @@
--- How a fuse burns.
+-- The number of calls that a fuse still passes.
 use Rattle.std.specs.Prelude.{ℕ, ◌-◌, Option, Some, None}
 
--- what is left of a fuse after a call
+-- the number after a call
 abbrev pub burnt : Option ℕ → Option ℕ
 burnt None = None
 burnt (Some n) = Some (n - 1)

@@ -1,8 +1,8 @@
--- What is left of a disk after a crash.
+-- The content of a disk after a crash that loses all unsynced writes.
 use Rattle.std.specs.Prelude.{◌≡◌, ℕ, ◌<◌, ◌≤◌}
 use Rattle.cg_disk.specs.Disk.{Image, History, IsSynced}
 
--- each sector holds what it held when all was synced for the last time
+-- each sector holds what it held when the whole disk was last synced
 pub record IsLastSynced (h : History) (image : Image) : Type 0 where
   pub moment : ℕ
   pub past : moment ≤ h.now

@@ -1,26 +1,26 @@
--- What a disk with a fuse is seen as.
+-- The model of a disk for fault injection.
 use Rattle.std.specs.Prelude.{◌≡◌, ◌≢◌, ℕ, ◌+◌, ◌-◌, ◌^◌, min, Bool, true, Option, Some}
 use Rattle.cg_disk.specs.Burning.{burnt}
 use Rattle.cg_disk.specs.Disk.{Counts}
 use Rattle.cg_disk.specs.declared.fuse.FuseDisk.{FuseDisk}
 
--- the disk that it passes calls to
+-- the wrapped disk
 abbrev pub inner_of : {D : Type 0} → FuseDisk D → D
 inner_of disk = disk.inner
 
--- how many calls it still passes; None: every call
+-- the number of calls that still pass; None: every call
 abbrev pub calls_left : {D : Type 0} → FuseDisk D → Option ℕ
 calls_left disk = disk.left
 
--- how many calls it failed itself, as far as a u64 counts
+-- the number of calls that the fuse failed, up to the maximum of a u64
 abbrev pub blown_calls : {D : Type 0} → FuseDisk D → ℕ
 blown_calls disk = disk.blown
 
--- the failures of the disk below and its own, as far as a u64 counts
+-- the failures of the wrapped disk and of the fuse, up to the maximum of a u64
 abbrev pub failures_of : {D : Type 0} → (D → ℕ) → FuseDisk D → ℕ
 failures_of failures disk = min (failures disk.inner + disk.blown) (2 ^ 64 - 1)
 
--- a call of it: while some are left it burns one and the disk below answers, else it fails the call by itself
+-- one call: while calls are left, it uses one and the wrapped disk runs it; otherwise the fuse fails it
 pub record PassesOrFails {D : Type 0} (failures : D → ℕ) (old new : FuseDisk D) (failed : Bool) : Type 0 where
   pub burns : calls_left new ≡ burnt (calls_left old)
   pub fails : calls_left old ≡ Some 0 → failed ≡ true

@@ -1,32 +1,33 @@
+//! The disk interface and the contract of each call.
 ghost use Rattle.std.specs.Prelude.{◌≡◌, ℕ, ◌+◌, ◌≤◌, Bool, true, OnOk, is_err};
 ghost use Rattle.cg_disk.specs.Disk.{History, present, sector_count, IsWhole, Holds, IsUnsynced, IsSynced, Changes, Stays, Counts};
 
 use crate::DiskFault;
 
-/// Bytes of a sector, the unit that a disk reads and writes.
+/// Size of a sector, the unit of reads and writes, in bytes.
 pub const SECTOR_BYTES: usize = 512;
 
-/// A disk of sectors. A crash keeps what was synced; each sector that was written since the last successful sync
-/// may hold anything after it. Buffers are whole sectors that lie on the disk. All but the count of failures is
-/// said of honest disks alone.
+/// A disk of sectors. A crash keeps what was synced; a sector that was written after the last successful sync may hold
+/// anything afterwards. Buffers are whole sectors within the disk. Except for sizes and the count of failures, the
+/// contracts hold for honest disks only.
 pub trait SectorDisk {
-    /// The number of sectors.
+    /// Number of sectors.
     ghost size: { Self → ℕ };
 
-    /// The disk obeys the model.
+    /// Whether the disk obeys the model.
     ghost is_honest: { Self → Bool };
 
-    /// Its moments up to now.
+    /// The moments of the disk so far.
     ghost history: { Self → History };
 
-    /// How many of its calls have failed.
+    /// Number of failed calls.
     ghost failures: { Self → ℕ };
 
-    /// The number of sectors.
+    /// Returns the number of sectors.
     fn sectors(&self) -> u64
         ensures { result ≡ size self.now };
 
-    /// Reads the sectors from `at` on. A failed read may leave any bytes in the buffer.
+    /// Reads the sectors from position `at`. A failed read may leave anything in the buffer.
     fn read(&mut self, at: u64, bytes: &mut [u8]) -> Result<(), DiskFault>
         requires whole { IsWhole bytes.old }
         requires in_range { at + sector_count bytes.old ≤ size self.old }
@@ -38,7 +39,8 @@ pub trait SectorDisk {
         ensures time { is_honest self.old ≡ true → Stays (history self.old) (history self.new) }
         ensures cause { Counts (failures self.old) (failures self.new) (is_err result) };
 
-    /// Writes the sectors from `at` on. Until a sync, a crash may leave anything in them; a failed write may too.
+    /// Writes the sectors from position `at`. Until the next sync a crash may leave anything in them, and so may a
+    /// failed write.
     fn write(&mut self, at: u64, bytes: &[u8]) -> Result<(), DiskFault>
         requires whole { IsWhole bytes.now }
         requires in_range { at + sector_count bytes.now ≤ size self.old }
@@ -53,7 +55,7 @@ pub trait SectorDisk {
             Changes at (sector_count bytes.now) (history self.old) (history self.new) }
         ensures cause { Counts (failures self.old) (failures self.new) (is_err result) };
 
-    /// After a successful sync a crash leaves what reads give.
+    /// Makes all writes durable: after a successful sync a crash leaves what reads return.
     fn sync(&mut self) -> Result<(), DiskFault>
         ensures same_size { size self.new ≡ size self.old }
         ensures same_honesty { is_honest self.new ≡ is_honest self.old }

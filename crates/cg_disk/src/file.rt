@@ -1,3 +1,4 @@
+//! A disk in a file.
 ghost use Rattle.std.specs.Prelude.{◌≡◌, ◌*◌, ◌^◌, ◌<◌, false, IfOk, IfSome};
 ghost use Rattle.cg_disk.specs.Disk.{unknown_history};
 
@@ -9,7 +10,7 @@ use std::rt::Files;
 
 const SECTOR_BYTES_U64: u64 = SECTOR_BYTES as u64;
 
-/// A disk in a file, sector after sector. Nothing is claimed of what a file keeps: it is not said to be honest.
+/// A disk in a file of consecutive sectors. The contracts promise no durability: a file is not known to be honest.
 #[derive(Drop)]
 pub struct FileDisk<F> {
     file: F,
@@ -21,8 +22,8 @@ pub struct FileDisk<F> {
 impl<F: Read + Write + Seek + OpenFile + Drop> FileDisk<F> {
     ghost use Rattle.cg_disk.specs.File.{file_size, file_failures};
 
-    /// Opens the disk in the file at `path`: with a number of sectors it makes the file anew, of that many sectors of
-    /// zeros; without, the file has to be there, and has as many sectors as its length has whole ones.
+    /// Opens the disk in the file at `path`. With a number of sectors, creates or overwrites the file with that many
+    /// sectors of zeros. Without, the file has to exist, and the disk has the whole sectors within its length.
     pub fn open<R: Files<File = F>>(
         rt: &R,
         path: &str,

@@ -1,11 +1,12 @@
+//! Fault injection.
 ghost use Rattle.std.specs.Prelude.{◌≡◌, ℕ, ◌+◌, ◌-◌, ◌^◌, ◌≤◌, min, true, Some, OnOk, is_err, IsErr, ◌↔◌, if◌then◌else◌};
 ghost use Rattle.cg_disk.specs.Disk.{present, sector_count, IsWhole, Holds, IsUnsynced, IsSynced, Changes, Stays, Counts};
 ghost use Rattle.cg_disk.specs.Burning.{burnt};
 
 use crate::{DiskFault, SectorDisk};
 
-/// A disk over another, which passes so many calls of `read`, `write` and `sync` on and then fails each. A call that
-/// it fails by itself puts nothing down and leaves the buffer as it was.
+/// A disk for fault injection: it passes a number of calls of `read`, `write` and `sync` to another disk and then fails
+/// each. A call that it fails writes nothing and leaves the buffer unchanged.
 #[derive(Drop)]
 pub struct FuseDisk<D: SectorDisk> {
     inner: D,
@@ -16,7 +17,7 @@ pub struct FuseDisk<D: SectorDisk> {
 impl<D: SectorDisk> FuseDisk<D> {
     ghost use Rattle.cg_disk.specs.Fuse.{inner_of, calls_left, blown_calls};
 
-    /// Passes that many calls on.
+    /// Wraps a disk that passes this many calls.
     pub fn new(disk: D, calls: u64) -> FuseDisk<D>
         ensures inner { inner_of result ≡ disk }
         ensures left { calls_left result ≡ Some calls }
@@ -29,7 +30,7 @@ impl<D: SectorDisk> FuseDisk<D> {
         }
     }
 
-    /// From now on that many calls pass; `None`: every call.
+    /// Sets how many more calls pass; `None` passes every call.
     pub fn set(&mut self, calls: Option<u64>)
         ensures inner { inner_of self.new ≡ inner_of self.old }
         ensures left { calls_left self.new ≡ calls }
@@ -38,7 +39,7 @@ impl<D: SectorDisk> FuseDisk<D> {
         self.left = calls;
     }
 
-    /// The disk that it stands over, as it is.
+    /// Returns the wrapped disk, without a disk call.
     pub fn into_inner(self) -> D
         ensures { result ≡ inner_of self }
     {
@@ -47,7 +48,7 @@ impl<D: SectorDisk> FuseDisk<D> {
     }
 }
 
-/// Burns the fuse by one call, or fails the call where nothing of it is left.
+/// Uses up one of the calls that pass, or fails if none is left.
 fn burn(left: &mut Option<u64>, blown: &mut u64) -> Result<(), DiskFault>
     ensures burns { left.new ≡ burnt left.old }
     ensures fails { IsErr result ↔ (left.old ≡ Some 0) }
@@ -88,7 +89,7 @@ impl<D: SectorDisk> SectorDisk for FuseDisk<D> {
         ensures fuse { PassesOrFails D.failures self.old self.new (is_err result) }
         ensures buffer { calls_left self.old ≡ Some 0 → bytes.new ≡ bytes.old }
 
-        // What the model says of every disk.
+        // The clauses of every `SectorDisk`.
         ensures same_size { D.size (inner_of self.new) ≡ D.size (inner_of self.old) }
         ensures same_honesty { D.is_honest (inner_of self.new) ≡ D.is_honest (inner_of self.old) }
         ensures bytes { D.is_honest (inner_of self.old) ≡ true → OnOk result
@@ -106,7 +107,7 @@ impl<D: SectorDisk> SectorDisk for FuseDisk<D> {
 
         ensures fuse { PassesOrFails D.failures self.old self.new (is_err result) }
 
-        // What the model says of every disk.
+        // The clauses of every `SectorDisk`.
         ensures same_size { D.size (inner_of self.new) ≡ D.size (inner_of self.old) }
         ensures same_honesty { D.is_honest (inner_of self.new) ≡ D.is_honest (inner_of self.old) }
         ensures bytes { D.is_honest (inner_of self.old) ≡ true → OnOk result
@@ -124,7 +125,7 @@ impl<D: SectorDisk> SectorDisk for FuseDisk<D> {
     fn sync(&mut self) -> Result<(), DiskFault>
         ensures fuse { PassesOrFails D.failures self.old self.new (is_err result) }
 
-        // What the model says of every disk.
+        // The clauses of every `SectorDisk`.
         ensures same_size { D.size (inner_of self.new) ≡ D.size (inner_of self.old) }
         ensures same_honesty { D.is_honest (inner_of self.new) ≡ D.is_honest (inner_of self.old) }
         ensures durable { D.is_honest (inner_of self.old) ≡ true → OnOk result (IsSynced (present (D.history (inner_of self.new)))) }

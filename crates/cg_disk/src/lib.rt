@@ -1,6 +1,5 @@
-//! Disks of sectors: the model of a disk that the crates above are proved against, a disk in memory that meets it
-//! and keeps its whole history, a disk that fails on demand, and a file, of which nothing is claimed but safety.
-//! It stands on no crate of this repository.
+//! Disks of sectors: the model of a disk, and three implementations. `MemDisk` meets the model and records its whole
+//! history, `FuseDisk` injects faults, and `FileDisk` is a file, for which only safety is proved.
 #![tactic(auto)]
 
 mod disk;

@@ -1,3 +1,4 @@
+//! A disk in memory.
 ghost use Rattle.std.specs.Prelude.{◌≡◌, ℕ, ◌+◌, ◌*◌, ◌/◌, ◌^◌, ◌<◌, ◌≤◌, true, false, IfOk, OnOk, length, slice_index, is_err, OnErr};
 ghost use Rattle.std.specs.List.{list_all};
 ghost use Rattle.cg_disk.specs.Disk.{present, sector, sector_count, IsWhole, Holds, IsImage, IsSynced};
@@ -9,7 +10,7 @@ use crate::record::{Call, replace, undo_unsynced};
 use crate::{DiskFault, SECTOR_BYTES, SectorDisk};
 use std::alloc::{AllocError, Global};
 
-/// What a crash does to the sectors that were written and not synced.
+/// The effect of a crash on sectors that were written and not synced.
 #[derive(Clone, Copy, Debug, PartialEq, Eq)]
 pub enum Crash {
     /// They hold what was written.
@@ -18,8 +19,8 @@ pub enum Crash {
     Lose,
 }
 
-/// An honest disk in memory, which can crash. It keeps a record of all its calls: a call fails where memory for the
-/// record is refused, and then changes no content. Each write keeps a copy of what it replaced, until a crash.
+/// An honest disk in memory, which can crash. It records all its calls: a call fails if the allocation for its record
+/// fails, and then changes no content. Each write stores a copy of the bytes that it replaces, until a crash.
 #[derive(Drop)]
 pub struct MemDisk {
     alloc: Global,
@@ -33,7 +34,7 @@ pub struct MemDisk {
 impl MemDisk {
     ghost use Rattle.cg_disk.specs.Mem.{mem_size, mem_history, mem_failures};
 
-    /// A disk of zeros, all of it synced.
+    /// Creates a synced disk of zeros.
     pub fn new(alloc: Global, sectors: u64) -> Result<MemDisk, AllocError>
         ensures size { IfOk result (λ disk. mem_size disk ≡ sectors) }
         ensures zeros { IfOk result (λ disk.
@@ -52,8 +53,8 @@ impl MemDisk {
         })
     }
 
-    /// The disk as a crash now leaves it: all of it is synced, and its record begins anew.
-    /// Its cost is that of what was written since the last sync.
+    /// Returns the disk after a crash: it is synced, and its record is empty. Linear in the recorded calls; `Lose` also
+    /// puts back the bytes that were overwritten since the last sync.
     pub fn crash(self, kind: Crash) -> MemDisk
         ensures size { mem_size result ≡ mem_size self }
         ensures image { IsImage (present (mem_history self)) (present (mem_history result)).content }

@@ -1,3 +1,4 @@
+//! The record of calls of a disk in memory.
 ghost use Rattle.std.specs.Prelude.{◌≡◌, ◌+◌, ◌*◌, ◌^◌, ◌<◌, ◌≤◌, [], ◌∷◌, ◌++◌, true, length, take, drop, OnOk, OnErr};
 ghost use Rattle.std.specs.List.{list_all};
 ghost use Rattle.cg_disk.specs.Record.{overwritten, is_within, GoesBackToSync};
@@ -5,16 +6,17 @@ ghost use Rattle.cg_disk.specs.Record.{overwritten, is_within, GoesBackToSync};
 use crate::SECTOR_BYTES;
 use std::alloc::{AllocError, Global};
 
-/// A call that a disk in memory answered, with what undoes it.
+/// A successful call of a disk in memory, with the bytes that undo it.
 #[derive(Drop)]
 pub(crate) enum Call {
     Read,
-    /// A write of the sectors from `at` on, and the bytes that it replaced.
+    /// A write of the sectors from position `at`, and the bytes that it replaced.
     Write { at: u64, replaced: Vec<u8> },
     Sync,
 }
 
-/// Writes whole sectors, and notes what they replaced. The bytes are copied once.
+/// Writes whole sectors, and records the bytes that they replaced. Copies the old and the new bytes once. If an
+/// allocation fails, nothing changes.
 pub(crate) fn replace(
     alloc: Global,
     disk: &mut Vec<u8>,
@@ -39,7 +41,7 @@ pub(crate) fn replace(
     Ok(())
 }
 
-/// Puts bytes back where a write replaced them.
+/// Puts back the bytes that a write replaced.
 pub(crate) fn restore(disk: &mut Vec<u8>, at: u64, replaced: &[u8])
     requires { 512 * at + length replaced.now ≤ length disk.old.items }
     ensures length { length disk.new.items ≡ length disk.old.items }

@@ -1,3 +1,4 @@
+//! A crash of a disk in memory, and a disk in a file.
 ghost use Rattle.std.specs.Prelude.{◌≡◌, ◌*◌, ◌^◌, ◌<◌, IfOk, OnOk, length};
 
 use crate::{Crash, FileDisk, MemDisk, SECTOR_BYTES, SectorDisk};
@@ -13,7 +14,7 @@ fn sectors(alloc: Global, byte: u8, count: u64) -> Result<Vec<u8>, AllocError>
     vec![in alloc; byte; count as usize * SECTOR_BYTES]
 }
 
-// The first byte of each sector of a disk of four.
+// Returns the first byte of each sector of a disk of four.
 fn first_bytes<D: SectorDisk>(
     rt: &impl Abort,
     alloc: Global,
@@ -27,7 +28,7 @@ fn first_bytes<D: SectorDisk>(
     Ok((bytes[0], bytes[512], bytes[1024], bytes[1536]))
 }
 
-// Sector 1 written and synced, then sectors 1 and 2 written.
+// Returns a disk whose sector 1 was written and synced, and then sectors 1 and 2 written.
 fn written(rt: &impl Abort, alloc: Global) -> Result<MemDisk, Fail> {
     let mut disk = MemDisk::new(alloc, 4)?;
     assert_eq!(rt; first_bytes(rt, alloc, &mut disk)?, (0, 0, 0, 0));

@@ -1,4 +1,4 @@
--- Offsets put on the shelf of a group.
+-- Offsets added to the shelf of a group.
 use Rattle.std.proofs.Common.{◌≡◌, ℕ, ◌+◌, ◌<◌, List, [], length, get_or, set, Some, None, ap, sym, ◌∙◌, subst, arith}
 use Rattle.std.proofs.lemmas.List.{get_or-set_same}
 use Rattle.std.specs.Prelude.{IsTrue}
@@ -17,7 +17,7 @@ use Rattle.cg_fold.proofs.Restock.{rows_at-more}
 some_shelf : KeptShelf
 some_shelf = ([], [])
 
--- what is found where the shelf of the group stands
+-- a search finds the shelf of the group at its index
 found_over : (shelves deref deref' : List KeptShelf) (at : ℕ) (group : List ℕ)
     → deref ≡ shelves → deref' ≡ shelves → at ≡ prefix_len (is_before group) deref → IsOwnPlace deref' at group
     → (at < length shelves) × (find name_cmp group shelves ≡ Some (get_or shelves at some_shelf).1)
@@ -27,7 +27,7 @@ found_over shelves deref deref' at group same same' place own =
     let placed : at ≡ prefix_len (is_before group) shelves = place ∙ ap (prefix_len (is_before group)) same in
     (inside, find-own name_total group shelves at some_shelf placed inside tie)
 
--- nothing is found where none stands
+-- a search finds nothing if the group has no shelf
 found_between : (shelves deref deref' : List KeptShelf) (at : ℕ) (group : List ℕ) → IsTrue (is_sorted name_cmp shelves)
     → deref ≡ shelves → deref' ≡ shelves → at ≡ prefix_len (is_before group) deref → IsOtherPlace deref' at group
     → find name_cmp group shelves ≡ None
@@ -35,7 +35,7 @@ found_between shelves deref deref' at group sorted same same' place other =
     let placed : at ≡ prefix_len (is_before group) shelves = place ∙ ap (prefix_len (is_before group)) same in
     find-other name_total group shelves at (tested sorted) placed (λ d inside tie. other d (subst (λ l. at < length l) (sym same') inside) (subst (λ l. name_cmp (get_or l at d).0 group ≡ Equal) (sym same') tie))
 
--- the shelf of the group is there
+-- the group has a shelf
 pub added_over : (shelves deref deref' after : List KeptShelf) (at : ℕ) (group : List ℕ) (more : List KeptOffset)
     → deref ≡ shelves → deref' ≡ shelves → at ≡ prefix_len (is_before group) deref → IsOwnPlace deref' at group → AddsAt shelves after at more
     → after ≡ with_more group more shelves
@@ -46,7 +46,7 @@ added_over shelves deref deref' after at group more same same' place own stored 
     put_over name_total shelves deref deref' at group (fold put_kept held.1 more) held same same' place own (get_or-any shelves at some_shelf held found.0) in
     stored some_shelf ∙ put_is ∙ sym (ap (λ f. put name_cmp group (fold put_kept (rows_on f) more) shelves) found.1)
 
--- and by how much it has grown
+-- the number of offsets that it gains
 pub grown_over : (shelves deref deref' after : List KeptShelf) (at : ℕ) (group : List ℕ) (more : List KeptOffset) (grown : ℕ)
     → deref ≡ shelves → deref' ≡ shelves → at ≡ prefix_len (is_before group) deref → IsOwnPlace deref' at group → AddsAt shelves after at more → GrowsAt shelves after at grown
     → length (rows_at group after) ≡ length (rows_at group shelves) + grown
@@ -59,7 +59,7 @@ grown_over shelves deref deref' after at group more grown same same' place own s
     rows_at-more group shelves after more (added_over shelves deref deref' after at group more same same' place own stored) ∙ ap (λ r. fold put_kept r more) before in
     omega (arith, grows some_shelf, ap length before, ap (λ s. length s.1) now, ap length more_now)
 
--- no shelf of the group is there
+-- the group has no shelf
 pub added_between : (shelves deref deref' after : List KeptShelf) (at : ℕ) (group : List ℕ) (more : List KeptOffset) (shelf : KeptShelf) → IsTrue (is_sorted name_cmp shelves)
     → deref ≡ shelves → deref' ≡ shelves → at ≡ prefix_len (is_before group) deref → IsOtherPlace deref' at group → shelf ≡ (group, fold put_kept [] more) → after ≡ insert shelves at shelf
     → after ≡ with_more group more shelves
@@ -68,7 +68,7 @@ added_between shelves deref deref' after at group more shelf sorted same same' p
     inserted ∙ ap (insert shelves at) is ∙ put_between name_total shelves deref deref' at group (fold put_kept [] more) same same' place other
     ∙ sym (ap (λ f. put name_cmp group (fold put_kept (rows_on f) more) shelves) absent)
 
--- and all on it are more
+-- all offsets on the new shelf are new
 pub grown_between : (shelves deref deref' after : List KeptShelf) (at : ℕ) (group : List ℕ) (more rows : List KeptOffset) (shelf : KeptShelf) → IsTrue (is_sorted name_cmp shelves)
     → deref ≡ shelves → deref' ≡ shelves → at ≡ prefix_len (is_before group) deref → IsOtherPlace deref' at group → shelf ≡ (group, fold put_kept [] more) → after ≡ insert shelves at shelf → rows ≡ shelf.1
     → length (rows_at group after) ≡ length (rows_at group shelves) + length rows

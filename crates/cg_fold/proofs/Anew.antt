@@ -1,4 +1,4 @@
--- The commands of a snapshot make the state that it was taken of.
+-- The commands of a snapshot build the state that it was taken of.
 use Rattle.std.proofs.Common.{◌≡◌, ℕ, zero, suc, ◌≤◌, Bool, true, false, cond, List, [], ◌∷◌, ◌++◌, length, map as each, take, drop, Option, Some, None, ap, sym, ◌∙◌, refl, arith}
 use Rattle.std.proofs.Math.Dec.{T}
 use Rattle.std.specs.Prelude.{◌||◌, flat_map, bytes_eq, is_some}
@@ -27,20 +27,20 @@ use Rattle.cg_fold.proofs.KeyOrder.{key_total, key_same, name_total, name_same}
 use Rattle.cg_fold.proofs.Place.{below_all, both}
 use Rattle.cg_fold.proofs.Names.{any_in_order, any_tie, equal, or_true, tie_is_same}
 
--- ---- chains of commands
+-- ---- lists of commands
 
 fold-append : {A B : Type 0} (f : A → B → A) (a : A) (xs ys : List B) → fold f a (xs ++ ys) ≡ fold f (fold f a xs) ys
 fold-append f a [] ys = refl
 fold-append f a (x ∷ xs) ys = fold-append f (f a x) xs ys
 
--- the first of these two that there is
+-- the first of the two that is given
 abbrev pub or_else : {X : Type 0} → Option X → Option X → Option X
 or_else None y = y
 or_else (Some x) y = Some x
 
 -- ---- the record of a group
 
--- what sets a record of these parts
+-- the effect of the command that sets a record of these parts
 made_record : (state : State) (group : List ℕ) (generation : ℕ) (kind : List ℕ) (roster : Option RosterParts)
     → effect state (record_command group generation kind roster) ≡ with_record state group (record { generation = generation; kind = kind; roster = roster })
 unfolding effect
@@ -114,9 +114,9 @@ get-with_rows (row ∷ rows) m k sorted =
         ap (λ o. or_else o (Some row.1)) none
     step false is above = refl
 
--- ---- one group after the other
+-- ---- all groups
 
--- of the groups that pass, this state has what that one has, and of the others nothing
+-- for the groups that pass, this state equals the whole one, and it has nothing of the others
 record Holds (whole now : State) (done : List ℕ → Bool) : Type 0 where
   records : (q : List ℕ) → map.get now.records q ≡ cond (done q) (map.get whole.records q) None
   offsets : (k : OffsetKey) → map.get now.offsets k ≡ cond (done k.group) (map.get whole.offsets k) None
@@ -188,7 +188,7 @@ holds_all whole (group ∷ groups) now done holds =
       offsets = λ k. ap (λ (s : State). map.get s.offsets k) split ∙ next.offsets k ∙ ap (λ b. cond b (map.get whole.offsets k) None) (or_turned (bytes_eq k.group group) (list_any (bytes_eq k.group) groups) (done k.group));
     }
 
--- ---- each group is there
+-- ---- each group is included
 
 any_group : (k : OffsetKey) (keys : List OffsetKey) → list_any (eq_by_cmp key_cmp k) keys ≡ true → list_any (bytes_eq k.group) (each (λ x. x.group) keys) ≡ true
 any_group k [] hit = absurd cc
@@ -203,7 +203,7 @@ any_group k (x ∷ keys) hit = step (eq_by_cmp key_cmp k x) refl (any_group k ke
         let more : list_any (eq_by_cmp key_cmp k) keys ≡ true = rw is at hit in
         rw (rest more) (or_true (bytes_eq k.group x.group))
 
--- a name is one of the groups of a state where it has a record or an offset
+-- a name is one of the groups of a state exactly if it has a record or an offset
 pub any_group_in : (state : State) (q : List ℕ) → list_any (bytes_eq q) (in_order (groups_in state)) ≡ (map.contains_key state.records q || list_any (bytes_eq q) (each (λ k. k.group) (map.keys state.offsets)))
 any_group_in state q =
     any_in_order q (groups_in state) ∙ list_any-append (bytes_eq q) (map.keys state.records) (each (λ k. k.group) (map.keys state.offsets))
@@ -215,11 +215,11 @@ covered None false h = refl
 covered (Some v) true h = refl
 covered (Some v) false h = absurd (cc (h refl))
 
--- each group that has a record is one of them
+-- each group with a record is one of them
 pub record_covered : (state : State) (q : List ℕ) → is_some (map.get state.records q) ≡ true → list_any (bytes_eq q) (in_order (groups_in state)) ≡ true
 record_covered state q there = any_group_in state q ∙ ap (λ b. b || list_any (bytes_eq q) (each (λ k. k.group) (map.keys state.offsets))) there
 
--- and each that has an offset
+-- each group with an offset is one of them
 pub offset_covered : (state : State) (k : OffsetKey) → is_some (map.get state.offsets k) ≡ true → list_any (bytes_eq k.group) (in_order (groups_in state)) ≡ true
 offset_covered state k there =
     let known : list_any (bytes_eq k.group) (each (λ x. x.group) (map.keys state.offsets)) ≡ true = any_group k (map.keys state.offsets) (sym (map.contains_key-keys state.offsets k) ∙ there) in

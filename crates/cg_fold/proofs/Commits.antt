@@ -21,7 +21,7 @@ use Rattle.cg_fold.proofs.Place.{below_all, both}
 use Rattle.cg_fold.proofs.Put.{tested}
 use Rattle.cg_fold.proofs.Stock.{append-nil}
 
--- ---- the offsets of one group are of different partitions
+-- ---- the offsets of one group are for different partitions
 
 true_of : (b : Bool) → b ≡ true → T b
 true_of true e = tt
@@ -70,9 +70,9 @@ are_entries g rows entries some few own sorted is =
       distinct = subst (IsDistinct have_one_key) (sym is) (distinct_entries g rows own (tested sorted));
     }
 
--- ---- one commit after the other
+-- ---- the list of commits
 
--- it is no matter how many more there might be
+-- the bound on the number of offsets does not matter, if it is large enough
 commits_any : (most more : ℕ) (g : List ℕ) (rows : List KeptOffset) → length rows ≤ most → length rows ≤ more → commits_of most g rows ≡ commits_of more g rows
 unfolding commits_of
 commits_any zero zero g rows le also = refl
@@ -92,7 +92,7 @@ commits_first g (row ∷ rows) some =
     ap (λ l. commit_command g (take ENTRIES_MAX (row ∷ rows)) ∷ l)
     (commits_any (length rows) (length (drop ENTRIES_MAX (row ∷ rows))) g (drop ENTRIES_MAX (row ∷ rows)) (omega (arith, length-drop ENTRIES_MAX (row ∷ rows))) (omega arith))
 
--- the first commit, pushed, in the words of the calls
+-- the first commit, appended, in the form of the call
 pub commits_pushed : (g : List ℕ) (rows first others : List KeptOffset) (command : Command) (before after all : List Command) → 0 < length rows
     → first ≡ take ENTRIES_MAX rows → others ≡ drop ENTRIES_MAX rows → command ≡ commit_command g first → after ≡ before ++ command ∷ []
     → before ++ commits_of (length rows) g rows ≡ all → after ++ commits_of (length others) g others ≡ all

@@ -1,4 +1,4 @@
--- The records and offsets in order, seen as the maps that they are.
+-- The sorted records and offsets as maps.
 use Rattle.std.proofs.Common.{◌≡◌, ℕ, Bool, cond, List, [], length, Option, Some, None, ap, sym, ◌∙◌, refl, subst}
 use Rattle.std.specs.Prelude.{IsTrue, filter}
 use Rattle.std.specs.List.{fold}
@@ -73,14 +73,14 @@ state records offsets = state_of (records_of records) offsets
 pub state-nil : (records : List KeptRecord) (offsets : Offsets) → records ≡ [] → offsets ≡ map.empty → state records offsets ≡ state_of map.empty map.empty
 state-nil records offsets none nothing = ap (λ r. state_of (records_of r) offsets) none ∙ ap (λ m. state_of m offsets) (map-nil name_cmp) ∙ ap (state_of map.empty) nothing
 
--- what a commit makes of a state
+-- the effect of a commit on a state
 pub state-commit : (commit : Committed) (records : List KeptRecord) (before after : Offsets) (now : State)
     → after ≡ fold (with_entry commit.group) before commit.entries → state records before ≡ now → state records after ≡ effect now (variants.Committed commit)
 unfolding effect
 state-commit commit records before after now committed is =
     ap (state_of (records_of records)) committed ∙ ap (λ (s : State). state_of s.records (fold (with_entry commit.group) s.offsets commit.entries)) is
 
--- what a record that is set makes of it
+-- the effect of a command that sets a record
 pub state-keep : (group : List ℕ) (new : GroupRecord) (before reserved after : List KeptRecord) (offsets : Offsets) (now : State)
     → IsTrue (is_sorted name_cmp before) → reserved ≡ before → after ≡ put name_cmp group new reserved
     → state before offsets ≡ now → state after offsets ≡ with_record now group new
@@ -89,7 +89,7 @@ state-keep group new before reserved after offsets now sorted same stored is =
     ap records_of (stored ∙ ap (put name_cmp group new) same) ∙ sym (insert-from_sorted name_total group new before (tested sorted)) in
     ap (λ m. state_of m offsets) maps ∙ ap (λ s. with_record s group new) is
 
--- what a member that takes another's place makes of it
+-- the effect of a replacement
 found_then : (group : List ℕ) (new : Member) (found : Option GroupRecord) (before after : List KeptRecord) (offsets : Offsets)
     → IsTrue (is_sorted name_cmp before) → after ≡ put_found group (option_map (replaced_record new) found) before → state after offsets ≡ with_member (state before offsets) group new found
 found_then group new None before after offsets sorted same = ap (λ r. state r offsets) same
@@ -105,7 +105,7 @@ state-replace replaced new before after offsets now sorted named stored is =
     ∙ ap (λ m. with_member (state before offsets) replaced.group m (map.get (records_of before) replaced.group)) named
     ∙ ap (λ s. with_member s replaced.group replaced.member (map.get s.records replaced.group)) is
 
--- what a group that is taken away leaves
+-- the effect of a deletion
 pub state-delete : (deleted : Deleted) (before after : List KeptRecord) (offsets left : Offsets) (now : State) → IsTrue (is_sorted name_cmp before)
     → after ≡ filter (λ kept. is_another deleted.group kept.0) before → left ≡ map.retain_keys offsets (is_of_other deleted.group)
     → state before offsets ≡ now → state after left ≡ effect now (variants.Deleted deleted)

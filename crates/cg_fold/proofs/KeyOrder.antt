@@ -1,4 +1,4 @@
--- The order of keys is total, and only equal keys tie.
+-- The order of keys is total, and only equal keys compare equal.
 use Rattle.std.proofs.Common.{◌≡◌, refl, ap, ◌∙◌}
 use Rattle.std.specs.Ordering.{nat_cmp}
 use Rattle.std.specs.Cmp.{IsTotalOrder, then_total, on_total, nat_cmp_total}
@@ -18,7 +18,7 @@ name_total = nat_list_cmp_total
 pub name_same : IsAntisymmetric name_cmp
 name_same = slice_cmp-IsAntisymmetric nat_cmp-IsAntisymmetric
 
--- two that tie in the first of two orders, and then in the second
+-- if two orders in turn give Equal, each of them does
 both_tie : (a b : Ordering) → ordering_then a b ≡ Equal → (a ≡ Equal) × (b ≡ Equal)
 both_tie Less b e = absurd (cc e)
 both_tie Equal b e = (refl, e)

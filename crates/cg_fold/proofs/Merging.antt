@@ -1,4 +1,4 @@
--- The groups of two lists that are each in order.
+-- The groups of two sorted lists.
 use Rattle.std.proofs.Common.{◌≡◌, ℕ, suc, ◌-◌, ◌<◌, Bool, true, false, List, [], ◌∷◌, ◌++◌, length, get_or, map as each, take, drop, ap, sym, ◌∙◌, refl, subst, arith}
 use Rattle.std.proofs.Math.Dec.{T}
 use Rattle.std.specs.Prelude.{◌||◌, IsTrue, bytes_eq}
@@ -18,7 +18,7 @@ use Rattle.cg_fold.proofs.Names.{Before, in_order_is, in_order_first}
 abbrev groups : {X : Type 0} → List (List ℕ × X) → List (List ℕ)
 groups kept = each (λ k. k.0) kept
 
--- a slice behind its first item
+-- a list is its first element and the slice after it
 pub rest_is : {X : Type 0} (xs : List X) (x : X) → 0 < length xs → x ≡ get_or xs 0 x → xs ≡ x ∷ take (length xs - 1) (drop 1 xs)
 rest_is [] x some is = absurd (omega arith)
 rest_is {X = X} (y ∷ xs) x some is =
@@ -50,7 +50,7 @@ Before-below x (k ∷ kept) below q there =
     step true is or lt rest = ap (name_cmp x) ((bytes_eq-Decides q k.0).0 is) ∙ less (name_cmp x k.0) lt
     step false is or lt rest = rest q (other _ _ is or)
 
--- a name before another is before all that the other is before
+-- a name that comes before another also comes before all that the other comes before
 Before-less : (x y : List ℕ) (names : List (List ℕ)) → name_cmp x y ≡ Less → Before y names → Before x (y ∷ names)
 Before-less x y names lt before q there = step (bytes_eq q y) refl there
   where
@@ -120,7 +120,7 @@ module _ {X Y : Type 0} where
   before_right : (k : List ℕ × X) (l : List ℕ × Y) (right : List (List ℕ × Y)) → IsTrue (is_sorted name_cmp (l ∷ right)) → name_cmp k.0 l.0 ≡ Less → Before k.0 (groups (l ∷ right))
   before_right k l right also lt = Before-less k.0 l.0 (groups right) lt (Before-below l.0 right (sorted_rest l right also).0)
 
-  -- in the words of the calls: what stands first, where the lists are these
+  -- the first group of these lists, in the form of the call
 
   pub left_alone : (left : List (List ℕ × X)) (right : List (List ℕ × Y)) (k : List ℕ × X) (rest : List (List ℕ × X)) → IsTrue (is_sorted name_cmp left) → IsTrue (is_sorted name_cmp right)
       → left ≡ k ∷ rest → length right ≡ 0 → ComesFirst left right k.0 rest right

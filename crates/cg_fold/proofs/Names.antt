@@ -25,7 +25,7 @@ pub or_true : (b : Bool) → (b || true) ≡ true
 or_true true = refl
 or_true false = refl
 
--- a name ties with another where it is that one
+-- two names compare equal exactly if they are the same
 pub tie_is_same : (a b : List ℕ) → eq_by_cmp name_cmp a b ≡ bytes_eq a b
 tie_is_same a b = cases (eq_by_cmp name_cmp a b) (bytes_eq a b) refl refl
   where
@@ -58,7 +58,7 @@ marked_again : (es : List (List ℕ × Unit {0})) → each marked (each (λ (e :
 marked_again [] = refl
 marked_again (e ∷ es) = ap (λ l. e ∷ l) (marked_again es)
 
--- names in order rise
+-- `in_order` gives an ascending list
 pub in_order_sorted : (names : List (List ℕ)) → T (is_sorted name_cmp (each marked (in_order names)))
 in_order_sorted names =
     let m = map.from_entries {R = name_cmp} (each marked names) in
@@ -73,7 +73,7 @@ find-marked q (n ∷ names) = ap (λ b. cond b (Some tt) (find name_cmp q (each 
     step true rest = refl
     step false rest = rest
 
--- names that rise are the others in order, where both have the same
+-- an ascending list is `in_order` of any names with the same members
 pub in_order_is : (ids names : List (List ℕ)) → T (is_sorted name_cmp (each marked ids)) → ((q : List ℕ) → list_any (bytes_eq q) ids ≡ list_any (bytes_eq q) names) → in_order names ≡ ids
 in_order_is ids names sorted same =
     let held = map.from_sorted {R = name_cmp} (each marked ids) in
@@ -89,7 +89,7 @@ in_order_same names others same = in_order_is (in_order others) names (in_order_
 
 -- ---- the first of them
 
--- before each name of a list
+-- the name comes before each name of a list
 abbrev pub Before : List ℕ → List (List ℕ) → Type 0
 Before x names = (q : List ℕ) → list_any (bytes_eq q) names ≡ true → name_cmp x q ≡ Less
 
@@ -107,7 +107,7 @@ below_all-Before x (n ∷ names) before =
     (subst (λ r. T (is_lt r)) (sym (before n (or_left (bytes_eq n n) (list_any (bytes_eq n) names) (itself n)))) tt)
     (below_all-Before x names (λ q there. before q (ap (λ b. bytes_eq q n || b) there ∙ or_true (bytes_eq q n))))
 
--- a name before all others stands first
+-- a name before all others is the first of `in_order`
 pub in_order_first : (x : List ℕ) (names rest : List (List ℕ)) → ((q : List ℕ) → list_any (bytes_eq q) names ≡ (bytes_eq q x || list_any (bytes_eq q) rest)) → Before x rest → in_order names ≡ x ∷ in_order rest
 in_order_first x names rest members before =
     in_order_is (x ∷ in_order rest) names
@@ -115,7 +115,7 @@ in_order_first x names rest members before =
     (below_all-Before x (in_order rest) (λ q there. before q (sym (any_in_order q rest) ∙ there))) (in_order_sorted rest))
     (λ q. ap (λ b. bytes_eq q x || b) (any_in_order q rest) ∙ sym (members q))
 
--- ---- names that rise, one by one
+-- ---- ascending lists by recursion
 
 ComesBefore-below : (x : List ℕ) (names : List (List ℕ)) → T (below_all name_cmp x (each marked names)) → ComesBefore x names
 ComesBefore-below x [] h = tt
@@ -129,6 +129,6 @@ Ascending-sorted (n ∷ names) h =
     let parts = both (below_all name_cmp n (each marked names)) (is_sorted name_cmp (each marked names)) h in
     (ComesBefore-below n names parts.0, Ascending-sorted names parts.1)
 
--- names in order are by their bytes, each once
+-- `in_order` gives names by their bytes, each once
 pub in_order_ascending : (names : List (List ℕ)) → Ascending (in_order names)
 in_order_ascending names = Ascending-sorted (in_order names) (in_order_sorted names)

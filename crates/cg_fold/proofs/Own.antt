@@ -1,4 +1,4 @@
--- The offsets of one group, and those that a commit puts among them.
+-- The offsets of one group, and those that a commit adds.
 use Rattle.std.proofs.Common.{ℕ, zero, suc, Bool, true, false, cond, take, drop, ◌+◌, ◌<◌, ◌≤◌, List, [], ◌∷◌, length, map as each, Some, None, refl, arith, ◌≡◌}
 use Rattle.std.proofs.Math.Dec.{T}
 use Rattle.std.specs.Prelude.{filter}
@@ -39,7 +39,7 @@ pub sorted-fold : (rows new : List KeptOffset) → T (is_sorted key_cmp rows) �
 sorted-fold rows [] sorted = sorted
 sorted-fold rows (row ∷ new) sorted = sorted-fold (put_kept rows row) new (sorted-put key_total row.0 row.1 rows sorted)
 
--- a put makes a list longer by one item at most, and never shorter
+-- an insertion makes a list longer by at most one element, and never shorter
 length-put : (row : KeptOffset) (rows : List KeptOffset) → (length rows ≤ length (put_kept rows row)) × ((length (put_kept rows row) ≤ length rows + 1) × (0 < length (put_kept rows row)))
 length-put row [] = (omega arith, (omega arith, omega arith))
 length-put row (r ∷ rows) = step (key_cmp row.0 r.0) (length-put row rows)
@@ -52,7 +52,7 @@ length-put row (r ∷ rows) = step (key_cmp row.0 r.0) (length-put row rows)
     step Equal rest = (omega arith, (omega arith, omega arith))
     step Greater rest = (omega (arith, rest.0), (omega (arith, rest.1.0), omega arith))
 
--- one whose key no item has makes it longer
+-- the insertion of a new key makes it longer
 pub length-put_absent : (row : KeptOffset) (rows : List KeptOffset) → find key_cmp row.0 rows ≡ None → length (put_kept rows row) ≡ length rows + 1
 length-put_absent row [] absent = omega arith
 length-put_absent row (r ∷ rows) absent = step (key_cmp row.0 r.0) (length-put_absent row rows) absent
@@ -79,7 +79,7 @@ pub some-more : (rows new : List KeptOffset) → 0 < length new → 0 < length (
 some-more rows [] some = absurd (omega (arith, some))
 some-more rows (row ∷ new) some = some-fold (put_kept rows row) new (length-put row rows).1.1
 
--- ---- a part of them
+-- ---- a part of the offsets
 
 pub AreOf-take : (group : List ℕ) (n : ℕ) (rows : List KeptOffset) → AreOf group rows → AreOf group (take n rows)
 AreOf-take group zero rows are = tt

@@ -1,4 +1,4 @@
--- Where a key stands among entries in the order of their keys.
+-- The index of a key in a sorted list.
 use Rattle.std.proofs.Common.{◌≡◌, ℕ, zero, suc, ◌+◌, ◌<◌, ◌≤◌, List, [], ◌∷◌, length, get_or, set, zero-le, Some, None, Bool, true, false, cond, refl, ap, sym, ◌∙◌, subst, arith}
 use Rattle.std.proofs.Math.Dec.{T}
 use Rattle.std.specs.Prelude.{◌&&◌}
@@ -27,12 +27,12 @@ less Greater h = absurd h
 is_less : (o : Ordering) → is_lt o ≡ true → o ≡ Less
 is_less o e = less o (subst T (sym e) tt)
 
--- whether x stands before each entry
+-- x comes before each entry
 abbrev pub below_all : {K X : Type 0} → (K → K → Ordering) → K → List (K × X) → Bool
 below_all R x [] = true
 below_all R x (e ∷ es) = is_lt (R x e.0) && below_all R x es
 
--- a point before which each item passes, and from which on none does, is how many pass from the front
+-- if each element before n passes, and none from n on does, the prefix that passes has length n
 pub prefix_from_point : {X : Type 0} (p : X → Bool) (xs : List X) (n : ℕ) → n ≤ length xs
     → ((k : ℕ) (d : X) → 0 ≤ k → k < n → p (get_or xs k d) ≡ true) × ((k : ℕ) (d : X) → n ≤ k → k < length xs → p (get_or xs k d) ≡ false)
     → n ≡ prefix_len p xs
@@ -55,7 +55,7 @@ module _ {K X : Type 0} {R : K → K → Ordering} (o : IsTotalOrder R) where
   front_below x (e ∷ es) zero d all below = less (R x e.0) (both (is_lt (R x e.0)) (below_all R x es) all).0
   front_below x (e ∷ es) (suc k) d all below = front_below x es k d (both (is_lt (R x e.0)) (below_all R x es) all).1 (omega arith)
 
-  -- no entry before a key stands behind one that is not
+  -- the entries before a key are a prefix
   pub partitioned : (key : K) (es : List (K × X)) → T (is_sorted R es) → IsPartitionedBy (λ e. is_lt (R e.0 key)) es
   partitioned key [] sorted i j d le below passes = absurd (omega arith)
   partitioned key (e ∷ es) sorted zero zero d le below passes = passes
@@ -65,11 +65,11 @@ module _ {K X : Type 0} {R : K → K → Ordering} (o : IsTotalOrder R) where
   partitioned key (e ∷ es) sorted (suc i) zero d le below passes = absurd (omega arith)
   partitioned key (e ∷ es) sorted (suc i) (suc j) d le below passes = partitioned key es (sorted-tail e es sorted) i j d (omega arith) (omega arith) passes
 
-  -- how many entries stand before a key
+  -- the number of entries before a key
   abbrev below : K → List (K × X) → ℕ
   below key es = prefix_len (λ e. is_lt (R e.0 key)) es
 
-  -- a put at a key that no entry has
+  -- the insertion of a key that no entry has
   pub put-new : (key : K) (v : X) (es : List (K × X)) (n : ℕ) → n ≡ prefix_len (λ e. is_lt (R e.0 key)) es
       → ((d : K × X) → n < length es → R (get_or es n d).0 key ≡ Equal → ⊥)
       → put R key v es ≡ insert es n (key, v)
@@ -89,7 +89,7 @@ module _ {K X : Type 0} {R : K → K → Ordering} (o : IsTotalOrder R) where
           let n-is : n ≡ 0 = is ∙ ap (λ r. cond (is_lt r) (1 + below key es) 0) after in
           rw (n-is, turned o key e.0 Greater after) refl
 
-  -- a put at a key that an entry has
+  -- the insertion of a key that an entry has
   pub put-same : (key : K) (v : X) (es : List (K × X)) (n : ℕ) (d : K × X) → n ≡ prefix_len (λ e. is_lt (R e.0 key)) es
       → n < length es → R (get_or es n d).0 key ≡ Equal → put R key v es ≡ set es n ((get_or es n d).0, v)
   put-same key v [] n d is inside same = absurd (omega arith)
@@ -117,7 +117,7 @@ module _ {K X : Type 0} {R : K → K → Ordering} (o : IsTotalOrder R) where
       let parts = both (is_lt (R x e.0)) (below_all R x es) all in
       rw (o.trans key x e.0 before (less (R x e.0) parts.0)) (above_all key x es before parts.1)
 
-  -- a search at a key that an entry has
+  -- a search for a key that an entry has
   pub find-own : (key : K) (es : List (K × X)) (n : ℕ) (d : K × X) → n ≡ below key es → n < length es → R (get_or es n d).0 key ≡ Equal
       → find R key es ≡ Some (get_or es n d).1
   find-own key [] n d is inside same = absurd (omega arith)
@@ -138,7 +138,7 @@ module _ {K X : Type 0} {R : K → K → Ordering} (o : IsTotalOrder R) where
           let here : R e.0 key ≡ Equal = rw n-is at same in
           absurd (let clash : Greater ≡ Equal = sym after ∙ here in cc)
 
-  -- a search at a key that no entry has
+  -- a search for a key that no entry has
   pub find-other : (key : K) (es : List (K × X)) (n : ℕ) → T (is_sorted R es) → n ≡ below key es → ((d : K × X) → n < length es → R (get_or es n d).0 key ≡ Equal → ⊥)
       → find R key es ≡ None
   find-other key [] n sorted is absent = refl

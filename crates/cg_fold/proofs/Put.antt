@@ -1,4 +1,4 @@
--- A put into entries in order is an insertion into the map that they are.
+-- An insertion into sorted entries is an insertion into their map.
 use Rattle.std.proofs.Common.{◌≡◌, ℕ, ◌<◌, List, length, get_or, set, ap, sym, ◌∙◌, subst, refl, Bool, true, false}
 use Rattle.std.proofs.Math.Dec.{T}
 use Rattle.std.specs.declared.cmp.Ordering.{Ordering}
@@ -29,7 +29,7 @@ module _ {K X : Type 0} {R : K → K → Ordering} (o : IsTotalOrder R) where
       map.same_entries_map _ _ (map.entries-insert o (map.from_sorted es) key v ∙ ap (put R key v) (map.entries-from_sorted R es sorted)
       ∙ sym (map.entries-from_sorted R (put R key v es) (sorted-put key v es sorted)))
 
-  -- a row that is written over, and one that is put between others, in the words of the calls
+  -- a row that is overwritten, and one that is inserted, in the form of the calls
   pub put_over : (items deref deref' : List (K × X)) (at : ℕ) (key : K) (v : X) (found : K × X)
       → deref ≡ items → deref' ≡ items → at ≡ prefix_len (λ e. is_lt (R e.0 key)) deref
       → (at < length deref') × ((d : K × X) → R (get_or deref' at d).0 key ≡ Equal)

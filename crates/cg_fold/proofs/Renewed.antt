@@ -1,4 +1,4 @@
--- Offsets set where their keys stand.
+-- Changes of offsets in place.
 use Rattle.std.proofs.Common.{◌≡◌, ◌+◌, cond, List, [], ◌∷◌, ◌++◌, length, map as each, get_or, set, ap, sym, ◌∙◌, refl, subst, arith}
 use Rattle.std.proofs.Math.ListN.{get_or-map, length-set}
 use Rattle.std.proofs.Math.Seq.{map-set_same}
@@ -12,14 +12,14 @@ use Rattle.cg_fold.specs.Renewed.{AreBelow, AreRenewals, IsRenewal, renewed}
 use Rattle.cg_fold.proofs.KeyOrder.{key_total}
 use Rattle.cg_fold.proofs.Place.{put-same}
 
--- what an entry sets in place is what it puts
+-- a change in place equals the insertion of the entry
 pub renewed_is_put : (rows deref : List KeptOffset) (kept : KeptOffset) (renewal : Renewal) → deref ≡ rows → IsRenewal deref kept renewal → renewed rows renewal ≡ put_kept rows kept
 renewed_is_put rows deref kept renewal same is =
     let here : IsRenewal rows kept renewal = subst (λ l. IsRenewal l kept renewal) same is in
     let none : KeptOffset = (key_of [] [] 0, renewal.stored) in
     ap (λ v. set rows renewal.at ((get_or rows renewal.at none).0, v)) here.stored ∙ sym (put-same key_total kept.0 kept.1 rows renewal.at none here.at here.own.0 (here.own.1 none))
 
--- ---- one after the other
+-- ---- several entries
 
 abbrev keys : List KeptOffset → List OffsetKey
 keys rows = each (λ row. row.0) rows
@@ -31,7 +31,7 @@ prefix_len-keys : (key : OffsetKey) (rows : List KeptOffset) → prefix_len (is_
 prefix_len-keys key [] = refl
 prefix_len-keys key (row ∷ rows) = ap (λ n. cond (is_lt (key_cmp row.0 key)) (1 + n) 0) (prefix_len-keys key rows)
 
--- where a key stands depends on the keys alone
+-- the index of a key depends on the keys alone
 renewal_stays : (old new : List KeptOffset) (kept : KeptOffset) (renewal : Renewal) → keys new ≡ keys old → IsRenewal old kept renewal → IsRenewal new kept renewal
 renewal_stays old new kept renewal same is = record {
   at = is.at ∙ prefix_len-keys kept.0 old ∙ ap (prefix_len (λ k. is_lt (key_cmp k kept.0))) (sym same) ∙ sym (prefix_len-keys kept.0 new);
@@ -49,7 +49,7 @@ renewals_stay old new [] (renewal ∷ renewals) same are = absurd are
 renewals_stay old new (k ∷ kept) [] same are = absurd are
 renewals_stay old new (k ∷ kept) (renewal ∷ renewals) same are = (renewal_stays old new k renewal same are.0, renewals_stay old new kept renewals same are.1)
 
--- what entries set in place is what they put
+-- changes in place equal the insertion of the entries
 fold-renewed : (rows kept : List KeptOffset) (renewals : List Renewal) → AreRenewals rows kept renewals → fold renewed rows renewals ≡ fold put_kept rows kept
 fold-renewed rows [] [] are = refl
 fold-renewed rows [] (renewal ∷ renewals) are = absurd are
@@ -68,7 +68,7 @@ are_below rows [] (renewal ∷ renewals) are = absurd are
 are_below rows (k ∷ kept) [] are = absurd are
 are_below rows (k ∷ kept) (renewal ∷ renewals) are = (are.0.own.0, are_below rows kept renewals are.1)
 
--- what is known of renewals that were found in rows
+-- facts about renewals that were found in the rows
 pub renewals_below : (rows deref kept : List KeptOffset) (renewals : List Renewal) → deref ≡ rows → AreRenewals deref kept renewals → AreBelow (length rows) renewals
 renewals_below rows deref kept renewals same are = are_below rows kept renewals (subst (λ l. AreRenewals l kept renewals) same are)
 

@@ -1,4 +1,4 @@
--- What commits and deletions do to the shelves, and to the map that their offsets are.
+-- The effect of commits and deletions on the shelves and on the map of their offsets.
 use Rattle.std.proofs.Common.{◌≡◌, ℕ, ◌+◌, ◌<◌, ◌≤◌, Bool, true, false, cond, List, [], ◌∷◌, ◌++◌, length, map as each, Option, Some, None, ap, sym, ◌∙◌, refl, subst, arith, length-append}
 use Rattle.std.proofs.Math.Dec.{T}
 use Rattle.std.specs.Prelude.{not, filter, bytes_eq}
@@ -26,7 +26,7 @@ use Rattle.cg_fold.proofs.Own.{own-put, own-fold, length-fold, sorted-fold, some
 use Rattle.cg_fold.proofs.Stock.{EachSound, sound, none_above, tied, strange, get-stock}
 use Rattle.cg_fold.proofs.Kept.{Offsets, map_of, filter_keeps_order}
 
--- ---- a shelf put among the others
+-- ---- a shelf inserted among the others
 
 sound-put : (g : List ℕ) (rows : List KeptOffset) (shelves : List KeptShelf) → AreOf g rows → T (is_sorted key_cmp rows) → EachSound shelves → EachSound (put name_cmp g rows shelves)
 sound-put g rows [] are sorted each = ((are, sorted), tt)
@@ -62,7 +62,7 @@ sound-at g (s ∷ shelves) each = step (eq_by_cmp name_cmp g s.0) refl (sound-at
     step true is rest = (subst (λ q. AreOf q s.1) (sym (tied g s.0 is)) each.0.0, each.0.1)
     step false is rest = rest
 
--- ---- the map of the shelves with these rows on one group's
+-- ---- the map of the shelves with these rows for one group
 
 abbrev mapped : List ℕ → List KeptOffset → List KeptShelf → Offsets
 mapped g rows shelves = map_of (stock (put name_cmp g rows shelves))
@@ -73,7 +73,7 @@ get-mapped k g rows shelves are sorted in_order each =
     get-stock k (put name_cmp g rows shelves) (sorted-put name_total g rows shelves in_order) (sound-put g rows shelves are sorted each)
     ∙ ap (find key_cmp k) (rows_at-put k.group g rows shelves)
 
--- keys of two groups are two
+-- keys of two groups differ
 apart : (q k : OffsetKey) → eq_by_cmp name_cmp q.group k.group ≡ false → eq_by_cmp key_cmp q k ≡ false
 apart q k is = step (name_cmp q.group k.group) refl
   where
@@ -104,7 +104,7 @@ fold-mapped g (entry ∷ entries) rows shelves are sorted in_order each-sound =
     ap (λ m. fold (with_entry g) m entries) (insert-mapped g new.0 new.1 rows shelves refl are sorted in_order each-sound)
     ∙ fold-mapped g entries (put_kept rows new) shelves (own-put g new rows refl are) (sorted-put key_total new.0 new.1 rows sorted) in_order each-sound
 
--- what stands on a shelf, put on it again, changes nothing
+-- replacing a shelf by itself changes nothing
 mapped-same : (g : List ℕ) (shelves : List KeptShelf) → T (is_sorted name_cmp shelves) → EachSound shelves → map_of (stock shelves) ≡ mapped g (rows_at g shelves) shelves
 mapped-same g shelves in_order each =
     let own = sound-at g shelves each in
@@ -114,7 +114,7 @@ mapped-same g shelves in_order each =
     step q true is = ap (λ h. find key_cmp q (rows_at h shelves)) (tied q.group g is)
     step q false is = refl
 
--- what a commit makes of the map
+-- the effect of a commit on the map
 pub shelves-commit : (commit : Committed) (len : ℕ) (before after : List KeptShelf) (more : List KeptOffset) (now : Offsets) → AreShelves len before
     → more ≡ each (kept_of commit.group) commit.entries → after ≡ with_more commit.group more before → map_of (stock before) ≡ now
     → map_of (stock after) ≡ fold (with_entry commit.group) now commit.entries
@@ -126,7 +126,7 @@ shelves-commit commit len before after more now are copied put_is is =
     ∙ sym (fold-mapped commit.group commit.entries (rows_at commit.group before) before own.0 own.1 in_order each-sound)
     ∙ ap (λ m. fold (with_entry commit.group) m commit.entries) (sym (mapped-same commit.group before in_order each-sound) ∙ is)
 
--- ---- how many offsets there are
+-- ---- the number of offsets
 
 length-stock-put : (g : List ℕ) (rows : List KeptOffset) (shelves : List KeptShelf) → T (is_sorted name_cmp shelves)
     → length (stock (put name_cmp g rows shelves)) + length (rows_at g shelves) ≡ length (stock shelves) + length rows
@@ -152,7 +152,7 @@ length-stock-more g len before after more are put_is =
     let count : length (stock after) ≡ length (stock (put name_cmp g rows before)) = ap (λ l. length (stock l)) put_is in
     omega (arith, count, ap length there, length-stock-put g rows before (tested are.by_group), are.counted)
 
--- ---- a group that is forgotten
+-- ---- the removal of a group
 
 each-filter : (p : List ℕ → Bool) (shelves : List KeptShelf) → EachShelf shelves → EachShelf (filter (λ s. p s.0) shelves)
 each-filter p [] each = tt
@@ -205,21 +205,21 @@ pub length-stock-others : (g : List ℕ) (len : ℕ) (before after : List KeptSh
     → length (stock after) + length (rows_at g before) ≡ len
 length-stock-others g len before after are left = ap (λ l. length (stock l) + length (rows_at g before)) left ∙ length-stock-left g before (tested are.by_group) ∙ sym are.counted
 
--- the offsets of its group are those that it had, with these put among them
+-- the offsets of the group after a commit are the old ones with the new ones inserted
 pub rows_at-more : (g : List ℕ) (before after : List KeptShelf) (more : List KeptOffset) → after ≡ with_more g more before → rows_at g after ≡ fold put_kept (rows_at g before) more
 rows_at-more g before after more put_is =
     let rows = fold put_kept (rows_at g before) more in
     ap (rows_at g) put_is ∙ rows_at-put g g rows before ∙ ap (λ o. cond (is_eq o) rows (rows_at g before)) (tied_itself name_total g)
 
--- and no more of them than they were, and those that were put
+-- their number is at most the sum of both
 pub length-rows-more : (g : List ℕ) (before after : List KeptShelf) (more : List KeptOffset) → after ≡ with_more g more before → length (rows_at g after) ≤ length (rows_at g before) + length more
 length-rows-more g before after more put_is = omega (arith, ap length (rows_at-more g before after more put_is), length-fold (rows_at g before) more)
 
--- no group has more offsets than there are
+-- no group has more offsets than there are in all
 pub length-rows : (g : List ℕ) (len : ℕ) (shelves : List KeptShelf) → AreShelves len shelves → length (rows_at g shelves) ≤ len
 length-rows g len shelves are = omega (arith, length-stock-others g len shelves _ are refl)
 
--- ---- they stay shelves
+-- ---- the result is a list of shelves
 
 pub shelves-more : (g : List ℕ) (len new_len : ℕ) (before after : List KeptShelf) (more : List KeptOffset) → AreShelves len before → 0 < length more → AreOf g more
     → after ≡ with_more g more before → new_len ≡ length (stock after) → AreShelves new_len after

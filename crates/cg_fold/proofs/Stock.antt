@@ -1,4 +1,4 @@
--- Shelves in order, seen as the map that their offsets are.
+-- Sorted shelves as the map of their offsets.
 use Rattle.std.proofs.Common.{◌≡◌, ℕ, ◌<◌, Bool, true, false, cond, List, [], ◌∷◌, ◌++◌, length, map as each, Some, None, ap, sym, ◌∙◌, refl, subst, arith}
 use Rattle.std.proofs.Math.Dec.{T}
 use Rattle.std.specs.Prelude.{◌||◌, IsTrue, filter, bytes_eq}
@@ -32,7 +32,7 @@ or_same : (b : Bool) → (b || b) ≡ b
 or_same true = refl
 or_same false = refl
 
--- ---- shelves, some of them perhaps empty
+-- ---- shelves, some of them possibly empty
 
 abbrev pub EachSound : List KeptShelf → Type 0
 EachSound [] = Unit {0}
@@ -48,7 +48,7 @@ none_above x (s ∷ shelves) all =
     let parts = both (is_lt (name_cmp x s.0)) (below_all name_cmp x shelves) all in
     ap (λ r. cond (is_eq r) (Some s.1) (find name_cmp x shelves)) (less (name_cmp x s.0) parts.0) ∙ none_above x shelves parts.1
 
--- one name or two
+-- names that compare equal are the same
 pub tied : (g h : List ℕ) → eq_by_cmp name_cmp g h ≡ true → g ≡ h
 tied g h is = name_same g h (equal (name_cmp g h) is)
 
@@ -94,14 +94,14 @@ filter-stock g (s ∷ shelves) sorted each =
         ∙ filter-own g s.1 (subst (λ q. AreOf q s.1) (sym same) each.0.0)
     step false is above = ap (λ l. l ++ rows_at g shelves) (filter-strange g s.0 s.1 (strange g s.0 is) each.0.0)
 
--- a search among all offsets is one on the shelf of the key's group
+-- a search among all offsets is a search on the shelf of the key's group
 find-stock : (k : OffsetKey) (shelves : List KeptShelf) → T (is_sorted name_cmp shelves) → EachSound shelves → find key_cmp k (stock shelves) ≡ find key_cmp k (rows_at k.group shelves)
 find-stock k shelves sorted each =
     sym (find-where_key key_cmp (is_of_group k.group) k (λ x tie. ap (is_of_group k.group) (sym (key_same k x tie))) (stock shelves)
     ∙ ap (λ b. cond b (find key_cmp k (stock shelves)) None) (itself k.group))
     ∙ ap (find key_cmp k) (filter-stock k.group shelves sorted each)
 
--- ---- the offsets of all shelves stand in order
+-- ---- the offsets of all shelves are sorted
 
 below-append : (k : OffsetKey) (rows others : List KeptOffset) → T (below_all key_cmp k rows) → T (below_all key_cmp k others) → T (below_all key_cmp k (rows ++ others))
 below-append k [] others p q = q
@@ -136,11 +136,11 @@ sorted-stock (s ∷ shelves) sorted each =
     let parts = both (below_all name_cmp s.0 shelves) (is_sorted name_cmp shelves) sorted in
     sorted-shelf s.0 s.1 shelves each.0.0 each.0.1 parts.0 each.1 (sorted-stock shelves parts.1 each.1)
 
--- what is found in the map of all offsets
+-- a look-up in the map of all offsets
 pub get-stock : (k : OffsetKey) (shelves : List KeptShelf) → T (is_sorted name_cmp shelves) → EachSound shelves → map.get (map_of (stock shelves)) k ≡ find key_cmp k (rows_at k.group shelves)
 get-stock k shelves sorted each = map.get-from_sorted key_cmp (stock shelves) k (sorted-stock shelves sorted each) ∙ find-stock k shelves sorted each
 
--- a search among the offsets of the key's group is one in the map
+-- a search among the offsets of the key's group is a look-up in the map
 pub find-offsets_in : (k : OffsetKey) (now : Offsets) → find key_cmp k (offsets_in now k.group) ≡ map.get now k
 find-offsets_in k now =
     find-where_key key_cmp (is_of_group k.group) k (λ x tie. ap (is_of_group k.group) (sym (key_same k x tie))) (map.entries now)
@@ -167,7 +167,7 @@ each-append : (rows others : List KeptOffset) → each (λ k. k.group) (each (λ
 each-append [] others = refl
 each-append (row ∷ rows) others = ap (λ l. row.0.group ∷ l) (each-append rows others)
 
--- a group has a shelf where it has an offset
+-- a group has a shelf if it has an offset
 any-stock : (q : List ℕ) (shelves : List KeptShelf) → EachShelf shelves → list_any (bytes_eq q) (each (λ k. k.group) (each (λ row. row.0) (stock shelves))) ≡ list_any (bytes_eq q) (each (λ s. s.0) shelves)
 any-stock q [] each-shelf = refl
 any-stock q (s ∷ shelves) each-shelf =

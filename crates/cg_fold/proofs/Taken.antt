@@ -1,4 +1,4 @@
--- A new member in the record of a group.
+-- The replacement of a member in the record of a group.
 use Rattle.std.proofs.Common.{◌≡◌, ℕ, zero, suc, ◌<◌, List, [], ◌∷◌, length, get_or, set, Option, Some, None, ap, sym, ◌∙◌, refl, subst, arith}
 use Rattle.std.specs.Prelude.{IsTrue}
 use Rattle.std.specs.List.{prefix_len}
@@ -22,7 +22,7 @@ get_or-any (x ∷ xs) (suc i) d e lt = get_or-any xs i d e (omega arith)
 some_record : KeptRecord
 some_record = ([], record { generation = 0; kind = []; roster = None })
 
--- the record of the group is there
+-- the group has a record
 pub replace_found : (records deref deref' after : List KeptRecord) (at : ℕ) (group : List ℕ) (new : Member)
     → deref ≡ records → deref' ≡ records → at ≡ prefix_len (is_before group) deref → IsOwnPlace deref' at group → ReplacesAt records after at new
     → after ≡ replaced_among group new records
@@ -36,7 +36,7 @@ replace_found records deref deref' after at group new same same' place own store
     put_over name_total records deref deref' at group (replaced_record new held.1) held same same' place own (get_or-any records at some_record held inside) in
     stored some_record ∙ put_is ∙ sym (ap (λ f. put_found group (option_map (replaced_record new) f) records) found)
 
--- no record of the group is there
+-- the group has no record
 pub replace_missed : (records deref deref' : List KeptRecord) (at : ℕ) (group : List ℕ) (new : Member) → IsTrue (is_sorted name_cmp records)
     → deref ≡ records → deref' ≡ records → at ≡ prefix_len (is_before group) deref → IsOtherPlace deref' at group
     → records ≡ replaced_among group new records

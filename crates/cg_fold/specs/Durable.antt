@@ -1,4 +1,4 @@
--- The durable state, and what a command does to it.
+-- The durable state, and the effect of each command on it.
 use Rattle.std.specs.Prelude.{ℕ, Bool, not, List, Option, Some, None, bytes_eq, refl}
 use Rattle.std.specs.List.{fold}
 use Rattle.std.specs.FinMap as map
@@ -14,29 +14,29 @@ use Rattle.cg_fold.specs.Key.{key_cmp, name_cmp, kept_of, offsets_code}
 use Rattle.cg_fold.specs.Record.{assigned_record, emptied_record, replaced_record, record_code}
 use Rattle.cg_fold.specs.Grouped.{is_another}
 
--- what loading has to give back: the record of each group, and for each partition of each topic how far a group has read it
+-- the durable state: the record of each group, and the committed offset of each partition for each group
 pub record State : Type 0 where
   pub records : map.FinMap name_cmp GroupRecord
   pub offsets : map.FinMap key_cmp StoredOffset
 
--- a state is stored as its maps
+-- a state has the code of its maps
 abbrev pub state_code : Coded State
 state_code = code_by (map.FinMap name_cmp GroupRecord × map.FinMap key_cmp StoredOffset) (coded× (map.code (coded_list coded_ℕ) record_code) offsets_code) (λ s. (s.records, s.offsets)) (λ m. record { records = m.0; offsets = m.1 }) (λ _. refl)
 
--- before any command
+-- the state before any command
 abbrev pub empty : State
 empty = record { records = map.empty; offsets = map.empty }
 
--- the record of a group set
+-- the state with this record of a group
 abbrev pub with_record : State → List ℕ → GroupRecord → State
 with_record state group new = record state { records = map.insert state.records group new }
 
--- a new member in the record of a group, if it has one
+-- the state with a replaced member in the record of a group, if it has one
 abbrev pub with_member : State → List ℕ → Member → Option GroupRecord → State
 with_member state group new None = state
 with_member state group new (Some held) = with_record state group (replaced_record new held)
 
--- the offset and metadata of one entry, for the group that commits it
+-- the offsets with that of one entry, for the group that commits it
 abbrev pub with_entry : List ℕ → map.FinMap key_cmp StoredOffset → Entry → map.FinMap key_cmp StoredOffset
 with_entry group offsets entry = map.insert offsets (kept_of group entry).0 (kept_of group entry).1
 
@@ -44,11 +44,11 @@ with_entry group offsets entry = map.insert offsets (kept_of group entry).0 (kep
 abbrev pub is_of_other : List ℕ → OffsetKey → Bool
 is_of_other group key = not (bytes_eq key.group group)
 
--- the records and offsets of other groups
+-- the state without the record and the offsets of a group
 abbrev pub without_group : State → List ℕ → State
 without_group state group = record { records = map.retain_keys state.records (is_another group); offsets = map.retain_keys state.offsets (is_of_other group) }
 
--- what one command does
+-- the effect of one command
 unfoldable pub effect : State → Command → State
 effect state (Assigned assigned) = with_record state assigned.group (assigned_record assigned)
 effect state (Emptied emptied) = with_record state emptied.group (emptied_record emptied)
@@ -56,14 +56,14 @@ effect state (Replaced replaced) = with_member state replaced.group replaced.mem
 effect state (Committed commit) = record state { offsets = fold (with_entry commit.group) state.offsets commit.entries }
 effect state (Deleted deleted) = without_group state deleted.group
 
--- what commands do, one after the other
+-- the effect of commands, in order
 abbrev pub after : State → List Command → State
 after state commands = fold effect state commands
 
--- the state that commands make from nothing
+-- the state that commands build from the empty one
 abbrev pub folded : List Command → State
 folded commands = after empty commands
 
--- how many group records and how many offsets there are
+-- the number of group records and of offsets
 abbrev pub counts_of : State → ℕ × ℕ
 counts_of state = (map.len state.records, map.len state.offsets)

@@ -1,4 +1,4 @@
--- The order in which offsets are kept.
+-- The order of committed offsets.
 use Rattle.std.specs.Prelude.{◌≡◌, ℕ, ◌<◌, Bool, List, length, map as each, slice_index_or, refl}
 use Rattle.std.specs.declared.cmp.Ordering.{Ordering}
 use Rattle.std.specs.declared.cmp.Ordering.TheVariants.{Equal}
@@ -19,7 +19,7 @@ name_cmp = slice_cmp nat_cmp
 abbrev pub key_of : List ℕ → List ℕ → ℕ → OffsetKey
 key_of group topic partition = record { group = group; topic = topic; partition = partition }
 
--- by group, then by topic, then by partition
+-- the order of keys: by group, then by topic, then by partition
 abbrev pub key_cmp : OffsetKey → OffsetKey → Ordering
 key_cmp = then_cmp (on (λ k. k.group) name_cmp) (then_cmp (on (λ k. k.topic) name_cmp) (on (λ k. k.partition) nat_cmp))
 
@@ -27,37 +27,37 @@ key_cmp = then_cmp (on (λ k. k.group) name_cmp) (then_cmp (on (λ k. k.topic) n
 abbrev pub KeptOffset : Type 0
 KeptOffset = OffsetKey × StoredOffset
 
--- whether a row stands before a key
+-- the row comes before the key
 abbrev pub is_below : OffsetKey → KeptOffset → Bool
 is_below key row = is_lt (key_cmp row.0 key)
 
--- the offset at this place is the key's own
+-- the offset at this index has the key
 abbrev pub IsOwn : List KeptOffset → ℕ → OffsetKey → Type 0
 IsOwn kept at key = (at < length kept) × ((d : KeptOffset) → key_cmp (slice_index_or kept at d).0 key ≡ Equal)
 
--- no offset at this place is the key's own
+-- no offset at this index has the key
 abbrev pub IsOther : List KeptOffset → ℕ → OffsetKey → Type 0
 IsOther kept at key = (d : KeptOffset) → at < length kept → key_cmp (slice_index_or kept at d).0 key ≡ Equal → ⊥
 
--- what an entry of a commit keeps for a group
+-- the key and the offset of one entry, for the group that commits it
 abbrev pub kept_of : List ℕ → Entry → KeptOffset
 kept_of group entry = (key_of group entry.topic entry.partition, record { offset = entry.offset; metadata = entry.metadata })
 
--- what a commit keeps
+-- the keys and offsets of a commit
 abbrev pub kept_by : Committed → List KeptOffset
 kept_by commit = each (kept_of commit.group) commit.entries
 
--- an offset put among others that stand in order
+-- the sorted offsets with a new one, in the place of the one with its key
 abbrev pub put_kept : List KeptOffset → KeptOffset → List KeptOffset
 put_kept kept new = put key_cmp new.0 new.1 kept
 
--- a key is stored as its three parts, and what is kept as its two
+-- a key has the code of its three parts, and a stored offset that of its two
 abbrev pub key_code : Coded OffsetKey
 key_code = code_by (List ℕ × (List ℕ × ℕ)) (coded× (coded_list coded_ℕ) (coded× (coded_list coded_ℕ) coded_ℕ)) (λ k. (k.group, (k.topic, k.partition))) (λ p. record { group = p.0; topic = p.1.0; partition = p.1.1 }) (λ _. refl)
 
 abbrev pub stored_code : Coded StoredOffset
 stored_code = code_by (ℕ × List ℕ) (coded× coded_ℕ (coded_list coded_ℕ)) (λ s. (s.offset, s.metadata)) (λ p. record { offset = p.0; metadata = p.1 }) (λ _. refl)
 
--- a map of offsets is stored as its entries
+-- a map of offsets has the code of its entries
 abbrev pub offsets_code : Coded (map.FinMap key_cmp StoredOffset)
 offsets_code = map.code key_code stored_code

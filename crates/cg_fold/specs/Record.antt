@@ -1,4 +1,4 @@
--- The records of groups.
+-- The records of groups, and the changes of a record.
 use Rattle.std.specs.Prelude.{◌≡◌, ℕ, List, Option, Some, None, slice_index_or, slice_set, refl}
 use Rattle.std.specs.Option.{option_map}
 use Rattle.std.specs.Coded.{Coded, code_by, coded×, coded_list, coded_option, coded_ℕ}
@@ -11,36 +11,36 @@ use Rattle.cg_fold.specs.declared.record.GroupRecord.{GroupRecord}
 use Rattle.cg_fold.specs.Key.{name_cmp}
 use Rattle.cg_fold.specs.Grouped.{OfGroup}
 
--- a record with the group that it is of
+-- a record with the id of its group
 abbrev pub KeptRecord : Type 0
 KeptRecord = OfGroup GroupRecord
 
--- what is kept of a group whose members have their assignments
+-- the record of a group whose members have their assignments
 abbrev pub assigned_record : Assigned → GroupRecord
 assigned_record a = record { generation = a.generation; kind = a.kind; roster = Some a.roster }
 
--- what is kept of a group without members
+-- the record of a group without members
 abbrev pub emptied_record : Emptied → GroupRecord
 emptied_record e = record { generation = e.generation; kind = e.kind; roster = None }
 
--- the record with a new member in the place of the one with its instance, where it may take it
+-- the record after the replacement of a member, if it is allowed
 abbrev pub replaced_record : Member → GroupRecord → GroupRecord
 replaced_record new r = record r { roster = option_map (replaced_in new) r.roster }
 
--- the one with the other records as they were, but for a new member in the one at this place
+-- the new records are the old ones, except for a replaced member in the record at this index
 abbrev pub ReplacesAt : List KeptRecord → List KeptRecord → ℕ → Member → Type 0
 ReplacesAt old new at member = (d : KeptRecord) → new ≡ slice_set old at ((slice_index_or old at d).0, replaced_record member (slice_index_or old at d).1)
 
--- a record put among others that stand in order, if there is one to put
+-- the sorted records with a new one, if there is one
 abbrev pub put_found : List ℕ → Option GroupRecord → List KeptRecord → List KeptRecord
 put_found group None records = records
 put_found group (Some r) records = put name_cmp group r records
 
--- the records with a new member in one group's
+-- the records with a replaced member in the record of one group
 abbrev pub replaced_among : List ℕ → Member → List KeptRecord → List KeptRecord
 replaced_among group new records = put_found group (option_map (replaced_record new) (find name_cmp group records)) records
 
--- a member, what members joined in and a record are stored as their parts
+-- a member, a roster and a record have the codes of their parts
 abbrev pub member_code : Coded Member
 member_code = code_by (List ℕ × (Option (List ℕ) × (List ℕ × (ℕ × (ℕ × (List ℕ × List ℕ))))))
     (coded× (coded_list coded_ℕ) (coded× (coded_option (coded_list coded_ℕ)) (coded× (coded_list coded_ℕ) (coded× coded_ℕ (coded× coded_ℕ (coded× (coded_list coded_ℕ) (coded_list coded_ℕ)))))))

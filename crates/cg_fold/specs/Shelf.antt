@@ -1,4 +1,4 @@
--- The offsets of groups as they are kept: a shelf for each group that has any.
+-- The shelves: the offsets of each group that has any.
 use Rattle.std.specs.Prelude.{◌≡◌, ℕ, ◌+◌, ◌<◌, List, [], ◌∷◌, length, flat_map, slice_index_or, slice_set, Option, Some, None, IsTrue}
 use Rattle.std.specs.List.{fold}
 use Rattle.std.specs.Coded.{Coded, coded×, coded_list}
@@ -6,20 +6,20 @@ use Rattle.std.specs.FinMap.{find, is_sorted, put}
 use Rattle.cg_fold.specs.Key.{KeptOffset, key_cmp, key_code, name_cmp, put_kept, stored_code}
 use Rattle.cg_fold.specs.Grouped.{OfGroup}
 
--- the offsets of a group, with the group that they are of
+-- the offsets of a group, with the id of the group
 abbrev pub KeptShelf : Type 0
 KeptShelf = OfGroup (List KeptOffset)
 
--- a list of offsets is stored as its items
+-- a list of offsets has the code of its items
 abbrev pub rows_code : Coded (List KeptOffset)
 rows_code = coded_list (coded× key_code stored_code)
 
--- offsets of this group alone
+-- all offsets are of this group
 abbrev pub AreOf : List ℕ → List KeptOffset → Type 0
 AreOf group [] = Unit {0}
 AreOf group (row ∷ rows) = (row.0.group ≡ group) × AreOf group rows
 
--- a group's offsets, at least one, by topic and partition
+-- the offsets of a group, at least one, by topic and partition
 pub record IsShelf (shelf : KeptShelf) : Type 0 where
   pub some : 0 < length shelf.1
   pub own : AreOf shelf.0 shelf.1
@@ -33,13 +33,13 @@ EachShelf (shelf ∷ shelves) = IsShelf shelf × EachShelf shelves
 abbrev pub stock : List KeptShelf → List KeptOffset
 stock shelves = flat_map (λ shelf. shelf.1) shelves
 
--- a shelf for each group, by the groups' ids, and so many offsets
+-- a shelf for each group, by the groups' ids, with `len` offsets in all
 pub record AreShelves (len : ℕ) (shelves : List KeptShelf) : Type 0 where
   pub by_group : IsTrue (is_sorted name_cmp shelves)
   pub each : EachShelf shelves
   pub counted : len ≡ length (stock shelves)
 
--- what stands on a shelf, nothing where there is none
+-- the offsets on a shelf, or none
 abbrev pub rows_on : Option (List KeptOffset) → List KeptOffset
 rows_on None = []
 rows_on (Some rows) = rows
@@ -48,14 +48,14 @@ rows_on (Some rows) = rows
 abbrev pub rows_at : List ℕ → List KeptShelf → List KeptOffset
 rows_at group shelves = rows_on (find name_cmp group shelves)
 
--- the shelves with these put on one group's
+-- the shelves with these offsets added to the group's
 abbrev pub with_more : List ℕ → List KeptOffset → List KeptShelf → List KeptShelf
 with_more group new shelves = put name_cmp group (fold put_kept (rows_at group shelves) new) shelves
 
--- the one with the other shelves as they were, but for these put on the one at this place
+-- the new shelves are the old ones, except for these offsets added at this index
 abbrev pub AddsAt : List KeptShelf → List KeptShelf → ℕ → List KeptOffset → Type 0
 AddsAt old new at more = (d : KeptShelf) → new ≡ slice_set old at ((slice_index_or old at d).0, fold put_kept (slice_index_or old at d).1 more)
 
--- the one at this place has so many offsets more
+-- the shelf at this index has `grown` more offsets
 abbrev pub GrowsAt : List KeptShelf → List KeptShelf → ℕ → ℕ → Type 0
 GrowsAt old new at grown = (d : KeptShelf) → length (slice_index_or new at d).1 ≡ length (slice_index_or old at d).1 + grown

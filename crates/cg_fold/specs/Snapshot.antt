@@ -1,4 +1,4 @@
--- The commands that make a state anew.
+-- The commands that build a state from the empty one.
 use Rattle.std.specs.Prelude.{◌≡◌, ℕ, zero, suc, ◌+◌, ◌<◌, Bool, List, [], ◌∷◌, ◌++◌, length, map as each, take, drop, filter, flat_map, Option, Some, None, IsTrue, bytes_eq}
 use Rattle.std.specs.declared.cmp.Ordering.TheVariants.{Less}
 use Rattle.std.specs.FinMap as map
@@ -18,7 +18,7 @@ use Rattle.cg_fold.specs.Durable.{State}
 abbrev pub groups_in : State → List (List ℕ)
 groups_in state = map.keys state.records ++ each (λ k. k.group) (map.keys state.offsets)
 
--- a name as a key with nothing at it
+-- a name as a key without a value
 abbrev pub marked : List ℕ → List ℕ × Unit {0}
 marked name = (name, tt)
 
@@ -31,16 +31,16 @@ abbrev pub ComesBefore : List ℕ → List (List ℕ) → Type 0
 ComesBefore name [] = Unit {0}
 ComesBefore name (other ∷ others) = (name_cmp name other ≡ Less) × ComesBefore name others
 
--- names by their bytes, each once
+-- names in ascending order of their bytes, each once
 abbrev pub Ascending : List (List ℕ) → Type 0
 Ascending [] = Unit {0}
 Ascending (name ∷ names) = ComesBefore name names × Ascending names
 
--- the groups that either list keeps something of, each once, by bytes
+-- the groups in either list, each once, by bytes
 abbrev pub groups_of_either : {X Y : Type 0} → List (List ℕ × X) → List (List ℕ × Y) → List (List ℕ)
 groups_of_either left right = in_order (each (λ kept. kept.0) left ++ each (λ kept. kept.0) right)
 
--- the group is the first of either list, and these are what they keep of the others
+-- the group is the first of either list, and these remain after it
 pub record ComesFirst {X Y : Type 0} (left : List (List ℕ × X)) (right : List (List ℕ × Y)) (group : List ℕ) (left_rest : List (List ℕ × X)) (right_rest : List (List ℕ × Y)) : Type 0 where
   pub groups : groups_of_either left right ≡ group ∷ groups_of_either left_rest right_rest
   pub left_sorted : IsTrue (is_sorted name_cmp left_rest)
@@ -64,7 +64,7 @@ entry_of kept = record { topic = kept.0.topic; partition = kept.0.partition; off
 abbrev pub commit_command : List ℕ → List KeptOffset → Command
 commit_command group rows = Committed (record { group = group; entries = each entry_of rows })
 
--- commits of as many entries each as one may have; there are at most `most` entries
+-- the commits of these offsets, `ENTRIES_MAX` entries each; there are at most `most` offsets
 unfoldable pub commits_of : ℕ → List ℕ → List KeptOffset → List Command
 commits_of zero group rows = []
 commits_of (suc most) group [] = []
@@ -82,10 +82,10 @@ offsets_in offsets group = filter (λ row. is_of_group group row.0) (map.entries
 abbrev pub offsets_of : State → List ℕ → List KeptOffset
 offsets_of state group = offsets_in state.offsets group
 
--- what makes one group anew: its record, and then its offsets
+-- the commands that build one group: its record, and then its offsets
 unfoldable pub group_commands : State → List ℕ → List Command
 group_commands state group = record_commands group (map.get state.records group) ++ commits_of (length (offsets_of state group)) group (offsets_of state group)
 
--- what makes a state anew, group by group
+-- the commands that build a state, group by group
 abbrev pub snapshot_of : State → List Command
 snapshot_of state = flat_map (group_commands state) (in_order (groups_in state))

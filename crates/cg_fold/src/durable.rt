@@ -1,3 +1,4 @@
+//! The durable state.
 ghost use Rattle.std.specs.Prelude.{◌≡◌, ◌++◌, IfOk, OnOk, OnErr};
 ghost use Rattle.std.specs.Option.{option_copied};
 ghost use Rattle.std.specs.FinMap as finmap;
@@ -15,10 +16,10 @@ use cg_record::{Assigned, Command, Committed, Deleted, Emptied, Partition, Repla
 use std::alloc::{AllocError, Global};
 use std::marker::Model;
 
-/// The state that loading gives back: what the commands so far make. Contracts see it as the maps of `State`.
+/// The durable state: the effect of all commands so far. Contracts see the maps of `State`.
 ///
-/// The records stand in one sorted vector: a look-up takes time logarithmic in their number and no memory; a group that is new
-/// moves those behind it, and deleting a group goes through all of them. The offsets stand in `Offsets`.
+/// The records are in one sorted vector: a look-up takes time logarithmic in their number, and no allocation. A new
+/// group moves the records after it, and a deletion is linear in the records. The offsets are in `Offsets`.
 #[derive(Drop)]
 pub struct Durable {
     alloc: Global,
@@ -42,7 +43,7 @@ impl Model for Durable {
 }
 
 impl Durable {
-    /// The state before any command. Takes no memory.
+    /// Creates the state before any command, without an allocation.
     pub fn new(alloc: Global) -> Self
         ensures { result ≡ empty }
     {
@@ -53,7 +54,7 @@ impl Durable {
         }
     }
 
-    /// Adds the effect of a command. Want of memory changes nothing.
+    /// Applies a command. If an allocation fails, nothing changes.
     pub fn apply(&mut self, command: &Command) -> Result<(), AllocError>
         ensures ok { OnOk result (self.new ≡ effect self.old command.now) }
         ensures err { OnErr result (self.new ≡ self.old) }
@@ -92,7 +93,7 @@ impl Durable {
         Ok(())
     }
 
-    // Sets the record of a group.
+    // Sets the record of a group. Reserves the room first, so that a failed allocation changes nothing.
     fn keep(&mut self, kept: Kept) -> Result<(), AllocError>
         ensures ok { OnOk result (self.new ≡ with_record self.old kept.0 kept.1) }
         ensures err { OnErr result (self.new ≡ self.old) }
@@ -127,14 +128,14 @@ impl Durable {
         Ok(())
     }
 
-    /// The record of a group, where it has one. Takes no memory.
+    /// Returns the record of a group, if it has one. Costs one look-up, no allocation.
     pub fn group(&self, group: &GroupId) -> Option<&GroupRecord>
         ensures { option_copied result ≡ finmap.get self.now.records group.now }
     {
         grouped::held_at(&self.records, group)
     }
 
-    /// What a group has committed for a partition, where it has committed anything. Takes no memory.
+    /// Returns the committed offset of a partition, if there is one. Costs two look-ups, no allocation.
     pub fn offset(
         &self,
         group: &GroupId,
@@ -146,14 +147,14 @@ impl Durable {
         self.offsets.get(group, topic, partition)
     }
 
-    /// How many group records and how many offsets there are. Takes no memory.
+    /// Returns the number of group records and the number of offsets, in constant time.
     pub fn counts(&self) -> (u64, u64)
         ensures { result ≡ counts_of self.now }
     {
         (self.records.len() as u64, self.offsets.len())
     }
 
-    /// The ids of the groups that have a record or an offset, each once, by bytes. Takes time linear in the groups.
+    /// Returns the ids of the groups that have a record or an offset, each once, by bytes. Linear in the groups.
     pub fn group_ids(&self) -> Result<Vec<GroupId>, AllocError>
         ensures value { IfOk result (λ ids. ids.items ≡ in_order (groups_in self.now)) }
         ensures ascending { IfOk result (λ ids. Ascending ids.items) }
@@ -162,7 +163,7 @@ impl Durable {
         Ok(ids)
     }
 
-    // Adds what makes one group anew.
+    // Appends the commands that build one group.
     #[tactic(auto, unfolding(crate::specs::Snapshot::group_commands))]
     fn push_group(&self, commands: &mut Vec<Command>, group: &GroupId) -> Result<(), AllocError>
         ensures { OnOk result (commands.new.items ≡ commands.old.items ++ group_commands self.now group.now) }
@@ -172,7 +173,8 @@ impl Durable {
         Ok(())
     }
 
-    /// The commands that make this state from nothing: for each group its record, then its offsets. Copies all that there is.
+    /// Returns commands that build this state from the empty one: for each group its record, then its offsets. Copies
+    /// the whole state.
     pub fn snapshot(&self) -> Result<Vec<Command>, AllocError>
         ensures { IfOk result (λ commands. commands.items ≡ snapshot_of self.now) }
     {
@@ -184,7 +186,7 @@ impl Durable {
         Ok(commands)
     }
 
-    /// The offsets alone, of whatever groups. Takes no memory.
+    /// Returns the offsets, without a copy.
     pub fn into_offsets(self) -> Offsets
         ensures { result ≡ self.offsets }
     {

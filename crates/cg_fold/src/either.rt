@@ -1,4 +1,4 @@
-//! The groups of two lists, each in the order of the groups' ids.
+//! The groups of two lists that are sorted by group id.
 ghost use Rattle.std.specs.Prelude.{◌≡◌, [], IsTrue, IfOk, MatchOption};
 ghost use Rattle.std.specs.FinMap.{is_sorted};
 ghost use Rattle.cg_fold.specs.Key.{name_cmp};
@@ -9,10 +9,10 @@ use cg_names::GroupId;
 use std::alloc::{AllocError, Global};
 use std::cmp::Ordering;
 
-/// A group, and what two lists keep of the groups behind it.
+/// The first group of two lists, and what remains of each list after it.
 type First<'a, T, U> = (&'a GroupId, &'a [OfGroup<T>], &'a [OfGroup<U>]);
 
-// The first group of either list.
+// Returns the least group of either list, and what remains of each list after it.
 fn first_of_either<'a, T, U>(
     left: &'a [OfGroup<T>],
     right: &'a [OfGroup<U>],
@@ -35,7 +35,7 @@ fn first_of_either<'a, T, U>(
     }
 }
 
-/// The ids of the groups that either list keeps something of, each once, in order. Takes time linear in both.
+/// Returns the ids of the groups in either list, each once, in order. Linear in both lists.
 pub fn ids_of_either<T, U>(
     alloc: Global,
     left: &[OfGroup<T>],

@@ -1,4 +1,4 @@
-//! What is kept by group, in the order of the groups' ids: a look-up is a binary search, which takes no memory.
+//! Vectors of values by group, sorted by group id. A look-up is a binary search, without an allocation.
 ghost use Rattle.std.specs.Prelude.{◌≡◌, ◌<◌, ◌≤◌, IsTrue, length, vec_len, vec_capacity, filter};
 ghost use Rattle.std.specs.List.{prefix_len};
 ghost use Rattle.std.specs.FinMap.{find, is_sorted, put};
@@ -10,10 +10,10 @@ ghost use Rattle.cg_fold.specs.Grouped.{IsOtherPlace, IsOwnPlace, is_another, is
 use cg_names::GroupId;
 use std::cmp::Ordering;
 
-/// What is kept of a group, with the group's id.
+/// The value of a group, with the group's id.
 pub type OfGroup<T> = (GroupId, T);
 
-/// How many stand before a group.
+/// Returns the number of entries before the group.
 pub fn place<T>(kept: &[OfGroup<T>], group: &GroupId) -> usize
     requires { IsTrue (is_sorted name_cmp kept.now) }
     ensures value { result ≡ prefix_len (is_before group.now) kept.now }
@@ -22,7 +22,7 @@ pub fn place<T>(kept: &[OfGroup<T>], group: &GroupId) -> usize
     kept.partition_point(|held| held.0.cmp(group) == Ordering::Less)
 }
 
-/// Whether what stands at this place is the group's own.
+/// Returns whether the entry at this index is the group's own.
 pub fn is_at<T>(kept: &[OfGroup<T>], at: usize, group: &GroupId) -> bool
     ensures own { OnTrue result (IsOwnPlace kept.now at group.now) }
     ensures other { OnFalse result (IsOtherPlace kept.now at group.now) }
@@ -30,7 +30,8 @@ pub fn is_at<T>(kept: &[OfGroup<T>], at: usize, group: &GroupId) -> bool
     at < kept.len() && kept[at].0.cmp(group) == Ordering::Equal
 }
 
-/// Puts what is kept of a group in its place: over the group's own, or between two others. Takes no memory.
+/// Inserts or replaces the value of a group, without an allocation: the caller reserves the room. Moves the entries
+/// after it.
 pub fn put<T: Drop>(kept: &mut Vec<OfGroup<T>>, entry: OfGroup<T>)
     requires sorted { IsTrue (is_sorted name_cmp kept.old.items) }
     requires room { vec_len kept.old < vec_capacity kept.old }
@@ -46,14 +47,14 @@ pub fn put<T: Drop>(kept: &mut Vec<OfGroup<T>>, entry: OfGroup<T>)
     }
 }
 
-/// Takes away what is kept of a group, if anything is. Takes no memory.
+/// Removes the value of a group, if it has one. Linear in the groups, no allocation.
 pub fn take_away<T: Drop>(kept: &mut Vec<OfGroup<T>>, group: &GroupId)
     ensures { kept.new.items ≡ filter (λ held. is_another group.now held.0) kept.old.items }
 {
     kept.retain(|held| held.0.as_bytes() != group.as_bytes());
 }
 
-/// What is kept of a group. Takes no memory.
+/// Returns the value of a group, if it has one. Logarithmic in the groups, no allocation.
 pub fn held_at<'a, T>(kept: &'a [OfGroup<T>], group: &GroupId) -> Option<&'a T>
     requires { IsTrue (is_sorted name_cmp kept.now) }
     ensures { option_copied result ≡ find name_cmp group.now kept.now }

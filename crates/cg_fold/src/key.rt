@@ -1,10 +1,11 @@
+//! The key and the value of a committed offset.
 ghost use Rattle.std.specs.Prelude.{◌≡◌};
 
 use cg_names::{GroupId, Topic};
 use cg_record::{Metadata, Offset, Partition};
 use std::cmp::Ordering;
 
-/// What an offset is kept for: one partition of one topic, as one group reads it.
+/// The key of a committed offset: one partition of one topic, for one group.
 #[derive(Debug, Drop)]
 pub struct OffsetKey {
     pub group: GroupId,
@@ -12,7 +13,7 @@ pub struct OffsetKey {
     pub partition: Partition,
 }
 
-/// How far a group has read a partition, and what its members keep beside it.
+/// The value of a committed offset, with its metadata.
 #[derive(Debug, Drop)]
 pub struct StoredOffset {
     pub offset: Offset,
@@ -22,7 +23,7 @@ pub struct StoredOffset {
 impl OffsetKey {
     ghost use Rattle.cg_fold.specs.Key.{key_cmp, key_of};
 
-    /// Where this key stands beside another, given by its parts: by group, then by topic, then by partition.
+    /// Compares this key with another one, given by its parts: by group, then by topic, then by partition.
     pub(crate) fn compare(&self, group: &GroupId, topic: &Topic, partition: Partition) -> Ordering
         ensures { result ≡ key_cmp self.now (key_of group.now topic.now partition) }
     {

@@ -1,6 +1,5 @@
-//! The durable state of a coordinator: what the commands so far make, and nothing else.
-//! It is seen as finite maps; applying a command is the effect of the command on these, and a snapshot the commands that make
-//! them anew. The offsets are a map of their own, which a state gives away. Stands on the commands of `cg_record`.
+//! The durable state of a coordinator: the effect of all commands so far. Contracts see finite maps; a command changes
+//! these, and a snapshot is a list of commands that builds them from the empty state.
 #![tactic(auto)]
 
 mod durable;

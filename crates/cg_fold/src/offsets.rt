@@ -1,3 +1,4 @@
+//! The committed offsets of all groups.
 ghost use Rattle.std.specs.Prelude.{◌≡◌, IsTrue, OnOk, OnErr};
 ghost use Rattle.std.specs.List.{fold};
 ghost use Rattle.std.specs.Option.{option_copied};
@@ -17,13 +18,13 @@ use cg_record::{Committed, Partition};
 use std::alloc::{AllocError, Global};
 use std::marker::Model;
 
-/// How far each group has read each partition. Contracts see it as the map of `State`.
+/// The committed offsets of all groups. Contracts see the map of `State`.
 ///
-/// The offsets of each group stand on a shelf of their own. A look-up takes time logarithmic in the number of groups and in that of
-/// the group's offsets, and no memory. A commit looks its group up once, and each partition among the group's offsets; where all
-/// are there, it copies the metadata alone. Else it copies the entries whole, each with the group, and looks the partitions up
-/// again: one that is new moves the group's offsets behind it, and a group that is new the shelves behind its own, but not what
-/// stands on them.
+/// The offsets of each group are in a sorted vector of their own, its shelf. A look-up takes time logarithmic in the
+/// number of groups and of the group's offsets, and no allocation. A commit looks up its group once and each of its
+/// partitions once. If the group has an offset for each of these partitions, only the metadata is copied. Otherwise the
+/// entries are copied with the group id and looked up again; a new partition moves the group's offsets after it, and a
+/// new group moves the shelves after its own, but not their contents.
 #[derive(Drop)]
 pub struct Offsets {
     alloc: Global,
@@ -47,7 +48,7 @@ impl Model for Offsets {
 }
 
 impl Offsets {
-    /// No offsets. Takes no memory.
+    /// Creates an empty map, without an allocation.
     pub fn new(alloc: Global) -> Self
         ensures { result ≡ finmap.empty }
     {
@@ -58,14 +59,14 @@ impl Offsets {
         }
     }
 
-    /// What a group has committed for a partition, where it has committed anything. Takes no memory.
+    /// Returns the committed offset of a partition, if there is one. Costs two look-ups, no allocation.
     pub fn get(&self, group: &GroupId, topic: &Topic, partition: Partition) -> Option<&StoredOffset>
         ensures { option_copied result ≡ finmap.get self.now (key_of group.now topic.now partition) }
     {
         rows::stored_at(self.of_group(group), group, topic, partition)
     }
 
-    /// The offsets of a group, by topic and partition. Takes no memory.
+    /// Returns the offsets of a group, by topic and partition. Costs one look-up, no allocation.
     pub(crate) fn of_group(&self, group: &GroupId) -> &[Row]
         ensures value { result.now ≡ offsets_in self.now group.now }
         ensures sorted { IsTrue (is_sorted key_cmp result.now) }
@@ -73,7 +74,7 @@ impl Offsets {
         shelves::rows_at(&self.shelves, group)
     }
 
-    /// The shelves: a group stands among them where it has offsets.
+    /// Returns the shelves. A group has a shelf exactly if it has an offset.
     pub(crate) fn shelves(&self) -> &[Shelf]
         ensures value { from_sorted (stock result.now) ≡ self.now }
         ensures are { AreShelves (finmap.len self.now) result.now }
@@ -81,9 +82,9 @@ impl Offsets {
         self.shelves.as_slice()
     }
 
-    /// Sets the offset of each entry of a commit. Takes memory for the metadata, for a list where there are several entries, and
-    /// for keys where a partition is new. Want of memory changes nothing; so are more than `u64::MAX` offsets answered, which no
-    /// memory holds.
+    /// Sets the offset of each entry of a commit. Allocates the metadata, a list if there are several entries, and the
+    /// keys of new partitions. If an allocation fails, nothing changes; more than `u64::MAX` offsets, which fit no
+    /// memory, count as a failed allocation.
     pub fn commit(&mut self, commit: &Committed) -> Result<(), AllocError>
         ensures ok { OnOk result (self.new ≡ fold (with_entry commit.now.group) self.old commit.now.entries) }
         ensures err { OnErr result (self.new ≡ self.old) }
@@ -96,7 +97,7 @@ impl Offsets {
         Ok(())
     }
 
-    /// Takes the offsets of a group away. Takes no memory.
+    /// Removes the offsets of a group. Linear in the groups, no allocation.
     pub fn forget(&mut self, group: &GroupId)
         ensures { self.new ≡ finmap.retain_keys self.old (is_of_other group.now) }
     {
@@ -105,7 +106,7 @@ impl Offsets {
         self.len -= gone;
     }
 
-    /// How many offsets there are. Takes no memory.
+    /// Returns the number of offsets, in constant time.
     pub fn len(&self) -> u64
         ensures { result ≡ finmap.len self.now }
     {

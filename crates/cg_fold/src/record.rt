@@ -1,3 +1,4 @@
+//! The record of a group.
 ghost use Rattle.std.specs.Prelude.{◌≡◌, IfOk};
 ghost use Rattle.cg_fold.specs.Record.{assigned_record, emptied_record, replaced_record};
 
@@ -5,17 +6,17 @@ use cg_names::{MemberId, ProtocolName};
 use cg_record::{Assigned, CompletedGeneration, Emptied, Member, Roster};
 use std::alloc::AllocError;
 
-/// What is kept of a group: its last completed generation and its type, and what its members joined in, where it has members.
+/// The record of a group: its last completed generation, its type, and its members, if it has any.
 #[derive(Debug, Drop)]
 pub struct GroupRecord {
     pub generation: CompletedGeneration,
-    /// The type of the protocols of the group.
+    /// Protocol type of the group.
     pub kind: ProtocolName,
     pub roster: Option<Roster>,
 }
 
 impl GroupRecord {
-    /// What is kept of a group whose members have their assignments.
+    /// Builds the record of a group whose members have their assignments.
     pub(crate) fn assigned(assigned: &Assigned) -> Result<GroupRecord, AllocError>
         ensures { IfOk result (λ held. held ≡ assigned_record assigned.now) }
     {
@@ -28,7 +29,7 @@ impl GroupRecord {
         })
     }
 
-    /// What is kept of a group without members.
+    /// Builds the record of a group without members.
     pub(crate) fn emptied(emptied: &Emptied) -> Result<GroupRecord, AllocError>
         ensures { IfOk result (λ held. held ≡ emptied_record emptied.now) }
     {
@@ -40,7 +41,7 @@ impl GroupRecord {
         })
     }
 
-    /// Puts the new member, whose id this is, into the place of the one with its instance. Takes no memory.
+    /// Replaces the member with the new one's instance (KIP-345). `id` is a copy of the new member's id. No allocation.
     pub(crate) fn replace(&mut self, new: Member, id: MemberId)
         requires { id ≡ new.id }
         ensures { self.new ≡ replaced_record new self.old }

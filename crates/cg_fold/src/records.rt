@@ -1,4 +1,4 @@
-//! The records of groups in the order of the groups' ids.
+//! The records of groups, sorted by group id.
 ghost use Rattle.std.specs.Prelude.{◌≡◌, ◌<◌, IsTrue, length};
 ghost use Rattle.std.specs.FinMap.{is_sorted};
 ghost use Rattle.cg_fold.specs.Key.{name_cmp};
@@ -12,7 +12,6 @@ use cg_record::Member;
 /// The record of a group, with the group's id.
 pub type Kept = OfGroup<GroupRecord>;
 
-// Puts the new member into the record at this place.
 fn replace_at(records: &mut Vec<Kept>, at: usize, new: Member, id: MemberId)
     requires within { at < length records.old.items }
     requires named { id ≡ new.id }
@@ -21,7 +20,7 @@ fn replace_at(records: &mut Vec<Kept>, at: usize, new: Member, id: MemberId)
     records[at].1.replace(new, id);
 }
 
-/// Puts the new member, whose id this is, into the record of a group, if it has one. Takes no memory.
+/// Replaces a member in the record of a group, if it has one. `id` is a copy of the new member's id. No allocation.
 pub fn replace_in(records: &mut Vec<Kept>, group: &GroupId, new: Member, id: MemberId)
     requires sorted { IsTrue (is_sorted name_cmp records.old.items) }
     requires named { id ≡ new.id }

@@ -1,5 +1,5 @@
-//! Offsets of partitions that a group has committed before: they are set where their keys stand, which copies neither the
-//! group nor the topic.
+//! New offsets for partitions that have one already: the row is changed in place, so neither the group nor the topic is
+//! copied.
 ghost use Rattle.std.specs.Prelude.{◌≡◌, ◌<◌, IsTrue, false, length, map, IfOk, MatchOption};
 ghost use Rattle.std.specs.List.{fold, list_all};
 ghost use Rattle.std.specs.FinMap.{find, is_sorted};
@@ -13,14 +13,14 @@ use cg_record::Entry;
 use std::alloc::{AllocError, Global};
 use std::collections::VecDeque;
 
-/// Where a row stands, and what is kept under its key from now on.
+/// A new value for a row, with the index of the row.
 #[derive(Drop)]
 pub struct Renewal {
     pub at: usize,
     pub stored: StoredOffset,
 }
 
-/// What an entry sets where the row of its key stands, if there is one. Copies the metadata.
+/// Returns the new value for the row of this entry's key, if there is such a row. Copies the metadata.
 pub fn renewal_of(
     rows: &[Row],
     group: &GroupId,
@@ -42,7 +42,7 @@ pub fn renewal_of(
     Ok(Some(Renewal { at, stored }))
 }
 
-/// Sets what is kept at a place. Takes no memory.
+/// Sets the value of a row. No allocation.
 pub fn renew(rows: &mut Vec<Row>, renewal: Renewal)
     requires { renewal.at < length rows.old.items }
     ensures { rows.new.items ≡ renewed rows.old.items renewal }
@@ -50,7 +50,7 @@ pub fn renew(rows: &mut Vec<Row>, renewal: Renewal)
     rows[renewal.at].1 = renewal.stored;
 }
 
-/// What entries set where the rows of their keys stand, if all these are there. Copies the metadata of each.
+/// Returns the new values for the rows of these entries, if all of these rows exist. Copies the metadata of each.
 pub fn renewals_of(
     alloc: Global,
     rows: &[Row],
@@ -72,7 +72,7 @@ pub fn renewals_of(
     Ok(Some(renewals))
 }
 
-/// Sets what is kept at these places, one after the other. Takes no memory.
+/// Sets the values of these rows, in order. No allocation.
 pub fn renew_all(rows: &mut Vec<Row>, mut renewals: VecDeque<Renewal>)
     requires { AreBelow (length rows.old.items) renewals.items }
     ensures { rows.new.items ≡ fold renewed rows.old.items renewals.items }

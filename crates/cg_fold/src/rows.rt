@@ -1,4 +1,4 @@
-//! The offsets as rows in the order of their keys: a look-up is a binary search, which takes no memory.
+//! The offsets of a group as rows, sorted by key. A look-up is a binary search, without an allocation.
 ghost use Rattle.std.specs.Prelude.{◌≡◌, ◌+◌, ◌<◌, ◌≤◌, IsTrue, length, vec_len, vec_capacity, [], IfOk, OnErr, OnOk};
 ghost use Rattle.std.specs.List.{fold, prefix_len};
 ghost use Rattle.std.specs.FinMap.{find, is_sorted, put};
@@ -16,10 +16,10 @@ use std::cmp::Ordering;
 use std::collections::VecDeque;
 use std::marker::Model;
 
-/// One offset with its key.
+/// A committed offset with its key.
 pub type Row = (OffsetKey, StoredOffset);
 
-/// Rows in the order of their keys. Contracts see them as a list.
+/// Rows sorted by key. Contracts see a list.
 #[derive(Drop)]
 pub struct Rows {
     rows: Vec<Row>,
@@ -41,7 +41,7 @@ impl Model for Rows {
 }
 
 impl Rows {
-    /// No rows. Takes no memory.
+    /// Creates an empty list, without an allocation.
     pub fn new(alloc: Global) -> Self
         ensures { result ≡ [] }
     {
@@ -50,7 +50,7 @@ impl Rows {
         }
     }
 
-    /// The rows in their order.
+    /// Returns the rows in the order of their keys.
     pub fn as_slice(&self) -> &[Row]
         ensures value { result.now ≡ self.now }
         ensures sorted { IsTrue (is_sorted key_cmp self.now) }
@@ -58,8 +58,7 @@ impl Rows {
         self.rows.as_slice()
     }
 
-    /// Puts what the entries of a commit keep, one after the other, and answers how many rows more there are. Want of memory
-    /// changes nothing.
+    /// Sets the offsets of a commit, in order. Returns the number of new rows. If an allocation fails, nothing changes.
     pub fn put_commit(&mut self, alloc: Global, commit: &Committed) -> Result<u64, AllocError>
         ensures ok { OnOk result (self.new ≡ fold put_kept self.old (kept_by commit.now)) }
         ensures grown { IfOk result (λ grown. length self.new ≡ length self.old + grown) }
@@ -77,8 +76,7 @@ impl Rows {
         }
     }
 
-    // Puts what the entries of a commit keep, one after the other: in place where the rows of all are there. Answers how many
-    // rows more there are.
+    // Sets the offsets of several entries, in place if all of them have a row. Returns the number of new rows.
     fn put_entries(&mut self, alloc: Global, commit: &Committed) -> Result<u64, AllocError>
         ensures ok { OnOk result (self.new ≡ fold put_kept self.old (kept_by commit.now)) }
         ensures grown { IfOk result (λ grown. length self.new ≡ length self.old + grown) }
@@ -97,7 +95,7 @@ impl Rows {
         }
     }
 
-    // Puts what an entry keeps: in place where its row is there. Answers how many rows more there are.
+    // Sets the offset of one entry, in place if it has a row. Returns the number of new rows.
     fn put_entry(&mut self, group: &GroupId, entry: &Entry) -> Result<u64, AllocError>
         ensures ok { OnOk result (self.new ≡ put_kept self.old (kept_of group.now entry.now)) }
         ensures grown { IfOk result (λ grown. length self.new ≡ length self.old + grown) }
@@ -117,7 +115,8 @@ impl Rows {
         }
     }
 
-    // Puts these rows, one after the other, and answers how many rows more there are.
+    // Inserts or replaces these rows, in order. Returns the number of new rows. Reserves the room first, so that a
+    // failed allocation changes nothing.
     fn put_all(&mut self, waiting: VecDeque<Row>) -> Result<u64, AllocError>
         ensures ok { OnOk result (self.new ≡ fold put_kept self.old waiting.items) }
         ensures grown { IfOk result (λ grown. length self.new ≡ length self.old + grown) }
@@ -130,7 +129,7 @@ impl Rows {
     }
 }
 
-/// How many rows stand before a key.
+/// Returns the number of rows before a key.
 pub fn place(rows: &[Row], group: &GroupId, topic: &Topic, partition: Partition) -> usize
     requires { IsTrue (is_sorted key_cmp rows.now) }
     ensures value { result ≡ prefix_len (is_below (key_of group.now topic.now partition)) rows.now }
@@ -139,7 +138,7 @@ pub fn place(rows: &[Row], group: &GroupId, topic: &Topic, partition: Partition)
     rows.partition_point(|row| row.0.compare(group, topic, partition) == Ordering::Less)
 }
 
-/// Whether the row at this place is the key's own.
+/// Returns whether the row at this index has the key.
 pub fn is_at(rows: &[Row], at: usize, group: &GroupId, topic: &Topic, partition: Partition) -> bool
     ensures own { OnTrue result (IsOwn rows.now at (key_of group.now topic.now partition)) }
     ensures other { OnFalse result (IsOther rows.now at (key_of group.now topic.now partition)) }
@@ -147,7 +146,7 @@ pub fn is_at(rows: &[Row], at: usize, group: &GroupId, topic: &Topic, partition:
     at < rows.len() && rows[at].0.compare(group, topic, partition) == Ordering::Equal
 }
 
-// Puts a row in its place: over the row of its key, or between two others. Takes no memory.
+// Inserts the row or replaces the one with its key, without an allocation: the caller reserves the room.
 fn put_row(rows: &mut Vec<Row>, row: Row)
     requires sorted { IsTrue (is_sorted key_cmp rows.old.items) }
     requires room { vec_len rows.old < vec_capacity rows.old }
@@ -165,7 +164,7 @@ fn put_row(rows: &mut Vec<Row>, row: Row)
     }
 }
 
-// Puts these rows, one after the other. Takes no memory.
+// Inserts or replaces these rows, in order, without an allocation: the caller reserves the room.
 fn put_rows(rows: &mut Vec<Row>, mut waiting: VecDeque<Row>)
     requires sorted { IsTrue (is_sorted key_cmp rows.old.items) }
     requires room { vec_len rows.old + deque_len waiting ≤ vec_capacity rows.old }
@@ -192,7 +191,7 @@ fn row_of(group: &GroupId, entry: &Entry) -> Result<Row, AllocError>
     Ok((key, stored))
 }
 
-// The rows that a commit puts, copied from it.
+// Copies the entries of a commit into rows.
 fn rows_of(alloc: Global, commit: &Committed) -> Result<VecDeque<Row>, AllocError>
     ensures { IfOk result (λ rows. rows.items ≡ kept_by commit.now) }
 {
@@ -203,7 +202,7 @@ fn rows_of(alloc: Global, commit: &Committed) -> Result<VecDeque<Row>, AllocErro
     Ok(rows)
 }
 
-/// What is kept at a key. Takes no memory.
+/// Returns the value at a key, if there is one. Logarithmic in the rows, no allocation.
 pub fn stored_at<'a>(
     rows: &'a [Row],
     group: &GroupId,

@@ -1,4 +1,4 @@
-//! The offsets of groups: a shelf for each group that has any, in the order of the groups' ids.
+//! The shelves: the offsets of each group that has any, sorted by group id.
 ghost use Rattle.std.specs.Prelude.{◌≡◌, ◌+◌, ◌<◌, [], IsTrue, length, IfOk, OnErr, OnOk};
 ghost use Rattle.std.specs.List.{fold};
 ghost use Rattle.std.specs.FinMap.{is_sorted};
@@ -14,7 +14,7 @@ use std::alloc::{AllocError, Global};
 /// The offsets of a group, with the group's id.
 pub type Shelf = OfGroup<Rows>;
 
-/// The offsets of a group, by topic and partition. Takes no memory.
+/// Returns the offsets of a group, by topic and partition. Costs one look-up, no allocation.
 pub fn rows_at<'a>(shelves: &'a [Shelf], group: &GroupId) -> &'a [Row]
     requires { IsTrue (is_sorted name_cmp shelves.now) }
     ensures value { result.now ≡ rows_at group.now shelves.now }
@@ -26,7 +26,7 @@ pub fn rows_at<'a>(shelves: &'a [Shelf], group: &GroupId) -> &'a [Row]
     }
 }
 
-// Puts what a commit keeps on the shelf at this place, and answers how many offsets more it has.
+// Sets the offsets of a commit on the shelf at this index. Returns the number of new offsets.
 fn add_at(
     shelves: &mut Vec<Shelf>,
     alloc: Global,
@@ -42,7 +42,7 @@ fn add_at(
     Ok(grown)
 }
 
-// A shelf with what a commit keeps alone.
+// Builds a shelf with the offsets of a commit.
 fn shelf_of(alloc: Global, commit: &Committed) -> Result<Shelf, AllocError>
     ensures { IfOk result (λ shelf. shelf ≡ (commit.now.group, fold put_kept [] (kept_by commit.now))) }
 {
@@ -52,8 +52,8 @@ fn shelf_of(alloc: Global, commit: &Committed) -> Result<Shelf, AllocError>
     Ok((group, rows))
 }
 
-/// Puts what a commit keeps on the shelf of its group, which is made where there is none, and answers how many offsets more
-/// the group has. Want of memory changes nothing.
+/// Sets the offsets of a commit on the shelf of its group, which is created if needed. Returns the number of new
+/// offsets. If an allocation fails, nothing changes.
 pub fn add(shelves: &mut Vec<Shelf>, alloc: Global, commit: &Committed) -> Result<u64, AllocError>
     requires { IsTrue (is_sorted name_cmp shelves.old.items) }
     ensures ok { OnOk result (shelves.new.items ≡ with_more commit.now.group (kept_by commit.now) shelves.old.items) }

@@ -1,4 +1,4 @@
-//! The commands that make a group anew.
+//! The commands that build a group, for a snapshot.
 ghost use Rattle.std.specs.Prelude.{◌≡◌, ◌<◌, ◌≤◌, ◌++◌, IsTrue, length, drop, take, map, IfOk, OnOk};
 ghost use Rattle.std.specs.FinMap.{is_sorted};
 ghost use Rattle.std.specs.Option.{option_copied};
@@ -13,7 +13,7 @@ use cg_names::GroupId;
 use cg_record::{Assigned, Command, Committed, ENTRIES_MAX, Emptied, Entries, Entry};
 use std::alloc::{AllocError, Global};
 
-// The command that sets the record of a group.
+// Returns the command that sets the record of a group.
 fn record_command(group: &GroupId, held: &GroupRecord) -> Result<Command, AllocError>
     ensures { IfOk result (λ command. command ≡ record_command group.now held.now.generation held.now.kind held.now.roster) }
 {
@@ -37,7 +37,7 @@ fn record_command(group: &GroupId, held: &GroupRecord) -> Result<Command, AllocE
     }
 }
 
-/// Adds the command that sets the record of a group, where it has one.
+/// Appends the command that sets the record of a group, if it has one.
 pub fn push_record(
     commands: &mut Vec<Command>,
     group: &GroupId,
@@ -77,7 +77,7 @@ fn entries_of(alloc: Global, rows: &[Row]) -> Result<Vec<Entry>, AllocError>
     Ok(entries)
 }
 
-// The commit of these offsets.
+// Returns the commit of these offsets.
 fn commit_of(alloc: Global, group: &GroupId, rows: &[Row]) -> Result<Command, AllocError>
     requires some { 0 < length rows.now }
     requires few { length rows.now ≤ ENTRIES_MAX }
@@ -93,7 +93,7 @@ fn commit_of(alloc: Global, group: &GroupId, rows: &[Row]) -> Result<Command, Al
     }))
 }
 
-// As many rows as one commit may have, and the others.
+// Splits off as many rows as one commit may have.
 fn first_entries(rows: &[Row]) -> (&[Row], &[Row])
     ensures first { result.0.now ≡ take ENTRIES_MAX rows.now }
     ensures others { result.1.now ≡ drop ENTRIES_MAX rows.now }
@@ -105,7 +105,7 @@ fn first_entries(rows: &[Row]) -> (&[Row], &[Row])
     }
 }
 
-/// Adds the commits of the offsets of a group, each of as many as one commit may have.
+/// Appends the commits of a group's offsets, each with at most `ENTRIES_MAX` entries.
 pub fn push_commits(
     alloc: Global,
     commands: &mut Vec<Command>,

@@ -1,22 +1,22 @@
-//! Snapshots of what commands make. The commands are their bytes, without the version, as `docs/FORMATS.md` has them.
+//! Snapshots after commands. Each command is given by its bytes without the version, as in `docs/FORMATS.md`.
 use crate::Durable;
 use cg_record::{read, write};
 use std::alloc::{AllocError, Global};
 use std::test::Fail;
 
 // Group g, generation 7, type k, protocol r, leader m; the member m with the instance i, the subscription 9 and the
-// assignment 8; the member n without instance and bytes.
+// assignment 8; the member n without instance, subscription and assignment.
 const ASSIGNED: &[u8] =
     b"\x01\x01g\0\0\0\x07\x01k\x01r\x01m\x02\x01m\x01i\x01c\0\0\x17\x70\0\0\0\x05\0\0\0\x01\x09\0\0\0\x01\x08\x01n\0\x01c\0\0\x17\x70\0\0\0\x05\0\0\0\0\0\0\0\0";
 
-// The same group after the member p, with the assignment 3, or m with that assignment took the place of instance i.
+// The same group after the replacement of m by p, with the assignment 3, or by another m with that assignment.
 const ASSIGNED_P: &[u8] =
     b"\x01\x01g\0\0\0\x07\x01k\x01r\x01p\x02\x01p\x01i\x01c\0\0\x17\x70\0\0\0\x05\0\0\0\0\0\0\0\x01\x03\x01n\0\x01c\0\0\x17\x70\0\0\0\x05\0\0\0\0\0\0\0\0";
 
 const ASSIGNED_M: &[u8] =
     b"\x01\x01g\0\0\0\x07\x01k\x01r\x01m\x02\x01m\x01i\x01c\0\0\x17\x70\0\0\0\x05\0\0\0\0\0\0\0\x01\x03\x01n\0\x01c\0\0\x17\x70\0\0\0\x05\0\0\0\0\0\0\0\0";
 
-// The member p takes the place of instance i in group g; then the same with another group, instance or member id.
+// The replacement of instance i by the member p in group g; then the same with another group, instance or member id.
 const REPLACED: &[u8] = b"\x03\x01g\x01p\x01i\x01c\0\0\x17\x70\0\0\0\x05\0\0\0\0\0\0\0\x01\x03";
 
 const REPLACED_IN_H: &[u8] =
@@ -35,7 +35,7 @@ const EMPTIED_B: &[u8] = b"\x02\x01b\0\0\0\x08\x01k";
 
 const EMPTIED: &[u8] = b"\x02\x01g\0\0\0\x08\x01k";
 
-// Of topic t partition 0: the offset 42 for groups a, g and h, then 43 for g.
+// Partition 0 of topic t: the offset 42 for the groups a, g and h, then 43 for g.
 const COMMITTED_A: &[u8] = b"\x04\x01a\x01\x01t\0\0\0\0\0\0\0\0\0\0\0\x2a\0\0\0\0";
 
 const COMMITTED: &[u8] = b"\x04\x01g\x01\x01t\0\0\0\0\0\0\0\0\0\0\0\x2a\0\0\0\0";
@@ -47,7 +47,7 @@ const COMMITTED_43: &[u8] = b"\x04\x01g\x01\x01t\0\0\0\0\0\0\0\0\0\0\0\x2b\0\0\0
 // Group g.
 const DELETED: &[u8] = b"\x05\x01g";
 
-// Commands, and the snapshot of what they make.
+// Commands, and the snapshot of the state after them.
 const ROWS: [(&[&[u8]], &[&[u8]]); 16] = [
     (&[], &[]),
     (&[COMMITTED], &[COMMITTED]),
@@ -73,7 +73,7 @@ const ROWS: [(&[&[u8]], &[&[u8]]); 16] = [
     ),
 ];
 
-// The version and then the parts.
+// Joins the version and the parts.
 fn payload(alloc: Global, parts: &[&[u8]]) -> Result<Vec<u8>, AllocError> {
     let mut bytes = vec![in alloc; 1]?;
     for part in parts {
@@ -82,7 +82,7 @@ fn payload(alloc: Global, parts: &[&[u8]]) -> Result<Vec<u8>, AllocError> {
     Ok(bytes)
 }
 
-// The bytes of the snapshot of what the commands of the parts make.
+// Returns the bytes of the snapshot after the commands of the parts.
 fn snapshot_after(alloc: Global, parts: &[&[u8]]) -> Result<Vec<u8>, Fail> {
     let bytes = payload(alloc, parts)?;
     let commands = read(alloc, &bytes)?;
@@ -106,7 +106,8 @@ fn a_snapshot_has_the_records_and_offsets(rt: HostRuntime) -> Result<(), Fail> {
     Ok(())
 }
 
-// A commit of group g: of topic t this many partitions from the first one on, each with the offset 7 and the metadata m.
+// Returns a commit of group g: this many partitions of topic t from the first one on, each with the offset 7 and the
+// metadata m.
 fn commit(alloc: Global, first: u32, count: u8) -> Result<Vec<u8>, AllocError> {
     let mut bytes = Vec::from_slice(alloc, b"\x04\x01g")?;
     bytes.push(count)?;

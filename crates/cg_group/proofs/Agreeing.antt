@@ -1,4 +1,4 @@
--- A group and its record: what holds of both before an event holds after its turn.
+-- A group agrees with its record before and after each step.
 use Rattle.std.proofs.Common.{◌≡◌, ℕ, ◌+◌, ◌≤◌, nat_lt, arith, Bool, true, false, not, ◌&&◌, ◌||◌, List, [], ◌∷◌, ◌++◌, map, filter, cond, is_some, refl, sym, ap, ◌∙◌, subst, Option, Some, None}
 use Rattle.std.specs.Prelude.{if◌then◌else◌}
 use Rattle.std.specs.List.{list_any, list_all}
@@ -40,25 +40,25 @@ use Rattle.cg_member.proofs.Keeping.{IsLasting, map-same, map-with_member, keep-
 use Rattle.cg_held.proofs.KeptLists.{kept_after-append, kept_after-one, same_self}
 use Rattle.cg_group.proofs.Calling.{AllWaits, all-named, is_named_wait, no_sync, no_sync-after_answers, waits-after_answers, waits-assigned, waits-with_member}
 
--- a join phase has completed the group's generation
+-- a rebalance has completed the group's generation
 abbrev pub IsCompleted : Group → Type 0
 IsCompleted g = completed_generation g.generation ≡ Some g.generation
 
--- what a group has in each phase
+-- what each phase says of the group
 abbrev pub Holds : Phase → Group → Option GroupRecord → Type 0
 Holds Stable g o = TellsOf g o
 Holds Empty g o = TellsOf g o
 Holds Preparing g o = is_some g.kind ≡ true
 Holds Completing g o = (is_some g.kind ≡ true) × (is_some g.protocol ≡ true) × IsCompleted g
 
--- a group, with its record and the events so far
+-- a group that agrees with its record, after the events so far
 pub record Whole (events : List (Event × ℕ)) (g : Group) (o : Option GroupRecord) : Type 0 where
   pub common : HasCommon g.members
   pub holds : Holds g.phase g o
   pub named : AllWaits (is_named_wait events g.id g.generation) g.members
   pub quiet : is_preparing g.phase ≡ true → AllWaits no_sync g.members
 
--- a group whose members join
+-- a group with a rebalance under way
 pub record Joining (g : Group) : Type 0 where
   pub phase : g.phase ≡ Preparing
   pub kind : is_some g.kind ≡ true
@@ -80,7 +80,7 @@ lasting_protocols m h w = refl
 pub lasting_kept : (p : Option (List ℕ)) → IsLasting (kept_member p)
 lasting_kept p m h w = refl
 
--- a protocol in common
+-- the list has the protocol
 
 abbrev pub offered : List ℕ → List Protocol → Bool
 offered name ps = list_any (λ p. is_same p.name name) ps
@@ -142,7 +142,7 @@ unfolding is_common
 common-empty [] name e = refl
 common-empty (m ∷ ms) name e = cc
 
--- what a JOIN that is not refused 23 has in common with the members
+-- a JOIN that is not refused by 23 has a protocol in common with the members
 pub record Suits (r : JoinRequest) (ms : List Member) : Type 0 where
   pub name : List ℕ
   pub common : is_common ms name ≡ true
@@ -198,7 +198,7 @@ holds-members Empty g ms o e h = told-members g ms o e h
 holds-members Preparing g ms o e h = h
 holds-members Completing g ms o e h = h
 
--- the group with other last moments and calls
+-- the group with other moments last heard and other parked calls
 pub whole-members : (events : List (Event × ℕ)) (g : Group) (ms : List Member) (o : Option GroupRecord) → map (λ m. m.protocols) ms ≡ map (λ m. m.protocols) g.members → map (kept_member g.protocol) ms ≡ map (kept_member g.protocol) g.members
     → AllWaits (is_named_wait events g.id g.generation) ms → (is_preparing g.phase ≡ true → AllWaits no_sync ms) → Whole events g o → Whole events (record g { members = ms }) o
 whole-members events g ms o protocols kept named quiet h = record {
@@ -216,7 +216,7 @@ empty_told : (g : Group) (o : Option GroupRecord) → g.phase ≡ Empty → Tell
 empty_told g None p h = h.members
 empty_told g (Some r) p h = empty_recorded g r r.roster p h
 
--- a group that is empty by its phase has no members
+-- a group in Empty has no members
 pub empty_members : (events : List (Event × ℕ)) (g : Group) (o : Option GroupRecord) → Whole events g o → g.phase ≡ Empty → g.members ≡ []
 empty_members events g o h p = let P : Phase → Type 0 = λ x. Holds x g o in empty_told g o p (subst P p h.holds)
 
@@ -257,7 +257,7 @@ assigned_tells g kept id named phase kind protocol leader completed =
         let P : Option GroupRecord → Type 0 = λ o. TellsOf g o in
         subst P (sym (kept_after-one kept (command.Assigned (record { group = g.id; generation = g.generation; kind = k; roster = kept_roster p l g })) id named)) (record { phase = phase; generation = refl; kind = ek; protocol = ep; leader = el; members = refl })
 
--- the generation of a join phase that completes
+-- the generation after a completed rebalance
 next_is_completed : (n : ℕ) → completed_generation (next_generation n) ≡ Some (next_generation n)
 next_is_completed n = elim (nat_lt n GENERATION_MAX) as (λ b. completed_generation (if b then n + 1 else 1) ≡ Some (if b then n + 1 else 1)) [ true ↦ is_completed (n + 1) (omega arith) | false ↦ refl ]
   where
@@ -271,7 +271,7 @@ empty_is (m ∷ ms) e = cc
 -- stages
 
 module _ (events : List (Event × ℕ)) (kept : Kept) (id : List ℕ) where
-  -- what holds after a turn in the group of this id
+  -- the fact after a step in the group with this id
   abbrev pub After : Turn → Type 0
   After t = Whole events t.group (kept_after kept t.commands id)
 

@@ -1,4 +1,4 @@
--- Machine and commands agree: each event keeps it, and so does every list of events.
+-- Machine and commands agree after each event, and so after every list of events.
 use Rattle.std.proofs.Common.{◌≡◌, ℕ, Bool, true, false, ◌&&◌, ◌||◌, List, [], ◌∷◌, ◌++◌, append_assoc, append-nil, map, cond, is_some, refl, sym, ap, ◌∙◌, subst, max, nat_eq, Option, Some, None}
 use Rattle.std.specs.List.{list_any}
 use Rattle.std.proofs.lemmas.Bool.{and_from, or_left, or_right, false≢true}
@@ -47,7 +47,7 @@ use Rattle.cg_group.proofs.KeptMachine.{Fits, Invariant, each-over, fits_framed,
 use Rattle.cg_group.proofs.Requests.{fine-beat, fine-commit, fine-join, fine-leave, fine-sync}
 use Rattle.std.proofs.lemmas.Cmp.{nat_list_eq_equiv}
 
--- the machine, with what is kept, after these events
+-- the machine agrees with the records, after these events
 abbrev pub WholeMachine : List (Event × ℕ) → Machine → Kept → Type 0
 WholeMachine events s kept = Invariant (Whole events) s.groups kept
 
@@ -74,7 +74,7 @@ machine_more events e s kept v = record {
   held = v.held;
 }
 
--- the event is one of those that were met
+-- the event is one of the past events
 abbrev pub WasMet : List (Event × ℕ) → Event → Type 0
 WasMet events e = (group : List ℕ) (generation : ℕ) (member : List ℕ) (t : Ticket) → is_sync_of group generation member t e ≡ true → has_named events group generation member t ≡ true
 
@@ -104,7 +104,7 @@ quiet_in_new : (id : List ℕ) → AllWaits no_sync (new_group id).members
 unfolding new_group
 quiet_in_new id = tt
 
--- a group that is not held has no record
+-- a group that is not loaded has no record
 nothing : (o : Option GroupRecord) → (is_some o ≡ true → ⊥) → o ≡ None
 nothing None h = refl
 nothing (Some r) h = absurd (h refl)
@@ -194,7 +194,7 @@ whole-after_all (e ∷ es) events kept s asked v =
     (subst Q (sym (kept_after-append kept o.effects.commands rest))
     (whole-after_all es (events ++ e ∷ []) (kept_after kept o.effects.commands) o.after asked.1 (whole-step events kept s e.0 e.1 asked.0 v)))
 
--- the machine that a loading begins with
+-- the machine after recovery
 
 kept_revived : (now : ℕ) (protocol : List ℕ) (m : KeptMember) → kept_member (Some protocol) (revived_member now protocol m) ≡ m
 unfolding revived_member subscription_for

@@ -1,4 +1,4 @@
--- What is met in groups says nothing of offsets, and leaves them where its commands do.
+-- The processing of an event does not read the offsets, except for FETCH, and changes them only by its commands.
 use Rattle.std.proofs.Common.{◌≡◌, ℕ, List, refl, sym, ap, subst, ◌∙◌, Result, Ok, Err}
 use Rattle.cg_names.specs.declared.code.Code.{Code}
 use Rattle.cg_record.specs.declared.command.Command.{Command}

@@ -1,4 +1,4 @@
--- What holds of the calls of all members: which stages keep it.
+-- Facts about the parked calls of all members, and the stages that preserve them.
 use Rattle.std.proofs.Common.{◌≡◌, ℕ, Bool, true, false, List, [], ◌∷◌, ◌++◌, map, filter, cond, refl}
 use Rattle.std.specs.Prelude.{if◌then◌else◌, is_some}
 use Rattle.cg_member.specs.declared.calls.Calls.{Calls}
@@ -15,17 +15,17 @@ use Rattle.cg_member.specs.Replacing.{seated}
 use Rattle.cg_member.specs.Syncing.{assigned}
 use Rattle.cg_member.specs.Waiting.{after_answer, after_answers, answered, called, is_waiting}
 
--- a test of the id and the call of each member
+-- a test of the id and the parked call of each member
 abbrev pub AllWaits : (List ℕ → Waits → Bool) → List Member → Type 0
 AllWaits q ms = Each (λ m. q m.id m.waits ≡ true) ms
 
--- no call is a SYNC
+-- no parked call is a SYNC
 abbrev pub no_sync : List ℕ → Waits → Bool
 no_sync id Nothing = true
 no_sync id (Join t) = true
 no_sync id (Sync t) = false
 
--- each SYNC came with one of these events, and named this generation of this group
+-- each parked SYNC is one of these events, and gave this generation of this group
 abbrev pub is_named_wait : List (Event × ℕ) → List ℕ → ℕ → List ℕ → Waits → Bool
 is_named_wait events group generation id Nothing = true
 is_named_wait events group generation id (Join t) = true
@@ -45,7 +45,7 @@ each-filter P stays [] h = tt
 each-filter P stays (x ∷ xs) h =
     elim (stays x) as (λ b. Each P (cond b (x ∷ filter stays xs) (filter stays xs))) [ true ↦ (h.0, each-filter P stays xs h.1) | false ↦ each-filter P stays xs h.1 ]
 
--- after the SYNCs were answered none waits
+-- after the replies to all SYNCs none is parked
 pub no_sync-after_answers : (now : ℕ) (ms : List Member) → AllWaits no_sync (after_answers Syncs now ms)
 unfolding after_answers
 no_sync-after_answers now [] = tt

@@ -1,4 +1,4 @@
--- Each group of the offsets is held: each event keeps it.
+-- Each group with an offset is loaded, before and after each event.
 use Rattle.std.proofs.Common.{◌≡◌, ℕ, Bool, true, false, not, ◌||◌, List, [], ◌∷◌, cond, is_some, refl, sym, ap, ◌∙◌, subst, Option, Some, None, Result, Ok, Err, max}
 use Rattle.std.specs.List.{flat_map, fold}
 use Rattle.std.specs.Ordering.{eq_by_cmp, is_eq}
@@ -38,11 +38,11 @@ use Rattle.cg_held.proofs.Removing.{found-without}
 use Rattle.cg_group.proofs.Requests.{Fine, fine-commit}
 use Rattle.cg_held.proofs.Revived.{read_revived}
 
--- each group that has read is held
+-- each group with an offset is loaded
 abbrev pub Covered : OffsetMap → List Group → Type 0
 Covered offsets groups = (key : OffsetKey) → is_some (finmap.get offsets key) ≡ true → is_some (find_group key.group groups) ≡ true
 
--- what the turn's commands add is its own group's
+-- the commands of the step add offsets of its own group only
 abbrev Adds : OffsetMap → Turn → Type 0
 Adds offsets t = (key : OffsetKey) → is_some (finmap.get (offsets_after offsets t.commands) key) ≡ true → (is_same t.group.id key.group || is_some (finmap.get offsets key)) ≡ true
 
@@ -55,7 +55,7 @@ over_or : (a b c : Bool) → (b ≡ true → c ≡ true) → (a || b) ≡ true �
 over_or true b c k e = refl
 over_or false b c k e = k e
 
--- the entries of a commit are its group's
+-- the entries of a commit belong to its group
 added : (group : List ℕ) (entries : List Entry) (offsets : OffsetMap) (key : OffsetKey) → is_some (finmap.get (fold (with_entry group) offsets entries) key) ≡ true → (is_same group key.group || is_some (finmap.get offsets key)) ≡ true
 added group [] offsets key e = or_right (is_same group key.group) (is_some (finmap.get offsets key)) e
 added group (x ∷ xs) offsets key e =
@@ -96,7 +96,7 @@ covered-everywhere turn framed quiet s v key e =
     let same = quiet-offsets s.offsets (flat_map (λ g. (turn g).commands) s.groups) (quiet-all turn quiet s.groups) in
     found-turns turn framed key.group s.groups ∙ v key (ap (λ o. is_some (finmap.get o key)) (sym same) ∙ e)
 
--- what is left of the offsets of the others
+-- the offsets of the other groups that remain
 left_over : (b : Bool) (o : Option StoredOffset) → is_some (cond b o None) ≡ true → (b ≡ true) × (is_some o ≡ true)
 left_over true o e = (refl, e)
 left_over false o e = absurd (false≢true e)
@@ -142,7 +142,7 @@ unfolding deleted
 offsets-deleted s ticket (Ok id) = refl
 offsets-deleted s ticket (Err code) = refl
 
--- what is met leaves the offsets to its commands
+-- only the commands of an event change the offsets
 pub offsets-met : (s : Machine) (e : Event) → (met s e).after.offsets ≡ s.offsets
 unfolding met everywhere
 offsets-met s (event.Join ticket r fresh) = offsets-concluded s ticket (join s.last r fresh ticket s.groups)

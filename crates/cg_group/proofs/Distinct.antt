@@ -1,4 +1,4 @@
--- No two members of a group have one id or one instance: each stage of an event keeps it.
+-- Each stage of an event keeps the ids and the instances of a group's members distinct.
 use Rattle.std.proofs.Common.{◌≡◌, ℕ, Bool, true, false, not, List, [], is_some, refl, ap, ◌∙◌, Option, Some, None}
 use Rattle.std.specs.Prelude.{if◌then◌else◌}
 use Rattle.std.specs.List.{list_any}

@@ -1,4 +1,4 @@
--- No two members of a group have one id or one instance: each event keeps it, and so does every list of events.
+-- Each event, and so every list of events, keeps the ids and the instances of members distinct.
 use Rattle.std.proofs.Common.{ℕ, List, [], ◌∷◌, map, refl, max, Option, Some, None}
 use Rattle.std.specs.Prelude.{IfSome}
 use Rattle.cg_record.specs.Rosters.{IsRoster, RosterParts}
@@ -30,7 +30,7 @@ use Rattle.cg_names.specs.declared.code.Code.{Code}
 abbrev AllDistinct : List Group → Type 0
 AllDistinct groups = Each Distinct groups
 
--- the turn leaves distinct members
+-- the members are distinct after the step
 abbrev After : Turn → Type 0
 After t = Distinct t.group
 

@@ -1,4 +1,4 @@
--- A SYNCED reply is earned: the member named the generation, and the bytes are kept for it.
+-- A SYNC reply is earned: the member gave the generation, and the assignment is stored for it.
 use Rattle.std.proofs.Common.{◌≡◌, ℕ, Bool, true, false, ◌&&◌, ◌||◌, List, [], ◌∷◌, ◌++◌, map, find, cond, is_some, refl, sym, ap, ◌∙◌, subst, max, Option, Some, None, Result, Ok, Err}
 use Rattle.std.specs.Prelude.{if◌then◌else◌}
 use Rattle.std.specs.List.{list_any, flat_map}
@@ -57,7 +57,7 @@ use Rattle.cg_group.proofs.KeptMachine.{each-over}
 use Rattle.cg_group.proofs.Requests.{Fine, fine-beat, fine-commit, fine-join, fine-leave, fine-sync}
 use Rattle.cg_group.proofs.Telling.{Told, each-answers, expired_tried, told-beat_taken, told-completed, told-gone_in, told-in_join_phase, told-left, told-rejoined, told-removal, told-replaced, told-tried, told-waiting}
 
--- each element is found among what is made of all
+-- each image of an element is found in the list of images
 each-in : {A B : Type 0} (f : A → B) (q : B → A → Bool) → ((x : A) → q (f x) x ≡ true) → (xs : List A) → Each (λ x. list_any (λ y. q y x) (map f xs) ≡ true) xs
 each-in f q k [] = tt
 each-in f q k (x ∷ xs) = (
@@ -95,7 +95,7 @@ id-member own (x ∷ xs) m e =
       | false ↦ λ t e. id-member own xs m e
     ]) refl e
 
--- what a record tells of a stable group, it keeps for each member
+-- the record of a stable group has the assignment of each member
 kept_recorded : (g : Group) (r : GroupRecord) (roster : Option RosterParts) → g.phase ≡ Stable → IsRecordedAs r roster g → Each (λ m. is_in_roster roster m.id m.assignment ≡ true) g.members
 kept_recorded g r None p h = let bad : Empty ≡ Stable = sym h.phase ∙ p in cc
 kept_recorded g r (Some roster) p h =
@@ -106,7 +106,7 @@ kept_told : (g : Group) (o : Option GroupRecord) → g.phase ≡ Stable → Tell
 kept_told g None p h = let bad : Empty ≡ Stable = sym h.phase ∙ p in cc
 kept_told g (Some r) p h = kept_recorded g r r.roster p h
 
--- a reply to one of the members of a group, also where other calls were answered meanwhile
+-- a reply to a member of the group, also if other calls got replies in between
 earned_among : (events : List (Event × ℕ)) (group : List ℕ) (generation : ℕ) (o : Option GroupRecord) (ms ns : List Member) (own : List ℕ) (t : Ticket) (bytes : List ℕ)
     → map (λ m. m.id) ns ≡ map (λ m. m.id) ms → list_any (λ i. is_same i own) (map (λ m. m.id) ms) ≡ true → has_named events group generation own t ≡ true → is_kept_for o own bytes ≡ true
     → list_any (λ m. has_named events group generation m.id t && is_kept_for o m.id bytes) ns ≡ true
@@ -114,7 +114,7 @@ earned_among events group generation o ms ns own t bytes same in_it named kept =
     let good : List ℕ → Bool = λ i. has_named events group generation i t && is_kept_for o i bytes in
     sym (any-map good (λ (m : Member). m.id) ns) ∙ ap (list_any good) same ∙ any-same good own (map (λ m. m.id) ms) (and_from (has_named events group generation own t) (is_kept_for o own bytes) named kept) in_it
 
--- every SYNC of these members that waits is answered
+-- every parked SYNC of these members gets its reply
 record Waiting (events : List (Event × ℕ)) (group : List ℕ) (generation : ℕ) (o : Option GroupRecord) (all : List Member) (m : Member) : Type 0 where
   named : is_named_wait events group generation m.id m.waits ≡ true
   kept : is_kept_for o m.id m.assignment ≡ true

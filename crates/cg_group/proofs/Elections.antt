@@ -1,4 +1,4 @@
--- Members that have a protocol in common elect one.
+-- Members with a protocol in common elect one.
 use Rattle.std.proofs.Common.{◌≡◌, ℕ, Bool, true, false, not, ◌&&◌, ◌||◌, ◌==◌, nat_lt, List, [], ◌∷◌, map, filter, find, cond, is_some, refl, sym, ap, ◌∙◌, subst, Some}
 use Rattle.std.proofs.lemmas.Bool.{and_parts, or_parts, or_from, or_left, or_right}
 use Rattle.std.proofs.lemmas.Cmp.{nat_cmp_total, nat_list_cmp_total, nat_eq_equiv, upto, tied_itself, then_total, back_total, on_total}
@@ -14,7 +14,7 @@ use Rattle.cg_member.specs.Membership.{is_empty, is_same}
 use Rattle.cg_member.specs.Vote.{beats, candidates, elected, is_beaten, is_common, offers, votes}
 use Rattle.cg_held.proofs.KeptLists.{same_names, same_self}
 
--- a protocol that every member has
+-- a protocol that every member supports
 abbrev pub HasCommon : List Member → Type 0
 HasCommon members = (name : List ℕ) × (is_common members name ≡ true)
 
@@ -86,7 +86,7 @@ module _ (names : List (List ℕ)) (members : List Member) where
   itself : (a : List ℕ) → is_gt (ranking a a) ≡ false
   itself a = ap is_gt (tied_itself ranking_total a)
 
-  -- one of them that none comes before: the first or the best of the rest
+  -- the best of a list: the first, or the best of the others
   best_of : (x : List ℕ) (xs : List (List ℕ)) → (best : List ℕ) × (list_any (λ y. is_same y best) (x ∷ xs) ≡ true) × AreAfter best (x ∷ xs)
   unfolding AreAfter
   best_of x [] = (x, or_left (is_same x x) false (same_self x), or_from (is_gt (ranking x x)) false (itself x) refl)

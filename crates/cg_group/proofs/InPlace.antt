@@ -1,4 +1,4 @@
--- What a request comes to that is taken in its group's place, or refused.
+-- The outcome of a request that changes a member in place, or is refused.
 use Rattle.std.proofs.Common.{◌≡◌, ℕ, true, false, List, map, Option, Some, None, Result, Ok, Err, ok_or, refl, sym, ap, ◌∙◌}
 use Rattle.cg_names.specs.declared.code.Code.{Code}
 use Rattle.cg_names.specs.declared.code.Code.TheVariants.{InvalidGroupId, OffsetMetadataTooLarge, UnknownMemberId}
@@ -65,7 +65,7 @@ sync_in_place now r ticket groups after own id bytes e at put made =
     ∙ ap (λ b. outcome now after (reply_alone ticket (reply.Synced b))) current.assignment
     ∙ ap (outcome now after) (sym made)
 
--- COMMIT in a group that is held is that of the group
+-- the outcome of a COMMIT in a loaded group is that of the group
 commit_found : (now : ℕ) (r : CommitRequest) (ticket : Ticket) (groups : List Group) (g : Group) (id : List ℕ) (o : Option Group) → ok_or o UnknownMemberId ≡ Ok g → commit_in now r ticket groups id o ≡ commit_held now r.generation r.instance r.member r.entries ticket g
 commit_found now r ticket groups g id None e = cc
 commit_found now r ticket groups g id (Some x) e = let same : x ≡ g = cc in ap (commit_held now r.generation r.instance r.member r.entries ticket) same

@@ -1,4 +1,4 @@
--- From what holds of each group and of its record, to the machine and what is kept.
+-- From facts about each group and its record to the machine and the records.
 use Rattle.std.proofs.Common.{◌≡◌, ℕ, Bool, true, false, ◌||◌, List, [], ◌∷◌, ◌++◌, cond, is_some, refl, sym, ap, ◌∙◌, subst, Option, Some, None, Result, Ok, Err}
 use Rattle.std.specs.List.{flat_map}
 use Rattle.std.proofs.lemmas.Bool.{or_left, or_right, false≢true}
@@ -25,13 +25,13 @@ pub each-over : {X : Type 0} (P Q : X → Type 0) → ((x : X) → P x → Q x) 
 each-over P Q over [] h = tt
 each-over P Q over (x ∷ xs) h = (over x h.0, each-over P Q over xs h.1)
 
--- the groups stand by their ids, each holds with its record, and each that has a record is held
+-- the groups are in the order of their ids, each agrees with its record, and each group with a record is loaded
 pub record Invariant (I : Group → Option GroupRecord → Type 0) (groups : List Group) (kept : Kept) : Type 0 where
   pub ascending : Ascending (group_ids groups)
   pub each : Each (λ g. I g (kept g.id)) groups
   pub held : (id : List ℕ) → is_some (kept id) ≡ true → is_some (find_group id groups) ≡ true
 
--- a turn in a group, and what holds after it
+-- a step in a group, and the fact after it
 pub record Fits (I : Group → Option GroupRecord → Type 0) (kept : Kept) (t : Turn) : Type 0 where
   pub own : OfGroup t.group.id t.commands
   pub good : I t.group (kept_after kept t.commands t.group.id)
@@ -42,7 +42,7 @@ fits_framed I kept id t f h =
     let Q : List ℕ → Type 0 = λ i. I t.group (kept_after kept t.commands i) in
     record { own = subst P (sym f.0) f.1; good = subst Q (sym f.0) h }
 
--- the same groups are held after their turns
+-- the same groups are loaded after their steps
 pub found-turns : (turn : Group → Turn) → ((g : Group) → Framed g.id (turn g)) → (id : List ℕ) (gs : List Group) → is_some (find_group id (groups_after turn gs)) ≡ is_some (find_group id gs)
 unfolding find_group
 found-turns turn framed id [] = refl
@@ -119,7 +119,7 @@ module _ (I : Group → Option GroupRecord → Type 0) where
       held = λ id e. found-turns turn framed id s.groups ∙ either (is_some (kept id)) (is_some (find_group id s.groups)) (held-turns id kept s.groups e) (v.held id);
     }
 
--- a group is deleted: nothing is kept of it
+-- a deleted group has no record
 module _ (I : Group → Option GroupRecord → Type 0) where
   kept-deleted : (kept : Kept) (id : List ℕ) → kept_after kept (command.Deleted (record { group = id }) ∷ []) id ≡ None
   kept-deleted kept id = kept_after-one kept (command.Deleted (record { group = id })) id refl

@@ -1,4 +1,4 @@
--- A call that waits after an event waited before, or came with the event: each stage keeps it.
+-- A call that is parked after an event was parked before, or came with the event.
 use Rattle.std.proofs.Common.{◌≡◌, ℕ, Bool, true, false, not, List, [], ◌∷◌, map, refl, sym, ap, ◌∙◌, subst, Option, Some, None, Result, Ok, Err}
 use Rattle.std.specs.Prelude.{◌==◌, if◌then◌else◌, is_some, IfOk, OnErr}
 use Rattle.std.specs.List.{list_any}
@@ -243,7 +243,7 @@ module _ (sessions : ℕ → Bool) where
 found_named : (id : List ℕ) (groups : List Group) (g : Group) → find_group id groups ≡ Some g → g.id ≡ id
 found_named id groups g e = same_names g.id id (id-found id groups g e)
 
--- what holds of the group that takes its turn holds of the one that it leaves
+-- a fact about the group before its step carries over to the group after it
 module _ (homes : ℕ → List ℕ → Bool) where
   abbrev at : List ℕ → ℕ → Bool
   at id session = homes session id
@@ -319,7 +319,7 @@ module _ (homes : ℕ → List ℕ → Bool) where
   known-met s (event.Gone session) own h = known-everywhere (gone_in s.last session) (λ g k. stays g.id (gone_in s.last session g) (framed-gone_in s.last session g) (known-gone_in (at g.id) s.last session g k)) s h
   known-met s event.Tick own h = known-everywhere (ticked s.last) (λ g k. stays g.id (ticked s.last g) (framed-ticked s.last g) (known-ticked (at g.id) s.last g k)) s h
 
--- more sessions
+-- with more sessions in the index, what was known stays known
 module _ (sessions more : ℕ → Bool) (kept : (q : ℕ) → sessions q ≡ true → more q ≡ true) where
   more_waits : (w : Waits) → is_known sessions w ≡ true → is_known more w ≡ true
   more_waits Nothing h = refl
@@ -334,7 +334,7 @@ pub known-more : (homes more : ℕ → List ℕ → Bool) → ((q : ℕ) (id : L
 known-more homes more kept [] h = tt
 known-more homes more kept (g ∷ gs) h = (more_members (at homes g.id) (at more g.id) (λ q k. kept q g.id k) g.members h.0, known-more homes more kept gs h.1)
 
--- a closed session has no calls left
+-- a closed session has no parked calls
 module _ (sessions fewer : ℕ → Bool) (now session : ℕ) (kept : (q : ℕ) → (Some session ≡ Some q → ⊥) → sessions q ≡ true → fewer q ≡ true) where
   left_waits : (m : Member) (w : Waits) → is_known sessions w ≡ true
       → is_known fewer (if is_some (called (OfSession session) w) then answered now m else record m { waits = w }).waits ≡ true
@@ -364,13 +364,13 @@ known-left_all homes fewer now session kept [] h = tt
 known-left_all homes fewer now session kept (g ∷ gs) h =
     (stays fewer g.id (gone_in now session g) (framed-gone_in now session g) (left_group (at homes g.id) (at fewer g.id) now session (λ q apart k. kept q g.id apart k) g h.0), known-left_all homes fewer now session kept gs h.1)
 
--- what is known after an event
+-- the session index after an event
 pub known-after : (homes : ℕ → List ℕ → Bool) (now : ℕ) (groups after : List Group) (e : Event) (made : Effects) → Owns homes e → met (at_moment now groups) e ≡ outcome now after made → AreKnown homes groups → AreKnown homes after
 known-after homes now groups after e made own is h =
     let P : List Group → Type 0 = λ gs. AreKnown homes gs in
     subst P (ap (λ (o : Outcome). o.after.groups) is) (known-met homes (at_moment now groups) e own h)
 
--- the same, whether memory was found or not
+-- the same, whether or not an allocation failed
 pub known-through : {E : Type 0} (homes : ℕ → List ℕ → Bool) (now : ℕ) (groups after : List Group) (e : Event) (r : Result Effects E) → Owns homes e → IfOk r (λ made. met (at_moment now groups) e ≡ outcome now after made) → OnErr r (after ≡ groups) → AreKnown homes groups → AreKnown homes after
 known-through homes now groups after e (Ok made) own ok err h = known-after homes now groups after e made own ok h
 known-through homes now groups after e (Err x) own ok err h = let P : List Group → Type 0 = λ gs. AreKnown homes gs in subst P (sym err) h
@@ -379,13 +379,13 @@ heard_home : (homes : ℕ → List ℕ → Bool) (now : ℕ) (id : List ℕ) (g 
 unfolding hearing
 heard_home homes now id g k = known-hearing (at homes g.id) now id g k
 
--- and where a member was heard in its place
+-- the same, where a member was marked as heard in place
 pub known-heard : (homes : ℕ → List ℕ → Bool) (now : ℕ) (id own : List ℕ) (groups after : List Group) (g : Group) → find_group own groups ≡ Some g → after ≡ with_group (hearing now id g) groups → AreKnown homes groups → AreKnown homes after
 known-heard homes now id own groups after g found put h =
     let P : List Group → Type 0 = λ gs. AreKnown homes gs in
     subst P (sym put) (each-put (Home homes) (hearing now id g) groups (heard_home homes now id g (each-found (Home homes) own groups g found h)) h)
 
--- no call waits on a session that is none of these
+-- no call is parked on a session that is not one of these
 module _ (sessions : ℕ → Bool) (session : ℕ) (idle : sessions session ≡ false) where
   idle_waits : (w : Waits) → is_known sessions w ≡ true → is_some (called (OfSession session) w) ≡ false
   idle_waits Nothing h = refl
@@ -407,12 +407,12 @@ module _ (sessions : ℕ → Bool) (session : ℕ) (idle : sessions session ≡ 
   idle_group : (now : ℕ) (g : Group) → Known sessions g → gone_in now session g ≡ turn_of g
   idle_group now g h = calm_gone_in now session g (idle_members g.members h)
 
--- a group that is no home of the session is not touched where it is closed
+-- a closed session does not change a group that the index does not have for it
 pub known-apart : (homes : ℕ → List ℕ → Bool) (now session : ℕ) (groups : List Group) → AreKnown homes groups → Each (λ g. homes session g.id ≡ false → gone_in now session g ≡ turn_of g) groups
 known-apart homes now session [] h = tt
 known-apart homes now session (g ∷ gs) h = (λ apart. idle_group (at homes g.id) session apart now g h.0, known-apart homes now session gs h.1)
 
--- after a loading no call waits
+-- after recovery no call is parked
 module _ (sessions : ℕ → Bool) (now : ℕ) where
   known-revived_members : (protocol : List ℕ) (ms : List KeptMember) → Each (λ (m : Member). is_known sessions m.waits ≡ true) (map (revived_member now protocol) ms)
   unfolding revived_member

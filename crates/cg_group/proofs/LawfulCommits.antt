@@ -1,4 +1,4 @@
--- Who may commit: what was tested where a COMMIT is taken.
+-- The checks that a COMMIT passed.
 use Rattle.std.proofs.Common.{◌≡◌, ℕ, true, false, not, List, [], ◌∷◌, is_some, refl, sym, ap, subst, max, inl, inr, Option, Some, None, Result, Ok, Err, ok_or, nat_le, length, pos}
 use Rattle.std.specs.Prelude.{◌⊎◌, if◌then◌else◌}
 use Rattle.std.specs.Ordering.{int_eq}
@@ -29,7 +29,7 @@ use Rattle.cg_group.proofs.AgreeingMachine.{whole-all}
 use Rattle.cg_held.proofs.KeptLists.{each-found}
 use Rattle.cg_group.proofs.Requests.{Fine, after_checked, after_test, check_parts, passed_by, tested, unfenced_by}
 
--- the group of a member that commits is not empty by its phase
+-- a group in Empty has no members
 abbrev IsSound : Group → Type 0
 IsSound g = g.phase ≡ Empty → g.members ≡ []
 

@@ -1,4 +1,4 @@
--- A COMMIT in a group that is not held.
+-- A COMMIT in a group that is not loaded.
 use Rattle.std.proofs.Common.{◌≡◌, ℕ, List, length, refl, sym, ap, ◌∙◌, Option, Some, None, Ok, Err, ok_or}
 use Rattle.std.specs.Prelude.{IsErr}
 use Rattle.cg_names.specs.declared.code.Code.TheVariants.{InvalidGroupId, UnknownMemberId}
@@ -35,12 +35,12 @@ commit_absent now r ticket groups id e none =
     ap (λ o. ok_or o InvalidGroupId >>= λ i. commit_in now r ticket groups i (find_group i groups)) e
     ∙ ap (commit_in now r ticket groups id) none
 
--- a group that a commit made and that is taken away again
+-- creating a group for a commit and removing it again changes nothing
 pub unmade : (id : List ℕ) (groups : List Group) → find_group id groups ≡ None → without_group id (with_group (new_group id) groups) ≡ groups
 unfolding new_group
 unmade id groups none = without_with (new_group id) groups none
 
--- a group that a name does not find is not held
+-- a group that is not found is not loaded
 not_held : (o : Option Group) → ok_or o UnknownMemberId ≡ Err UnknownMemberId → o ≡ None
 not_held None e = refl
 not_held (Some g) e = cc

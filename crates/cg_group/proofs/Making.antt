@@ -1,4 +1,4 @@
--- Turns other than a commit's make the commands Assigned and Emptied, and a replacement one more: what holds of these holds of all.
+-- Steps other than a commit's make only the commands Assigned and Emptied, and a replacement also Replaced.
 use Rattle.std.proofs.Common.{ℕ, true, false, not, List, [], ◌∷◌, Option, Some, None}
 use Rattle.std.specs.Prelude.{if◌then◌else◌}
 use Rattle.std.specs.List.{list_any, flat_map}

@@ -1,4 +1,4 @@
--- What commands do to the offsets.
+-- The effect of commands on the offsets.
 use Rattle.std.proofs.Common.{◌≡◌, ℕ, Bool, true, false, List, [], ◌∷◌, ◌++◌, refl, sym, ap, ◌∙◌, Option, Some, None}
 use Rattle.std.specs.List.{fold}
 use Rattle.std.specs.FinMap as finmap
@@ -11,7 +11,7 @@ use Rattle.cg_fold.specs.Durable.{State, after, effect, is_of_other, with_entry,
 use Rattle.cg_held.specs.Kept.{Each}
 use Rattle.cg_member.specs.Offsets.{OffsetMap, offsets_after}
 
--- a command that leaves the offsets as they are
+-- a command that does not change the offsets
 abbrev pub is_quiet : Command → Bool
 is_quiet (Assigned a) = true
 is_quiet (Emptied e) = true
@@ -37,7 +37,7 @@ quiet-effect state (Replaced r) q = offsets-with_member state r.group r.member (
 quiet-effect state (Committed c) q = absurd (false≢true q)
 quiet-effect state (Deleted d) q = absurd (false≢true q)
 
--- the records have no part in it
+-- the effect on the offsets does not depend on the records
 offsets-effect : (s t : State) (c : Command) → s.offsets ≡ t.offsets → (effect s c).offsets ≡ (effect t c).offsets
 unfolding effect
 offsets-effect s t (Assigned a) e = e
@@ -58,6 +58,6 @@ quiet-after : (cs : List Command) (s : State) → AreQuiet cs → (after s cs).o
 quiet-after [] s q = refl
 quiet-after (c ∷ cs) s q = quiet-after cs (effect s c) q.1 ∙ quiet-effect s c q.0
 
--- commands of groups alone leave the offsets as they are
+-- commands about groups do not change the offsets
 pub quiet-offsets : (offsets : OffsetMap) (cs : List Command) → AreQuiet cs → offsets_after offsets cs ≡ offsets
 quiet-offsets offsets cs q = quiet-after cs (record { records = finmap.empty; offsets = offsets }) q

@@ -1,4 +1,4 @@
--- A Replaced command has the assignment of the member whose place it takes; nothing but a replacement makes one.
+-- A Replaced command has the assignment of the replaced member; only a replacement makes such a command.
 use Rattle.std.proofs.Common.{◌≡◌, ℕ, Bool, true, false, ◌&&◌, ◌||◌, max, List, [], ◌∷◌, find, cond, refl, ap, ◌∙◌, Some, Result, Ok, Err}
 use Rattle.std.specs.Prelude.{if◌then◌else◌}
 use Rattle.std.specs.List.{list_any, flat_map}
@@ -34,7 +34,7 @@ use Rattle.cg_group.proofs.Making.{makes-beat_taken, makes-gone_in, makes-join_k
 use Rattle.cg_group.proofs.Requests.{Fine, fine-beat, fine-commit, fine-join, fine-leave, fine-sync}
 use Rattle.cg_group.proofs.Succeeding.{any_found, found_passes}
 
--- another command than Replaced
+-- a command other than Replaced
 abbrev is_plain : Command → Bool
 is_plain (command.Assigned a) = true
 is_plain (command.Emptied e) = true

@@ -1,4 +1,4 @@
--- Turns other than a commit's make no command on offsets.
+-- Steps other than a commit's make no command that changes the offsets.
 use Rattle.std.proofs.Common.{ℕ, true, false, List, refl, Result, Ok, Err}
 use Rattle.std.specs.Prelude.{if◌then◌else◌}
 use Rattle.std.specs.List.{flat_map}
@@ -22,7 +22,7 @@ use Rattle.cg_group.proofs.Making.{makes-all, makes-beat_taken, makes-gone_in, m
 use Rattle.cg_group.proofs.OffsetsKept.{AreQuiet, IsQuiet}
 use Rattle.cg_group.proofs.Requests.{Fine, fine-beat, fine-join, fine-leave, fine-sync}
 
--- the turn makes none
+-- the step makes no such command
 abbrev pub Quiet : Turn → Type 0
 Quiet t = AreQuiet t.commands
 

@@ -1,4 +1,4 @@
--- What a request that is taken does, and what was tested before.
+-- The effect of a request that passes its checks, and what the checks established.
 use Rattle.std.proofs.Common.{◌≡◌, ℕ, Bool, true, false, not, List, [], ◌∷◌, is_some, refl, ap, subst, Option, Some, None, Result, Ok, Err, ok_or, nat_le, length, pos}
 use Rattle.std.proofs.lemmas.Bool.{not-false}
 use Rattle.std.specs.Ordering.{int_eq}
@@ -28,7 +28,7 @@ use Rattle.cg_member.specs.Membership.{find_instance, find_member, is_empty, is_
 use Rattle.cg_member.specs.Refusing.{◌>>=◌, refused_if}
 use Rattle.cg_member.specs.Syncing.{sync_held, sync_taken}
 
--- a refusal, or a turn of which this holds
+-- a refusal, or a step with this property
 abbrev pub Fine : (Turn → Type 0) → Result Turn Code → Type 0
 Fine P (Ok t) = P t
 Fine P (Err code) = Unit {0}
@@ -45,7 +45,7 @@ pub after_checked : {A : Type 0} (P : Turn → Type 0) (o : Result A Code) (rest
 after_checked P (Ok x) rest h = h x refl
 after_checked P (Err code) rest h = tt
 
--- what was tested before an answer came
+-- the condition of a check that passed
 
 pub tested : {A : Type 0} (b : Bool) (code : Code) (rest : Unit {0} → Result A Code) (x : A) → (refused_if b code >>= rest) ≡ Ok x → (b ≡ false) × (rest tt ≡ Ok x)
 tested true code rest x e = cc
@@ -59,7 +59,7 @@ pub passed_by : {A B : Type 0} (o : Result B Code) (rest : B → Result A Code) 
 passed_by (Ok y) rest x e = (y, refl, e)
 passed_by (Err code) rest x e = cc
 
--- who passes the member check is the member whose id is given
+-- a caller that passes the member check is the member with the given id
 pub check_parts : (instance member : Option (List ℕ)) (ms : List Member) (who : List ℕ × Member) → member_check instance member ms ≡ Ok who → (member ≡ Some who.0) × (find_member who.0 ms ≡ Some who.1)
 unfolding member_check
 check_parts instance member ms who e =
@@ -70,13 +70,13 @@ check_parts instance member ms who e =
     let Q : List ℕ × Member → Type 0 = λ w. (member ≡ Some w.0) × (find_member w.0 ms ≡ Some w.1) in
     subst Q same (named.1, found.1)
 
--- and no other has the instance that is given
+-- no other member has the given instance
 pub unfenced_by : (instance member : Option (List ℕ)) (ms : List Member) (who : List ℕ × Member) → member_check instance member ms ≡ Ok who → fencing instance member ms ≡ Ok tt
 unfolding member_check
 unfenced_by instance member ms who e =
     (passed_by (fencing instance member ms) (λ _. ok_or member UnknownMemberId >>= λ id. ok_or (find_member id ms) UnknownMemberId >>= λ m. Ok (id, m)) who e).1
 
--- who leaves is one of the members
+-- the member that leaves is a member
 leaver_is_there : (instance member : Option (List ℕ)) (ms : List Member) (m : Member) → leaver instance member ms ≡ Ok m → is_empty ms ≡ false
 unfolding leaver find_member find_instance
 leaver_is_there None None [] m e = cc
@@ -136,7 +136,7 @@ module _ (P : Turn → Type 0) where
   fine-join_in now r fresh ticket groups id None made new replacing known = fine-join_unheld now r fresh ticket (length groups) id (made refl)
   fine-join_in now r fresh ticket groups id (Some g) made new replacing known = fine-join_held now r fresh ticket r.member g (new g refl) (replacing g refl) (known g refl)
 
-  -- JOIN: a group is made, or a member is new, or it takes another's place, or it is known
+  -- JOIN: the group is new, or the member is new, a replacement, or known
   pub fine-join : (now : ℕ) (r : JoinRequest) (fresh : List ℕ) (ticket : Ticket) (groups : List Group)
       → ((id new : List ℕ) → r.group ≡ Some id → find_group id groups ≡ None → P (join_new now r new ticket (new_group id)))
       → ((id new : List ℕ) (g : Group) → r.group ≡ Some id → find_group id groups ≡ Some g → is_some (find_member new g.members) ≡ false → is_some (find_instance r.instance g.members) ≡ false → is_inconsistent r g ≡ false → P (join_new now r new ticket g))
@@ -207,7 +207,7 @@ module _ (P : Turn → Type 0) where
       after_checked P (committer r.generation r.instance r.member g) (λ who. refused_if (is_too_large r.entries) OffsetMetadataTooLarge >>= kept who)
       (λ who from. after_test P (is_too_large r.entries) OffsetMetadataTooLarge (kept who) (λ _. taken g who refl from))
 
-  -- COMMIT: a group is made, or a member or nobody commits to one that is held
+  -- COMMIT: the group is new, or the commit is from a member or a non-member of a loaded group
   pub fine-commit : (now : ℕ) (r : CommitRequest) (ticket : Ticket) (groups : List Group)
       → ((id : List ℕ) → find_group id groups ≡ None → P (committed r.entries ticket (new_group id)))
       → ((id : List ℕ) (g : Group) (who : Option (List ℕ)) → find_group id groups ≡ Some g → committer r.generation r.instance r.member g ≡ Ok who → P (committed r.entries ticket (hearing_committer now who g)))

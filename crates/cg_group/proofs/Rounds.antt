@@ -1,4 +1,4 @@
--- The join replies of an event in one group are of one round.
+-- The JOIN replies of an event in one group name the same leader, protocol and generation.
 use Rattle.std.proofs.Common.{◌≡◌, ℕ, Bool, true, false, List, [], ◌∷◌, ◌++◌, map, refl, sym, ◌∙◌, subst, Option, Some, None, Result, Ok, Err}
 use Rattle.std.proofs.lemmas.List.{append-nil}
 use Rattle.std.specs.Prelude.{if◌then◌else◌}
@@ -42,7 +42,7 @@ use Rattle.cg_group.proofs.KeptMachine.{each-over}
 use Rattle.cg_group.proofs.Requests.{Fine, fine-beat, fine-commit, fine-join, fine-leave, fine-sync}
 use Rattle.cg_group.proofs.Telling.{Told, each-answers, each-any, expired_tried, told-beat_taken, told-completed, told-gone_in, told-in_join_phase, told-left, told-rejoined, told-removal, told-replaced, told-tried, told-waiting}
 
--- no join reply
+-- not a JOIN reply
 abbrev Bare : Reply → Type 0
 Bare (reply.Joined j) = ⊥
 Bare (reply.Synced bytes) = Unit {0}
@@ -52,7 +52,7 @@ Bare (reply.Described d) = Unit {0}
 Bare (reply.Groups groups) = Unit {0}
 Bare (reply.Refused code) = Unit {0}
 
--- a join reply of the round that the group is in, or another reply
+-- a JOIN reply for the group's current generation, or another reply
 abbrev OfRound : Group → Reply → Type 0
 OfRound g r = Names g.generation g.protocol g.leader r
 
@@ -85,7 +85,7 @@ round-completed now t h =
     let g : Group = next_round t.group in
     round_of g (completed now t).replies (told-completed (OfRound g) (λ _. tt) now t (own_round g) (each-over (λ r. Bare r.1) (λ r. OfRound g r.1) (λ r k. bare_of g r.1 k) t.replies h))
 
--- where the members still join, nobody was told
+-- while the rebalance is under way, no JOIN got its reply
 
 abbrev Joins : Turn → Bool
 Joins t = is_preparing t.group.phase

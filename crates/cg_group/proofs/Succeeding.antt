@@ -1,4 +1,4 @@
--- A member takes another's place in its group as the command does in the group's record.
+-- A replacement in a group has the same effect as its command on the group's record.
 use Rattle.std.proofs.Common.{◌≡◌, ℕ, Bool, true, false, not, ◌&&◌, ◌||◌, List, [], ◌∷◌, map, find, cond, is_some, refl, sym, ap, ◌∙◌, subst, Option, Some, None}
 use Rattle.std.specs.Prelude.{if◌then◌else◌}
 use Rattle.std.specs.List.{list_any}
@@ -21,7 +21,7 @@ use Rattle.cg_member.specs.Replacing.{leads_and_goes, replacing, seated, seating
 use Rattle.cg_member.specs.Syncing.{kept_member}
 use Rattle.cg_member.proofs.Together.{fresh_from_find}
 
--- what is found passes the test, and what it passes one of all does
+-- a found element passes the test, and so some element does
 pub found_passes : (p : Member → Bool) (ms : List Member) (m : Member) → find p ms ≡ Some m → p m ≡ true
 found_passes p [] m e = cc
 found_passes p (x ∷ xs) m e =
@@ -38,7 +38,7 @@ any_found p q (x ∷ xs) m e h =
       | false ↦ λ e. or_right (q x) (list_any q xs) (any_found p q xs m e h)
     ]) e
 
--- the instance that a command looks for is the one that the machine looks for
+-- the command and the machine compare instances alike
 takes_same : (o : Option (List ℕ)) (m : Member) → is_one_instance m.instance o ≡ has_instance o m
 takes_same None m = none_at m.instance
   where
@@ -108,12 +108,12 @@ recorded-replacing : (new : Member) (g : Group) (r : GroupRecord) (roster : Opti
 recorded-replacing new g r None p may h = let bad : Empty ≡ Stable = sym h.phase ∙ p in cc
 recorded-replacing new g r (Some roster) p may h = assigned-replacing new g r roster may h
 
--- what is kept of a stable group tells of it still, once the command has put the new member into the record
+-- the record of a stable group agrees with it after the command has replaced the member
 pub told-replacing : (new : Member) (g : Group) (o : Option GroupRecord) → g.phase ≡ Stable → may_replace (kept_member g.protocol new) (map (kept_member g.protocol) g.members) ≡ true → TellsOf g o → TellsOf (replacing new g) (option_map (replaced_record (kept_member g.protocol new)) o)
 told-replacing new g None p may h = let bad : Empty ≡ Stable = sym h.phase ∙ p in cc
 told-replacing new g (Some r) p may h = recorded-replacing new g r r.roster p may h
 
--- the new member may take the place: one of the members has its instance, and none its id
+-- the replacement is allowed: one member has the instance, and no other has the id
 pub successor_may : (now : ℕ) (r : JoinRequest) (id : List ℕ) (old : Member) (g : Group) → is_some (find_member id g.members) ≡ false → find_instance r.instance g.members ≡ Some old → may_replace (kept_member g.protocol (successor now r id old)) (map (kept_member g.protocol) g.members) ≡ true
 unfolding find_instance new_member
 successor_may now r id old g own found =

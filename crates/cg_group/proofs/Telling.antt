@@ -1,4 +1,4 @@
--- What holds of every refusal, and of every join reply of a round, holds of the replies of an event.
+-- A property of every refusal and of every JOIN reply of a generation holds for all replies of an event.
 use Rattle.std.proofs.Common.{◌≡◌, ℕ, Bool, true, false, not, List, [], ◌∷◌, refl, Option, Some, None}
 use Rattle.std.specs.Prelude.{if◌then◌else◌, option_map, option_to_list}
 use Rattle.std.specs.List.{list_any, flat_map}
@@ -25,7 +25,7 @@ use Rattle.cg_member.specs.Ticking.{expired, is_overdue}
 use Rattle.cg_member.specs.Waiting.{answer, answers, called, refusing}
 use Rattle.cg_held.proofs.Framed.{each-append}
 
--- each reply of the turn
+-- each reply of the step
 abbrev pub Told : (Reply → Type 0) → Turn → Type 0
 Told P t = Each (λ r. P r.1) t.replies
 
@@ -106,7 +106,7 @@ module _ (P : Reply → Type 0) (refused : (code : Code) → P (reply.Refused co
   unfolding beat_taken beat_reply
   told-beat_taken done now own ticket g = (elim (is_preparing g.phase) as (λ b. P (if b then reply.Refused RebalanceInProgress else reply.Done)) [ true ↦ refused RebalanceInProgress | false ↦ done ], tt)
 
--- what the sessions that expired leave to be tried
+-- the step that removes expired members ends with `tried`, from a state whose replies have the property
 pub record TriedFrom (P : Reply → Type 0) (now : ℕ) (t : Turn) : Type 0 where
   pub from : Turn
   pub is : t ≡ tried now from

@@ -1,4 +1,4 @@
--- Requests that hear a member and change nothing else: they are taken in their group's place.
+-- Requests that only mark a member as heard: they change the member in place.
 use Rattle.std.specs.Prelude.{◌≡◌, ℕ, List, Option, Some, Ok}
 use Rattle.cg_member.specs.declared.group.Group.{Group}
 use Rattle.cg_member.specs.declared.member.Member.{Member}
@@ -10,25 +10,25 @@ use Rattle.cg_turn.specs.Beating.{beat_held, beat_reply, beat_taken}
 use Rattle.cg_held.specs.Held.{find_group}
 use Rattle.cg_member.specs.Syncing.{sync_current, sync_held}
 
--- the request names this group, and it is held
+-- the request names this group, and it is loaded
 pub record IsNamed (given : Option (List ℕ)) (groups : List Group) (own : List ℕ) (group : Group) : Type 0 where
   pub named : given ≡ Some own
   pub found : find_group own groups ≡ Some group
 
--- the BEAT is taken, from this member, in the group with this id, and is answered so
+-- the BEAT passes its checks, from this member, in the group with this id, and gets this reply
 pub record IsBeatIn (r : BeatRequest) (groups : List Group) (own id : List ℕ) (reply : Reply) : Type 0 where
   pub group : Group
   pub named : IsNamed r.group groups own group
   pub taken : (now : ℕ) (ticket : Ticket) → beat_held now r ticket group ≡ Ok (beat_taken now id ticket group)
   pub answered : reply ≡ beat_reply group
 
--- a SYNC of the member with this assignment is answered at once
+-- a SYNC of the member gets this assignment at once
 pub record IsCurrent (r : SyncRequest) (g : Group) (id bytes : List ℕ) : Type 0 where
   pub member : Member
   pub assignment : member.assignment ≡ bytes
   pub taken : (now : ℕ) (ticket : Ticket) → sync_held now r ticket g ≡ Ok (sync_current now id ticket member g)
 
--- the SYNC is answered at once, from this member, in the group with this id
+-- the SYNC gets its reply at once, from this member, in the group with this id
 pub record IsSyncIn (r : SyncRequest) (groups : List Group) (own id bytes : List ℕ) : Type 0 where
   pub group : Group
   pub named : IsNamed r.group groups own group

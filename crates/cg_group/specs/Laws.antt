@@ -1,4 +1,4 @@
--- The laws of the machine, over every list of events from every state that a loading begins with.
+-- Laws of the machine, for every list of events after recovery from any durable state.
 use Rattle.std.specs.Prelude.{◌≡◌, ◌⊎◌, ℕ, Bool, true, false, pos, ◌&&◌, ◌==◌, List, [], ◌∷◌, ◌++◌, map, Option, Some, None, Ok, is_some}
 use Rattle.std.specs.List.{list_any, flat_map}
 use Rattle.std.specs.Ordering.{int_eq}
@@ -32,17 +32,17 @@ use Rattle.cg_held.specs.Reviving.{revive}
 use Rattle.cg_member.specs.Syncing.{kept_member}
 use Rattle.cg_member.specs.Ticking.{ticked}
 
--- the machine after these events, each at its moment
+-- the state of the machine after these events, each at its moment
 unfoldable pub after_all : List (Event × ℕ) → Machine → Machine
 after_all [] s = s
 after_all (e ∷ es) s = after_all es (step s e.0 e.1).after
 
--- the commands that these events made, in their order
+-- the commands of these events, in their order
 unfoldable pub commands_of : List (Event × ℕ) → Machine → List Command
 commands_of [] s = []
 commands_of (e ∷ es) s = (step s e.0 e.1).effects.commands ++ commands_of es (step s e.0 e.1).after
 
--- a JOIN offers a protocol at least
+-- a JOIN lists at least one protocol
 abbrev pub is_request : Event → Bool
 is_request (event.Join ticket r fresh) = list_any (λ p. true) r.protocols
 is_request (event.Sync ticket r) = true
@@ -59,14 +59,14 @@ is_request event.Tick = true
 abbrev pub AreRequests : List (Event × ℕ) → Type 0
 AreRequests events = Each (λ e. is_request e.0 ≡ true) events
 
--- No two members of a group have one id or one instance.
+-- No two members of a group share an id or an instance.
 
 abbrev pub MembersStayDistinct : Type 0
 MembersStayDistinct =
     (state : State) (now : ℕ) (events : List (Event × ℕ)) → AreRecords state
     → Each (λ g. AreDistinct g.members) (after_all events (revive state now)).groups
 
--- All join replies that one completing makes name one leader, protocol and generation.
+-- All JOIN replies of one completed rebalance name the same leader, protocol and generation.
 
 -- the replies of an event, group by group: a request has its replies in one group
 unfoldable pub replies_by_group : Machine → Event → List (List (Ticket × Reply))
@@ -82,7 +82,7 @@ replies_by_group s (event.Delete ticket id) = (met s (event.Delete ticket id)).e
 replies_by_group s (event.Describe ticket id) = (met s (event.Describe ticket id)).effects.replies ∷ []
 replies_by_group s (event.List ticket) = (met s (event.List ticket)).effects.replies ∷ []
 
--- a join reply names this generation, protocol and leader
+-- a JOIN reply names this generation, protocol and leader; other replies name nothing
 abbrev pub Names : ℕ → Option (List ℕ) → Option (List ℕ) → Reply → Type 0
 Names generation protocol leader (reply.Joined j) = (j.generation ≡ generation) × (j.protocol ≡ protocol) × (j.leader ≡ leader)
 Names generation protocol leader (reply.Synced bytes) = Unit {0}
@@ -92,14 +92,15 @@ Names generation protocol leader (reply.Described d) = Unit {0}
 Names generation protocol leader (reply.Groups groups) = Unit {0}
 Names generation protocol leader (reply.Refused code) = Unit {0}
 
--- the join replies among these name one generation, protocol and leader
+-- the JOIN replies in this list name the same generation, protocol and leader
 pub record IsOneRound (replies : List (Ticket × Reply)) : Type 0 where
   pub generation : ℕ
   pub protocol : Option (List ℕ)
   pub leader : Option (List ℕ)
   pub each : Each (λ r. Names generation protocol leader r.1) replies
 
--- the replies of an event are those of its groups, one after the other, and each group's are of one round
+-- the replies of an event are those of its groups, in order, and those of each group name the same generation, protocol
+-- and leader
 pub record IsInRounds (s : Machine) (e : Event) : Type 0 where
   pub whole : (met s e).effects.replies ≡ flat_map (λ replies. replies) (replies_by_group s e)
   pub rounds : Each IsOneRound (replies_by_group s e)
@@ -125,30 +126,31 @@ pub record IsEmptiedAs (r : GroupRecord) (g : Group) : Type 0 where
   pub kind : Some r.kind ≡ g.kind
   pub members : g.members ≡ []
 
--- a group of which no join phase has completed, and which has no members: there is no record of it
+-- a group without members in which no rebalance has completed: it has no record
 pub record IsUnrecorded (g : Group) : Type 0 where
   pub phase : g.phase ≡ Empty
   pub generation : g.generation ≡ 0
   pub members : g.members ≡ []
 
--- the record by its roster has all of the group
+-- the record has everything of the group, by its roster
 abbrev pub IsRecordedAs : GroupRecord → Option RosterParts → Group → Type 0
 IsRecordedAs r (Some roster) g = IsAssignedAs r roster g
 IsRecordedAs r None g = IsEmptiedAs r g
 
--- what is kept of the group has all of it
+-- the record has everything of the group, or the group needs none
 abbrev pub TellsOf : Group → Option GroupRecord → Type 0
 TellsOf g None = IsUnrecorded g
 TellsOf g (Some r) = IsRecordedAs r r.roster g
 
--- a stable or empty group is what its record tells; nothing is said of one in the join phase
+-- a stable or empty group equals its record; a group with a rebalance under way may differ
 abbrev pub AgreesIn : Phase → Group → Option GroupRecord → Type 0
 AgreesIn Stable g kept = TellsOf g kept
 AgreesIn Empty g kept = TellsOf g kept
 AgreesIn Preparing g kept = Unit {0}
 AgreesIn Completing g kept = Unit {0}
 
--- the offsets are those of the durable state; each group that it has a record or an offset of is held; and what it tells of each is so
+-- the offsets are those of the durable state; each group with a record or an offset is loaded; and each group agrees
+-- with its record
 pub record Agrees (s : Machine) (state : State) : Type 0 where
   pub offsets : s.offsets ≡ state.offsets
   pub held : (id : List ℕ) → is_some (kept_in state id) ≡ true → is_some (find_group id s.groups) ≡ true
@@ -164,13 +166,13 @@ MachineAndCommandsAgree =
     (state : State) (now : ℕ) (events : List (Event × ℕ)) → AreRequests events
     → Agrees (after_all events (revive state now)) (state_after state now events)
 
--- A SYNCED reply goes to a member that named the group's generation, and gives the bytes that are kept for it; a member that takes
--- another's place has its assignment.
+-- A SYNC reply goes to a member that gave the group's generation, and has the assignment that is stored for it; a
+-- replacement has the assignment of the replaced member.
 
 abbrev pub is_same_ticket : Ticket → Ticket → Bool
 is_same_ticket t u = (t.session == u.session) && (t.number == u.number)
 
--- the event is the SYNC with this ticket, of this member of this group, and it named this generation
+-- the event is the SYNC with this ticket, of this member of this group, and gives this generation
 abbrev pub is_sync_of : List ℕ → ℕ → List ℕ → Ticket → Event → Bool
 is_sync_of group generation member t (event.Sync ticket r) =
     is_same_ticket ticket t && is_named r.group group && is_named r.member member && int_eq r.generation (pos generation)
@@ -185,21 +187,22 @@ is_sync_of group generation member t (event.List ticket) = false
 is_sync_of group generation member t (event.Gone session) = false
 is_sync_of group generation member t event.Tick = false
 
--- one of these events is
+-- one of these events is such a SYNC
 abbrev pub has_named : List (Event × ℕ) → List ℕ → ℕ → List ℕ → Ticket → Bool
 has_named events group generation member t = list_any (λ e. is_sync_of group generation member t e.0) events
 
--- these bytes are a member's in the roster
+-- these bytes are the assignment of the member in the roster
 abbrev pub is_in_roster : Option RosterParts → List ℕ → List ℕ → Bool
 is_in_roster None member bytes = false
 is_in_roster (Some roster) member bytes = list_any (λ m. is_same m.id member && is_same m.assignment bytes) roster.members
 
--- these bytes are kept for the member with this id
+-- these bytes are the stored assignment of the member with this id
 abbrev pub is_kept_for : Option GroupRecord → List ℕ → List ℕ → Bool
 is_kept_for None member bytes = false
 is_kept_for (Some r) member bytes = is_in_roster r.roster member bytes
 
--- a SYNCED reply is to a SYNC of a member of the group, which named its generation, and has what is kept for that member
+-- a SYNC reply is for a SYNC of a member of the group, which gave its generation, and has the member's stored
+-- assignment
 abbrev pub is_earned_in : List (Event × ℕ) → Group → Option GroupRecord → Ticket × Reply → Bool
 is_earned_in events g kept (t, reply.Synced bytes) =
     list_any (λ m. has_named events g.id g.generation m.id t && is_kept_for kept m.id bytes) g.members
@@ -210,7 +213,7 @@ is_earned_in events g kept (t, reply.Described d) = true
 is_earned_in events g kept (t, reply.Groups listings) = true
 is_earned_in events g kept (t, reply.Refused code) = true
 
--- it is so in a group that is held, or it is another reply
+-- the same for some loaded group; other replies always pass
 abbrev pub is_earned : List (Event × ℕ) → List Group → Kept → Ticket × Reply → Bool
 is_earned events groups kept (t, reply.Synced bytes) = list_any (λ g. is_earned_in events g (kept g.id) (t, reply.Synced bytes)) groups
 is_earned events groups kept (t, reply.Joined j) = true
@@ -220,11 +223,11 @@ is_earned events groups kept (t, reply.Described d) = true
 is_earned events groups kept (t, reply.Groups listings) = true
 is_earned events groups kept (t, reply.Refused code) = true
 
--- a member has the instance of the new one, and its assignment
+-- the member has the instance of the new one, and the same assignment
 abbrev pub passes_assignment : KeptMember → Member → Bool
 passes_assignment new m = has_instance new.instance m && is_same m.assignment new.assignment
 
--- a Replaced command has the assignment of the member whose place it takes, as its group was before
+-- a Replaced command has the assignment of the member that it replaces, as its group was before
 abbrev pub is_passed_on : List Group → Command → Bool
 is_passed_on groups (command.Replaced r) = list_any (λ g. is_same g.id r.group && list_any (passes_assignment r.member) g.members) groups
 is_passed_on groups (command.Assigned a) = true
@@ -232,7 +235,8 @@ is_passed_on groups (command.Emptied e) = true
 is_passed_on groups (command.Committed c) = true
 is_passed_on groups (command.Deleted d) = true
 
--- what one more event makes: each reply by what was met with it, and by what is held and kept at its end; each command by what was held before
+-- the law for one more event: each reply by the events so far and by the groups and records at its end; each command by
+-- the groups before it
 pub record IsEarned (events : List (Event × ℕ)) (before : Machine) (kept : Kept) (o : Outcome) : Type 0 where
   pub replies : Each (λ r. is_earned events o.after.groups kept r ≡ true) o.effects.replies
   pub commands : Each (λ c. is_passed_on before.groups c ≡ true) o.effects.commands
@@ -244,20 +248,20 @@ AssignmentsAreEarned =
     let o : Outcome = step before e m in
     IsEarned (events ++ (e, m) ∷ []) before (kept_in (after (state_after state now events) o.effects.commands)) o
 
--- A taken commit has a negative generation and a group without members, or comes from a member that is not fenced, with the group's
--- generation, in PreparingRebalance or Stable.
+-- A commit that is not refused has a negative generation and a group without members, or comes from a member that is
+-- not fenced, with the group's generation, in PreparingRebalance or Stable.
 
--- the members of a group that may not be held
+-- the members of a group, or none if it is not loaded
 abbrev pub members_of : Option Group → List Member
 members_of None = []
 members_of (Some g) = g.members
 
--- a commit of nobody: a group that is not held has no members either
+-- a commit from a non-member: the group has no members, or is not loaded
 pub record IsOfNobody (r : CommitRequest) (held : Option Group) : Type 0 where
   pub negative : is_negative r.generation ≡ true
   pub bare : members_of held ≡ []
 
--- a commit of a member, whose instance no other has
+-- a commit from a member that is not fenced
 pub record IsOfMember (r : CommitRequest) (held : Option Group) : Type 0 where
   pub group : Group
   pub group_is : held ≡ Some group

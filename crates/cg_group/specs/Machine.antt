@@ -1,4 +1,4 @@
--- The machine: what an event makes of the groups that are held and of how far each has read. The moment of an event is its own or the
+-- The machine: the effect of an event on the loaded groups and the offsets. The moment of an event is its own or the
 -- last one, whichever is later.
 use Rattle.std.specs.Prelude.{not, ℕ, max, List, [], ◌∷◌, map, length, Option, Some, None, Result, Ok, Err, option_map, ok_or}
 use Rattle.cg_names.specs.declared.code.Code.{Code}
@@ -32,14 +32,14 @@ use Rattle.cg_member.specs.Refusing.{◌>>=◌, refused_if}
 use Rattle.cg_member.specs.Syncing.{sync_held}
 use Rattle.cg_member.specs.Ticking.{ticked}
 
--- one reply, and nothing else
+-- one reply, and no command
 abbrev pub reply_alone : Ticket → Reply → Effects
 reply_alone ticket reply = record { commands = []; replies = (ticket, reply) ∷ [] }
 
 abbrev pub replying : Machine → Ticket → Reply → Outcome
 replying s ticket reply = record { after = s; effects = reply_alone ticket reply }
 
--- what a request does: it is refused and changes nothing, or it is taken
+-- a request is refused and changes nothing, or its step takes effect
 unfoldable pub concluded : Machine → Ticket → Result Turn Code → Outcome
 concluded s ticket (Err code) = replying s ticket (reply.Refused code)
 concluded s ticket (Ok t) = record {
@@ -47,13 +47,13 @@ concluded s ticket (Ok t) = record {
   effects = record { commands = t.commands; replies = t.replies };
 }
 
--- the group that a request names, where it is held
+-- the group that a request names, if it is loaded
 abbrev pub named_group : Option (List ℕ) → List Group → Result Group Code
 named_group id groups = do
   i ← ok_or id InvalidGroupId
   ok_or (find_group i groups) UnknownMemberId
 
--- JOIN, in its group
+-- JOIN, by whether its group is loaded
 abbrev pub join_in : ℕ → JoinRequest → List ℕ → Ticket → List Group → List ℕ → Option Group → Result Turn Code
 join_in now r fresh ticket groups id None = join_unheld now r fresh ticket (length groups) id
 join_in now r fresh ticket groups id (Some g) = join_held now r fresh ticket r.member g
@@ -83,7 +83,7 @@ leave now r ticket groups = do
   g ← named_group r.group groups
   leave_held now r ticket g
 
--- COMMIT, in its group
+-- COMMIT, by whether its group is loaded
 abbrev pub commit_in : ℕ → CommitRequest → Ticket → List Group → List ℕ → Option Group → Result Turn Code
 commit_in now r ticket groups id None = commit_unheld r.generation r.entries ticket (length groups) id
 commit_in now r ticket groups id (Some g) = commit_held now r.generation r.instance r.member r.entries ticket g
@@ -94,7 +94,7 @@ commit now r ticket groups = do
   id ← ok_or r.group InvalidGroupId
   commit_in now r ticket groups id (find_group id groups)
 
--- DELETE: the group that it takes away is held, and has no members
+-- DELETE: the group is loaded, and has no members
 unfoldable pub deleting : Option (List ℕ) → List Group → Result (List ℕ) Code
 deleting id groups = do
   i ← ok_or id InvalidGroupId
@@ -102,11 +102,11 @@ deleting id groups = do
   _ ← refused_if (not (is_empty g.members)) NonEmptyGroup
   Ok i
 
--- the command that takes a group away, and its reply
+-- the command that deletes a group, and its reply
 abbrev pub deleted_alone : Ticket → List ℕ → Effects
 deleted_alone ticket id = record { commands = command.Deleted (record { group = id }) ∷ []; replies = (ticket, reply.Done) ∷ [] }
 
--- what a DELETE does
+-- the effect of a DELETE
 unfoldable pub deleted : Machine → Ticket → Result (List ℕ) Code → Outcome
 deleted s ticket (Err code) = replying s ticket (reply.Refused code)
 deleted s ticket (Ok id) = record {
@@ -114,7 +114,7 @@ deleted s ticket (Ok id) = record {
   effects = deleted_alone ticket id;
 }
 
--- DESCRIBE; a group that is not held is dead
+-- DESCRIBE; a group that is not loaded has no description, and a client sees it as Dead
 unfoldable pub describe : Option (List ℕ) → List Group → Reply
 describe None groups = reply.Refused InvalidGroupId
 describe (Some id) groups = reply.Described (option_map description (find_group id groups))
@@ -133,7 +133,7 @@ met s (event.List ticket) = replying s ticket (reply.Groups (map listing s.group
 met s (Gone session) = everywhere (gone_in s.last session) s
 met s Tick = everywhere (ticked s.last) s
 
--- the offsets are what the commands make of them
+-- the commands change the offsets
 abbrev pub with_offsets : Outcome → Outcome
 with_offsets o = record o { after = record o.after { offsets = offsets_after o.after.offsets o.effects.commands } }
 

@@ -1,4 +1,4 @@
-//! A request is refused, or its group takes its turn.
+//! The outcome of a request that passed or failed its checks.
 ghost use Rattle.std.specs.Prelude.{◌≡◌, IfOk, OnErr};
 ghost use Rattle.cg_group.specs.Machine.{concluded};
 ghost use Rattle.cg_held.specs.Held.{at_moment, outcome};
@@ -12,7 +12,8 @@ use cg_names::{Code, Moment};
 use cg_request::ticket::Ticket;
 use std::alloc::{AllocError, Global};
 
-/// What a request does.
+/// Returns the effects of a request: the refusal, which changes no group, or the effects of the step, whose group
+/// replaces the old one.
 #[tactic(auto, unfolding(crate::specs::Machine::concluded))]
 pub fn conclude(
     alloc: Global,

@@ -1,4 +1,4 @@
-//! The groups that are held, and the step of the machine.
+//! The group machine: the loaded groups, and the step function.
 ghost use Rattle.std.specs.Prelude.{◌≡◌, IfOk, IfErr, OnErr, length, slice_get};
 ghost use Rattle.cg_held.specs.Sessions.{AreKnown, AreKnown-prop, is_home};
 ghost use Rattle.cg_member.specs.Waiting.{waiting_calls};
@@ -18,14 +18,14 @@ use std::alloc::{AllocError, Global};
 use std::collections::BTreeMap;
 use std::marker::Model;
 
-/// The groups that a coordinator holds, and the moment of the last event.
+/// The state of the group machine: the loaded groups, the committed offsets, and the moment of the last event.
 /// Contracts see the groups by the bytes of their ids.
 #[derive(Drop)]
 pub struct Groups {
     held: Held,
     offsets: Offsets,
     last: Moment,
-    /// Where the calls of each session wait.
+    /// Session index: the groups in which the calls of each session may be parked.
     homes: Homes,
     ghost known: { AreKnown (is_home homes) held } by { AreKnown-prop (is_home homes) held },
 }
@@ -43,7 +43,8 @@ impl Model for Groups {
 }
 
 impl Groups {
-    /// The groups after a loading at this moment: those that have a record or an offset. Want of memory gives the state back.
+    /// Loads the groups that have a record or an offset, at this moment. Costs a copy of the records; the offsets are
+    /// moved. If an allocation fails, returns the durable state unchanged.
     #[tactic(auto, unfolding(cg_held::specs::Reviving::revive))]
     pub fn revive(
         alloc: Global,
@@ -64,21 +65,22 @@ impl Groups {
         }
     }
 
-    /// The number of groups that are held.
+    /// Returns the number of loaded groups.
     pub fn held(&self) -> u64
         ensures { result ≡ length self.now.groups }
     {
         self.held.len() as u64
     }
 
-    /// The i-th call that waits, counted from 0, by the bytes of the groups' ids and in joining order. Takes no memory.
+    /// Returns the i-th parked call, counted from 0, by the bytes of the groups' ids and in joining order. Linear in
+    /// the members of all groups, no allocation.
     pub fn parked(&self, i: u64) -> Option<Ticket>
         ensures { result ≡ slice_get (waiting_calls self.now.groups) i }
     {
         self.held.parked(i)
     }
 
-    /// Meets an event. An earlier moment counts as the last one.
+    /// Processes an event. An earlier moment counts as the last one. If an allocation fails, nothing changes.
     #[tactic(auto, unfolding(crate::specs::Machine::step))]
     pub fn step(&mut self, event: Event, now: Moment) -> Result<Effects, AllocError>
         ensures ok { IfOk result (λ effects. step self.old event now ≡ record { after = self.new; effects = effects }) }

@@ -1,4 +1,4 @@
-//! Requests that hear a member and change nothing else are taken in the place of their group, without a copy of it.
+//! Requests that only mark a member as heard. They change the member in place and do not copy its group.
 ghost use Rattle.std.specs.Prelude.{◌≡◌, ℕ, Bool, List, Some, Err, IfOk, OnErr, MatchResult, MatchOption, ⊤};
 ghost use Rattle.cg_member.specs.declared.group.Group.{Group};
 ghost use Rattle.cg_group.specs.InPlace.{IsBeatIn, IsSyncIn};
@@ -29,7 +29,7 @@ use cg_turn::beating::{beat_reply, beating_member};
 use cg_turn::committing::kept;
 use std::alloc::{AllocError, Global};
 
-/// One reply, and nothing else. Takes no memory.
+/// Builds effects of one reply and no command, without an allocation.
 pub fn reply_alone(alloc: Global, ticket: Ticket, reply: Reply) -> Effects
     ensures { result ≡ reply_alone ticket reply }
 {
@@ -39,7 +39,7 @@ pub fn reply_alone(alloc: Global, ticket: Ticket, reply: Reply) -> Effects
     }
 }
 
-// Hears the member in the group with this id, and replies.
+// Marks the member as heard in the group with this id, and builds the reply.
 fn hear_in(
     now: Moment,
     held: &mut Held,
@@ -55,7 +55,7 @@ fn hear_in(
     reply_alone(held.allocator(), ticket, reply)
 }
 
-// In which group a BEAT is taken, from which member, and how it is answered.
+// Returns the group, the member and the reply of a BEAT that passes its checks.
 fn beating<'a>(
     r: &'a BeatRequest,
     groups: &Held,
@@ -72,7 +72,7 @@ fn beating<'a>(
     }
 }
 
-/// A BEAT. Takes no memory.
+/// Processes a BEAT. Two look-ups of the group, linear in its members, no allocation.
 pub fn meet_beat(now: Moment, held: &mut Held, ticket: Ticket, r: &BeatRequest) -> Effects
     ensures { concluded (at_moment now held.old) ticket (beat now r.now ticket held.old) ≡ outcome now held.new result }
 {
@@ -82,7 +82,7 @@ pub fn meet_beat(now: Moment, held: &mut Held, ticket: Ticket, r: &BeatRequest) 
     }
 }
 
-// The member whose SYNC is answered at once in its group.
+// Returns the member whose SYNC gets its reply at once, in a stable group.
 #[tactic(auto, unfolding(cg_member::specs::Syncing::sync_held, cg_member::specs::Syncing::sync_taken))]
 fn syncing_member<'a, 'b>(
     r: &'a SyncRequest,
@@ -104,7 +104,8 @@ fn syncing_member<'a, 'b>(
     Some((id, member))
 }
 
-/// In which group a SYNC is answered at once, from which member and with which assignment.
+/// Returns the group, the member and the assignment of a SYNC that gets its reply at once, or `None` for any other
+/// SYNC. Copies the assignment.
 pub fn syncing<'a>(
     r: &'a SyncRequest,
     groups: &Held,
@@ -123,7 +124,7 @@ pub fn syncing<'a>(
     }
 }
 
-/// A SYNC that is answered at once. Takes no memory.
+/// Processes a SYNC that gets its reply at once, without an allocation.
 pub fn sync_in(
     now: Moment,
     held: &mut Held,
@@ -139,7 +140,7 @@ pub fn sync_in(
     hear_in(now, held, own, id, ticket, Reply::Synced(assignment))
 }
 
-// Hears who commits, in the group with this id.
+// Marks the committing member as heard, if the commit is from a member.
 fn hear_committer(now: Moment, held: &mut Held, own: &GroupId, who: Option<&MemberId>)
     requires { InOrder held.old }
     ensures { (g : Group) → find_group own.now held.old ≡ Some g → held.new ≡ with_group (hearing_committer now (option_copied who.entry) g) held.old }
@@ -150,7 +151,8 @@ fn hear_committer(now: Moment, held: &mut Held, own: &GroupId, who: Option<&Memb
     }
 }
 
-/// A COMMIT of who may commit, in the group with this id, which is held. The id and the entries go into the command.
+/// Processes a COMMIT in the loaded group with this id, after the check of its sender. The id and the entries move into
+/// the command.
 #[tactic(auto, unfolding(cg_fold::specs::Durable::effect))]
 pub fn commit_in(
     now: Moment,

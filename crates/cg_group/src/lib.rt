@@ -1,7 +1,6 @@
-//! The group machine: what a coordinator answers to its clients, and which commands it makes, as one pure step from event to event.
-//! Its rules are the definitions of `specs/`, here and in the crates below it, in the order of the protocol guide; the code is their
-//! plain body. Stands on the groups of `cg_held`, the turns of `cg_turn`, the members and replies of `cg_member` and the requests of
-//! `cg_request`, and hands on what its callers name of them; these stand on the commands of `cg_record` and the state of `cg_fold`.
+//! The group machine: a pure step from an event to replies and commands. Its rules are the definitions in `specs/`,
+//! here and in `cg_held`, `cg_turn` and `cg_member`, in the order of the protocol guide. The types of events and
+//! replies come from the crates below and are re-exported here.
 #![tactic(auto)]
 
 mod concluding;
@@ -18,7 +17,7 @@ pub use laws::{
     rounds_are_one,
 };
 
-// What events are made of, and what a step answers.
+// The types of events, replies and groups, for the callers of `step`.
 pub use cg_member::effects::Effects;
 pub use cg_member::few::{Few, Items};
 pub use cg_member::group::{Group, Phase};

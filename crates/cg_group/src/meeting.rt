@@ -1,4 +1,4 @@
-//! What an event does to the groups that are held.
+//! The processing of each event on the loaded groups.
 ghost use Rattle.std.specs.Prelude.{◌≡◌, Ok, Err, None, length, IfOk, OnErr, MatchResult};
 ghost use Rattle.cg_member.specs.Leaving.{gone_in};
 ghost use Rattle.cg_turn.specs.Committing.{commit_unheld, keeping_entries};
@@ -50,7 +50,8 @@ fn describe(alloc: Global, id: &Option<GroupId>, groups: &Held) -> Result<Reply,
     }
 }
 
-// Makes the group that a COMMIT names, without members, and keeps the commit. Want of memory makes neither.
+// Creates the group that a COMMIT names, without members, and stores the commit. If an allocation fails, neither
+// changes.
 #[tactic(auto, unfolding(cg_fold::specs::Durable::effect))]
 fn commit_new(
     now: Moment,
@@ -79,7 +80,7 @@ fn commit_new(
     }
 }
 
-// A COMMIT whose group is not held.
+// Processes a COMMIT whose group is not loaded.
 fn commit_apart(
     now: Moment,
     held: &mut Held,
@@ -105,7 +106,7 @@ fn commit_apart(
     }
 }
 
-// A COMMIT. Its group is looked up once.
+// Processes a COMMIT: stores it in the loaded group, or in a new one.
 fn meet_commit(
     now: Moment,
     held: &mut Held,
@@ -142,7 +143,7 @@ fn meet_commit(
     }
 }
 
-// The group that a DELETE takes away.
+// Returns the group that a DELETE removes. Reports 69 if it is not loaded, and 68 if it has members.
 #[tactic(auto, unfolding(crate::specs::Machine::deleting))]
 fn deleting<'a>(id: &'a Option<GroupId>, groups: &Held) -> Result<&'a GroupId, Code>
     ensures { MatchResult result
@@ -171,7 +172,7 @@ fn deleted_alone(alloc: Global, ticket: Ticket, group: GroupId) -> Effects
     }
 }
 
-// A DELETE.
+// Removes the group and its offsets.
 #[tactic(auto, unfolding(crate::specs::Machine::deleted, cg_fold::specs::Durable::effect))]
 fn meet_delete(
     now: Moment,
@@ -198,7 +199,7 @@ fn meet_delete(
     }
 }
 
-// A Tick: each group takes its turn. Those that it does not touch stay where they are.
+// Processes a tick. Visits every loaded group, and copies only those that it changes.
 #[tactic(auto, unfolding(cg_held::specs::Held::everywhere))]
 fn meet_tick(now: Moment, held: &mut Held, homes: &mut Homes) -> Result<Effects, AllocError>
     requires { AreKnown (is_home homes.old) held.old }
@@ -218,7 +219,7 @@ fn meet_tick(now: Moment, held: &mut Held, homes: &mut Homes) -> Result<Effects,
     Ok(effects)
 }
 
-// A session is closed, at this moment. The groups that are no homes of it stay where they are, and are not gone through.
+// Processes the end of a session. Visits only the groups that the session index has for it.
 #[tactic(auto, unfolding(cg_held::specs::Held::everywhere))]
 fn meet_gone(
     now: Moment,
@@ -244,7 +245,8 @@ fn meet_gone(
     Ok(effects)
 }
 
-/// An event at this moment, which is the last one. Where it closes a session, it costs the groups in which calls of it wait.
+/// Processes an event at this moment, which becomes the last one. A closed session costs only the groups in which its
+/// calls may be parked.
 #[tactic(auto, unfolding(crate::specs::Machine::met))]
 pub fn met(
     now: Moment,

@@ -1,4 +1,4 @@
-//! The group that a request names.
+//! The look-up of the group that a request names.
 ghost use Rattle.std.specs.Prelude.{◌≡◌, Err, IfOk, MatchResult};
 ghost use Rattle.cg_group.specs.InPlace.{IsNamed};
 ghost use Rattle.cg_group.specs.Machine.{named_group};
@@ -8,7 +8,8 @@ use cg_held::held::Held;
 use cg_member::group::Group;
 use cg_names::{Code, GroupId};
 
-/// The id that a request gives, and the group with it. Costs a look-up.
+/// Returns the id in the request and the loaded group. Reports 24 for `-`, and 25 if the group is not loaded. Costs one
+/// look-up.
 pub fn named<'a, 'b>(
     groups: &'b Held,
     id: &'a Option<GroupId>,

@@ -1,4 +1,4 @@
-//! Requests whose calls may begin to wait, or that answer calls which wait: JOIN, SYNC and LEAVE.
+//! The requests that may park a call, or that may complete a rebalance: JOIN, SYNC and LEAVE.
 ghost use Rattle.std.specs.Prelude.{◌≡◌, ℕ, List, Some, true, false, IfOk, OnErr, OnOk};
 ghost use Rattle.cg_member.specs.Joining.{is_session_refused};
 ghost use Rattle.cg_group.specs.Machine.{concluded, join, leave, sync};
@@ -45,7 +45,7 @@ fn join(
     Ok(taken)
 }
 
-// JOIN with a session time-out that is taken.
+// Returns the step of a JOIN whose session timeout is within its limits, or its error code.
 #[tactic(auto, unfolding(crate::specs::Machine::join))]
 fn join_checked(
     alloc: Global,
@@ -112,7 +112,8 @@ fn leave(
     }
 }
 
-// The group that a request names is a home of its session, before its call begins to wait.
+// Adds the group to the session index before the call is parked, so that a failed allocation leaves the groups
+// unchanged.
 fn note_named(
     alloc: Global,
     homes: &mut Homes,
@@ -129,7 +130,7 @@ fn note_named(
     note(alloc, homes, session, id)
 }
 
-/// A JOIN.
+/// Processes a JOIN. Copies the group.
 pub fn meet_join(
     now: Moment,
     held: &mut Held,
@@ -153,7 +154,7 @@ pub fn meet_join(
     Ok(effects)
 }
 
-// A SYNC that is not answered in its group's place.
+// Processes a SYNC that may be parked. Copies the group.
 fn meet_sync_apart(
     now: Moment,
     held: &mut Held,
@@ -175,7 +176,7 @@ fn meet_sync_apart(
     Ok(effects)
 }
 
-/// A SYNC: in its group's place where it is answered at once.
+/// Processes a SYNC. In a stable group the member is changed in place, without a copy of the group.
 pub fn meet_sync(
     now: Moment,
     held: &mut Held,
@@ -198,7 +199,7 @@ pub fn meet_sync(
     }
 }
 
-/// A LEAVE.
+/// Processes a LEAVE. Copies the group.
 pub fn meet_leave(
     now: Moment,
     held: &mut Held,

@@ -1,4 +1,4 @@
--- Groups take their turns, one after the other, and are put into their places.
+-- The steps of groups in their order, and the replacement of the changed groups.
 use Rattle.std.proofs.Common.{◌≡◌, ℕ, Bool, true, false, ◌||◌, List, [], ◌∷◌, ◌++◌, cond, is_some, Some, None, refl, sym, ap, ◌∙◌, subst}
 use Rattle.std.specs.Prelude.{if◌then◌else◌}
 use Rattle.std.specs.List.{flat_map}
@@ -28,7 +28,7 @@ use Rattle.cg_held.proofs.Framed.{each-append}
 use Rattle.cg_held.proofs.InOrder.{before_found, come_before, differs_behind, found_alone, found_at, less_greater, none_found, same_order}
 use Rattle.cg_held.proofs.KeptLists.{found-with_group, group_ids, same_self}
 
--- the first change, and no change
+-- `changed` with a first change, and with no change
 pub changed-cons : (c : Group) (cs groups : List Group) → changed (c ∷ cs) groups ≡ changed cs (with_group c groups)
 unfolding changed
 changed-cons c cs groups = refl
@@ -42,12 +42,12 @@ unfolding changed
 changed-push [] c groups = refl
 changed-push (x ∷ cs) c groups = changed-push cs c (with_group x groups)
 
--- what is held stays so
+-- a loaded group stays loaded
 pub held-with_group : (c : Group) (cs groups : List Group) → AreHeld groups cs → AreHeld (with_group c groups) cs
 held-with_group c [] groups h = tt
 held-with_group c (x ∷ xs) groups h = (found-with_group x.id c groups (or_right (is_same c.id x.id) (is_some (find_group x.id groups)) h.0), held-with_group c xs groups h.1)
 
--- names among others
+-- an id among others
 
 one_of-push : (ids : List (List ℕ)) (x y : List ℕ) → is_same y x ≡ false → is_one_of (ids ++ x ∷ []) y ≡ is_one_of ids y
 one_of-push ids x y apart = list_any-append (is_same y) ids (x ∷ []) ∙ last (is_one_of ids y) (or_from (is_same y x) false apart refl)
@@ -67,7 +67,7 @@ come_before-trans : (ids : List (List ℕ)) (x y : List ℕ) → slice_cmp nat_c
 come_before-trans [] x y e h = tt
 come_before-trans (z ∷ zs) x y e h = (nat_list_cmp_total.trans z x y h.0 e, come_before-trans zs x y e h.1)
 
--- what is behind a name is not among those before it
+-- an id that comes before others is not among those that come before it
 none_behind : (ids : List (List ℕ)) (x : List ℕ) (gs : List Group) → ComeBefore ids x → ComesBefore x (group_ids gs) → Each (λ (h : Group). is_one_of ids h.id ≡ false) gs
 none_behind ids x [] b h = tt
 none_behind ids x (g ∷ gs) b h = (before_one_of ids g.id (come_before-trans ids x g.id h.0 b), none_behind ids x gs b h.1)
@@ -87,7 +87,7 @@ module _ (turn : Group → Turn) where
   among-push : (ids : List (List ℕ)) (x : List ℕ) (g : Group) → is_same g.id x ≡ false → among (ids ++ x ∷ []) turn g ≡ among ids turn g
   among-push ids x g e = ap (λ b. if b then turn g else turn_of g) (one_of-push ids x g.id e)
 
-  -- where none takes a turn
+  -- where no group has one of the ids, no group changes
   still : (ids : List (List ℕ)) (gs : List Group) → Each (λ (h : Group). is_one_of ids h.id ≡ false) gs → groups_after (among ids turn) gs ≡ gs
   still ids [] h = refl
   still ids (g ∷ gs) h = ap (λ (t : Turn). t.group ∷ groups_after (among ids turn) gs) (stayed ids g h.0) ∙ ap (λ ys. g ∷ ys) (still ids gs h.1)
@@ -96,7 +96,7 @@ module _ (turn : Group → Turn) where
   quiet f none ids [] h = refl
   quiet f none ids (g ∷ gs) h = ap (λ xs. xs ++ flat_map (λ g. f (among ids turn g)) gs) (ap f (stayed ids g h.0) ∙ none g) ∙ quiet f none ids gs h.1
 
-  -- one more takes its turn, behind all that did
+  -- the step of one more group, which comes after all that had theirs
   made_next : {A : Type 0} (f : Turn → List A) → ((g : Group) → f (turn_of g) ≡ []) → (ids : List (List ℕ)) (g : Group) (gs : List Group) → InOrder gs → find_group g.id gs ≡ Some g → ComeBefore ids g.id
       → flat_map (λ h. f (among (ids ++ g.id ∷ []) turn h)) gs ≡ flat_map (λ h. f (among ids turn h)) gs ++ f (turn g)
   unfolding find_group
@@ -171,7 +171,7 @@ module _ (turn : Group → Turn) where
           replies = replies ∙ ap (λ xs. xs ++ t.replies) h.replies ∙ ap (λ (u : Turn). (effects_of (among ids turn) groups).replies ++ u.replies) is ∙ sym (made_next (λ u. u.replies) (λ g. refl) ids g groups o found b);
         }
 
-  -- the same turns of each group
+  -- the same step of each group
   same_groups : (turn more : Group → Turn) (gs : List Group) → Each (λ h. turn h ≡ more h) gs → groups_after turn gs ≡ groups_after more gs
   same_groups turn more [] h = refl
   same_groups turn more (g ∷ gs) h = ap (λ (t : Turn). t.group ∷ groups_after turn gs) h.0 ∙ ap (λ ys. (more g).group ∷ ys) (same_groups turn more gs h.1)
@@ -196,7 +196,7 @@ module _ (turn : Group → Turn) where
       each [] h = tt
       each (g ∷ gs) h = (sym (among-push ids x g h.0), each gs h.1)
 
-  -- the group with the id is not touched
+  -- the event does not change the group with the id
   pub turned_untouched : (groups : List Group) (ids : List (List ℕ)) (g : Group) (done : Changes) → InOrder groups → find_group g.id groups ≡ Some g → turn g ≡ turn_of g → HaveTurned turn groups ids done → HaveTurned turn groups (ids ++ g.id ∷ []) done
   turned_untouched groups ids g done o found calm h = turned_same groups ids (ids ++ g.id ∷ []) done (each groups (found_alone g.id groups g o found)) h
     where
@@ -219,7 +219,7 @@ module _ (turn : Group → Turn) where
         each xs h.1,
       )
 
-  -- before any group took its turn
+  -- before the first step
   pub none_turned : (groups : List Group) (done : Changes) → done.groups.items ≡ [] → done.effects.commands ≡ [] → done.effects.replies ≡ [] → HaveTurned turn groups [] done
   none_turned groups done put commands replies =
       let P : List Group → Type 0 = λ cs. AreHeld groups cs in
@@ -234,7 +234,7 @@ module _ (turn : Group → Turn) where
       nobody [] = tt
       nobody (g ∷ gs) = (refl, nobody gs)
 
-  -- all groups took their turns, or would have stayed as they are
+  -- each group had its step, or the event does not change it
   abbrev pub Done : List Group → Changes → Type 0
   Done groups done = AreHeld groups done.groups.items × (changed done.groups.items groups ≡ groups_after turn groups) × (done.effects ≡ effects_of turn groups)
 
@@ -250,7 +250,7 @@ module _ (turn : Group → Turn) where
           let with_these : List Command → List (Ticket × Reply) → Effects = λ cs rs. record { commands = cs; replies = rs } in
           ap (λ cs. with_these cs e.replies) commands ∙ ap (with_these f.commands) replies
 
-  -- all groups, one after the other
+  -- invariant of the loop over all groups: a prefix of them had its steps
 
   abbrev pub Onward : List Group → List Group → Changes → Type 0
   Onward groups left done = (front : List Group) × (groups ≡ front ++ left) × HaveTurned turn groups (group_ids front) done
@@ -297,7 +297,7 @@ module _ (turn : Group → Turn) where
       last [] = refl
       last (x ∷ xs) = ap (λ ys. x.id ∷ ys) (last xs)
 
-  -- the groups with these ids, one after the other
+  -- invariant of the loop over these ids: a prefix of them had its steps
 
   abbrev pub Homeward : List Group → List (List ℕ) → List (List ℕ) → Changes → Type 0
   Homeward groups all left done = (front : List (List ℕ)) × (all ≡ front ++ left) × HaveTurned turn groups front done
@@ -310,7 +310,7 @@ module _ (turn : Group → Turn) where
       let B : List (List ℕ) → Type 0 = λ xs. Ascending xs in
       (front ++ x ∷ [], here ∙ sym (append_assoc front (x ∷ []) rest), turned front (come_before front x rest (subst B here o)) h)
 
-  -- an entry has the id, or none has
+  -- some entry has the id, or no entry does
   keys_have : {X : Type 0} (x : List ℕ) (es : List (List ℕ × X)) → is_some (lookup (is_at (slice_cmp nat_cmp x)) es) ≡ is_one_of (keys_of es) x
   keys_have x [] = refl
   keys_have x (e ∷ es) =
@@ -335,7 +335,7 @@ module _ (turn : Group → Turn) where
         each gs h.1,
       )
 
-  -- no group is touched
+  -- the event changes no group
   pub none_touched : (groups : List Group) (done : Changes) → Each (λ (g : Group). false ≡ false → turn g ≡ turn_of g) groups → HaveTurned turn groups [] done → Done groups done
   none_touched groups done calm h = all_turned groups [] done (each groups calm) h
     where

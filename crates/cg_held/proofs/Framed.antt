@@ -1,4 +1,4 @@
--- A turn stays in its group: the group keeps its id, and its commands speak of it.
+-- A step stays in its group: the group keeps its id, and the commands name that group.
 use Rattle.std.proofs.Common.{◌≡◌, ℕ, Bool, true, false, not, List, [], ◌∷◌, ◌++◌, refl, ◌∙◌, subst, Option, Some, None}
 use Rattle.std.specs.Prelude.{if◌then◌else◌}
 use Rattle.std.specs.List.{list_any}

@@ -1,4 +1,4 @@
--- Homes of sessions: what stays of them where an event was met.
+-- The session index keeps each parked call after an event.
 use Rattle.std.proofs.Common.{◌≡◌, ℕ, zero, suc, ◌+◌, ◌<◌, ◌≤◌, Bool, true, false, cond, List, [], ◌∷◌, length, get_or, is_some, inl, inr, Option, Some, None, refl, sym, ap, ◌∙◌, subst, arith}
 use Rattle.std.proofs.lemmas.Bool.{cases_lt, false≢true}
 use Rattle.std.specs.Prelude.{◌⊎◌}
@@ -18,7 +18,7 @@ use Rattle.cg_held.specs.Sessions.{AreKnown, Known, is_certain_in, is_known, is_
 use Rattle.cg_held.proofs.InOrder.{found_alone, found_named, none_found}
 use Rattle.cg_held.proofs.KeptLists.{same_names, same_self}
 
--- another home than the one that is left
+-- the entries of other groups stay
 pub others_stay : (id x : List ℕ) (before after : Option Home) → after ≡ cond (is_at (slice_cmp nat_cmp id) x) None before → (x ≡ id → ⊥) → is_some before ≡ true → is_some after ≡ true
 others_stay id x before after is apart h =
     ap is_some (is ∙ ap (λ b. cond b None before) (is_eq-slice_cmp id x))
@@ -27,7 +27,7 @@ others_stay id x before after is apart h =
       | false ↦ λ e. h
     ]) refl
 
--- a home that is lived in is not left
+-- an entry that says that a call is parked stays
 pub lived_in_stay : (id x : List ℕ) (before after : Option Home) → after ≡ cond (is_at (slice_cmp nat_cmp id) x) None before → (x ≡ id → is_lived_in before ≡ false) → is_lived_in before ≡ true → is_lived_in after ≡ true
 lived_in_stay id x before after is doubtful h =
     ap is_lived_in (is ∙ ap (λ b. cond b None before) (is_eq-slice_cmp id x))
@@ -36,7 +36,7 @@ lived_in_stay id x before after is doubtful h =
       | false ↦ λ e. h
     ]) refl
 
--- more sessions
+-- with more sessions in the index, what was known stays known
 pub known_more : (sessions more : ℕ → Bool) → ((q : ℕ) → sessions q ≡ true → more q ≡ true) → (w : Waits) → is_known sessions w ≡ true → is_known more w ≡ true
 known_more sessions more kept Nothing h = refl
 known_more sessions more kept (Join t) h = kept t.session h
@@ -46,7 +46,7 @@ pub known_members : (sessions more : ℕ → Bool) → ((q : ℕ) → sessions q
 known_members sessions more kept [] h = tt
 known_members sessions more kept (m ∷ ms) h = (known_more sessions more kept m.waits h.0, known_members sessions more kept ms h.1)
 
--- of each, by its place
+-- from a fact about each element to the element at an index
 pub each_to_place : {X : Type 0} (P : X → Type 0) (xs : List X) → Each P xs → (k : ℕ) (d : X) → k < length xs → P (get_or xs k d)
 each_to_place P [] h k d lt = absurd (omega arith)
 each_to_place P (x ∷ xs) h zero d lt = h.0
@@ -56,7 +56,7 @@ pub each_from_place : {X : Type 0} (P : X → Type 0) (xs : List X) → ((k : �
 each_from_place P [] h = tt
 each_from_place P (x ∷ xs) h = (h 0 x (omega arith), each_from_place P xs (λ k d lt. h (suc k) d (omega arith)))
 
--- the group in which the event was met, and the others
+-- the group in which the event happened, and the others
 module _ (before after : ℕ → List ℕ → Bool) (id : List ℕ) (others : (q : ℕ) (x : List ℕ) → (x ≡ id → ⊥) → before q x ≡ true → after q x ≡ true) where
   apart_stays : (g : Group) → is_same g.id id ≡ false → Known (λ q. before q g.id) g → Known (λ q. after q g.id) g
   apart_stays g e h = known_members (λ q. before q g.id) (λ q. after q g.id) (λ q k. others q g.id (λ same. false≢true (sym e ∙ own g.id id same)) k) g.members h
@@ -75,7 +75,7 @@ module _ (before after : ℕ → List ℕ → Bool) (id : List ℕ) (others : (q
       go [] e h = tt
       go (g ∷ gs) e h = (apart_stays g e.0 h.0, go gs e.1 h.1)
 
-  -- its calls that wait have homes still
+  -- the parked calls of the group are still in the index
   pub settled_held : (gs : List Group) (g : Group) → InOrder gs → find_group id gs ≡ Some g → (Known (λ q. before q id) g → Known (λ q. after q id) g) → AreKnown before gs → AreKnown after gs
   settled_held gs g o found stays h = go gs (found_alone id gs g o found) h
     where
@@ -98,7 +98,7 @@ module _ (before after : ℕ → List ℕ → Bool) (id : List ℕ) (others : (q
         go xs e.1 h.1,
       )
 
--- a home without doubt is a home
+-- an entry that says that a call is parked is an entry
 lived_in : (o : Option Home) → is_lived_in o ≡ true → is_some o ≡ true
 lived_in None h = h
 lived_in (Some home) h = refl
@@ -112,7 +112,7 @@ at_any [] i c d lt = absurd (omega arith)
 at_any (x ∷ xs) zero c d lt = refl
 at_any (x ∷ xs) (suc i) c d lt = at_any xs i c d (omega arith)
 
--- one more member whose call has a home without doubt
+-- one more member, whose parked call is in the index for certain
 pub affirmed : (first before sure after : ℕ → Bool) (ms : List Member) (i : ℕ) (m : Member) → i < length ms → m ≡ get_or ms i m
     → ((q : ℕ) → first q ≡ true → before q ≡ true) → ((q : ℕ) → sure q ≡ true → after q ≡ true)
     → (is_known before m.waits ≡ true → is_known after m.waits ≡ true)

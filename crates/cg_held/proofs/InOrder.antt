@@ -1,4 +1,4 @@
--- Groups that stand by the bytes of their ids.
+-- Groups in the order of the bytes of their ids.
 use Rattle.std.proofs.Common.{◌≡◌, ℕ, true, false, cond, List, [], ◌∷◌, ◌++◌, find, Some, None, refl, sym, ap, ◌∙◌, subst}
 use Rattle.std.proofs.lemmas.Bool.{false≢true}
 use Rattle.std.proofs.lemmas.Cmp.{nat_list_cmp_total, nat_list_eq_equiv}
@@ -31,11 +31,11 @@ equal_is x y e = same_names x y (sym (is_eq-slice_cmp x y) ∙ ap is_eq e)
 pub less_greater : (x y : List ℕ) → slice_cmp nat_cmp x y ≡ Less → slice_cmp nat_cmp y x ≡ Greater
 less_greater x y e = nat_list_cmp_total.antisymm y x ∙ ap ordering_reverse e
 
--- the later name differs from the earlier one
+-- a later name differs from an earlier one
 pub differs_behind : (x y : List ℕ) → slice_cmp nat_cmp x y ≡ Less → is_same y x ≡ false
 differs_behind x y e = nat_list_eq_equiv.symm y x ∙ differs_from_order x y Less e refl
 
--- the one group with its id
+-- only one group has its id
 
 others_apart : (x id : List ℕ) (g : Group) (gs : List Group) → x ≡ id → ComesBefore x (group_ids gs) → Each (λ h. is_same h.id id ≡ true → h ≡ g) gs
 others_apart x id g [] e h = tt
@@ -61,7 +61,7 @@ none_found id (x ∷ xs) e =
       | false ↦ λ t e. (t, none_found id xs e)
     ]) refl e
 
--- a group that is found stands behind those before it
+-- a group that is found comes after those before it
 ids_each : (x : List ℕ) (gs : List Group) → ComesBefore x (group_ids gs) → Each (λ g. slice_cmp nat_cmp x g.id ≡ Less) gs
 ids_each x [] h = tt
 ids_each x (g ∷ gs) h = (h.0, ids_each x gs h.1)
@@ -72,7 +72,7 @@ before_found x id gs g h e = each-found (λ g. slice_cmp nat_cmp x g.id ≡ Less
 pub found_named : (id : List ℕ) (gs : List Group) (g : Group) → find_group id gs ≡ Some g → g.id ≡ id
 found_named id gs g e = same_names g.id id (id-found id gs g e)
 
--- put in its own place, a group changes nothing
+-- a group that is inserted in its own place changes nothing
 pub with_group-found : (id : List ℕ) (gs : List Group) (g : Group) → InOrder gs → find_group id gs ≡ Some g → with_group g gs ≡ gs
 unfolding find_group with_group
 with_group-found id [] g o e = cc
@@ -87,7 +87,7 @@ with_group-found id (x ∷ xs) g o e =
           ∙ ap (λ ys. x ∷ ys) (with_group-found id xs g o.1 e)
     ]) refl e
 
--- put behind those that come before it
+-- a group that comes after all others is inserted last
 pub with_group-last : (g : Group) (gs : List Group) → ComeBefore (group_ids gs) g.id → with_group g gs ≡ gs ++ g ∷ []
 unfolding with_group
 with_group-last g [] h = refl
@@ -95,7 +95,7 @@ with_group-last g (x ∷ xs) h =
     ap (λ o. match_ordering o (g ∷ x ∷ xs) (g ∷ xs) (x ∷ with_group g xs)) (less_greater x.id g.id h.0)
     ∙ ap (λ ys. x ∷ ys) (with_group-last g xs h.1)
 
--- names in order, at one of them
+-- names in ascending order, split at one of them
 
 pub come_before : (front : List (List ℕ)) (x : List ℕ) (rest : List (List ℕ)) → Ascending (front ++ x ∷ rest) → ComeBefore front x
 come_before [] x rest h = tt

@@ -1,4 +1,4 @@
--- What is kept of each group, and what a command makes of it.
+-- The records of groups, and the effect of a command on them.
 use Rattle.std.proofs.Common.{◌≡◌, ℕ, Bool, true, false, not, List, [], ◌∷◌, cond, refl, sym, ap, ◌∙◌, Option, Some, None}
 use Rattle.std.specs.Prelude.{if◌then◌else◌}
 use Rattle.std.specs.Option.{option_map}
@@ -19,7 +19,7 @@ use Rattle.cg_fold.specs.Record.{assigned_record, emptied_record, replaced_recor
 use Rattle.cg_held.specs.Kept.{Kept, kept_in}
 use Rattle.cg_member.specs.Membership.{is_same}
 
--- the group that a command speaks of
+-- the group that a command names
 abbrev pub group_of : Command → List ℕ
 group_of (Assigned a) = a.group
 group_of (Emptied e) = e.group
@@ -27,7 +27,7 @@ group_of (Replaced r) = r.group
 group_of (Committed c) = c.group
 group_of (Deleted d) = d.group
 
--- what a command leaves of its group's record
+-- the record that a command leaves
 abbrev pub left_by : Command → Option GroupRecord → Option GroupRecord
 left_by (Assigned a) held = Some (assigned_record a)
 left_by (Emptied e) held = Some (emptied_record e)
@@ -38,7 +38,7 @@ left_by (Deleted d) held = None
 abbrev pub effect : Kept → Command → Kept
 effect kept c id = if is_same (group_of c) id then left_by c (kept id) else kept id
 
--- the effects of commands, one after the other
+-- the records after a list of commands
 unfoldable pub kept_after : Kept → List Command → Kept
 kept_after kept [] = kept
 kept_after kept (c ∷ cs) = kept_after (effect kept c) cs
@@ -84,7 +84,7 @@ kept-effect_at state (Deleted d) id =
 kept-effect : (state : State) (c : Command) → kept_in (state_effect state c) ≡ effect (kept_in state) c
 kept-effect state c i id = kept-effect_at state c id i
 
--- the records after commands
+-- `kept_in` after commands
 pub kept-after : (state : State) (cs : List Command) → kept_in (after state cs) ≡ kept_after (kept_in state) cs
 unfolding kept_after
 kept-after state [] = refl

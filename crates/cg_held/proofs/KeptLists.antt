@@ -1,4 +1,4 @@
--- What commands keep, group by group; and groups that stand by the bytes of their ids.
+-- Records of commands, group by group; and groups in the order of the bytes of their ids.
 use Rattle.std.proofs.Common.{◌≡◌, ℕ, true, false, ◌||◌, List, [], ◌∷◌, ◌++◌, map, find, cond, is_some, refl, sym, ap, ◌∙◌, subst, Option, Some, None}
 use Rattle.std.proofs.lemmas.Bool.{cond-true, cond-false}
 use Rattle.std.proofs.lemmas.Cmp.{nat_list_cmp_total, nat_list_eq_equiv}
@@ -16,7 +16,7 @@ use Rattle.cg_held.specs.Held.{find_group, with_group}
 use Rattle.cg_member.specs.Membership.{is_same}
 use Rattle.cg_held.proofs.Framed.{OfGroup}
 
--- names that have the same bytes
+-- a name has the same bytes as itself
 pub same_self : (x : List ℕ) → is_same x x ≡ true
 same_self x = nat_list_eq_equiv.refl x
 
@@ -26,7 +26,7 @@ same_names x y e = (bytes_eq-Decides x y).0 e
 pub differs_from_order : (x y : List ℕ) (o : Ordering) → slice_cmp nat_cmp x y ≡ o → is_eq o ≡ false → is_same x y ≡ false
 differs_from_order x y o e d = sym (is_eq-slice_cmp x y) ∙ ap is_eq e ∙ d
 
--- the record of another group is what it was
+-- the record of another group stays as it was
 pub kept_after-other : (id other : List ℕ) (kept : Kept) (cs : List Command) → OfGroup id cs → is_same id other ≡ false → kept_after kept cs other ≡ kept other
 unfolding kept_after
 kept_after-other id other kept [] h d = refl
@@ -82,7 +82,7 @@ ascending-with_group g (k ∷ ks) h =
       | Greater ↦ λ e. (before-with_group k.id g ks (greater-less g.id k.id e) h.0, ascending-with_group g ks h.1)
     ]) refl
 
--- what holds of each group goes over to each, where it does for groups with another id
+-- a fact about each group carries over to the groups after an insertion, if it does for groups with another id
 pub each-after : (P Q : Group → Type 0) (x : List ℕ) (gs : List Group) → ((k : Group) → is_same x k.id ≡ false → P k → Q k) → ComesBefore x (group_ids gs) → Each P gs → Each Q gs
 each-after P Q x [] over h e = tt
 each-after P Q x (k ∷ ks) over h e = (over k (differs_from_order x k.id Less h.0 refl) e.0, each-after P Q x ks over h.1 e.1)
@@ -97,7 +97,7 @@ each-with_group P Q g (k ∷ ks) q over h e =
       | Greater ↦ λ i. (over k (differs_from_order g.id k.id Greater i refl) e.0, each-with_group P Q g ks q over h.1 e.1)
     ]) refl
 
--- which ids are held
+-- which ids are loaded after an insertion
 pub found-with_group : (id : List ℕ) (g : Group) (gs : List Group) → (is_same g.id id || is_some (find_group id gs)) ≡ true → is_some (find_group id (with_group g gs)) ≡ true
 unfolding with_group find_group
 found-with_group id g [] h =

@@ -1,4 +1,4 @@
--- Groups in a map, each under its own id: what is done to the entries is done to the groups.
+-- A map of groups, each under its own id: a change of an entry is a change of the list of groups.
 use Rattle.std.proofs.Common.{◌≡◌, ℕ, Bool, true, false, cond, List, [], ◌∷◌, find, is_some, Option, Some, None, refl, sym, ap, ◌∙◌, subst}
 use Rattle.std.specs.Prelude.{if◌then◌else◌}
 use Rattle.std.proofs.lemmas.Cmp.{nat_list_eq_equiv}
@@ -18,7 +18,7 @@ use Rattle.cg_held.proofs.KeptLists.{ascending-with_group, same_names}
 abbrev Entries : Type 0
 Entries = List (List ℕ × Group)
 
--- a query is at a key where the group there has its id
+-- a query matches a key if the group there has its id
 at_own : (x k id : List ℕ) → k ≡ id → is_at (slice_cmp nat_cmp x) k ≡ is_same id x
 at_own x k id e = is_eq-slice_cmp x k ∙ nat_list_eq_equiv.symm x k ∙ ap (λ y. is_same y x) e
 
@@ -93,7 +93,7 @@ stand-remove_entry x [] h = tt
 stand-remove_entry x (e ∷ es) h =
     elim (is_at (slice_cmp nat_cmp x) e.0) as (λ b. StandUnderIds (cond b es (e ∷ remove_entry (is_at (slice_cmp nat_cmp x)) es))) [ true ↦ h.1 | false ↦ (h.0, stand-remove_entry x es h.1) ]
 
--- the same, of the group with its own id
+-- the same, for a group with its own id
 pub replaced : (g : Group) (es : Entries) → StandUnderIds es → InOrder (values_of es) → IsHeld (values_of es) g.id → values_of (set_value (is_at (slice_cmp nat_cmp g.id)) es g) ≡ with_group g (values_of es)
 replaced g es h o held = go (find_group g.id (values_of es)) refl held
   where
@@ -105,7 +105,7 @@ id-hearing : (now : ℕ) (id : List ℕ) (g : Group) → (hearing now id g).id �
 unfolding hearing
 id-hearing now id g = refl
 
--- a member of a group is heard, where it is held
+-- a member of a loaded group is heard
 module _ (x : List ℕ) (now : ℕ) (id : List ℕ) (es after : Entries) (h : StandUnderIds es) (o : InOrder (values_of es))
     (some : (g : Group) → lookup (is_at (slice_cmp nat_cmp x)) es ≡ Some g → after ≡ set_value (is_at (slice_cmp nat_cmp x)) es (hearing now id g)) where
   set_there : (g : Group) → find_group x (values_of es) ≡ Some g → after ≡ set_value (is_at (slice_cmp nat_cmp x)) es (hearing now id g)

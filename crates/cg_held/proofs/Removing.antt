@@ -31,7 +31,7 @@ each-without P id [] h = tt
 each-without P id (g ∷ gs) h =
     elim (is_same g.id id) as (λ b. Each P (if b then gs else g ∷ without_group id gs)) [ true ↦ h.1 | false ↦ (h.0, each-without P id gs h.1) ]
 
--- what holds of each group goes over to each that stays, where it does for groups with another id
+-- a fact about each group carries over to the groups that stay, if it does for groups with another id
 pub each-without-over : (P Q : Group → Type 0) (id : List ℕ) (gs : List Group) → ((k : Group) → is_same id k.id ≡ false → P k → Q k) → Ascending (group_ids gs) → Each P gs → Each Q (without_group id gs)
 unfolding without_group
 each-without-over P Q id [] over a h = tt
@@ -65,7 +65,7 @@ unfolding without_group
 without_absent id [] e = refl
 without_absent id (h ∷ hs) e = let p = not_first id h hs e in ap (λ b. if b then hs else h ∷ without_group id hs) p.0 ∙ ap (λ r. h ∷ r) (without_absent id hs p.1)
 
--- a group that was put in and is taken away leaves the groups as they were
+-- inserting a new group and removing it again changes nothing
 pub without_with : (g : Group) (gs : List Group) → find_group g.id gs ≡ None → without_group g.id (with_group g gs) ≡ gs
 unfolding with_group without_group
 without_with g [] e = ap (λ b. if b then [] else g ∷ []) (same_self g.id)

@@ -1,4 +1,4 @@
--- Which groups a loading begins with, and in which order.
+-- The groups after recovery, and their order.
 use Rattle.std.proofs.Common.{◌≡◌, ℕ, Bool, true, false, ◌||◌, ◌&&◌, List, [], ◌∷◌, cond, is_some, refl, sym, ap, ◌∙◌, subst, Option, Some, None, map as each, zero, suc, ◌+◌, ◌<◌, length, get_or, take, arith, ◌++◌}
 use Rattle.std.proofs.Math.Dec.{T}
 use Rattle.std.specs.List.{list_any}
@@ -29,7 +29,7 @@ use Rattle.cg_held.proofs.Homing.{each_to_place}
 use Rattle.cg_held.proofs.InOrder.{with_group-last}
 use Rattle.cg_held.proofs.KeptLists.{group_ids}
 
--- names in order
+-- names in ascending order
 
 less_is : (o : Ordering) → T (is_lt o) → o ≡ Less
 less_is Less h = refl
@@ -78,7 +78,7 @@ in_order-revived now state =
     let P : List (List ℕ) → Type 0 = λ xs. Ascending xs in
     subst P (sym (ids_revived now state (in_order (groups_in state)))) (ascending-in_order (groups_in state))
 
--- one more group, put behind those before it
+-- one more group, inserted after those before it
 
 before_take : (xs : List (List ℕ)) (n : ℕ) (d : List ℕ) → n < length xs → Ascending xs → ComeBefore (take n xs) (get_or xs n d)
 before_take [] n d lt h = absurd (omega arith)
@@ -130,9 +130,9 @@ held_revived now state id h =
     ∙ list_any-append (eq_by_cmp name_cmp id) (keys state.records) (each (λ k. k.group) (keys state.offsets))
     ∙ or_left (list_any (eq_by_cmp name_cmp id) (keys state.records)) (list_any (eq_by_cmp name_cmp id) (each (λ k. k.group) (keys state.offsets))) (sym (contains_key-keys state.records id) ∙ h))
 
--- so is a group with an offset
+-- a group with an offset is among them
 
--- two keys that tie have groups that tie
+-- keys that compare equal have equal groups
 same_group : (k x : OffsetKey) → eq_by_cmp key_cmp k x ≡ true → eq_by_cmp name_cmp k.group x.group ≡ true
 same_group k x e = first (name_cmp k.group x.group) (ordering_then (name_cmp k.topic x.topic) (nat_cmp k.partition x.partition)) e
   where

@@ -1,4 +1,4 @@
--- A group that an event does not touch stays as it is.
+-- A group that an event does not change stays as it is.
 use Rattle.std.proofs.Common.{◌≡◌, ℕ, false, not, List, [], ◌∷◌, ◌++◌, refl, ap, ◌∙◌}
 use Rattle.std.specs.Prelude.{◌||◌, if◌then◌else◌, is_some, Option, Some, None, option_map, option_to_list}
 use Rattle.std.specs.List.{list_any}
@@ -19,7 +19,7 @@ use Rattle.cg_member.specs.Waiting.{after_answer, after_answers, answer, answere
 use Rattle.cg_member.specs.Waiting.{refusing}
 use Rattle.cg_names.specs.declared.code.Code.TheVariants.{CoordinatorNotAvailable}
 
--- a stage that does nothing where its test fails
+-- a stage whose condition fails changes nothing
 calm_expired : (now : ℕ) (t : Turn) → list_any (is_overdue now) t.group.members ≡ false → is_ready t.group ≡ false → expired now t ≡ t
 unfolding expired tried
 calm_expired now t overdue ready =
@@ -37,7 +37,7 @@ calm_ticked now g calm =
     let rest = or_parts (is_ready g) (is_due now g) parts.1 in
     ap (at_deadline now) (calm_expired now (turn_of g) parts.0 rest.0) ∙ calm_at_deadline now (turn_of g) rest.1
 
--- members of whom none waits with these calls
+-- members without a parked call of this kind do not change
 
 calm_one : (which : Calls) (now : ℕ) (m : Member) → is_waiting which m ≡ false → after_answer which now m ≡ m
 calm_one which now m calm = ap (λ b. if b then answered now m else m) calm

@@ -1,4 +1,4 @@
--- Groups that an event changes, and what an event has done once some groups took their turns.
+-- The changes of an event that concerns many groups.
 use Rattle.std.specs.Prelude.{◌≡◌, ℕ, Bool, List, [], ◌∷◌, if◌then◌else◌}
 use Rattle.std.specs.List.{list_any}
 use Rattle.cg_held.specs.declared.changes.Changes.{Changes}
@@ -9,16 +9,16 @@ use Rattle.cg_held.specs.Kept.{Each}
 use Rattle.cg_request.specs.Names.{is_same}
 use Rattle.cg_member.specs.Rebalance.{turn_of}
 
--- the groups with the changed ones in the places of their ids
+-- the groups with the changed ones in their places
 unfoldable pub changed : List Group → List Group → List Group
 changed [] groups = groups
 changed (c ∷ cs) groups = changed cs (with_group c groups)
 
--- each changed group is one of those that are held
+-- each changed group is loaded
 abbrev pub AreHeld : List Group → List Group → Type 0
 AreHeld groups changes = Each (λ (c : Group). IsHeld groups c.id) changes
 
--- a group keeps its id in its turn
+-- a step keeps the id of its group
 abbrev pub KeepIds : (Group → Turn) → Type 0
 KeepIds turn = (g : Group) → (turn g).group.id ≡ g.id
 
@@ -26,11 +26,11 @@ KeepIds turn = (g : Group) → (turn g).group.id ≡ g.id
 abbrev pub is_one_of : List (List ℕ) → List ℕ → Bool
 is_one_of ids id = list_any (is_same id) ids
 
--- the groups with these ids take their turns, and the others stay as they are
+-- the step for the groups with these ids, and no change for the others
 abbrev pub among : List (List ℕ) → (Group → Turn) → Group → Turn
 among ids turn g = if is_one_of ids g.id then turn g else turn_of g
 
--- the groups with these ids took their turns
+-- the changes so far are those of the groups with these ids
 pub record HaveTurned (turn : Group → Turn) (groups : List Group) (ids : List (List ℕ)) (done : Changes) : Type 0 where
   pub held : AreHeld groups done.groups.items
   pub after : changed done.groups.items groups ≡ groups_after (among ids turn) groups

@@ -8,11 +8,11 @@ use Rattle.cg_member.specs.declared.reply.Listing.{Listing}
 use Rattle.cg_member.specs.Membership.{is_stable}
 use Rattle.cg_member.specs.Rebalance.{subscription_for}
 
--- the protocol, where the group is stable
+-- the protocol, if the group is stable
 abbrev pub shown_protocol : Group → Option (List ℕ)
 shown_protocol g = if is_stable g.phase then g.protocol else None
 
--- a member; what it asks for and what it got are shown in a stable group
+-- a member; its subscription and assignment are shown if the group is stable
 unfoldable pub shown_member : Group → Member → DescribedMember
 shown_member g m = record {
   id = m.id;
@@ -22,7 +22,7 @@ shown_member g m = record {
   assignment = if is_stable g.phase then m.assignment else [];
 }
 
--- a group that is held, as a client sees it
+-- the description of a loaded group
 unfoldable pub description : Group → Described
 description g = record {
   phase = g.phase;
@@ -32,6 +32,6 @@ description g = record {
   members = map (shown_member g) g.members;
 }
 
--- a group in the list of groups
+-- the entry of a group in the list of groups
 abbrev pub listing : Group → Listing
 listing g = record { id = g.id; kind = g.kind; phase = g.phase }

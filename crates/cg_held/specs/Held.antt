@@ -1,4 +1,4 @@
--- The groups that are held: the machine as it stands, and groups that take their turns.
+-- The loaded groups, the state of the machine, and events that concern all groups.
 use Rattle.std.specs.Prelude.{◌≡◌, is_some, true, if◌then◌else◌, ℕ, List, [], ◌∷◌, map, Option, find}
 use Rattle.std.specs.List.{flat_map}
 use Rattle.std.specs.FinMap as finmap
@@ -11,67 +11,67 @@ use Rattle.cg_held.specs.Kept.{Ascending, Each}
 use Rattle.cg_member.specs.Membership.{is_same}
 use Rattle.cg_member.specs.Offsets.{OffsetMap}
 
--- the groups that are held, by the bytes of their ids, how far each has read, and the last moment
+-- the loaded groups by the bytes of their ids, the committed offsets, and the last moment
 pub record Machine : Type 0 where
   pub groups : List Group
   pub offsets : OffsetMap
   pub last : ℕ
 
--- the machine after an event, and what the event made
+-- the state after an event, and the effects of the event
 pub record Outcome : Type 0 where
   pub after : Machine
   pub effects : Effects
 
--- these groups at this moment; of offsets nothing is said
+-- a state with these groups and this moment; its offsets do not matter
 abbrev pub at_moment : ℕ → List Group → Machine
 at_moment now groups = record { groups = groups; offsets = finmap.empty; last = now }
 
--- these groups and offsets at this moment
+-- a state with these groups, offsets and moment
 abbrev pub standing : ℕ → List Group → OffsetMap → Machine
 standing now groups offsets = record { groups = groups; offsets = offsets; last = now }
 
--- these groups and effects at this moment, and offsets of which nothing was said yet
+-- a result with these groups, effects and moment, before the commands change the offsets
 abbrev pub outcome_beside : OffsetMap → ℕ → List Group → Effects → Outcome
 outcome_beside offsets now groups effects = record { after = standing now groups offsets; effects = effects }
 
--- these groups and effects at this moment
+-- a result with these groups, effects and moment; its offsets do not matter
 abbrev pub outcome : ℕ → List Group → Effects → Outcome
 outcome now groups effects = record { after = at_moment now groups; effects = effects }
 
--- the group with this id, where it is held
+-- the group with this id, if it is loaded
 unfoldable pub find_group : List ℕ → List Group → Option Group
 find_group id groups = find (λ g. is_same g.id id) groups
 
--- the groups stand by the bytes of their ids, each once
+-- the groups are in the order of the bytes of their ids, each once
 abbrev pub InOrder : List Group → Type 0
 InOrder groups = Ascending (map (λ g. g.id) groups)
 
--- the groups with this one in the place of its id
+-- the groups with this one inserted, or in the place of the one with its id
 unfoldable pub with_group : Group → List Group → List Group
 with_group g [] = g ∷ []
 with_group g (h ∷ hs) = match_ordering (slice_cmp nat_cmp g.id h.id) (g ∷ h ∷ hs) (g ∷ hs) (h ∷ with_group g hs)
 
--- the groups without this one
+-- the groups without the one with this id
 unfoldable pub without_group : List ℕ → List Group → List Group
 without_group id [] = []
 without_group id (h ∷ hs) = if is_same h.id id then hs else h ∷ without_group id hs
 
--- the groups after each took its turn
+-- the groups after the step of each
 abbrev pub groups_after : (Group → Turn) → List Group → List Group
 groups_after turn groups = map (λ g. (turn g).group) groups
 
--- what the turns made, by the bytes of the groups' ids
+-- the effects of all steps, by the bytes of the groups' ids
 abbrev pub effects_of : (Group → Turn) → List Group → Effects
 effects_of turn groups = record { commands = flat_map (λ g. (turn g).commands) groups; replies = flat_map (λ g. (turn g).replies) groups }
 
--- each group takes its turn
+-- an event that is a step of each group
 unfoldable pub everywhere : (Group → Turn) → Machine → Outcome
 everywhere turn s = record { after = record s { groups = groups_after turn s.groups }; effects = effects_of turn s.groups }
 
--- each group stands under its own id
+-- the key of each entry is its group's id
 abbrev pub StandUnderIds : List (List ℕ × Group) → Type 0
 StandUnderIds entries = Each (λ e. e.0 ≡ e.1.id) entries
 
--- a group with this id is held
+-- a group with this id is loaded
 abbrev pub IsHeld : List Group → List ℕ → Type 0
 IsHeld groups id = is_some (find_group id groups) ≡ true

@@ -1,4 +1,4 @@
--- What the durable state keeps of a group, and the order in which groups stand.
+-- Records of the durable state, and lists in ascending order.
 use Rattle.std.specs.Prelude.{◌≡◌, ℕ, List, [], ◌∷◌, Option, IfSome}
 use Rattle.std.specs.Ordering.{Ordering-set, nat_cmp}
 use Rattle.std.specs.FinMap as finmap
@@ -9,25 +9,25 @@ use Rattle.cg_fold.specs.declared.record.GroupRecord.{GroupRecord}
 use Rattle.cg_fold.specs.Durable.{State}
 use Rattle.cg_record.specs.Rosters.{IsRoster}
 
--- a fact of each
+-- a fact about each element
 abbrev pub Each : {X : Type 0} → (X → Type 0) → List X → Type 0
 Each P [] = Unit {0}
 Each P (x ∷ xs) = P x × Each P xs
 
--- the first comes before each of the others by its bytes
+-- the first comes before each of the others, by bytes
 abbrev pub ComesBefore : List ℕ → List (List ℕ) → Type 0
 ComesBefore x ys = Each (λ y. slice_cmp nat_cmp x y ≡ Less) ys
 
--- each of the others comes before the last by its bytes
+-- each of the others comes before the last, by bytes
 abbrev pub ComeBefore : List (List ℕ) → List ℕ → Type 0
 ComeBefore xs y = Each (λ x. slice_cmp nat_cmp x y ≡ Less) xs
 
--- names by their bytes, each once
+-- names in ascending order of their bytes, each once
 abbrev pub Ascending : List (List ℕ) → Type 0
 Ascending [] = Unit {0}
 Ascending (x ∷ xs) = ComesBefore x xs × Ascending xs
 
--- both are facts, and no more
+-- two proofs of either of these facts are equal
 pub ComesBefore-prop : (x : List ℕ) (ys : List (List ℕ)) → IsProp (ComesBefore x ys)
 ComesBefore-prop x [] = Unit-prop
 ComesBefore-prop x (y ∷ ys) = ×_prop (Ordering-set (slice_cmp nat_cmp x y) Less) (ComesBefore-prop x ys)
@@ -36,17 +36,17 @@ pub Ascending-prop : (xs : List (List ℕ)) → IsProp (Ascending xs)
 Ascending-prop [] = Unit-prop
 Ascending-prop (x ∷ xs) = ×_prop (ComesBefore-prop x xs) (Ascending-prop xs)
 
--- what is kept of each group
+-- the record of each group
 abbrev pub Kept : Type 0
 Kept = List ℕ → Option GroupRecord
 
 abbrev pub kept_in : State → Kept
 kept_in state group = finmap.get state.records group
 
--- a record as commands make it: its members are those of one group, and one of them leads
+-- a record as commands make it: its members are lawful, and one of them leads
 abbrev pub IsRecord : GroupRecord → Type 0
 IsRecord r = IfSome r.roster IsRoster
 
--- each record is one of these
+-- each record of the state is such a record
 abbrev pub AreRecords : State → Type 0
 AreRecords state = (group : List ℕ) → IfSome (kept_in state group) IsRecord

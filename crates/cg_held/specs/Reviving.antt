@@ -1,4 +1,4 @@
--- The groups after a loading: those that have a record or an offset, as the last command on each left it.
+-- Recovery: the groups that have a record or an offset, as the last command on each left them.
 use Rattle.std.specs.Prelude.{ℕ, List, [], ◌∷◌, map, Option, Some, None}
 use Rattle.std.specs.FinMap as finmap
 use Rattle.cg_fold.specs.declared.record.GroupRecord.{GroupRecord}
@@ -13,7 +13,7 @@ use Rattle.cg_member.specs.declared.member.Waits.TheVariants.{Nothing}
 use Rattle.cg_member.specs.Joining.{new_group}
 use Rattle.cg_held.specs.Held.{Machine}
 
--- a member is heard now, and its list is the chosen protocol alone
+-- a member is heard at the moment of recovery, and its list is the chosen protocol alone
 unfoldable pub revived_member : ℕ → List ℕ → KeptMember → Member
 revived_member now protocol m = record {
   id = m.id;
@@ -27,7 +27,7 @@ revived_member now protocol m = record {
   waits = Nothing;
 }
 
--- a record with members is a stable group, one without an empty group
+-- a record with members makes a stable group, one without members an empty group
 unfoldable pub revived_with : ℕ → List ℕ → GroupRecord → Option RosterParts → Group
 revived_with now id r (Some roster) = record {
   id = id;
@@ -50,7 +50,7 @@ revived_with now id r None = record {
   started = 0;
 }
 
--- offsets without a record are an empty group of generation 0 without type
+-- offsets without a record make an empty group of generation 0 without a type
 abbrev pub revived_from : ℕ → List ℕ → Option GroupRecord → Group
 revived_from now id None = new_group id
 revived_from now id (Some r) = revived_with now id r r.roster
@@ -59,6 +59,6 @@ revived_from now id (Some r) = revived_with now id r r.roster
 unfoldable pub revived : ℕ → State → List ℕ → Group
 revived now state id = revived_from now id (finmap.get state.records id)
 
--- the machine that a loading begins with
+-- the state of the machine after recovery
 unfoldable pub revive : State → ℕ → Machine
 revive state now = record { groups = map (revived now state) (in_order (groups_in state)); offsets = state.offsets; last = now }

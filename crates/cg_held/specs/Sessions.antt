@@ -1,4 +1,4 @@
--- The sessions on which calls wait, and in which groups.
+-- The session index: which groups may have a parked call of which session.
 use Rattle.std.specs.Prelude.{◌≡◌, ℕ, Bool, true, false, List, [], ◌∷◌, Option, Some, None, is_some}
 use Rattle.std.specs.BTreeMap as map
 use Rattle.std.specs.BTreeMap.{BTreeMap}
@@ -16,21 +16,21 @@ use Rattle.cg_held.specs.declared.sessions.Home.{Home}
 use Rattle.cg_held.specs.declared.sessions.Home.TheVariants.{Certain, Doubtful}
 use Rattle.cg_held.specs.Kept.{Each}
 
--- a member waits for nothing, or on one of these sessions
+-- the member has no parked call, or one of these sessions
 abbrev pub is_known : (ℕ → Bool) → Waits → Bool
 is_known sessions Nothing = true
 is_known sessions (Join t) = sessions t.session
 is_known sessions (Sync t) = sessions t.session
 
--- each member of the group does
+-- each member of the group has no parked call, or one of these sessions
 abbrev pub Known : (ℕ → Bool) → Group → Type 0
 Known sessions g = Each (λ m. is_known sessions m.waits ≡ true) g.members
 
--- each member of each group does, on one of those that the group is a home of
+-- the index has each parked call: its session with its group
 abbrev pub AreKnown : (ℕ → List ℕ → Bool) → List Group → Type 0
 AreKnown homes groups = Each (λ g. Known (λ session. homes session g.id) g) groups
 
--- this is a fact, and no more
+-- two proofs of this fact are equal
 Each-prop : {X : Type 0} (P : X → Type 0) → ((x : X) → IsProp (P x)) → (xs : List X) → IsProp (Each P xs)
 Each-prop P h [] = Unit-prop
 Each-prop P h (x ∷ xs) = ×_prop (h x) (Each-prop P h xs)
@@ -40,7 +40,7 @@ AreKnown-prop homes groups =
     Each-prop (λ g. Known (λ session. homes session g.id) g)
     (λ g. Each-prop (λ (m : Member). is_known (λ session. homes session g.id) m.waits ≡ true) (λ m. Bool-set (is_known (λ session. homes session g.id) m.waits) true) g.members) groups
 
--- the call of the event may begin to wait, and the group that it names is a home of its session; or no call of it can
+-- if the event's call may be parked, the index has its session with the group that it names
 abbrev pub Owns : (ℕ → List ℕ → Bool) → Event → Type 0
 Owns homes (event.Join ticket r fresh) = (id : List ℕ) → r.group ≡ Some id → homes ticket.session id ≡ true
 Owns homes (event.Sync ticket r) = (id : List ℕ) → r.group ≡ Some id → homes ticket.session id ≡ true
@@ -54,26 +54,26 @@ Owns homes (event.List ticket) = Unit {0}
 Owns homes (event.Gone session) = Unit {0}
 Owns homes event.Tick = Unit {0}
 
--- the group is noted with these
+-- the group is one of these
 abbrev pub is_noted : List ℕ → Option (BTreeMap (List ℕ) Home) → Bool
 is_noted id None = false
 is_noted id (Some groups) = is_some (map.get (slice_cmp nat_cmp) groups id)
 
--- the group is a home of the session
+-- the index has the group for the session
 abbrev pub is_home : BTreeMap ℕ (BTreeMap (List ℕ) Home) → ℕ → List ℕ → Bool
 is_home homes session id = is_noted id (map.get nat_cmp homes session)
 
--- a call waits in such a home
+-- the entry says that a call is parked
 abbrev pub is_lived_in : Option Home → Bool
 is_lived_in None = false
 is_lived_in (Some Certain) = true
 is_lived_in (Some Doubtful) = false
 
--- the group is noted with these, as one in which a call waits
+-- the group is one of these, as one in which a call is parked
 abbrev pub is_certain_in : List ℕ → Option (BTreeMap (List ℕ) Home) → Bool
 is_certain_in id None = false
 is_certain_in id (Some groups) = is_lived_in (map.get (slice_cmp nat_cmp) groups id)
 
--- the group is a home of the session, and no doubt of it
+-- the index has the group for the session, as one in which a call is parked
 abbrev pub is_certain : BTreeMap ℕ (BTreeMap (List ℕ) Home) → ℕ → List ℕ → Bool
 is_certain homes session id = is_certain_in id (map.get nat_cmp homes session)

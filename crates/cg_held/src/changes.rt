@@ -1,4 +1,4 @@
-//! Groups that an event changes: all of them are made before the first is put into its place.
+//! The changes of an event, all built before the first one is applied, so that an allocation failure changes nothing.
 ghost use Rattle.std.specs.Prelude.{◌≡◌, []};
 ghost use Rattle.cg_held.specs.Changes.{AreHeld, changed};
 
@@ -9,15 +9,15 @@ use cg_member::group::Group;
 use cg_names::GroupId;
 use std::alloc::Global;
 
-/// A group in which an event answered calls.
+/// A group in which an event replied to calls.
 #[derive(Drop)]
 pub struct Answered {
     pub group: GroupId,
-    /// How many replies there were in all, once its own were made.
+    /// Total number of replies after those of this group.
     pub until: usize,
 }
 
-/// What an event changed so far, and what it made.
+/// The changes of an event so far: groups, and effects.
 #[derive(Drop)]
 pub struct Changes {
     pub groups: Vec<Group>,
@@ -26,7 +26,7 @@ pub struct Changes {
 }
 
 impl Changes {
-    /// Nothing yet. Takes no memory.
+    /// Creates an empty set of changes, without an allocation.
     pub fn new(alloc: Global) -> Self
         ensures groups { result.groups.items ≡ [] }
         ensures commands { result.effects.commands ≡ [] }
@@ -43,7 +43,7 @@ impl Changes {
     }
 }
 
-/// Puts the changed groups into their places. Takes no memory.
+/// Replaces the changed groups. No allocation.
 pub fn put_all(held: &mut Held, changes: Vec<Group>)
     requires { AreHeld held.old changes.items }
     ensures { held.new ≡ changed changes.items held.old }

@@ -1,4 +1,4 @@
-//! DESCRIBE and LIST.
+//! DESCRIBE (DescribeGroups request) and LIST (ListGroups request).
 ghost use Rattle.std.specs.Prelude.{◌≡◌, [], IfOk, map, if◌then◌else◌};
 ghost use Rattle.cg_member.specs.Membership.{is_stable};
 ghost use Rattle.cg_held.specs.Describing.{shown_protocol, shown_member, description, listing};
@@ -89,7 +89,7 @@ fn shown_members(alloc: Global, group: &Group) -> Result<Listed<DescribedMember>
     Ok(members)
 }
 
-/// A group that is held, as a client sees it.
+/// Returns the description of a loaded group. Copies the shown fields of all members.
 #[tactic(auto, unfolding(crate::specs::Describing::description))]
 pub fn description(alloc: Global, group: &Group) -> Result<Described, AllocError>
     ensures { IfOk result (λ d. d ≡ description group.now) }
@@ -118,7 +118,7 @@ fn listing(group: &Group) -> Result<Listing, AllocError>
     })
 }
 
-/// The groups in a list.
+/// Returns the list of all loaded groups, by the bytes of their ids. Linear in the groups.
 pub fn listings(alloc: Global, groups: &Held) -> Result<Listed<Listing>, AllocError>
     ensures { IfOk result (λ ls. ls ≡ map listing groups.now) }
 {

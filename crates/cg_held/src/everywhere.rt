@@ -1,4 +1,4 @@
-//! What an event does in each group that is held. A group that it does not touch stays where it is, without a copy.
+//! Events that concern many groups: a tick, and a closed session. A group that the event does not change is not copied.
 ghost use Rattle.std.specs.Prelude.{◌≡◌, ℕ, Some, List, [], ◌∷◌, ◌++◌, IfOk, OnOk};
 ghost use Rattle.cg_member.specs.declared.group.Group.{Group};
 ghost use Rattle.cg_held.specs.Changes.{AreHeld, HaveTurned, KeepIds, changed};
@@ -14,7 +14,7 @@ use cg_turn::leaving::{gone_in, gone_touches};
 use cg_turn::ticking::{tick_touches, ticked};
 use std::alloc::{AllocError, Global};
 
-/// What one event does in each group.
+/// An event as a step of each single group.
 pub trait Turning {
     ghost use Rattle.std.specs.Bool.{OnFalse};
     ghost use Rattle.cg_member.specs.Rebalance.{turn_of};
@@ -23,16 +23,16 @@ pub trait Turning {
 
     ghost turns: { Self → Group → Turn };
 
-    /// Whether the event touches the group. Takes no memory.
+    /// Returns whether the event may change the group. No allocation.
     fn touches(&self, group: &Group) -> bool
         ensures { OnFalse result (turns self.now group.now ≡ turn_of group.now) };
 
-    /// The turn of a group. Costs its whole size.
+    /// Returns the step of the group, which works on a copy.
     fn turn(&self, alloc: Global, group: &Group) -> Result<Turn, AllocError>
         ensures { IfOk result (λ t. t ≡ turns self.now group.now) };
 }
 
-/// A Tick, at this moment.
+/// A tick at this moment.
 #[derive(Drop)]
 pub struct Ticking(pub Moment);
 
@@ -51,7 +51,7 @@ impl Turning for Ticking {
     }
 }
 
-/// A session is closed, at this moment.
+/// The end of a session at this moment.
 #[derive(Drop)]
 pub struct Going {
     pub now: Moment,
@@ -73,7 +73,7 @@ impl Turning for Going {
     }
 }
 
-/// A group takes its turn, where the event touches it.
+/// Appends the step of the group to the changes, if the event may change it.
 pub fn turn_one<T: Turning>(
     alloc: Global,
     turning: &T,
@@ -102,7 +102,7 @@ pub fn turn_one<T: Turning>(
     Ok(())
 }
 
-/// Each group that the event touches takes its turn: what that changes, and what it makes. Nothing is changed yet.
+/// Returns the changes of the event in all loaded groups. No group is replaced yet.
 pub fn everywhere<T: Turning>(
     alloc: Global,
     turning: &T,

@@ -1,4 +1,4 @@
-//! The groups that are held, in a map by their ids.
+//! The loaded groups, in a map by their ids.
 ghost use Rattle.std.specs.Prelude.{◌≡◌, ℕ, Some, None, [], length, is_some, slice_get, true, OnErr, OnOk};
 ghost use Rattle.std.specs.BTreeMap.{get, is_at};
 ghost use Rattle.std.specs.Cmp.Lexicographic.{slice_cmp};
@@ -20,7 +20,7 @@ use std::collections::BTreeMap;
 use std::collections::btree_map::Values;
 use std::marker::Model;
 
-/// Groups in their order, each under its own id. Contracts see the list.
+/// The loaded groups by the bytes of their ids. Contracts see the list of groups.
 #[derive(Debug, Drop)]
 pub struct Held {
     alloc: Global,
@@ -66,7 +66,7 @@ fn hear_among(groups: &mut BTreeMap<GroupId, Group>, own: &GroupId, id: &MemberI
 }
 
 impl Held {
-    /// No groups. Takes no memory.
+    /// Creates an empty map, without an allocation.
     pub fn new(alloc: Global) -> Self
         ensures { result ≡ [] }
     {
@@ -76,19 +76,19 @@ impl Held {
         }
     }
 
-    /// Where groups are kept.
+    /// Returns the allocator of the groups.
     pub fn allocator(&self) -> Global {
         self.alloc
     }
 
-    /// How many groups there are.
+    /// Returns the number of groups.
     pub fn len(&self) -> usize
         ensures { result ≡ length self.now }
     {
         self.groups.len()
     }
 
-    /// The groups in their order.
+    /// Returns an iterator over the groups, by the bytes of their ids.
     pub fn iter(&self) -> Values<'_, GroupId, Group>
         ensures rest { result ≡ self.now }
         ensures runs { ShowsInOrder (deref {X = Group}) }
@@ -97,7 +97,7 @@ impl Held {
         self.groups.values()
     }
 
-    /// The group with this id. Costs a look-up.
+    /// Returns the group with this id. Costs one look-up.
     pub fn find(&self, id: &GroupId) -> Option<&Group>
         ensures found { option_copied result ≡ find_group id.now self.now }
         ensures in_order { InOrder self.now }
@@ -105,7 +105,8 @@ impl Held {
         self.groups.get(id)
     }
 
-    /// The i-th call that waits, counted from 0, by group and joining order. Takes no memory.
+    /// Returns the i-th parked call, counted from 0, by group and joining order. Linear in the members of all groups,
+    /// no allocation.
     #[tactic(auto, unfolding(cg_member::specs::Waiting::waiting_calls))]
     pub fn parked(&self, i: u64) -> Option<Ticket>
         ensures { result ≡ slice_get (waiting_calls self.now) i }
@@ -117,7 +118,7 @@ impl Held {
             .nth(i as usize)
     }
 
-    // A group whose id is not held.
+    // Inserts a group whose id is not loaded.
     fn add(&mut self, group: Group) -> Result<(), AllocError>
         ensures ok { OnOk result (self.new ≡ with_group group self.old) }
         ensures err { OnErr result (self.new ≡ self.old) }
@@ -127,7 +128,7 @@ impl Held {
         Ok(())
     }
 
-    /// Puts a group in the place of its id. Takes memory only where the id is not held.
+    /// Inserts or replaces the group with this id. Allocates only if the id is not loaded.
     pub fn put(&mut self, group: Group) -> Result<(), AllocError>
         ensures ok { OnOk result (self.new ≡ with_group group self.old) }
         ensures err { OnErr result (self.new ≡ self.old) }
@@ -140,7 +141,7 @@ impl Held {
         Ok(())
     }
 
-    /// Puts a group in the place of the one with its id. Takes no memory.
+    /// Replaces the group with this id. No allocation.
     pub fn replace(&mut self, group: Group)
         requires { IsHeld self.old group.id }
         ensures { self.new ≡ with_group group self.old }
@@ -148,14 +149,14 @@ impl Held {
         replace_in(&mut self.groups, group);
     }
 
-    /// Takes the group with this id away.
+    /// Removes the group with this id, if it is loaded.
     pub fn remove(&mut self, id: &GroupId)
         ensures { self.new ≡ without_group id.now self.old }
     {
         let _group = self.groups.remove(id);
     }
 
-    /// The member with this id, of this group, was heard now. Takes no memory.
+    /// Sets the moment at which this member of this group was last heard. No allocation.
     pub fn hear(&mut self, group: &GroupId, id: &MemberId, now: Moment)
         ensures { (g : Group) → find_group group.now self.old ≡ Some g → self.new ≡ with_group (hearing now id.now g) self.old }
     {

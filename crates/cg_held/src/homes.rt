@@ -1,4 +1,4 @@
-//! A session is closed: its homes alone take their turns.
+//! Closed sessions: only the groups that the session index has for the session are visited.
 ghost use Rattle.std.specs.Prelude.{◌≡◌, ℕ, List, [], ◌∷◌, ◌++◌, false, IfOk, OnOk};
 ghost use Rattle.cg_member.specs.declared.group.Group.{Group};
 ghost use Rattle.cg_held.specs.Changes.{AreHeld, HaveTurned, KeepIds, changed};
@@ -16,7 +16,7 @@ use cg_names::GroupId;
 use std::alloc::{AllocError, Global};
 use std::collections::BTreeMap;
 
-// The group with this id takes its turn, where it is held and the event touches it.
+// Appends the step of the group with this id, if it is loaded and the event may change it.
 fn turn_home<T: Turning>(
     alloc: Global,
     turning: &T,
@@ -36,7 +36,7 @@ fn turn_home<T: Turning>(
     Ok(())
 }
 
-// The groups with these ids take their turns, in their order.
+// Appends the steps of the groups with these ids, in order.
 fn turn_homes<T: Turning>(
     alloc: Global,
     turning: &T,
@@ -56,7 +56,8 @@ fn turn_homes<T: Turning>(
     Ok(done)
 }
 
-/// The homes of the session take their turns, in their order: what that changes, and what it makes. Nothing is changed yet.
+/// Returns the changes of an event in the groups that the index has for the session. No group is replaced yet. Costs
+/// one look-up for each of them.
 pub fn turn_there<T: Turning>(
     alloc: Global,
     turning: &T,

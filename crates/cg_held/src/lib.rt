@@ -1,4 +1,5 @@
-//! The groups that are held, by their ids, and where calls wait: what a loading begins with, and what goes through many groups.
+//! The loaded groups by their ids, the session index of parked calls, recovery from the durable state, and events that
+//! concern many groups.
 #![tactic(auto)]
 
 pub mod changes;

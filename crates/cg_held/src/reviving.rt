@@ -1,4 +1,4 @@
-//! The groups after a loading.
+//! Recovery: the loaded groups from the durable state.
 ghost use Rattle.std.specs.Prelude.{◌≡◌, Some, None, IfOk, map};
 ghost use Rattle.cg_fold.specs.Snapshot.{groups_in, in_order};
 ghost use Rattle.cg_held.specs.Reviving.{revived_member, revived_with, revived};
@@ -67,7 +67,7 @@ fn revived_members(alloc: Global, now: Moment, roster: &Roster) -> Result<Member
     Ok(Members::from_vec(items))
 }
 
-// A stable group, as its record has it.
+// Returns a stable group, from its record.
 #[tactic(auto, unfolding(crate::specs::Reviving::revived_with))]
 fn revived_stable(
     alloc: Global,
@@ -94,7 +94,7 @@ fn revived_stable(
     })
 }
 
-// A group without members, as its record has it.
+// Returns a group without members, from its record.
 #[tactic(auto, unfolding(crate::specs::Reviving::revived_with))]
 fn revived_empty(
     alloc: Global,
@@ -117,7 +117,7 @@ fn revived_empty(
     })
 }
 
-// A group, as its record has it.
+// Returns a group from its record.
 fn revived_held(
     alloc: Global,
     now: Moment,
@@ -132,7 +132,7 @@ fn revived_held(
     }
 }
 
-/// The group with this id.
+/// Returns the group with this id; a group with offsets alone has no record.
 #[tactic(auto, unfolding(crate::specs::Reviving::revived))]
 fn revived(alloc: Global, now: Moment, id: &GroupId, durable: &Durable) -> Result<Group, AllocError>
     ensures { IfOk result (λ g. g ≡ revived now durable.now id.now) }
@@ -147,7 +147,7 @@ fn revived(alloc: Global, now: Moment, id: &GroupId, durable: &Durable) -> Resul
     }
 }
 
-/// The groups that have a record or an offset, by the bytes of their ids.
+/// Returns the groups that have a record or an offset, by the bytes of their ids. Copies the records.
 pub fn revived_all(alloc: Global, now: Moment, durable: &Durable) -> Result<Held, AllocError>
     ensures { IfOk result (λ groups. groups ≡ map (revived now durable.now) (in_order (groups_in durable.now))) }
 {

@@ -1,4 +1,5 @@
-//! The groups in which the calls of a session wait: where it is closed, the others are not gone through.
+//! The session index: for each session, the groups in which its calls may be parked. A closed session visits only
+//! these.
 ghost use Rattle.std.specs.Prelude.{◌≡◌, ℕ, List, Some, None, true, false, OnOk};
 ghost use Rattle.std.specs.BTreeMap.{get};
 ghost use Rattle.std.specs.Ordering.{nat_cmp};
@@ -9,19 +10,19 @@ use cg_names::GroupId;
 use std::alloc::{AllocError, Global};
 use std::collections::BTreeMap;
 
-/// How a group is a home of a session.
+/// What the session index knows of a group.
 #[derive(Clone, Copy, Debug)]
 pub enum Home {
-    /// A call of the session waits in the group.
+    /// A call of the session is parked in the group.
     Certain,
-    /// Perhaps no call of the session waits there any more, and nothing more is known of it.
+    /// A call of the session in the group got its reply, and it is not known yet whether another one is parked there.
     Doubtful,
 }
 
-/// For each session the groups in which a call of it waits.
+/// The session index: for each session, the groups in which its calls may be parked.
 pub type Homes = BTreeMap<u64, BTreeMap<GroupId, Home>>;
 
-// The first home of a session.
+// Adds the first group of a session.
 fn note_first(alloc: Global, homes: &mut Homes, session: u64, id: GroupId) -> Result<(), AllocError>
     requires { get nat_cmp homes.old session ≡ None }
     ensures kept { (q : ℕ) (x : List ℕ) → is_home homes.old q x ≡ true → is_home homes.new q x ≡ true }
@@ -33,7 +34,7 @@ fn note_first(alloc: Global, homes: &mut Homes, session: u64, id: GroupId) -> Re
     Ok(())
 }
 
-// One more home of a session.
+// Adds one more group of a session.
 fn note_in(groups: &mut BTreeMap<GroupId, Home>, id: GroupId) -> Result<(), AllocError>
     ensures kept { (x : List ℕ) → is_noted x (Some groups.old) ≡ true → is_noted x (Some groups.new) ≡ true }
     ensures here { OnOk result (is_noted id (Some groups.new) ≡ true) }
@@ -42,7 +43,7 @@ fn note_in(groups: &mut BTreeMap<GroupId, Home>, id: GroupId) -> Result<(), Allo
     Ok(())
 }
 
-/// The group is a home of the session from now on.
+/// Adds the group to the session's groups.
 pub fn note(alloc: Global, homes: &mut Homes, session: u64, id: GroupId) -> Result<(), AllocError>
     ensures kept { (q : ℕ) (x : List ℕ) → is_home homes.old q x ≡ true → is_home homes.new q x ≡ true }
     ensures here { OnOk result (is_home homes.new session id ≡ true) }
@@ -62,7 +63,7 @@ fn doubt_in(groups: &mut BTreeMap<GroupId, Home>, id: &GroupId)
     }
 }
 
-/// A call of the session was answered in the group: it is a doubtful home of it, if it is one.
+/// Marks the group as doubtful for the session, if the index has it: a call of the session got its reply there.
 pub fn doubt(homes: &mut Homes, session: u64, id: &GroupId)
     ensures { (q : ℕ) (x : List ℕ) → is_home homes.old q x ≡ true → is_home homes.new q x ≡ true }
 {
@@ -81,7 +82,7 @@ fn affirm_in(groups: &mut BTreeMap<GroupId, Home>, id: &GroupId)
     }
 }
 
-/// A call of the session waits in the group: it is no doubtful home of it.
+/// Marks the group as certain for the session, if the index has it: a call of the session is parked there.
 pub fn affirm(homes: &mut Homes, session: u64, id: &GroupId)
     ensures kept { (q : ℕ) (x : List ℕ) → is_home homes.old q x ≡ true → is_home homes.new q x ≡ true }
     ensures certain { (q : ℕ) (x : List ℕ) → is_certain homes.old q x ≡ true → is_certain homes.new q x ≡ true }
@@ -92,7 +93,6 @@ pub fn affirm(homes: &mut Homes, session: u64, id: &GroupId)
     }
 }
 
-// Whether the group is a doubtful home.
 fn is_doubtful(groups: &BTreeMap<GroupId, Home>, id: &GroupId) -> bool
     ensures { result ≡ true → is_certain_in id.now (Some groups.now) ≡ false }
 {
@@ -112,7 +112,7 @@ fn leave_in(groups: &mut BTreeMap<GroupId, Home>, id: &GroupId)
     }
 }
 
-// The homes of the session without the group, where it is a doubtful one; and whether none is left.
+// Removes the group if it is doubtful. Returns whether the session has no groups left.
 fn leave_one(homes: &mut Homes, session: u64, id: &GroupId) -> bool
     ensures others { (q : ℕ) (x : List ℕ) → (x ≡ id.now → ⊥) → is_home homes.old q x ≡ true → is_home homes.new q x ≡ true }
     ensures certain { (q : ℕ) (x : List ℕ) → is_certain homes.old q x ≡ true → is_certain homes.new q x ≡ true }
@@ -126,7 +126,7 @@ fn leave_one(homes: &mut Homes, session: u64, id: &GroupId) -> bool
     groups.is_empty()
 }
 
-/// A doubtful home of the session is none any more.
+/// Removes the group from the session's groups if it is doubtful.
 pub fn leave(homes: &mut Homes, session: u64, id: &GroupId)
     ensures others { (q : ℕ) (x : List ℕ) → (x ≡ id.now → ⊥) → is_home homes.old q x ≡ true → is_home homes.new q x ≡ true }
     ensures certain { (q : ℕ) (x : List ℕ) → is_certain homes.old q x ≡ true → is_certain homes.new q x ≡ true }
@@ -136,7 +136,7 @@ pub fn leave(homes: &mut Homes, session: u64, id: &GroupId)
     }
 }
 
-/// A session that was closed has no homes any more.
+/// Removes the session, once it is closed.
 pub fn forget(homes: &mut Homes, session: u64)
     ensures { (q : ℕ) (x : List ℕ) → (Some session ≡ Some q → ⊥) → is_home homes.old q x ≡ true → is_home homes.new q x ≡ true }
 {

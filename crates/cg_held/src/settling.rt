@@ -1,4 +1,4 @@
-//! Once an event was met: groups in which no call of a session waits any more are no homes of it.
+//! After an event: drops from the session index the groups in which no call of a session is parked any more.
 ghost use Rattle.std.specs.Prelude.{◌≡◌, ℕ, List, true};
 ghost use Rattle.cg_member.specs.declared.member.Member.{Member};
 ghost use Rattle.cg_held.specs.Kept.{Each};
@@ -13,7 +13,7 @@ use cg_member::reply::Reply;
 use cg_names::GroupId;
 use cg_request::ticket::Ticket;
 
-// The group is a doubtful home of each session that is answered.
+// Marks the group as doubtful for each session that got a reply.
 fn doubt_all(homes: &mut Homes, id: &GroupId, replies: &[(Ticket, Reply)])
     ensures { (q : ℕ) (x : List ℕ) → is_home homes.old q x ≡ true → is_home homes.new q x ≡ true }
 {
@@ -32,7 +32,7 @@ fn affirm_one(homes: &mut Homes, id: &GroupId, member: &Member)
     }
 }
 
-// The group is a certain home of each session on which a call of its members waits.
+// Marks the group as certain for each session with a parked call in it.
 fn affirm_all(homes: &mut Homes, id: &GroupId, members: &[Member])
     ensures kept { (q : ℕ) (x : List ℕ) → is_home homes.old q x ≡ true → is_home homes.new q x ≡ true }
     ensures here { Each (λ (m : Member). is_known (λ q. is_home homes.old q id.now) m.waits ≡ true) members.now → Each (λ (m : Member). is_known (λ q. is_certain homes.new q id.now) m.waits ≡ true) members.now }
@@ -42,7 +42,7 @@ fn affirm_all(homes: &mut Homes, id: &GroupId, members: &[Member])
     }
 }
 
-// The group is no home of the sessions that are answered, where it is a doubtful one.
+// Removes the group, where it is doubtful, from the index of each session that got a reply.
 fn leave_all(homes: &mut Homes, id: &GroupId, replies: &[(Ticket, Reply)])
     ensures others { (q : ℕ) (x : List ℕ) → (x ≡ id.now → ⊥) → is_home homes.old q x ≡ true → is_home homes.new q x ≡ true }
     ensures certain { (q : ℕ) (x : List ℕ) → is_certain homes.old q x ≡ true → is_certain homes.new q x ≡ true }
@@ -52,8 +52,8 @@ fn leave_all(homes: &mut Homes, id: &GroupId, replies: &[(Ticket, Reply)])
     }
 }
 
-/// After these replies to calls in the group. Takes no memory; costs a look-up for each of them and for each call that still waits
-/// there.
+/// Updates the index after these replies to calls in the group. Costs a few look-ups for each reply and for each call
+/// that is still parked there, and one pass over the members. No allocation.
 pub fn settle(homes: &mut Homes, held: &Held, id: &GroupId, replies: &[(Ticket, Reply)])
     ensures { AreKnown (is_home homes.old) held.now → AreKnown (is_home homes.new) held.now }
 {
@@ -67,7 +67,7 @@ pub fn settle(homes: &mut Homes, held: &Held, id: &GroupId, replies: &[(Ticket, 
     }
 }
 
-/// After these replies to calls in the group that a request names.
+/// Updates the index after these replies to calls in the group that a request names, if it names one.
 pub fn settle_named(
     homes: &mut Homes,
     held: &Held,
@@ -81,7 +81,7 @@ pub fn settle_named(
     }
 }
 
-// After the replies of one group, which begin at this one.
+// Updates the index after the replies of one group, which begin at index `from`.
 fn settle_one(
     homes: &mut Homes,
     held: &Held,
@@ -96,7 +96,7 @@ fn settle_one(
     }
 }
 
-/// After the replies of these groups, which stand one after the other.
+/// Updates the index after the replies of these groups, which follow each other in the list.
 pub fn settle_all(
     homes: &mut Homes,
     held: &Held,

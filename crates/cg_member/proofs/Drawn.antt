@@ -1,4 +1,4 @@
--- A drawn member id is a name: its client is one, and a UUID is made of digits, letters and dashes.
+-- A drawn member id is a lawful name: its beginning is one, and a UUID consists of digits, letters and dashes.
 use Rattle.std.proofs.Common.{◌≡◌, ℕ, zero, suc, ◌+◌, ◌<◌, ◌≤◌, Bool, true, false, ◌&&◌, List, [], ◌∷◌, ◌++◌, length, refl, ◌∙◌, arith}
 use Rattle.std.specs.Prelude.{if◌then◌else◌}
 use Rattle.std.specs.List.{list_all}
@@ -37,7 +37,7 @@ place_is_name_byte xs k =
       | false ↦ digit_is_name_byte (nibble xs (digit_place k)) (nibble_is_small xs (digit_place k))
     ]
 
--- the parts of a name
+-- the facts that make a byte string a name
 record Parts (max : ℕ) (text : List ℕ) : Type 0 where
   some : 1 ≤ length text
   few : length text ≤ max

@@ -1,4 +1,4 @@
--- What a member has beside its last moment and its call: each stage of an event keeps it.
+-- The fields of a member that no stage of an event changes: all but `heard` and `waits`.
 use Rattle.std.proofs.Common.{◌≡◌, ℕ, true, false, List, [], ◌∷◌, map, refl, ap, ◌∙◌}
 use Rattle.std.specs.Prelude.{if◌then◌else◌}
 use Rattle.cg_member.specs.declared.calls.Calls.{Calls}
@@ -15,7 +15,7 @@ use Rattle.cg_member.specs.Rebalance.{prepared, completed, emptied, is_ready, ne
 use Rattle.cg_member.specs.Syncing.{told_to_syncs}
 use Rattle.cg_member.specs.Waiting.{after_answer, after_answers, is_waiting, answered}
 
--- a change that keeps it of each keeps it of all
+-- a function that a change preserves for each member is preserved for the list
 pub map-same : {A : Type 0} (f : Member → A) (change : Member → Member) → ((m : Member) → f (change m) ≡ f m) → (ms : List Member) → map f (map change ms) ≡ map f ms
 map-same f change keeps [] = refl
 map-same f change keeps (m ∷ ms) = ap (λ x. x ∷ map f (map change ms)) (keeps m) ∙ ap (λ xs. f m ∷ xs) (map-same f change keeps ms)
@@ -29,7 +29,7 @@ map-with_member f id change keeps (m ∷ ms) =
       | false ↦ ap (λ xs. f m ∷ xs) (map-with_member f id change keeps ms)
     ]
 
--- what is read of a member is the same at any last moment and any call
+-- the function reads neither the moment last heard nor the parked call
 abbrev pub IsLasting : {A : Type 0} → (Member → A) → Type 0
 IsLasting f = (m : Member) (h : ℕ) (w : Waits) → f (record m { heard = h; waits = w }) ≡ f m
 

@@ -1,4 +1,4 @@
--- A member is changed at the place where it stands.
+-- Changes to the member at a position that a search found.
 use Rattle.std.proofs.Common.{◌≡◌, ℕ, find, suc, ◌+◌, ◌<◌, ◌≤◌, Bool, true, false, cond, not, List, [], ◌∷◌, length, get_or, nat_lt, subst, Some, None, refl, sym, ap, ◌∙◌, arith}
 use Rattle.std.proofs.Math.ListN.{set}
 use Rattle.std.proofs.lemmas.Bool.Decides.{nat_tests}
@@ -7,7 +7,7 @@ use Rattle.std.specs.List.{position, position_or_len}
 use Rattle.cg_member.specs.declared.member.Member.{Member}
 use Rattle.cg_member.specs.Membership.{has_id, with_member}
 
--- where a member with the id stands, it is the one that is changed
+-- `with_member` changes the member at the first position with the id
 with_member_at : (id : List ℕ) (f : Member → Member) (ms : List Member) (d : Member) → position_or_len (has_id id) ms < length ms → with_member id f ms ≡ set ms (position_or_len (has_id id) ms) (f (get_or ms (position_or_len (has_id id) ms) d))
 unfolding with_member
 with_member_at id f [] d lt = refl
@@ -32,7 +32,7 @@ place_is n k i e = (grind (arith, nat_tests), grind (arith, nat_tests))
 pub no_place_is : (n k : ℕ) → cond (nat_lt n k) (Some n) None ≡ None → k ≤ n
 no_place_is n k e = grind (arith, nat_tests)
 
--- the same, from the place that a search found
+-- the same, for the position that a search returns
 pub with_member_place : (id : List ℕ) (f : Member → Member) (ms : List Member) (i : ℕ) (d : Member) → position (has_id id) ms ≡ Some i → with_member id f ms ≡ set ms i (f (get_or ms i d))
 with_member_place id f ms i d e =
     let at = place_is (position_or_len (has_id id) ms) (length ms) i e in
@@ -42,7 +42,7 @@ with_member_place id f ms i d e =
 pub with_member_no_place : (id : List ℕ) (f : Member → Member) (ms : List Member) → position (has_id id) ms ≡ None → with_member id f ms ≡ ms
 with_member_no_place id f ms e = with_member_past id f ms (no_place_is (position_or_len (has_id id) ms) (length ms) e)
 
--- what is left where the member at the place was changed
+-- the goal that remains after the member at the position is changed
 pub with_member_from_place : (id : List ℕ) (f : Member → Member) (ms : List Member) (i : ℕ) (m m' : Member) → position (has_id id) ms ≡ Some i → m ≡ get_or ms i m → m' ≡ f m → set ms i m' ≡ with_member id f ms
 with_member_from_place id f ms i m m' at was is =
     sym (with_member_place id f ms i m at ∙ ap (λ x. set ms i (f x)) (sym was) ∙ ap (λ x. set ms i x) (sym is))
@@ -65,13 +65,13 @@ find_past {X} p (x ∷ xs) le =
       | false ↦ λ le. find_past p xs (omega arith)
     ] le
 
--- what is found stands at its place
+-- a search by `find` returns the element at the position that `position` returns
 pub find_from_position : {X : Type 0} (p : X → Bool) (xs : List X) (i : ℕ) (d : X) → position p xs ≡ Some i → find p xs ≡ Some (get_or xs i d)
 find_from_position {X} p xs i d e =
     let at = place_is (position_or_len p xs) (length xs) i e in
     let P : ℕ → Type 0 = λ n. find p xs ≡ Some (get_or xs n d) in
     subst P at.0 (find_at p xs d at.1)
 
--- what has no place is not found
+-- where `position` returns nothing, `find` returns nothing
 pub find_from_no_position : {X : Type 0} (p : X → Bool) (xs : List X) → position p xs ≡ None → find p xs ≡ None
 find_from_no_position p xs e = find_past p xs (no_place_is (position_or_len p xs) (length xs) e)

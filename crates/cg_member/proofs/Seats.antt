@@ -1,4 +1,4 @@
--- A member takes the place of the one with its instance: that one alone goes, and the members stay those of one group.
+-- A member replaces the one with its instance: only that one is removed, and the members stay lawful.
 use Rattle.std.proofs.Common.{◌≡◌, ℕ, suc, ◌+◌, ◌<◌, ◌≤◌, Bool, true, false, cond, not, ◌||◌, List, [], ◌∷◌, ◌++◌, length, map, is_some, subst, Option, Some, None, refl, sym, ap, ◌∙◌, arith}
 use Rattle.std.proofs.Math.ListN.{set}
 use Rattle.std.specs.Prelude.{if◌then◌else◌}
@@ -22,14 +22,14 @@ false_from_not : (b : Bool) → not b ≡ true → b ≡ false
 false_from_not true e = sym e
 false_from_not false e = refl
 
--- a member is found by an instance that is given
+-- a look-up by instance that finds a member was given an instance
 pub instance_given : (o : Option (List ℕ)) (ms : List Member) (m : Member) → find_instance o ms ≡ Some m → is_some o ≡ true
 unfolding find_instance
 instance_given None [] m e = cc
 instance_given None (x ∷ xs) m e = instance_given None xs m e
 instance_given (Some i) ms m e = refl
 
--- the instance that is found is the one that was looked for
+-- the instance that was found is the one that was looked for
 own_instance : (i : List ℕ) (o : Option (List ℕ)) → is_named o i ≡ true → o ≡ Some i
 own_instance i None h = absurd (false≢true h)
 own_instance i (Some j) h = ap (λ x. Some x) ((bytes_eq-Decides j i).0 h)
@@ -38,7 +38,7 @@ pub found_instance : (o : Option (List ℕ)) (m : Member) → has_instance o m �
 found_instance None m h = absurd (false≢true h)
 found_instance (Some i) m h = own_instance i m.instance h
 
--- who has an instance that none of these has
+-- where the instance is not among those of the members, no member has it
 none_named : (i : List ℕ) (ms : List Member) → list_any (is_same i) (instances ms) ≡ false → list_any (has_instance (Some i)) ms ≡ false
 none_named i [] e = refl
 none_named i (m ∷ ms) e = go (none_named i ms) m.instance e
@@ -49,7 +49,7 @@ none_named i (m ∷ ms) e = go (none_named i ms) m.instance e
         let parts = or_parts (is_same i j) (list_any (is_same i) (instances ms)) k in
         or_from (is_same j i) (list_any (has_instance (Some i)) ms) (nat_list_eq_equiv.symm j i ∙ parts.0) (rest parts.1)
 
--- no other member has the instance of one
+-- no other member has the instance of this one
 others_free : (o : Option (List ℕ)) (m : Member) (ms : List Member) → has_instance o m ≡ true → are_distinct (option_to_list m.instance ++ instances ms) ≡ true → list_any (has_instance o) ms ≡ false
 unfolding are_distinct
 others_free None m ms h d = absurd (false≢true h)
@@ -67,7 +67,7 @@ unfolding are_distinct
 rest_distinct None rest e = e
 rest_distinct (Some i) rest e = (and_parts (not (list_any (is_same i) rest)) (are_distinct rest) e).1
 
--- where nobody has the instance, nobody goes
+-- where no member has the instance, the replacement changes nothing
 seating_free : (new : Member) (ms : List Member) → list_any (has_instance new.instance) ms ≡ false → seating new ms ≡ ms
 unfolding seating
 seating_free new [] e = refl
@@ -95,7 +95,7 @@ seating_at new (m ∷ ms) d lt =
           rw e (ap (λ xs. m ∷ xs) (seating_at new ms (rest_distinct m.instance (instances ms) d) (omega arith)))
     ]) refl lt
 
--- what is left where the new member was put in the place that a search found
+-- the goal that remains after the new member is written at the position that a search found
 pub seating_place : (new : Member) (ms : List Member) (i : ℕ) → are_distinct (instances ms) ≡ true → position (has_instance new.instance) ms ≡ Some i → set ms i new ≡ seating new ms
 seating_place new ms i d e =
     let at = place_is (position_or_len (has_instance new.instance) ms) (length ms) i e in

@@ -1,4 +1,4 @@
--- Members that are together in one group: at most so many, and no two of one id or one instance.
+-- The members of one group stay lawful: few enough, with different ids and different instances.
 use Rattle.std.proofs.Common.{◌≡◌, ℕ, ◌+◌, ◌<◌, ◌≤◌, Bool, true, false, not, ◌||◌, List, [], ◌∷◌, ◌++◌, length, map, filter, find, cond, is_some, refl, sym, ap, ◌∙◌, subst, Option, Some, None, arith}
 use Rattle.std.specs.List.{list_any, flat_map}
 use Rattle.std.specs.Option.{option_to_list}
@@ -22,7 +22,7 @@ false_from_not : (b : Bool) → not b ≡ true → b ≡ false
 false_from_not true e = sym e
 false_from_not false e = refl
 
--- what none of the members has, none of those that stay has
+-- a property that no member has holds for none of those that stay
 none_stays : (p : List ℕ → Bool) (stays : Member → Bool) (ms : List Member) → list_any p (ids ms) ≡ false → list_any p (ids (filter stays ms)) ≡ false
 none_stays p stays [] e = refl
 none_stays p stays (m ∷ ms) e =
@@ -32,7 +32,7 @@ none_stays p stays (m ∷ ms) e =
       | false ↦ none_stays p stays ms parts.1
     ]
 
--- members that stay of distinct ones are distinct
+-- a filter of distinct members is distinct
 pub distinct-filter : (stays : Member → Bool) (ms : List Member) → are_distinct (ids ms) ≡ true → are_distinct (ids (filter stays ms)) ≡ true
 unfolding are_distinct
 distinct-filter stays [] e = refl
@@ -50,7 +50,7 @@ none-push p (y ∷ ys) x e here =
     let parts = or_parts (p y) (list_any p ys) e in
     or_from (p y) (list_any p (ys ++ x ∷ [])) parts.0 (none-push p ys x parts.1 here)
 
--- a new id, put last
+-- a new id, appended, keeps the ids distinct
 pub distinct-push : (xs : List (List ℕ)) (x : List ℕ) → are_distinct xs ≡ true → list_any (λ y. is_same y x) xs ≡ false → are_distinct (xs ++ x ∷ []) ≡ true
 unfolding are_distinct
 distinct-push [] x e fresh = refl
@@ -59,7 +59,7 @@ distinct-push (y ∷ ys) x e fresh =
     let news = or_parts (is_same y x) (list_any (λ z. is_same z x) ys) fresh in
     and_from (not (list_any (is_same y) (ys ++ x ∷ []))) (are_distinct (ys ++ x ∷ [])) (ap not (none-push (is_same y) ys x (false_from_not (list_any (is_same y) ys) parts.0) news.0)) (distinct-push ys x parts.1 news.1)
 
--- an id that no member was found by is no member's
+-- an id by which no member is found is not among the ids
 pub fresh_from_find : (id : List ℕ) (ms : List Member) → is_some (find_member id ms) ≡ false → list_any (λ y. is_same y id) (ids ms) ≡ false
 unfolding find_member
 fresh_from_find id [] e = refl
@@ -69,7 +69,7 @@ fresh_from_find id (m ∷ ms) e =
       | false ↦ λ e. fresh_from_find id ms e
     ] e
 
--- the same of the instances
+-- the same for instances
 pub flat_map-map : {A B : Type 0} (f : A → List B) (xs : List A) → flat_map f xs ≡ flat_map (λ ys. ys) (map f xs)
 flat_map-map f [] = refl
 flat_map-map f (x ∷ xs) = ap (λ ys. f x ++ ys) (flat_map-map f xs)
@@ -102,12 +102,12 @@ distinct-filter_instances stays (m ∷ ms) e =
           ]
     ]) e
 
--- a member without an instance, put last
+-- a member without an instance, appended, leaves the instances as they are
 pub instances-push : (ms : List Member) (m : Member) → m.instance ≡ None → instances (ms ++ m ∷ []) ≡ instances ms
 instances-push [] m e = ap (λ o. option_to_list o ++ []) e
 instances-push (x ∷ xs) m e = ap (λ ys. option_to_list x.instance ++ ys) (instances-push xs m e)
 
--- members with the same names
+-- members with the same ids and instances are distinct alike
 pub distinct-names : (xs ys : List Member) → ids xs ≡ ids ys → map (λ m. option_to_list m.instance) xs ≡ map (λ m. option_to_list m.instance) ys → AreDistinct ys → AreDistinct xs
 distinct-names xs ys e f h = (
   ap are_distinct e ∙ h.0,
@@ -124,7 +124,7 @@ lasting_id m h w = refl
 pub lasting_instance : IsLasting (λ m. option_to_list m.instance)
 lasting_instance m h w = refl
 
--- the instance that no member was found by is no member's
+-- an instance by which no member is found is not among the instances
 free_from_find : (i : List ℕ) (ms : List Member) → is_some (find_instance (Some i) ms) ≡ false → list_any (λ y. is_same y i) (instances ms) ≡ false
 unfolding find_instance
 free_from_find i [] e = refl
@@ -150,12 +150,12 @@ distinct-instances-push : (ms : List Member) (m : Member) (o : Option (List ℕ)
 distinct-instances-push ms m None e h free = ap are_distinct (instances-push ms m e) ∙ h
 distinct-instances-push ms m (Some i) e h free = ap are_distinct (instances-push_some ms m i e) ∙ distinct-push (instances ms) i h (free_from_find i ms free)
 
--- a member with an id and an instance of its own, put last
+-- a member with a new id and a new instance, appended, keeps the members distinct
 pub distinct-members-push : (ms : List Member) (m : Member) → is_some (find_member m.id ms) ≡ false → is_some (find_instance m.instance ms) ≡ false → AreDistinct ms → AreDistinct (ms ++ m ∷ [])
 distinct-members-push ms m own free h =
     (ap are_distinct (ids-append ms m) ∙ distinct-push (ids ms) m.id h.0 (fresh_from_find m.id ms own), distinct-instances-push ms m m.instance refl h.1 free)
 
--- what the members of one group stay
+-- what makes the changed members lawful
 
 few-of : (xs ys : List Member) → ids xs ≡ ids ys → length ys ≤ MEMBERS_MAX → length xs ≤ MEMBERS_MAX
 few-of xs ys e h =
@@ -200,13 +200,13 @@ pub none_together : AreMembers []
 unfolding are_distinct
 none_together = record { few = omega arith; distinct = (refl, refl) }
 
--- a member without an instance shares none
+-- a look-up without an instance finds no member
 pub no_instance_found : (ms : List Member) → is_some (find_instance None ms) ≡ false
 unfolding find_instance
 no_instance_found [] = refl
 no_instance_found (m ∷ ms) = no_instance_found ms
 
--- what each change of the members keeps
+-- every change of the members keeps them lawful
 
 pub after_hearing : (id : List ℕ) (now : ℕ) (ms ns : List Member) → ns ≡ with_member id (heard now) ms → AreMembers ms → AreMembers ns
 after_hearing id now ms ns e h = subst (λ (xs : List Member). AreMembers xs) (sym e) (members-with_member id (heard now) (λ m. refl) (λ m. refl) ms h)

@@ -1,4 +1,5 @@
--- The member check (KIP-345, "fencing"): who calls, where the caller names a member of the group that is still itself.
+-- The member check (KIP-345, "fencing"): the caller is a member of the group, and no other member has taken its
+-- instance.
 use Rattle.std.specs.Prelude.{ℕ, not, List, Option, Some, None, Result, Ok, ok_or}
 use Rattle.cg_names.specs.declared.code.Code.{Code}
 use Rattle.cg_names.specs.declared.code.Code.TheVariants.{FencedInstanceId, UnknownMemberId}
@@ -6,14 +7,14 @@ use Rattle.cg_member.specs.declared.member.Member.{Member}
 use Rattle.cg_member.specs.Membership.{find_instance, find_member, is_named}
 use Rattle.cg_member.specs.Refusing.{◌>>=◌, refused_if}
 
--- an instance that is given is a member's, and that member has the id that is given beside it
+-- if an instance is given, a member has it, and that member has the given id
 unfoldable pub fencing : Option (List ℕ) → Option (List ℕ) → List Member → Result (Unit {0}) Code
 fencing None member members = Ok tt
 fencing (Some instance) member members = do
   m ← ok_or (find_instance (Some instance) members) UnknownMemberId
   refused_if (not (is_named member m.id)) FencedInstanceId
 
--- the member that calls, by the instance and the id that are given; an id alone will do
+-- the calling member and its id, by the instance and the id in the request; a static member may give its id alone
 unfoldable pub member_check : Option (List ℕ) → Option (List ℕ) → List Member → Result (List ℕ × Member) Code
 member_check instance member members = do
   _ ← fencing instance member members

@@ -1,4 +1,4 @@
--- FETCH (protocol guide, "OffsetFetch"): how far a group has read.
+-- FETCH (protocol guide, "OffsetFetch"): the committed offsets of a group.
 use Rattle.std.specs.Prelude.{ℕ, List, map, Option, Some, None}
 use Rattle.std.specs.FinMap as finmap
 use Rattle.cg_names.specs.declared.code.Code.TheVariants.{InvalidGroupId}
@@ -9,11 +9,11 @@ use Rattle.cg_member.specs.declared.reply.Reply.{Reply}
 use Rattle.cg_member.specs.declared.reply.Reply.TheVariants.{Fetched, Refused}
 use Rattle.cg_request.specs.declared.topic_partition.TopicPartition.{TopicPartition}
 
--- a partition, with what the group has committed for it, where it has committed anything
+-- a partition with its committed offset, if there is one
 abbrev pub fetched_partition : OffsetMap → List ℕ → TopicPartition → FetchedPartition
 fetched_partition offsets group p = record { topic = p.topic; partition = p.partition; stored = finmap.get offsets (key_of group p.topic p.partition) }
 
--- the partitions in the order in which they were asked for; a group that is not held has committed nothing
+-- the partitions in request order; a group that is not loaded has committed nothing
 abbrev pub fetched : OffsetMap → Option (List ℕ) → List TopicPartition → Reply
 fetched offsets None partitions = Refused InvalidGroupId
 fetched offsets (Some group) partitions = Fetched (map (fetched_partition offsets group) partitions)

@@ -1,4 +1,4 @@
--- The values of a list of few.
+-- The model of the list type `Few`.
 use Rattle.std.specs.Prelude.{◌≡◌, List, length, take}
 use Rattle.cg_member.specs.declared.few.Items.{Items}
 use Rattle.cg_member.specs.declared.few.Items.TheVariants.{One, Many}
@@ -8,6 +8,6 @@ abbrev pub items_of : {T : Type 0} → Items T → List T
 items_of (One values) = values
 items_of (Many values) = values.items
 
--- the values are the first of these
+-- the first list is a prefix of the second
 abbrev pub AreFirst : {T : Type 0} → List T → List T → Type 0
 AreFirst values all = take (length values) all ≡ values

@@ -1,4 +1,4 @@
--- LEAVE (protocol guide, "LeaveGroup"; KIP-345, members that are removed by their instance), and sessions that are closed.
+-- LEAVE (protocol guide, "LeaveGroup"; KIP-345, removal by instance id), and closed sessions.
 use Rattle.std.specs.Prelude.{ℕ, List, ok_or, Bool, true, false, not, [], ◌∷◌, ◌++◌, Option, Some, None, Result, Ok, if◌then◌else◌}
 use Rattle.cg_names.specs.declared.code.Code.{Code}
 use Rattle.cg_names.specs.declared.code.Code.TheVariants.{CoordinatorNotAvailable, FencedInstanceId, UnknownMemberId}
@@ -16,18 +16,18 @@ use Rattle.cg_member.specs.Rebalance.{prepared, tried}
 use Rattle.cg_member.specs.Refusing.{◌>>=◌, refused_if}
 use Rattle.cg_member.specs.Waiting.{after_answers, answer, answers, refusing}
 
--- a group whose members go has to join again: outside of the join phase, with members
+-- the removal of a member starts a rebalance: the group is in Completing or Stable
 abbrev pub has_joined : Phase → Bool
 has_joined Completing = true
 has_joined Stable = true
 has_joined Empty = false
 has_joined Preparing = false
 
--- prepare, where the members had joined; then try
+-- after a removal: a rebalance begins if the members had joined, and completes if all members have joined
 unfoldable pub after_removal : ℕ → Turn → Turn
 after_removal now t = tried now (if has_joined t.group.phase then prepared now t else t)
 
--- the member is removed; a call of it that waits is answered, then the LEAVE
+-- the member is removed; its parked call gets 25, and the LEAVE gets OK
 unfoldable pub left : List ℕ → Ticket → Member → Group → Turn
 left id ticket m g = record {
   group = keeping (λ other. not (has_id id other)) g;
@@ -35,16 +35,16 @@ left id ticket m g = record {
   commands = [];
 }
 
--- LEAVE that is taken
+-- LEAVE that is not refused
 unfoldable pub leave_taken : ℕ → List ℕ → Ticket → Member → Group → Turn
 leave_taken now id ticket m g = after_removal now (left id ticket m g)
 
--- no id is given, or this one
+-- no id is given, or the given id is this one
 abbrev pub may_be : Option (List ℕ) → List ℕ → Bool
 may_be None id = true
 may_be (Some given) id = is_same given id
 
--- who leaves: the member with the instance, and where none is given the one with the id
+-- the member that leaves: the one with the instance, or without an instance the one with the id
 unfoldable pub leaver : Option (List ℕ) → Option (List ℕ) → List Member → Result Member Code
 leaver None member members = do
   id ← ok_or member UnknownMemberId
@@ -54,13 +54,13 @@ leaver (Some instance) member members = do
   _ ← refused_if (not (may_be member m.id)) FencedInstanceId
   Ok m
 
--- LEAVE in a group that is held
+-- LEAVE in a loaded group
 unfoldable pub leave_held : ℕ → LeaveRequest → Ticket → Group → Result Turn Code
 leave_held now r ticket g = do
   m ← leaver r.instance r.member g.members
   Ok (leave_taken now m.id ticket m g)
 
--- a closed session, in one group: each of its calls that waits is answered
+-- a closed session in one group: each of its parked calls gets 15
 unfoldable pub gone_in : ℕ → ℕ → Group → Turn
 gone_in now session g = record {
   group = record g { members = after_answers (OfSession session) now g.members };

@@ -10,11 +10,11 @@ use Rattle.cg_request.specs.Names.{are_distinct}
 abbrev pub ids : List Member → List (List ℕ)
 ids members = map (λ m. m.id) members
 
--- the instances of those that have one
+-- the instances of the static members
 abbrev pub instances : List Member → List (List ℕ)
 instances members = flat_map (λ m. option_to_list m.instance) members
 
--- no two members have one id or one instance
+-- no two members share an id or an instance
 abbrev pub AreDistinct : List Member → Type 0
 AreDistinct members = (are_distinct (ids members) ≡ true) × (are_distinct (instances members) ≡ true)
 

@@ -1,4 +1,4 @@
--- The members of a group, by their ids, and their lists of protocols.
+-- Look-ups and changes of the members of a group, by their ids, instances and protocols.
 use Rattle.std.specs.Prelude.{ℕ, Bool, true, false, ◌&&◌, List, [], ◌∷◌, Option, Some, None, find, filter, if◌then◌else◌}
 use Rattle.std.specs.List.{list_any}
 use Rattle.std.specs.Cmp.Lexicographic.{pointwise}
@@ -9,11 +9,11 @@ use Rattle.cg_member.specs.declared.member.Member.{Member}
 use Rattle.cg_request.specs.declared.protocol.Protocol.{Protocol}
 pub use Rattle.cg_request.specs.Names.{is_same, is_named}
 
--- the member with this id
+-- the member has this id
 abbrev pub has_id : List ℕ → Member → Bool
 has_id id m = is_same m.id id
 
--- the member has this instance, where one is given
+-- an instance is given, and the member has it
 abbrev pub has_instance : Option (List ℕ) → Member → Bool
 has_instance None m = false
 has_instance (Some instance) m = is_named m.instance instance
@@ -26,16 +26,16 @@ find_instance instance members = find (has_instance instance) members
 unfoldable pub find_member : List ℕ → List Member → Option Member
 find_member id members = find (has_id id) members
 
--- the members with this one changed
+-- the members with the first one of this id changed
 unfoldable pub with_member : List ℕ → (Member → Member) → List Member → List Member
 with_member id change [] = []
 with_member id change (m ∷ ms) = if has_id id m then change m ∷ ms else m ∷ with_member id change ms
 
--- a member that was heard now
+-- the member, heard at this moment
 abbrev pub heard : ℕ → Member → Member
 heard now m = record m { heard = now }
 
--- the group with this member heard now
+-- the group with this member heard at this moment
 unfoldable pub hearing : ℕ → List ℕ → Group → Group
 hearing now id g = record g { members = with_member id (heard now) g.members }
 
@@ -43,19 +43,19 @@ hearing now id g = record g { members = with_member id (heard now) g.members }
 abbrev pub leads : Group → Member → Bool
 leads g m = is_named g.leader m.id
 
--- a member has this id
+-- some member has this id
 abbrev pub has_member : List ℕ → List Member → Bool
 has_member id members = list_any (λ m. is_same id m.id) members
 
--- one of the members leads
+-- some member leads the group
 abbrev pub is_led : Group → Bool
 is_led g = list_any (leads g) g.members
 
--- the leader, where it is still a member
+-- the leader, if it is still a member
 abbrev pub leader_among : List Member → Option (List ℕ) → Option (List ℕ)
 leader_among members leader = if list_any (λ m. is_named leader m.id) members then leader else None
 
--- the group with these members alone; a leader that is removed leaves none
+-- the group with these members alone; if the leader is removed, the group has no leader
 unfoldable pub keeping : (Member → Bool) → Group → Group
 keeping stays g = record g { members = filter stays g.members; leader = leader_among (filter stays g.members) g.leader }
 
@@ -75,10 +75,10 @@ is_stable Empty = false
 is_stable Preparing = false
 is_stable Completing = false
 
--- two protocols have one name and ask for the same
+-- two protocols have the same name and subscription
 abbrev pub is_same_protocol : Protocol → Protocol → Bool
 is_same_protocol p q = is_same p.name q.name && is_same p.subscription q.subscription
 
--- two lists of protocols are the same: names, order and subscriptions
+-- two protocol lists are the same: names, order and subscriptions
 abbrev pub are_same_protocols : List Protocol → List Protocol → Bool
 are_same_protocols = pointwise is_same_protocol

@@ -1,4 +1,4 @@
--- The join phase: how it begins, when it completes, and what its members are told (KIP-62; protocol guide, "JoinGroup").
+-- The rebalance: its start, its completion, and the replies to its members (KIP-62; protocol guide, "JoinGroup").
 use Rattle.std.specs.Prelude.{ℕ, Bool, ◌&&◌, nat_le, List, [], ◌++◌, map, Option, Some, None, option_map, option_and_then, option_to_list, unwrap_or, find, if◌then◌else◌}
 use Rattle.std.specs.List.{list_any, list_all}
 use Rattle.cg_names.specs.Generations.{next_generation}
@@ -18,11 +18,11 @@ use Rattle.cg_member.specs.Membership.{is_named, leads, is_empty, is_preparing}
 use Rattle.cg_member.specs.Vote.{elected}
 use Rattle.cg_member.specs.Waiting.{is_waiting, after_answers, answers, refusing}
 
--- an event begins, and has done nothing yet
+-- the state at the start of an event: no replies and no commands yet
 abbrev pub turn_of : Group → Turn
 turn_of g = record { group = g; replies = []; commands = [] }
 
--- Prepare: every SYNC that waits is told to join again, and the join phase begins now
+-- prepare: every parked SYNC gets 27, and a rebalance begins now
 unfoldable pub prepared : ℕ → Turn → Turn
 prepared now t = record {
   group = record t.group { phase = Preparing; started = now; members = after_answers Syncs now t.group.members };
@@ -30,7 +30,7 @@ prepared now t = record {
   commands = t.commands;
 }
 
--- what a member asks for in the words of the protocol
+-- the member's subscription for the protocol
 unfoldable pub subscription_for : Option (List ℕ) → List Protocol → List ℕ
 subscription_for protocol protocols = unwrap_or (option_map (λ p. p.subscription) (find (λ p. is_named protocol p.name) protocols)) []
 
@@ -41,7 +41,7 @@ joined_member protocol m = record { id = m.id; instance = m.instance; subscripti
 unfoldable pub joined_members : Group → Member → List JoinedMember
 joined_members g m = if leads g m then map (joined_member g.protocol) g.members else []
 
--- what a JOIN of the member is answered in the present generation
+-- the reply to a JOIN of the member in the current generation
 unfoldable pub joined_reply : Group → Member → Reply
 joined_reply g m = reply.Joined (record {
   generation = g.generation;
@@ -52,14 +52,14 @@ joined_reply g m = reply.Joined (record {
   members = joined_members g m;
 })
 
--- the leader stays where it waits; else the first member that waits leads
+-- the leader stays if its JOIN is parked; otherwise the first member with a parked JOIN leads
 unfoldable pub next_leader : Group → Option (List ℕ)
 next_leader g =
     if list_any (λ m. leads g m && is_waiting Joins m) g.members
     then g.leader
     else option_map (λ m. m.id) (find (is_waiting Joins) g.members)
 
--- the next generation, with the protocol that was voted for and its leader
+-- the next generation, with the protocol of the vote and its leader
 unfoldable pub next_round : Group → Group
 next_round g = record g {
   phase = Completing;
@@ -68,22 +68,22 @@ next_round g = record g {
   leader = next_leader g;
 }
 
--- the generation, where a join phase has completed it
+-- the generation, if a rebalance has completed it
 abbrev pub completed_generation : ℕ → Option ℕ
 completed_generation generation = if nat_le 1 generation then Some generation else None
 
--- that a generation has no members; a group that never had a member has no type, and makes no such command
+-- the command that a generation has no members; a group that never had a member has no type, and makes no such command
 unfoldable pub emptied_command : Group → List Command
 emptied_command g =
     option_to_list (option_and_then (λ generation. option_map (λ kind. command.Emptied (record { group = g.id; generation = generation; kind = kind })) g.kind) (completed_generation g.generation))
 
--- Complete, without members
+-- complete, without members
 unfoldable pub emptied : Turn → Turn
 emptied t =
     let g : Group = record t.group { phase = Empty; generation = next_generation t.group.generation; protocol = None; leader = None } in
     record { group = g; replies = t.replies; commands = t.commands ++ emptied_command g }
 
--- every JOIN that waits is answered
+-- every parked JOIN gets its reply
 unfoldable pub told_to_joins : ℕ → Turn → Turn
 told_to_joins now t = record {
   group = record t.group { members = after_answers Joins now t.group.members };
@@ -91,14 +91,14 @@ told_to_joins now t = record {
   commands = t.commands;
 }
 
--- Complete
+-- complete: the rebalance ends with the next generation
 unfoldable pub completed : ℕ → Turn → Turn
 completed now t = if is_empty t.group.members then emptied t else told_to_joins now (record t { group = next_round t.group })
 
--- no member is left that does not wait for the join phase to complete
+-- a rebalance is under way, and every member has a parked JOIN (or no member is left)
 unfoldable pub is_ready : Group → Bool
 is_ready g = is_preparing g.phase && list_all (is_waiting Joins) g.members
 
--- Try
+-- complete, if the rebalance is ready
 unfoldable pub tried : ℕ → Turn → Turn
 tried now t = if is_ready t.group then completed now t else t

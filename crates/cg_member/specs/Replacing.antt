@@ -1,4 +1,4 @@
--- A member takes the place of the one with its instance (KIP-345).
+-- JOIN that replaces the member with the same instance (KIP-345).
 use Rattle.std.specs.Prelude.{ℕ, Bool, false, ◌&&◌, List, [], ◌∷◌, ◌++◌, map, Option, Some, None, if◌then◌else◌}
 use Rattle.std.specs.List.{list_any}
 use Rattle.cg_names.specs.declared.code.Code.TheVariants.{FencedInstanceId}
@@ -20,47 +20,47 @@ use Rattle.cg_member.specs.Syncing.{kept_member}
 use Rattle.cg_member.specs.Vote.{elected}
 use Rattle.cg_member.specs.Waiting.{answer, refusing}
 
--- the new member in the place of one with its instance
+-- the new member, if it replaces this one
 abbrev pub seated : Member → Member → Member
 seated new m = if has_instance new.instance m then new else m
 
--- the members with the new one in the place of the one with its instance
+-- the members with the new one at the position of the one with its instance
 unfoldable pub seating : Member → List Member → List Member
 seating new members = map (seated new) members
 
--- the leader is the one whose place is taken
+-- the replaced member leads
 abbrev pub leads_and_goes : Member → Group → Member → Bool
 leads_and_goes new g m = has_instance new.instance m && leads g m
 
--- the group with the new member in that place, and as leader where the one leads whose place it takes
+-- the group with the new member in that position; it leads if the replaced member led
 unfoldable pub replacing : Member → Group → Group
 replacing new g = record g {
   members = seating new g.members;
   leader = if list_any (leads_and_goes new g) g.members then Some new.id else g.leader;
 }
 
--- the protocol that was voted for is the group's
+-- the vote gives the group's protocol
 abbrev pub is_protocol : Group → Option (List ℕ) → Bool
 is_protocol g None = false
 is_protocol g (Some name) = is_named g.protocol name
 
--- the group is stable, and its members vote for its protocol still
+-- the group is stable, and its vote still gives its protocol
 unfoldable pub keeps_generation : Group → Bool
 keeps_generation g = is_stable g.phase && is_protocol g (elected g.members)
 
--- the new member has the assignment of the old one, and waits for nothing
+-- the new member has the assignment of the old one, and no parked call
 abbrev pub successor : ℕ → JoinRequest → List ℕ → Member → Member
 successor now r id old = new_member now r id old.assignment Nothing
 
--- the new member has its place; a call of the old one that waits is answered
+-- the old member is replaced, and its parked call gets 82
 unfoldable pub replaced : Member → Member → Group → Turn
 replaced new old g = record { group = replacing new g; replies = answer Any (refusing FencedInstanceId) old; commands = [] }
 
--- that the new member, as it is kept, has the place of the one with its instance
+-- the command that stores the replacement
 abbrev pub replaced_command : KeptMember → Group → Command
 replaced_command new g = command.Replaced (record { group = g.id; member = new })
 
--- the present generation, with the leader from before the replacement and no members
+-- the current generation, with the leader from before the replacement and no members
 abbrev pub replaced_reply : List ℕ → Group → Reply
 replaced_reply id before = reply.Joined (record {
   generation = before.generation;
@@ -71,7 +71,7 @@ replaced_reply id before = reply.Joined (record {
   members = [];
 })
 
--- the generation goes on with the new member
+-- the generation continues with the new member
 unfoldable pub replaced_in_place : Ticket → KeptMember → Group → Turn → Turn
 replaced_in_place ticket new before t = record {
   group = t.group;
@@ -79,7 +79,7 @@ replaced_in_place ticket new before t = record {
   commands = t.commands ++ replaced_command new before ∷ [];
 }
 
--- JOIN of a member that takes the place of the old one
+-- JOIN of a member that replaces the old one
 unfoldable pub join_replacing : ℕ → JoinRequest → List ℕ → Ticket → Member → Group → Turn
 join_replacing now r id ticket old g =
     let new : Member = successor now r id old in

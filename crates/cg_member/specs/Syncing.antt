@@ -1,4 +1,4 @@
--- SYNC (protocol guide, "SyncGroup"): the leader hands the assignments in, and each member gets its own.
+-- SYNC (protocol guide, "SyncGroup"): the leader sends the assignments, and each member gets its own.
 use Rattle.std.specs.Prelude.{ℕ, pos, not, List, [], ◌∷◌, ◌++◌, map, Option, Result, Ok, option_map, option_and_then, option_to_list, unwrap_or, find, if◌then◌else◌}
 use Rattle.std.specs.Ordering.{int_eq}
 use Rattle.cg_names.specs.declared.code.Code.{Code}
@@ -26,19 +26,19 @@ use Rattle.cg_member.specs.Rebalance.{completed_generation, subscription_for, tu
 use Rattle.cg_member.specs.Refusing.{◌>>=◌, refused_if}
 use Rattle.cg_member.specs.Waiting.{after_answers, answers}
 
--- the bytes that the leader's entries have for the member, or none; entries for strangers are not looked at
+-- the member's assignment in the leader's entries, or no bytes; entries for non-members are ignored
 unfoldable pub assignment_for : List SyncEntry → List ℕ → List ℕ
 assignment_for entries id = unwrap_or (option_map (λ e. e.assignment) (find (λ e. is_same e.member id) entries)) []
 
--- a member with what the leader assigned to it
+-- the member with its assignment from these entries
 abbrev pub assigned : List SyncEntry → Member → Member
 assigned entries m = record m { assignment = assignment_for entries m.id }
 
--- the group with its assignments
+-- the group with its assignments, in Stable
 unfoldable pub assigning : List SyncEntry → Group → Group
 assigning entries g = record g { phase = Stable; members = map (assigned entries) g.members }
 
--- a member, as the command keeps it
+-- the member as the command stores it
 abbrev pub kept_member : Option (List ℕ) → Member → KeptMember
 kept_member protocol m = record {
   id = m.id;
@@ -50,11 +50,11 @@ kept_member protocol m = record {
   assignment = m.assignment;
 }
 
--- what the members of the group joined in
+-- the members of the generation as the command stores them
 abbrev pub kept_roster : List ℕ → List ℕ → Group → RosterParts
 kept_roster protocol leader g = roster_of protocol leader (map (kept_member g.protocol) g.members)
 
--- that a generation has its assignments; it has a number, a type, a protocol and a leader then
+-- the command that a generation has its assignments; it then has a number, a type, a protocol and a leader
 unfoldable pub assigned_command : Group → List Command
 assigned_command g =
     option_to_list (option_and_then (λ generation. option_and_then (λ kind. option_and_then (λ protocol. option_map (λ leader. command.Assigned (record {
@@ -64,11 +64,11 @@ assigned_command g =
       roster = kept_roster protocol leader g;
     })) g.leader) g.protocol) g.kind) (completed_generation g.generation))
 
--- what a SYNC of the member is answered
+-- the reply to a SYNC of the member
 abbrev pub synced_reply : Member → Reply
 synced_reply m = reply.Synced m.assignment
 
--- every SYNC that waits is answered
+-- every parked SYNC gets its reply
 unfoldable pub told_to_syncs : ℕ → Turn → Turn
 told_to_syncs now t = record {
   group = record t.group { members = after_answers Syncs now t.group.members };
@@ -76,30 +76,30 @@ told_to_syncs now t = record {
   commands = t.commands;
 }
 
--- the leader's SYNC: the assignments are set, and every SYNC that waits is answered
+-- the leader's SYNC: the assignments are set, and every parked SYNC gets its reply
 unfoldable pub distributed : ℕ → List SyncEntry → Turn → Turn
 distributed now entries t =
     let g : Group = assigning entries t.group in
     told_to_syncs now (record { group = g; replies = t.replies; commands = t.commands ++ assigned_command g })
 
--- SYNC while the leader works the assignments out: it waits, and the member is heard
+-- SYNC in Completing: it is parked, and the member is heard
 unfoldable pub sync_waits : ℕ → SyncRequest → List ℕ → Ticket → Member → Group → Turn
 sync_waits now r id ticket m g =
     let t : Turn = waiting now id (Sync ticket) (turn_of (hearing now id g)) in
     if leads g m then distributed now r.entries t else t
 
--- SYNC in a stable group: the member is told its assignment, and heard
+-- SYNC in Stable: the member gets its assignment at once, and is heard
 unfoldable pub sync_current : ℕ → List ℕ → Ticket → Member → Group → Turn
 sync_current now id ticket m g = record { group = hearing now id g; replies = (ticket, synced_reply m) ∷ []; commands = [] }
 
--- SYNC that is taken
+-- SYNC that is not refused
 unfoldable pub sync_taken : ℕ → SyncRequest → List ℕ → Ticket → Member → Group → Phase → Turn
 sync_taken now r id ticket m g Completing = sync_waits now r id ticket m g
 sync_taken now r id ticket m g Stable = sync_current now id ticket m g
 sync_taken now r id ticket m g Empty = sync_current now id ticket m g
 sync_taken now r id ticket m g Preparing = sync_current now id ticket m g
 
--- SYNC in a group that is held
+-- SYNC in a loaded group
 unfoldable pub sync_held : ℕ → SyncRequest → Ticket → Group → Result Turn Code
 sync_held now r ticket g = do
   who ← member_check r.instance r.member g.members

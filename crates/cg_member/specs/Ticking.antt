@@ -1,4 +1,4 @@
--- Time-outs (KIP-62): sessions that expire, and the deadline of the join phase.
+-- Timeouts (KIP-62): expired sessions, and the deadline of a rebalance.
 use Rattle.std.specs.Prelude.{ℕ, Bool, not, ◌&&◌, ◌||◌, is_some, ◌+◌, nat_le, max, List, map, fold, if◌then◌else◌}
 use Rattle.std.specs.List.{list_any}
 use Rattle.cg_member.specs.declared.calls.Calls.TheVariants.{Any}
@@ -10,44 +10,44 @@ use Rattle.cg_member.specs.Membership.{is_empty, is_preparing, keeping}
 use Rattle.cg_member.specs.Rebalance.{completed, tried, turn_of}
 use Rattle.cg_member.specs.Waiting.{is_waiting}
 
--- a member that waits for nothing was not heard for its session time-out
+-- the member has no parked call, and was not heard for its session timeout
 abbrev pub is_overdue : ℕ → Member → Bool
 is_overdue now m = not (is_waiting Any m) && nat_le (m.heard + m.session) now
 
--- overdue members are removed
+-- the members whose session has expired are removed
 unfoldable pub expired : ℕ → Turn → Turn
 expired now t =
     if list_any (is_overdue now) t.group.members
     then after_removal now (record t { group = keeping (λ m. not (is_overdue now m)) t.group })
     else tried now t
 
--- the greatest rebalance time-out of the members
+-- the greatest rebalance timeout of the members
 unfoldable pub greatest_rebalance : List Member → ℕ
 greatest_rebalance members = fold max 0 (map (λ m. m.rebalance) members)
 
--- the members had their time to join again
+-- the rebalance has lasted its greatest rebalance timeout
 abbrev pub is_due : ℕ → Group → Bool
 is_due now g = is_preparing g.phase && nat_le (g.started + greatest_rebalance g.members) now
 
--- a member that waits stays at the deadline, and so does a static one (KIP-345)
+-- at the deadline a static member stays (KIP-345), and so does one with a parked call
 abbrev pub outstays : Member → Bool
 outstays m = is_some m.instance || is_waiting Any m
 
--- no member is left, or one waits
+-- no member is left, or one has a parked call
 abbrev pub can_complete : List Member → Bool
 can_complete members = is_empty members || list_any (is_waiting Any) members
 
--- the join phase completes, or is given its time again
+-- at the deadline: the rebalance completes, or its time starts again
 unfoldable pub ended : ℕ → Turn → Turn
 ended now t = if can_complete t.group.members then completed now t else record t { group = record t.group { started = now } }
 
--- at the deadline of the join phase the dynamic members that do not wait are removed
+-- at the deadline the dynamic members without a parked call are removed
 unfoldable pub at_deadline : ℕ → Turn → Turn
 at_deadline now t =
     if is_due now t.group
     then ended now (record t { group = keeping outstays t.group })
     else t
 
--- a Tick, in one group
+-- a tick, in one group
 unfoldable pub ticked : ℕ → Group → Turn
 ticked now g = at_deadline now (expired now (turn_of g))

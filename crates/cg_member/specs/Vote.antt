@@ -1,4 +1,5 @@
--- The choice of the assignment protocol (protocol guide, "Group Membership API": the coordinator chooses one that all members support).
+-- The vote for the assignment protocol (protocol guide, "Group Membership API": the coordinator chooses one that all
+-- members support).
 use Rattle.std.specs.Prelude.{ℕ, Bool, not, ◌&&◌, ◌||◌, ◌==◌, nat_lt, List, [], ◌∷◌, Option, option_map, map, find, filter, count_by}
 use Rattle.std.specs.List.{list_any, list_all}
 use Rattle.std.specs.Ordering.{nat_cmp, is_lt}
@@ -10,28 +11,28 @@ use Rattle.cg_member.specs.Membership.{is_same, is_named}
 abbrev pub is_among : List (List ℕ) → List ℕ → Bool
 is_among names name = list_any (λ n. is_same n name) names
 
--- a member's list has the protocol
+-- the member supports the protocol
 abbrev pub offers : List ℕ → Member → Bool
 offers name m = list_any (λ p. is_same p.name name) m.protocols
 
--- every member's list has the protocol
+-- every member supports the protocol
 unfoldable pub is_common : List Member → List ℕ → Bool
 is_common members name = list_all (offers name) members
 
--- the protocols that every member has
+-- the protocols that every member supports
 unfoldable pub candidates : List Member → List (List ℕ)
 candidates [] = []
 candidates (m ∷ ms) = filter (is_common (m ∷ ms)) (map (λ p. p.name) m.protocols)
 
--- a member votes for the first of its own list that every member has
+-- the member's vote: the first of its own list that every member supports
 unfoldable pub ballot : List (List ℕ) → Member → Option (List ℕ)
 ballot names m = option_map (λ p. p.name) (find (λ p. is_among names p.name) m.protocols)
 
--- how many members vote for the protocol
+-- the number of members that vote for the protocol
 unfoldable pub votes : List (List ℕ) → List Member → List ℕ → ℕ
 votes names members name = count_by (λ m. is_named (ballot names m) name) members
 
--- the first has more votes, or as many and the lesser name by bytes
+-- the first has more votes, or as many votes and the lesser name by bytes
 unfoldable pub beats : List (List ℕ) → List Member → List ℕ → List ℕ → Bool
 beats names members a b =
     nat_lt (votes names members b) (votes names members a) || (votes names members a == votes names members b && is_lt (slice_cmp nat_cmp a b))
@@ -40,6 +41,6 @@ beats names members a b =
 unfoldable pub is_beaten : List (List ℕ) → List Member → List ℕ → Bool
 is_beaten names members name = list_any (λ other. beats names members other name) names
 
--- most votes win; a tie goes to the least name
+-- the winner of the vote: most votes win; a tie goes to the least name
 unfoldable pub elected : List Member → Option (List ℕ)
 elected members = find (λ name. not (is_beaten (candidates members) members name)) (candidates members)

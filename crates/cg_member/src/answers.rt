@@ -1,4 +1,4 @@
-//! Answers to calls that wait, all of a kind at once.
+//! Replies to parked calls, all of a kind in one pass.
 ghost use Rattle.std.specs.Prelude.{◌≡◌, ◌++◌, OnOk, IfOk};
 ghost use Rattle.cg_member.specs.Waiting.{answer, answers, refusing};
 
@@ -10,7 +10,7 @@ use cg_names::Code;
 use cg_request::ticket::Ticket;
 use std::alloc::AllocError;
 
-/// What each of several members is told.
+/// A rule that gives the reply to a member's parked call.
 pub trait Telling {
     ghost use Rattle.cg_member.specs.declared.member.Member.{Member};
     ghost use Rattle.cg_member.specs.declared.reply.Reply.{Reply};
@@ -21,7 +21,7 @@ pub trait Telling {
         ensures { IfOk result (λ reply. reply ≡ tells self.now member.now) };
 }
 
-/// Each is refused, for this reason.
+/// The rule that refuses every call with this code.
 #[derive(Drop)]
 pub struct Refusing(pub Code);
 
@@ -35,7 +35,7 @@ impl Telling for Refusing {
     }
 }
 
-/// Answers the call of one member, where it waits with one of these.
+/// Appends the reply to the member's parked call, if that call is one of these.
 pub fn answer_one<T: Telling>(
     which: Calls,
     teller: &T,
@@ -50,7 +50,7 @@ pub fn answer_one<T: Telling>(
     Ok(())
 }
 
-/// Answers these calls, in joining order.
+/// Appends the replies to these parked calls, in joining order. Linear in the members.
 #[tactic(auto, unfolding(crate::specs::Waiting::answers))]
 pub fn answer_all<T: Telling>(
     which: Calls,

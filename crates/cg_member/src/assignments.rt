@@ -1,4 +1,4 @@
-//! What the leader hands in, found by member: a look-up takes time logarithmic in the number of entries.
+//! The entries of the leader's SYNC, indexed by member id: a look-up takes time logarithmic in the number of entries.
 ghost use Rattle.std.specs.Prelude.{◌≡◌, ℕ, List, [], ◌∷◌, find, option_map, unwrap_or, IfOk, OnOk, OnErr};
 ghost use Rattle.std.specs.BTreeMap.{get};
 ghost use Rattle.std.specs.Ordering.{nat_cmp};
@@ -12,10 +12,10 @@ use cg_request::request::SyncEntry;
 use std::alloc::{AllocError, Global};
 use std::collections::BTreeMap;
 
-/// What each member got, by its id.
+/// The assignment of each member that has an entry, by member id.
 pub type Index = BTreeMap<MemberId, Assignment>;
 
-// Notes an entry; it counts before those that are noted.
+// Overwrites an earlier entry of the same member, so entries have to be added from the last to the first.
 fn note(index: &mut Index, entry: &SyncEntry) -> Result<(), AllocError>
     ensures { OnOk result ((id : List ℕ) → get (slice_cmp nat_cmp) index.new id ≡ after_note entry.now id (get (slice_cmp nat_cmp) index.old id)) }
 {
@@ -25,7 +25,7 @@ fn note(index: &mut Index, entry: &SyncEntry) -> Result<(), AllocError>
     Ok(())
 }
 
-/// The entries by their members; of two for one member the first counts. Copies them once.
+/// Builds the index of the entries; of two for one member the first counts. Copies each id and assignment once.
 pub fn indexed(alloc: Global, entries: &[SyncEntry]) -> Result<Index, AllocError>
     ensures { IfOk result (λ index. IsIndex entries.now index) }
 {
@@ -39,7 +39,7 @@ pub fn indexed(alloc: Global, entries: &[SyncEntry]) -> Result<Index, AllocError
     }
 }
 
-/// The bytes that are noted for the member, or none.
+/// Returns a copy of the member's assignment, empty if the index has no entry for it.
 pub fn noted(alloc: Global, index: &Index, id: &MemberId) -> Result<Assignment, AllocError>
     ensures { IfOk result (λ bytes. bytes ≡ unwrap_or (get (slice_cmp nat_cmp) index.now id.now) []) }
 {

@@ -1,19 +1,20 @@
+//! Selections of parked calls.
 ghost use Rattle.std.specs.Prelude.{◌≡◌};
 ghost use Rattle.cg_member.specs.Waiting.{on_session, called, is_waiting};
 
 use crate::member::{Member, Waits};
 use cg_request::ticket::Ticket;
 
-/// Some of the calls that wait.
+/// A selection of parked calls.
 #[derive(Clone, Copy)]
 pub enum Calls {
-    /// Each JOIN.
+    /// Every parked JOIN.
     Joins,
-    /// Each SYNC.
+    /// Every parked SYNC.
     Syncs,
-    /// Each call.
+    /// Every parked call.
     Any,
-    /// Each call of this session.
+    /// Every parked call of this session.
     OfSession(u64),
 }
 
@@ -28,7 +29,7 @@ fn on_session(session: u64, ticket: Ticket) -> Option<Ticket>
 }
 
 impl Calls {
-    /// The call that waits, where it is one of these.
+    /// Returns the parked call if it is one of these.
     pub fn called(self, waits: Waits) -> Option<Ticket>
         ensures { result ≡ called self waits }
     {
@@ -44,7 +45,7 @@ impl Calls {
     }
 }
 
-/// Whether the member waits with one of these calls.
+/// Returns whether the member has a parked call that is one of these.
 pub fn is_waiting(which: Calls, member: &Member) -> bool
     ensures { result ≡ is_waiting which member.now }
 {

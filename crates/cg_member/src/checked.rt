@@ -1,3 +1,4 @@
+//! A JOIN with a valid session timeout.
 ghost use Rattle.std.specs.Prelude.{◌≡◌, true, false, MatchOption};
 ghost use Rattle.cg_member.specs.Joining.{is_session_refused};
 
@@ -5,7 +6,7 @@ use cg_record::SessionTimeout;
 use cg_request::request::JoinRequest;
 use std::marker::Model;
 
-/// A JOIN whose session time-out is one that the coordinator takes (KIP-62). Contracts see the request.
+/// A JOIN whose session timeout is within the coordinator's limits (KIP-62). Contracts see the request.
 #[derive(Debug, Drop)]
 pub struct CheckedJoin {
     pub request: JoinRequest,
@@ -22,7 +23,7 @@ impl Model for CheckedJoin {
 }
 
 impl CheckedJoin {
-    /// None where the session time-out is refused.
+    /// Checks the session timeout. Returns `None` if it is outside its limits (error 26).
     pub fn new(request: JoinRequest) -> Option<Self>
         ensures { MatchOption result
             (is_session_refused request ≡ true)

@@ -1,4 +1,4 @@
-//! Copies that equal what they copy; each fails only for want of memory.
+//! Deep copies of names, members and groups. Each fails only if an allocation fails.
 ghost use Rattle.std.specs.Prelude.{◌≡◌, IfOk};
 
 use crate::group::Group;
@@ -7,7 +7,7 @@ use crate::members::Members;
 use cg_names::Name;
 use std::alloc::{AllocError, Global};
 
-/// The name, where there is one.
+/// Copies the name, if there is one.
 pub fn copied_name<const MAX: usize, const SORT: u8>(
     name: &Option<Name<MAX, SORT>>,
 ) -> Result<Option<Name<MAX, SORT>>, AllocError>
@@ -60,7 +60,7 @@ fn copied_members(alloc: Global, members: &Members) -> Result<Members, AllocErro
     Ok(Members::from_vec(items))
 }
 
-/// The group, with its members. Costs its whole size.
+/// Copies the group with its members. Linear in the size of all protocols and assignments.
 pub fn copied_group(alloc: Global, group: &Group) -> Result<Group, AllocError>
     ensures { IfOk result (λ copy. copy ≡ group.now) }
 {

@@ -1,4 +1,4 @@
-//! The ids of new members.
+//! Member ids of new members.
 ghost use Rattle.std.specs.Prelude.{◌≡◌, IfOk};
 ghost use Rattle.cg_names.specs.Grammar.{IsName};
 ghost use Rattle.cg_names.specs.declared.name.TheConstants.{MEMBER_ID_BYTES_MAX, NAME_BYTES_MAX};
@@ -9,7 +9,7 @@ use cg_request::request::JoinRequest;
 use std::alloc::{AllocError, Global};
 use uuid::Uuid;
 
-// The member id that these bytes spell.
+// The contract leaves an allocation failure as the only error, so the other faults are unreachable.
 fn member_id(alloc: Global, bytes: &[u8]) -> Result<MemberId, AllocError>
     requires { IsName MEMBER_ID_BYTES_MAX bytes.now }
     ensures { IfOk result (λ id. id ≡ bytes.now) }
@@ -22,7 +22,6 @@ fn member_id(alloc: Global, bytes: &[u8]) -> Result<MemberId, AllocError>
     }
 }
 
-// The bytes of the id of a new member.
 #[tactic(auto, unfolding(crate::specs::Joining::drawn))]
 fn drawn_bytes(alloc: Global, name: &[u8], fresh: Uuid) -> Result<Vec<u8>, AllocError>
     ensures { IfOk result (λ bytes. bytes.items ≡ drawn name.now fresh) }
@@ -35,7 +34,6 @@ fn drawn_bytes(alloc: Global, name: &[u8], fresh: Uuid) -> Result<Vec<u8>, Alloc
     Ok(bytes)
 }
 
-// What the id of a new member begins with.
 fn own_name(r: &JoinRequest) -> &[u8]
     ensures value { result.now ≡ own_name r.now }
     ensures name { IsName NAME_BYTES_MAX result.now }
@@ -46,7 +44,7 @@ fn own_name(r: &JoinRequest) -> &[u8]
     }
 }
 
-/// The id of a new member.
+/// Returns the id of a new member: its instance id or else its client id, `-`, and the UUID in lower case.
 pub fn drawn(alloc: Global, r: &JoinRequest, fresh: Uuid) -> Result<MemberId, AllocError>
     ensures { IfOk result (λ id. id ≡ drawn (own_name r.now) fresh) }
 {

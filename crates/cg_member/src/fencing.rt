@@ -1,4 +1,5 @@
-//! The member check: a call comes from a member of the group whose place no other has taken (KIP-345).
+//! The member check (KIP-345, fencing): the caller is a member of the group, and no other member has taken its
+//! instance.
 ghost use Rattle.std.specs.Prelude.{◌≡◌, Ok, Err, Some, IfOk, MatchResult};
 ghost use Rattle.cg_member.specs.Fencing.{fencing, member_check};
 ghost use Rattle.cg_member.specs.Membership.{find_member, is_named};
@@ -37,7 +38,8 @@ fn fencing(
     }
 }
 
-/// The member that calls, by the instance and the id that are given. Goes through the members; takes no memory.
+/// Returns the calling member and its id, by the instance and the id in the request. Linear in the members, no
+/// allocation.
 #[tactic(auto, unfolding(crate::specs::Fencing::member_check))]
 pub fn checked_member<'a, 'b>(
     instance: &Option<InstanceId>,

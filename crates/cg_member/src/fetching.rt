@@ -1,4 +1,4 @@
-//! FETCH: how far a group has read. It changes nothing, and asks the offsets alone.
+//! FETCH (OffsetFetch request): the committed offsets of a group. It changes nothing and reads only the offsets.
 ghost use Rattle.std.specs.Prelude.{◌≡◌, IfOk, map};
 ghost use Rattle.std.specs.Option.{option_copied};
 ghost use Rattle.cg_member.specs.Fetching.{fetched, fetched_partition};
@@ -56,7 +56,8 @@ fn fetched_all(
     Ok(fetched)
 }
 
-/// What a FETCH is answered. Costs a look-up for each partition, and copies the metadata.
+/// Returns the reply to a FETCH. Costs one look-up for each partition, and copies the metadata. A group id of `-` is
+/// refused by 24.
 pub fn fetched(alloc: Global, offsets: &Offsets, r: FetchRequest) -> Result<Reply, AllocError>
     ensures { IfOk result (λ reply. reply ≡ fetched offsets.now r.group r.partitions) }
 {

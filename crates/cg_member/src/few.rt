@@ -1,4 +1,4 @@
-//! Lists of which most have one value.
+//! A list that stores a single value without an allocation.
 ghost use Rattle.std.specs.Prelude.{◌≡◌, [], ◌∷◌, ◌++◌, length, OnOk, OnErr};
 ghost use Rattle.cg_member.specs.Few.{AreFirst, items_of};
 
@@ -6,15 +6,15 @@ use std::alloc::{AllocError, Global};
 use std::marker::Model;
 use std::mem;
 
-/// The values of a list.
+/// The storage of the list.
 #[derive(Debug, Drop)]
 pub enum Items<T> {
-    /// One alone takes no memory.
+    /// A single value, without an allocation.
     One([T; 1]),
     Many(Vec<T>),
 }
 
-/// Some values in their order, mostly one. Contracts see the list.
+/// A list that mostly has at most one value. Contracts see the list.
 #[derive(Debug, Drop)]
 pub struct Few<T> {
     alloc: Global,
@@ -31,7 +31,7 @@ impl<T> Model for Few<T> {
 }
 
 impl<T> Few<T> {
-    /// No values. Takes no memory.
+    /// Creates an empty list, without an allocation.
     pub fn new(alloc: Global) -> Self
         ensures { result ≡ [] }
     {
@@ -39,7 +39,7 @@ impl<T> Few<T> {
         Few { alloc, items }
     }
 
-    /// One value. Takes no memory.
+    /// Creates a list of one value, without an allocation.
     pub fn one(alloc: Global, value: T) -> Self
         ensures { result ≡ value ∷ [] }
     {
@@ -47,7 +47,7 @@ impl<T> Few<T> {
         Few { alloc, items }
     }
 
-    /// The values in their order.
+    /// Returns the values in their order.
     pub fn as_slice(&self) -> &[T]
         ensures { result.now ≡ self.now }
     {
@@ -57,14 +57,14 @@ impl<T> Few<T> {
         }
     }
 
-    /// How many there are.
+    /// Returns the number of values.
     pub fn len(&self) -> usize
         ensures { result ≡ length self.now }
     {
         self.as_slice().len()
     }
 
-    /// The values, taken out as they stand.
+    /// Returns the storage, without a copy.
     pub fn into_items(self) -> Items<T>
         ensures { items_of result ≡ self }
     {
@@ -74,7 +74,7 @@ impl<T> Few<T> {
 }
 
 impl<T: Drop> Few<T> {
-    /// Puts a value last. The first one takes no memory.
+    /// Appends a value. The first value takes no allocation. If an allocation fails, the list is unchanged.
     pub fn push(&mut self, value: T) -> Result<(), AllocError>
         ensures ok { OnOk result (self.new ≡ self.old ++ value ∷ []) }
         ensures err { OnErr result (self.new ≡ self.old) }
@@ -87,7 +87,7 @@ impl<T: Drop> Few<T> {
         Ok(())
     }
 
-    /// Puts the values of another list last; where memory is refused, those that there was room for.
+    /// Appends the values of another list. If an allocation fails, a prefix of them was appended.
     pub fn append(&mut self, other: Few<T>) -> Result<(), AllocError>
         ensures ok { OnOk result (self.new ≡ self.old ++ other) }
         ensures err { OnErr result (AreFirst self.new (self.old ++ other)) }
@@ -106,7 +106,8 @@ impl<T: Drop> Few<T> {
     }
 }
 
-// Puts a value last in a vector, which is made where one stands alone.
+// Moves a single value to a new vector first. The vector has its room before the value moves, so an allocation failure
+// changes nothing.
 fn put_last<T: Drop>(alloc: Global, items: &mut Items<T>, value: T) -> Result<(), AllocError>
     ensures ok { OnOk result (items_of items.new ≡ items_of items.old ++ value ∷ []) }
     ensures err { OnErr result (items_of items.new ≡ items_of items.old) }

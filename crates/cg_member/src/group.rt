@@ -1,31 +1,32 @@
+//! A group and its state.
 use crate::members::Members;
 use cg_names::{Generation, GroupId, MemberId, Moment, ProtocolName};
 
-/// Where a group that is held stands, as the protocol guide names it ("DescribeGroups", group states).
+/// The state of a loaded group, named as in the protocol guide ("DescribeGroups", group states).
 #[derive(Clone, Copy, Debug, PartialEq, Eq)]
 pub enum Phase {
-    /// It has no members.
+    /// The group has no members.
     Empty,
-    /// Its members are joining again.
+    /// A rebalance is under way, and the members send JOIN again.
     Preparing,
-    /// Its members have joined, and its leader works the assignments out.
+    /// All members have joined, and the leader's SYNC is expected.
     Completing,
-    /// Its members have their assignments.
+    /// The members have their assignments.
     Stable,
 }
 
-/// A group that is held.
+/// A loaded group.
 #[derive(Debug, Drop)]
 pub struct Group {
     pub id: GroupId,
     pub phase: Phase,
     pub generation: Generation,
-    /// The type of its protocols, from its first member on.
+    /// Protocol type, set by the first member.
     pub kind: Option<ProtocolName>,
-    /// The protocol that its members voted for, from the end of a join phase on.
+    /// Protocol that the members voted for, set when a rebalance completes.
     pub protocol: Option<ProtocolName>,
     pub leader: Option<MemberId>,
     pub members: Members,
-    /// In the phase `Preparing`, the moment at which it began.
+    /// Start of the rebalance under way, in the phase `Preparing`; it decides the deadline.
     pub started: Moment,
 }

@@ -1,5 +1,5 @@
-//! Groups and their members as the machine holds them, and what a member or a caller is answered.
-//! The definitions of `specs/` are the rules of members; the turns of a whole group stand on them.
+//! Groups, members and replies of the group machine, and the rules for single members: member check, vote, parked
+//! calls. `cg_turn` builds the steps of a whole group on the definitions in `specs/`.
 #![tactic(auto)]
 
 pub mod answers;

@@ -1,16 +1,17 @@
+//! A member and its parked call.
 use cg_names::{ClientId, InstanceId, MemberId, Moment};
 use cg_record::{Assignment, RebalanceTimeout, SessionTimeout};
 use cg_request::protocols::Protocols;
 use cg_request::ticket::Ticket;
 
-/// What a member waits for: a member has at most one call that waits.
+/// The parked call of a member. A member has at most one.
 #[derive(Clone, Copy, Debug)]
 pub enum Waits {
-    /// None of its calls waits.
+    /// No parked call.
     Nothing,
-    /// This JOIN waits for the join phase to complete.
+    /// A JOIN that is parked until the rebalance completes.
     Join(Ticket),
-    /// This SYNC waits for the leader's assignments.
+    /// A SYNC that is parked until the leader's SYNC.
     Sync(Ticket),
 }
 
@@ -18,17 +19,17 @@ pub enum Waits {
 #[derive(Debug, Drop)]
 pub struct Member {
     pub id: MemberId,
-    /// Its own name for itself, where it has one (KIP-345).
+    /// Instance id of a static member (KIP-345); `None` for a dynamic one.
     pub instance: Option<InstanceId>,
     pub client: ClientId,
-    /// How long it may go unheard (KIP-62).
+    /// Session timeout: a member without a parked call expires if it is not heard for this long (KIP-62).
     pub session: SessionTimeout,
-    /// How long a rebalance waits for it (KIP-62).
+    /// Rebalance timeout: how long a rebalance waits for this member (KIP-62).
     pub rebalance: RebalanceTimeout,
-    /// The protocols that it offers, the one that it likes best first.
+    /// Protocols that the member supports, the preferred one first.
     pub protocols: Protocols,
     pub assignment: Assignment,
-    /// The moment at which it was last heard.
+    /// Moment at which the member was last heard.
     pub heard: Moment,
     pub waits: Waits,
 }

@@ -1,3 +1,4 @@
+//! The members of a group.
 ghost use Rattle.std.specs.Prelude.{◌≡◌, ◌<◌, [], ◌∷◌, ◌++◌, true, false, Some, length, List, not, OnOk, OnErr, IfOk, filter, map, is_some};
 ghost use Rattle.std.specs.Option.{option_copied};
 ghost use Rattle.std.specs.List.{position, list_any, list_all};
@@ -22,7 +23,8 @@ use cg_request::request::SyncEntry;
 use std::alloc::{AllocError, Global};
 use std::marker::Model;
 
-/// The members of a group in joining order: at most `MEMBERS_MAX`, no two of one id or one instance. Contracts see the list.
+/// The members of a group in joining order: at most `MEMBERS_MAX`, with different ids and different instances.
+/// Contracts see the list. Look-ups are linear in the members.
 #[derive(Debug, Drop)]
 pub struct Members {
     items: Vec<Member>,
@@ -40,21 +42,19 @@ impl Model for Members {
     ghost invariant = { λ m. AreMembers m.items.items };
 }
 
-// Where the member with this id stands.
 fn place_of(id: &MemberId, members: &[Member]) -> Option<usize>
     ensures { result ≡ position (has_id id.now) members.now }
 {
     members.iter().position(|m| m.id == *id)
 }
 
-// Where the member with this instance stands.
 fn seat_of(instance: &Option<InstanceId>, members: &[Member]) -> Option<usize>
     ensures { result ≡ position (has_instance instance.now) members.now }
 {
     members.iter().position(|m| has_instance(instance, m))
 }
 
-/// Whether the member has this instance, where one is given.
+/// Returns whether an instance is given and the member has it.
 pub fn has_instance(instance: &Option<InstanceId>, member: &Member) -> bool
     ensures { result ≡ has_instance instance.now member.now }
 {
@@ -211,7 +211,7 @@ fn keep_outstaying(members: &mut Vec<Member>)
     members.retain(|m| outstays(m));
 }
 
-// Puts the member in the place of the one with its instance.
+// Overwrites the member that has the new member's instance, if there is one.
 #[tactic(auto, unfolding(crate::specs::Replacing::seating))]
 fn seat_one(members: &mut Vec<Member>, member: Member)
     requires { are_distinct (instances members.old.items) ≡ true }
@@ -223,7 +223,7 @@ fn seat_one(members: &mut Vec<Member>, member: Member)
 }
 
 impl Members {
-    /// No members. Takes no memory.
+    /// Creates an empty list, without an allocation.
     #[tactic(auto, using(crate::proofs::Together::none_together))]
     pub fn new(alloc: Global) -> Self
         ensures { result ≡ [] }
@@ -233,7 +233,7 @@ impl Members {
         }
     }
 
-    /// These members.
+    /// Wraps the members, without a copy.
     pub fn from_vec(items: Vec<Member>) -> Self
         requires { AreMembers items.items }
         ensures { result ≡ items.items }
@@ -241,7 +241,7 @@ impl Members {
         Members { items }
     }
 
-    /// The members in joining order.
+    /// Returns the members in joining order.
     pub fn as_slice(&self) -> &[Member]
         ensures value { result.now ≡ self.now }
         ensures lawful { AreMembers self.now }
@@ -249,14 +249,14 @@ impl Members {
         self.items.as_slice()
     }
 
-    /// How many there are.
+    /// Returns the number of members.
     pub fn len(&self) -> usize
         ensures { result ≡ length self.now }
     {
         self.items.len()
     }
 
-    /// The member with this id.
+    /// Returns the member with this id. Linear in the members.
     #[tactic(auto, unfolding(crate::specs::Membership::find_member))]
     pub fn find(&self, id: &MemberId) -> Option<&Member>
         ensures { option_copied result ≡ find_member id.now self.now }
@@ -265,7 +265,7 @@ impl Members {
         items.iter().find(|m| m.id == *id)
     }
 
-    /// The member with this instance, where one is given.
+    /// Returns the member with this instance, if an instance is given. Linear in the members.
     #[tactic(auto, unfolding(crate::specs::Membership::find_instance))]
     pub fn find_instance(&self, instance: &Option<InstanceId>) -> Option<&Member>
         ensures { option_copied result ≡ find_instance instance.now self.now }
@@ -274,7 +274,7 @@ impl Members {
         items.iter().find(|m| has_instance(instance, m))
     }
 
-    /// The member with this instance.
+    /// Returns the member with this instance. Linear in the members.
     #[tactic(auto, unfolding(crate::specs::Membership::find_instance))]
     pub fn with_instance(&self, instance: &InstanceId) -> Option<&Member>
         ensures { option_copied result ≡ find_instance (Some instance.now) self.now }
@@ -283,14 +283,14 @@ impl Members {
         items.iter().find(|m| has_own(instance, m))
     }
 
-    /// Whether there is a member with this id.
+    /// Returns whether a member has this id.
     pub fn has(&self, id: &MemberId) -> bool
         ensures { result ≡ is_some (find_member id.now self.now) }
     {
         self.find(id).is_some()
     }
 
-    /// Puts a member last.
+    /// Appends a member. If an allocation fails, the list is unchanged.
     #[tactic(auto, using(crate::proofs::Together::after_push))]
     pub fn push(&mut self, member: Member) -> Result<(), AllocError>
         requires room { length self.old < MEMBERS_MAX }
@@ -303,7 +303,7 @@ impl Members {
         Ok(())
     }
 
-    /// Puts a member in the place of the one with its instance.
+    /// Replaces the member that has this member's instance; the position in joining order stays (KIP-345).
     #[tactic(auto, using(crate::proofs::Seats::after_seating))]
     pub fn replace(&mut self, member: Member)
         requires own_id { is_some (find_member member.id self.old) ≡ false }
@@ -312,7 +312,7 @@ impl Members {
         seat_one(&mut self.items, member);
     }
 
-    /// The member with this id was heard now.
+    /// Sets the moment at which the member was last heard.
     #[tactic(auto, using(crate::proofs::Together::after_hearing))]
     pub fn hear(&mut self, id: &MemberId, now: Moment)
         ensures { self.new ≡ with_member id.now (heard now) self.old }
@@ -320,7 +320,8 @@ impl Members {
         hear_one(&mut self.items, id, now);
     }
 
-    /// The member with this id waits with a call.
+    /// Parks a call of the member. If an older one was parked, the member also counts as heard, as that call gets a
+    /// reply.
     #[tactic(auto, using(crate::proofs::Together::after_waiting))]
     pub fn wait(&mut self, id: &MemberId, waits: Waits, now: Moment)
         ensures { self.new ≡ with_member id.now (waits_with now waits) self.old }
@@ -328,7 +329,7 @@ impl Members {
         wait_one(&mut self.items, id, waits, now);
     }
 
-    /// The member with this id takes the time-outs and protocols of a JOIN.
+    /// Replaces the member's timeouts and protocols by those of the JOIN. Its client stays.
     #[tactic(auto, using(crate::proofs::Together::after_update))]
     pub fn update(&mut self, id: &MemberId, join: CheckedJoin)
         ensures { self.new ≡ with_member id.now (updated join) self.old }
@@ -336,7 +337,7 @@ impl Members {
         update_one(&mut self.items, id, join);
     }
 
-    /// Each of these calls was answered now.
+    /// Clears these parked calls, and marks their members as heard now.
     #[tactic(auto, unfolding(crate::specs::Waiting::after_answers), using(crate::proofs::Together::after_all_answers))]
     pub fn answer(&mut self, which: Calls, now: Moment)
         ensures { self.new ≡ after_answers which now self.old }
@@ -352,14 +353,14 @@ impl Members {
         keep_others(&mut self.items, id);
     }
 
-    /// Whether a member is overdue.
+    /// Returns whether the session of a member has expired.
     pub fn has_overdue(&self, now: Moment) -> bool
         ensures { result ≡ list_any (is_overdue now) self.now }
     {
         self.items.as_slice().iter().any(|m| is_overdue(m, now))
     }
 
-    /// Removes the members that are overdue.
+    /// Removes the members whose session has expired.
     #[tactic(auto, using(crate::proofs::Together::after_removing))]
     pub fn remove_overdue(&mut self, now: Moment)
         ensures { self.new ≡ filter (λ m. not (is_overdue now m)) self.old }
@@ -367,7 +368,7 @@ impl Members {
         keep_timely(&mut self.items, now);
     }
 
-    /// Removes the dynamic members that do not wait.
+    /// Removes the dynamic members without a parked call, as the deadline of a rebalance does.
     #[tactic(auto, using(crate::proofs::Together::after_removing))]
     pub fn remove_idle(&mut self)
         ensures { self.new ≡ filter outstays self.old }
@@ -375,21 +376,22 @@ impl Members {
         keep_outstaying(&mut self.items);
     }
 
-    /// Whether a member waits with one of these calls.
+    /// Returns whether a member has a parked call that is one of these.
     pub fn has_waiting(&self, which: Calls) -> bool
         ensures { result ≡ list_any (is_waiting which) self.now }
     {
         self.items.as_slice().iter().any(|m| is_waiting(which, m))
     }
 
-    /// Whether each member waits with one of these calls.
+    /// Returns whether every member has a parked call that is one of these.
     pub fn all_wait(&self, which: Calls) -> bool
         ensures { result ≡ list_all (is_waiting which) self.now }
     {
         self.items.as_slice().iter().all(|m| is_waiting(which, m))
     }
 
-    /// Gives each member what the leader's entries have for it.
+    /// Sets the assignment of each member to that of its entry, or to no bytes. Indexes the entries once, so the cost
+    /// is n log n.
     #[tactic(auto, using(crate::proofs::Together::after_assigning))]
     pub fn assigned(self, alloc: Global, entries: &[SyncEntry]) -> Result<Self, AllocError>
         ensures { IfOk result (λ members. members ≡ map (assigned entries.now) self) }

@@ -1,59 +1,60 @@
+//! The replies to requests.
 use crate::group::Phase;
 use cg_fold::StoredOffset;
 use cg_names::{ClientId, Code, Generation, GroupId, InstanceId, MemberId, ProtocolName, Topic};
 use cg_record::{Assignment, Partition, Subscription};
 use cg_request::listed::Listed;
 
-/// A member, as the leader of its group is told of it.
+/// A member in the JOIN reply of the leader.
 #[derive(Debug, Drop)]
 pub struct JoinedMember {
     pub id: MemberId,
     pub instance: Option<InstanceId>,
-    /// What it wants, in the words of the chosen protocol.
+    /// Subscription of the member for the chosen protocol.
     pub subscription: Subscription,
 }
 
-/// The answer to a JOIN (JoinGroup response).
+/// The reply to a JOIN (JoinGroup response).
 #[derive(Debug, Drop)]
 pub struct Joined {
     pub generation: Generation,
     pub kind: Option<ProtocolName>,
     pub protocol: Option<ProtocolName>,
     pub leader: Option<MemberId>,
-    /// The member that is answered.
+    /// Member id of the caller.
     pub member: MemberId,
-    /// The members in joining order, for the leader alone.
+    /// The members in joining order; empty unless the caller leads.
     pub members: Listed<JoinedMember>,
 }
 
-/// How far a group has read one partition.
+/// The committed offset of one partition.
 #[derive(Debug, Drop)]
 pub struct FetchedPartition {
     pub topic: Topic,
     pub partition: Partition,
-    /// None where the group has committed nothing for it.
+    /// `None` if the group has no committed offset for the partition.
     pub stored: Option<StoredOffset>,
 }
 
-/// A member, as a description of its group shows it.
+/// A member in the description of its group.
 #[derive(Debug, Drop)]
 pub struct DescribedMember {
     pub id: MemberId,
     pub instance: Option<InstanceId>,
     pub client: ClientId,
-    /// No bytes in a group that is not stable.
+    /// Empty unless the group is stable.
     pub subscription: Subscription,
-    /// No bytes in a group that is not stable.
+    /// Empty unless the group is stable.
     pub assignment: Assignment,
 }
 
-/// A group that is held, as a client sees it (DescribeGroups response).
+/// The description of a loaded group (DescribeGroups response).
 #[derive(Debug, Drop)]
 pub struct Described {
     pub phase: Phase,
     pub generation: Generation,
     pub kind: Option<ProtocolName>,
-    /// None in a group that is not stable.
+    /// `None` unless the group is stable.
     pub protocol: Option<ProtocolName>,
     /// The members in joining order.
     pub members: Listed<DescribedMember>,
@@ -67,21 +68,21 @@ pub struct Listing {
     pub phase: Phase,
 }
 
-/// The answer to a call.
+/// The reply to a call.
 #[derive(Debug, Drop)]
 pub enum Reply {
-    /// To a JOIN.
+    /// The reply to a JOIN.
     Joined(Joined),
-    /// To a SYNC: the assignment of the member.
+    /// The reply to a SYNC: the assignment of the member.
     Synced(Assignment),
-    /// To a BEAT, a LEAVE, a COMMIT or a DELETE.
+    /// The reply OK to a BEAT, a LEAVE, a COMMIT or a DELETE.
     Done,
-    /// To a FETCH: the partitions in the order in which they were asked for.
+    /// The reply to a FETCH: the partitions in request order.
     Fetched(Listed<FetchedPartition>),
-    /// To a DESCRIBE; a group that is not held is dead.
+    /// The reply to a DESCRIBE; `None` for a group that is not loaded, which a client sees as Dead.
     Described(Option<Described>),
-    /// To a LIST: the groups that are held, by the bytes of their ids.
+    /// The reply to a LIST: the loaded groups, by the bytes of their ids.
     Groups(Listed<Listing>),
-    /// To any call: it is refused, for this reason.
+    /// The refusal of any call, with its error code.
     Refused(Code),
 }

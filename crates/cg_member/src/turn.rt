@@ -1,10 +1,11 @@
+//! The state of an event within one group.
 use crate::few::Few;
 use crate::group::Group;
 use crate::reply::Reply;
 use cg_record::Command;
 use cg_request::ticket::Ticket;
 
-/// What an event has done so far in one group: the group as it is now, and the replies and commands in their order.
+/// What an event has done so far in one group: the changed group, and the replies and commands in their order.
 #[derive(Debug, Drop)]
 pub struct Turn {
     pub group: Group,

@@ -1,4 +1,4 @@
-//! The choice of the assignment protocol.
+//! The vote for the assignment protocol.
 ghost use Rattle.std.specs.Prelude.{◌≡◌, IfOk, map, find, not};
 ghost use Rattle.std.specs.List.{position};
 ghost use Rattle.std.specs.Option.{option_copied};
@@ -24,7 +24,7 @@ fn offers(name: &ProtocolName, member: &Member) -> bool
     member.protocols.as_slice().iter().any(|p| p.name == *name)
 }
 
-/// Whether every member's list has the protocol.
+/// Returns whether every member supports the protocol.
 #[tactic(auto, unfolding(crate::specs::Vote::is_common))]
 pub fn is_common(members: &[Member], name: &ProtocolName) -> bool
     ensures { result ≡ is_common members.now name.now }
@@ -32,7 +32,7 @@ pub fn is_common(members: &[Member], name: &ProtocolName) -> bool
     members.iter().all(|m| offers(name, m))
 }
 
-// The protocols that every member has: at most as many as the first has.
+// Returns at most `PROTOCOLS_MAX` names, as they all come from the first member's list.
 #[tactic(auto, unfolding(crate::specs::Vote::candidates))]
 fn candidates(alloc: Global, members: &[Member]) -> Result<Listed<ProtocolName>, AllocError>
     ensures { IfOk result (λ names. names ≡ candidates members.now) }
@@ -48,7 +48,7 @@ fn candidates(alloc: Global, members: &[Member]) -> Result<Listed<ProtocolName>,
     Ok(names)
 }
 
-// The first protocol of the member's own list that every member has.
+// Returns the first protocol of the member's own list that every member supports.
 fn first_choice<'a>(names: &[ProtocolName], member: &'a Member) -> Option<&'a Protocol>
     ensures { option_copied result ≡ find (λ p. is_among names.now p.name) member.now.protocols }
 {
@@ -56,7 +56,6 @@ fn first_choice<'a>(names: &[ProtocolName], member: &'a Member) -> Option<&'a Pr
     protocols.iter().find(|p| is_among(names, &p.name))
 }
 
-// Whether the member votes for the protocol.
 #[tactic(auto, unfolding(crate::specs::Vote::ballot))]
 fn votes_for(names: &[ProtocolName], member: &Member, name: &ProtocolName) -> bool
     ensures { result ≡ is_named (ballot names.now member.now) name.now }
@@ -90,7 +89,7 @@ fn is_beaten(names: &[ProtocolName], members: &[Member], name: &ProtocolName) ->
     names.iter().any(|other| beats(names, members, other, name))
 }
 
-// Where the first candidate stands that none beats.
+// Returns the index of the winner: no candidate has more votes, or as many votes and a lesser name.
 fn unbeaten(names: &[ProtocolName], members: &[Member]) -> Option<usize>
     ensures { result ≡ position (λ name. not (is_beaten names.now members.now name)) names.now }
 {
@@ -99,7 +98,8 @@ fn unbeaten(names: &[ProtocolName], members: &[Member]) -> Option<usize>
         .position(|name| !is_beaten(names, members, name))
 }
 
-/// The protocol that the members vote for; none where there are no members, or none that all have. Linear in the members.
+/// Returns the protocol that wins the vote, or `None` if there are no members or no common protocol. Linear in the
+/// members.
 #[tactic(auto, unfolding(crate::specs::Vote::elected))]
 pub fn elected(alloc: Global, members: &[Member]) -> Result<Option<ProtocolName>, AllocError>
     ensures { IfOk result (λ name. name ≡ elected members.now) }

@@ -1,4 +1,4 @@
--- The error codes of replies, as the table of the Kafka protocol guide, "Error codes", has them.
+-- The error codes of replies (Kafka protocol guide, "Error codes").
 use Rattle.std.specs.Prelude.{ℕ, ℤ, pos, negsuc, List, codes}
 use Rattle.cg_names.specs.declared.code.Code.{Code}
 use Rattle.cg_names.specs.declared.code.Code.TheVariants.{UnknownServerError, NoError, OffsetMetadataTooLarge, CoordinatorLoadInProgress, CoordinatorNotAvailable, IllegalGeneration, InconsistentGroupProtocol, InvalidGroupId, UnknownMemberId, InvalidSessionTimeout, RebalanceInProgress, InvalidRequest, NonEmptyGroup, GroupIdNotFound, GroupMaxSizeReached, FencedInstanceId}

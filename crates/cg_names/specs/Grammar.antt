@@ -1,4 +1,4 @@
--- The grammar of names, stated once for all of them: 1 to `max` bytes of ASCII letters, digits, '.', '_' and '-', and not '-' alone.
+-- The grammar of all names: 1 to `max` bytes of ASCII letters, digits, '.', '_' and '-', and not '-' alone.
 use Rattle.std.specs.Prelude.{◌≡◌, ℕ, Bool, false, not, ◌||◌, ◌==◌, nat_lt, List, [], ◌∷◌, length, Option, None, Some, if◌then◌else◌}
 use Rattle.std.specs.List.{list_all}
 use Rattle.std.specs.Char.{is_ascii_alphabetic, is_ascii_digit}
@@ -9,12 +9,12 @@ use Rattle.cg_names.specs.declared.fault.NameFault.TheVariants.{Memory, Empty, T
 abbrev pub is_name_byte : ℕ → Bool
 is_name_byte b = is_ascii_alphabetic b || is_ascii_digit b || b == 46 || b == 95 || b == 45
 
--- the word '-', which stands for none and so names nothing
+-- the text '-', which means that no name is given
 abbrev pub is_dash : List ℕ → Bool
 is_dash (b ∷ []) = b == 45
 is_dash _ = false
 
--- the first fault of a text, in the order in which faults are told
+-- the first fault of a text, in the order of the reports
 unfoldable pub fault_of : ℕ → List ℕ → Option NameFault
 fault_of max text =
     if length text == 0 then Some Empty
@@ -27,7 +27,7 @@ fault_of max text =
 abbrev pub IsName : ℕ → List ℕ → Type 0
 IsName max text = fault_of max text ≡ None
 
--- the fault that a refusal tells: want of memory is told where there is none
+-- the fault of the text that a report states; `Memory` is reported only if there is none
 abbrev pub told : NameFault → Option NameFault
 told Memory = None
 told Empty = Some Empty

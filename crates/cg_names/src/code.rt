@@ -1,45 +1,46 @@
+//! The error codes of replies.
 ghost use Rattle.std.specs.Prelude.{◌≡◌};
 ghost use Rattle.cg_names.specs.Codes.{number_of, name_of};
 
-/// The error code of a reply, as the protocol guide numbers and names it ("Error codes").
+/// The error code of a reply, with the number and the name of the protocol guide ("Error codes").
 #[derive(Clone, Copy, Debug, PartialEq, Eq)]
 pub enum Code {
-    /// The coordinator could not answer, as for want of memory.
+    /// -1: the server failed for another reason, for example an allocation failed.
     UnknownServerError,
-    /// There is no error.
+    /// 0: no error.
     NoError,
-    /// The metadata of a committed offset is longer than the coordinator takes.
+    /// 12: the metadata of a committed offset is longer than 4,096 bytes.
     OffsetMetadataTooLarge,
-    /// The coordinator is loading its groups.
+    /// 14: the coordinator is loading its log.
     CoordinatorLoadInProgress,
-    /// The coordinator cannot serve the group.
+    /// 15: the coordinator cannot serve the request; the client retries.
     CoordinatorNotAvailable,
-    /// The generation is not that of the group.
+    /// 22: the generation is not that of the group.
     IllegalGeneration,
-    /// The protocol type or the protocols of a member do not go with those of its group.
+    /// 23: the protocol type is not the group's, or no protocol is common to all members.
     InconsistentGroupProtocol,
-    /// The group id is none.
+    /// 24: the request names no group: its group id is `-`.
     InvalidGroupId,
-    /// The group has no such member.
+    /// 25: the group does not have this member.
     UnknownMemberId,
-    /// The session time-out is outside of what the coordinator takes.
+    /// 26: the session timeout is outside its limits.
     InvalidSessionTimeout,
-    /// The group is rebalancing, so the member has to join again.
+    /// 27: a rebalance is under way, so the member has to join again.
     RebalanceInProgress,
-    /// The request is malformed.
+    /// 42: the request is malformed.
     InvalidRequest,
-    /// The group has members.
+    /// 68: the group has members.
     NonEmptyGroup,
-    /// The coordinator holds no such group.
+    /// 69: no such group is loaded.
     GroupIdNotFound,
-    /// The group has as many members as it may.
+    /// 81: the group has the maximum number of members.
     GroupMaxSizeReached,
-    /// Another member has the instance id (KIP-345).
+    /// 82: another member has the instance id (KIP-345, fencing).
     FencedInstanceId,
 }
 
 impl Code {
-    /// The number of the code in the protocol guide.
+    /// Returns the number of the code in the protocol guide.
     pub fn number(self) -> i32
         ensures { result ≡ number_of self }
     {
@@ -63,7 +64,7 @@ impl Code {
         }
     }
 
-    /// The name of the code in the protocol guide.
+    /// Returns the name of the code in the protocol guide.
     pub fn name(self) -> &'static str
         ensures { result.now ≡ name_of self }
     {

@@ -1,21 +1,22 @@
+//! The faults of a name.
 use thiserror::Error;
 
-/// Why a text is no name. A text with several faults is told the first of this order, but for `Memory`, which comes last.
+/// The reason why a text is not a name. The first fault in this order is reported, except that `Memory` comes last.
 #[derive(Clone, Copy, Debug, PartialEq, Eq, Error)]
 pub enum NameFault {
-    /// The text is a name, and there was no memory to keep it.
+    /// An allocation failed, and the text is a name.
     #[error("no memory for a name")]
     Memory,
-    /// The text has no byte.
+    /// The text is empty.
     #[error("a name is empty")]
     Empty,
-    /// The text has more bytes than a name of its sort.
+    /// The text is longer than a name of its type may be.
     #[error("a name is too long")]
     TooLong,
-    /// A byte is no ASCII letter, no digit and none of `.`, `_` and `-`.
+    /// A byte is not an ASCII letter, a digit, `.`, `_` or `-`.
     #[error("a name has a byte that names do not have")]
     BadByte,
-    /// The text is `-`, which stands for none.
+    /// The text is `-`, which means that no name is given.
     #[error("a dash alone stands for no name")]
     Reserved,
 }

@@ -1,13 +1,14 @@
+//! The generation of a group.
 ghost use Rattle.std.specs.Prelude.{◌≡◌, ℕ, ◌≤◌, SomeIff, IfSome};
 ghost use Rattle.cg_names.specs.Generations.{next_generation};
 
 use std::marker::Model;
 
-/// The greatest generation, as the protocol writes it in an `INT32`.
+/// Maximum generation: the protocol encodes it as an `INT32`.
 pub const GENERATION_MAX: u32 = 2_147_483_647;
 
-/// The generation of a group: 0 while it is new, and a number from 1 to 2,147,483,647 once its first join phase is complete.
-/// Contracts see the number.
+/// The generation of a group: 0 until its first rebalance completes, then 1 to `GENERATION_MAX`. Contracts see the
+/// number.
 #[derive(Clone, Copy, Debug, PartialEq, Eq, PartialOrd, Ord, Hash)]
 pub struct Generation {
     number: u32,
@@ -27,10 +28,10 @@ impl Model for Generation {
 }
 
 impl Generation {
-    /// The generation of a group that no join phase has completed.
+    /// The generation of a group in which no rebalance has completed.
     pub const ZERO: Generation = Generation { number: 0 };
 
-    /// The generation with this number, where there is one.
+    /// Checks the number. Returns `None` above `GENERATION_MAX`.
     pub fn new(number: u32) -> Option<Generation>
         ensures { SomeIff result (number ≤ GENERATION_MAX) number }
     {
@@ -41,7 +42,7 @@ impl Generation {
         }
     }
 
-    /// The generation that the next completed join phase makes; after the last it is 1.
+    /// Returns the generation of the next completed rebalance: 1 after `GENERATION_MAX`.
     pub fn next(self) -> Generation
         ensures { result ≡ next_generation self }
     {
@@ -54,7 +55,7 @@ impl Generation {
         }
     }
 
-    /// The number of the generation.
+    /// Returns the number of the generation.
     pub fn get(self) -> u32
         ensures value { result ≡ self }
         ensures range { self ≤ GENERATION_MAX }

@@ -1,6 +1,5 @@
-//! The names that a coordinator handles: groups, members, instances, clients, topics and protocols, and beside them the
-//! small values that every layer speaks of: moments, generations and the codes of replies.
-//! A name is parsed once, at the edge, and is in its grammar from then on. Stands on `thiserror` alone.
+//! The small values that every layer uses: names of groups, members, instances, clients, topics and protocols; moments,
+//! generations and error codes. A name is checked once, when it is parsed, and every value of its type is lawful.
 #![tactic(auto)]
 
 mod code;

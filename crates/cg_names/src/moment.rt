@@ -1,8 +1,9 @@
+//! Moments in milliseconds.
 ghost use Rattle.std.specs.Prelude.{◌≡◌, ℕ, ◌+◌, ◌-◌, ◌^◌, ◌≤◌, ◌↔◌, IsTrue, min, nat_le};
 
 use std::marker::Model;
 
-/// A moment, in milliseconds since an origin that the caller picks. Contracts see its number of milliseconds.
+/// A moment, in milliseconds since an origin that the caller chooses. Contracts see the number of milliseconds.
 #[derive(Clone, Copy, Debug, PartialEq, Eq, PartialOrd, Ord, Hash)]
 pub struct Moment {
     millis: u64,
@@ -17,21 +18,21 @@ impl Model for Moment {
 }
 
 impl Moment {
-    /// The moment that is this many milliseconds after the origin.
+    /// Creates the moment this many milliseconds after the origin.
     pub const fn from_millis(millis: u64) -> Moment
         ensures { result ≡ millis }
     {
         Moment { millis }
     }
 
-    /// The number of milliseconds since the origin.
+    /// Returns the number of milliseconds since the origin.
     pub const fn as_millis(self) -> u64
         ensures { result ≡ self }
     {
         self.millis
     }
 
-    /// The moment that is this many milliseconds later, or the last moment of all.
+    /// Returns the moment this many milliseconds later, or the last moment if that is out of range.
     pub fn later_by(self, millis: u32) -> Moment
         ensures { result ≡ min (self + millis) u64.MAX }
     {
@@ -40,7 +41,7 @@ impl Moment {
         }
     }
 
-    /// Whether at this moment at least so many milliseconds have gone by since `start`.
+    /// Returns whether at least this many milliseconds have passed since `start`.
     pub fn is_past(self, start: Moment, millis: u32) -> bool
         ensures { result ≡ nat_le (start + millis) self }
     {

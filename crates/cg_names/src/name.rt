@@ -1,3 +1,4 @@
+//! The names of groups, members, instances, clients, topics and protocols.
 ghost use Rattle.std.specs.Prelude.{◌≡◌, ℕ, List, IfOk, IfErr, Some, length};
 ghost use Rattle.std.specs.List.{list_all};
 ghost use Rattle.cg_names.specs.Grammar.{IsName, fault_of, told, is_name_byte, is_dash};
@@ -9,14 +10,14 @@ use std::{fmt, str};
 
 mod order;
 
-/// The greatest length of a name, in bytes.
+/// Maximum length of a name, in bytes.
 pub const NAME_BYTES_MAX: usize = 100;
 
-/// The greatest length of a member id, in bytes: a name, a dash and the 36 characters of a UUID.
+/// Maximum length of a member id, in bytes: a name, a dash and the 36 characters of a UUID.
 pub const MEMBER_ID_BYTES_MAX: usize = 137;
 
-/// A name of at most `MAX` bytes. Names of different sorts (`SORT`) are different types, so none is taken for another.
-/// Contracts see a name as its bytes.
+/// A name of 1 to `MAX` bytes. Names with a different `SORT` have different types, so that one is never used for
+/// another. Contracts see the bytes.
 #[derive(Drop)]
 pub struct Name<const MAX: usize, const SORT: u8> {
     bytes: Vec<u8>,
@@ -30,25 +31,24 @@ impl<const MAX: usize, const SORT: u8> Model for Name<MAX, SORT> {
     ghost invariant = { λ n. IsName MAX n.bytes.items };
 }
 
-/// A consumer group.
+/// The id of a consumer group.
 pub type GroupId = Name<NAME_BYTES_MAX, 0>;
 
-/// A member of a group, as the coordinator names it.
+/// The id of a member, which the coordinator draws.
 pub type MemberId = Name<MEMBER_ID_BYTES_MAX, 1>;
 
-/// A static member's name for itself (KIP-345, `group.instance.id`).
+/// The id that a static member gives itself (KIP-345, `group.instance.id`).
 pub type InstanceId = Name<NAME_BYTES_MAX, 2>;
 
-/// A client, as it calls itself.
+/// The id that a client gives itself.
 pub type ClientId = Name<NAME_BYTES_MAX, 3>;
 
-/// A topic.
+/// The name of a topic.
 pub type Topic = Name<NAME_BYTES_MAX, 4>;
 
-/// An assignment protocol, or the type of the protocols of a group.
+/// The name of an assignment protocol, or the protocol type of a group.
 pub type ProtocolName = Name<NAME_BYTES_MAX, 5>;
 
-// Whether each byte is one that names have.
 fn has_name_bytes_alone(bytes: &[u8]) -> bool
     ensures { result ≡ list_all is_name_byte bytes.now }
 {
@@ -61,7 +61,6 @@ fn is_name_byte(b: u8) -> bool
     b.is_ascii_alphabetic() || b.is_ascii_digit() || b == b'.' || b == b'_' || b == b'-'
 }
 
-// Whether the text is the word for none.
 fn is_dash(bytes: &[u8]) -> bool
     ensures { result ≡ is_dash bytes.now }
 {
@@ -72,7 +71,8 @@ fn is_dash(bytes: &[u8]) -> bool
 }
 
 impl<const MAX: usize, const SORT: u8> Name<MAX, SORT> {
-    /// The first reason why the bytes are no name of this sort, if there is one. Never `Memory`. Reads the bytes once.
+    /// Returns the first fault of the bytes as a name of this type, if they have one. Never `Memory`. Linear in the
+    /// bytes, no allocation.
     #[tactic(auto, unfolding(crate::specs::Grammar::fault_of))]
     pub fn fault(bytes: &[u8]) -> Option<NameFault>
         ensures { result ≡ fault_of MAX bytes.now }
@@ -93,7 +93,7 @@ impl<const MAX: usize, const SORT: u8> Name<MAX, SORT> {
         }
     }
 
-    /// The name that the bytes spell. Copies them once.
+    /// Checks the bytes and copies them.
     #[tactic(auto, using(crate::proofs::Names::told_fault))]
     pub fn from_bytes(alloc: Global, bytes: &[u8]) -> Result<Self, NameFault>
         ensures ok { IfOk result (λ name. (name ≡ bytes.now) × IsName MAX bytes.now) }
@@ -106,7 +106,7 @@ impl<const MAX: usize, const SORT: u8> Name<MAX, SORT> {
         Ok(Name { bytes })
     }
 
-    /// The name that the text spells. Copies it once.
+    /// Checks the text and copies it.
     pub fn parse(alloc: Global, text: &str) -> Result<Self, NameFault>
         ensures ok { IfOk result (λ name. (name ≡ text.now) × IsName MAX text.now) }
         ensures err { IfErr result (λ fault. fault_of MAX text.now ≡ told fault) }
@@ -114,7 +114,7 @@ impl<const MAX: usize, const SORT: u8> Name<MAX, SORT> {
         Self::from_bytes(alloc, text.as_bytes())
     }
 
-    /// The bytes of the name: ASCII, 1 to `MAX` of them.
+    /// Returns the bytes of the name: 1 to `MAX` ASCII characters.
     pub fn as_bytes(&self) -> &[u8]
         ensures value { result.now ≡ self.now }
         ensures name { IsName MAX self.now }
@@ -122,7 +122,7 @@ impl<const MAX: usize, const SORT: u8> Name<MAX, SORT> {
         self.bytes.as_slice()
     }
 
-    /// The name as a text. Reads it once, to see again that it is UTF-8.
+    /// Returns the name as a string. Costs a check for UTF-8, linear in the bytes.
     #[tactic(auto, using(crate::proofs::Names::text_from_name))]
     pub fn as_str(&self) -> &str
         ensures value { result.now ≡ self.now }
@@ -131,7 +131,7 @@ impl<const MAX: usize, const SORT: u8> Name<MAX, SORT> {
         str::from_utf8(self.as_bytes()).unwrap()
     }
 
-    /// The number of bytes.
+    /// Returns the number of bytes.
     pub fn len(&self) -> usize
         ensures { result ≡ length self.now }
     {

@@ -1,3 +1,4 @@
+//! The faults of names at the limits of their grammar.
 use crate::{GroupId, MemberId, NameFault};
 use std::test::Fail;
 

@@ -1,4 +1,4 @@
--- What was read once is read again in the same way.
+-- A second decoding of the same bytes gives the same values.
 use Rattle.std.proofs.Common.{◌≡◌, ℕ, zero, suc, ◌+◌, ◌-◌, ◌<◌, ◌≤◌, Bool, true, false, List, [], ◌∷◌, ◌++◌, length, Option, Ok, Err, refl, sym, ap, ◌∙◌, append_assoc, arith}
 use Rattle.std.specs.Prelude.{◌||◌, IsOk}
 use Rattle.std.specs.List.{list_any}
@@ -18,7 +18,7 @@ use Rattle.cg_record.specs.Reading.{Skips, key_at, kept_at, entry_at, command_at
 use Rattle.cg_record.proofs.Laws.{bind_ok, ok_is}
 use Rattle.cg_record.proofs.Steps.{many_step, many_on, many_end, IsLeft, left_step, commands_start, commands_on, commands_end}
 
--- the values that are read behind others come after them
+-- values that are decoded after others are appended to them
 many_append : {X : Type 0} (at : List X → List ℕ → Read X) (n : ℕ) (front : List X) (bytes : List ℕ) (all : List X) (rest : List ℕ) → many_at at n front bytes ≡ Ok (all, rest) → (more : List X) × (all ≡ front ++ more)
 unfolding many_at
 many_append {X} at zero front bytes all rest e =
@@ -32,7 +32,7 @@ absorbed : (a b : Bool) → ((a || (true || false)) || b) ≡ true
 absorbed true b = refl
 absorbed false b = refl
 
--- of the values that are to be read, none so far passes the test
+-- none of the values decoded so far passes the test
 pub record IsUnmet {X : Type 0} (at : List X → List ℕ → Read X) (count i : ℕ) (passes : X → Bool) (whole : List X) (end : List ℕ) (rest : List ℕ) : Type 0 where
   pub front : List X
   pub reads : many_at at (count - i) front rest ≡ Ok (whole, end)
@@ -43,32 +43,32 @@ unmet_start at count passes whole end bytes e =
     let all : count - 0 ≡ count = omega arith in
     record { front = []; reads = ap (λ (n : ℕ). many_at at n [] bytes) all ∙ e; none = refl }
 
--- the next of them
+-- the next value
 pub unmet_next : {X : Type 0} (at : List X → List ℕ → Read X) (count i : ℕ) (passes : X → Bool) (whole : List X) (end rest : List ℕ) (unmet : IsUnmet at count i passes whole end rest) → i < count
     → (x : X × List ℕ) × (at unmet.front rest ≡ Ok x) × (many_at at (count - (i + 1)) (unmet.front ++ x.0 ∷ []) x.1 ≡ Ok (whole, end))
 unmet_next at count i passes whole end rest unmet lt =
     bind_ok (at unmet.front rest) (λ next. many_at at (count - (i + 1)) (unmet.front ++ next.0 ∷ []) next.1) (whole, end) (sym (many_step at count i unmet.front rest lt) ∙ unmet.reads)
 
--- it passes the test
+-- the value passes the test
 pub unmet_hit : {X : Type 0} (at : List X → List ℕ → Read X) (n : ℕ) (passes : X → Bool) (front : List X) (x : X) (whole : List X) (end after : List ℕ) → many_at at n (front ++ x ∷ []) after ≡ Ok (whole, end) → passes x ≡ true → list_any passes whole ≡ true
 unmet_hit at n passes front x whole end after reads hit =
     let m = many_append at n (front ++ x ∷ []) after whole end reads in
     rw (m.1, list_any-append passes (front ++ x ∷ []) m.0, list_any-append passes front (x ∷ []), hit) (absorbed (list_any passes front) (list_any passes m.0))
 
--- it fails the test
+-- the value fails the test
 pub unmet_on : {X : Type 0} (at : List X → List ℕ → Read X) (count i : ℕ) (passes : X → Bool) (whole : List X) (end rest : List ℕ) (unmet : IsUnmet at count i passes whole end rest) (x : X) (after : List ℕ)
     → many_at at (count - (i + 1)) (unmet.front ++ x ∷ []) after ≡ Ok (whole, end) → passes x ≡ false → IsUnmet at count (i + 1) passes whole end after
 unmet_on at count i passes whole end rest unmet x after reads miss =
     record { front = unmet.front ++ x ∷ []; reads = reads; none = rw (list_any-append passes unmet.front (x ∷ []), unmet.none, miss) refl }
 
--- none is left
+-- no value is left
 pub unmet_end : {X : Type 0} (at : List X → List ℕ → Read X) (count i : ℕ) (passes : X → Bool) (whole : List X) (end rest : List ℕ) → IsUnmet at count i passes whole end rest → count ≤ i → list_any passes whole ≡ false
 unmet_end {X} at count i passes whole end rest unmet le =
     let done = many_end at count i unmet.front rest (Ok (whole, end)) le unmet.reads in
     let same : whole ≡ unmet.front = ap (λ (y : List X × List ℕ). y.0) (ok_is (whole, end) (unmet.front, rest) done) in
     rw same unmet.none
 
--- one more value behind those that were read
+-- one more value after those that were decoded
 pub many_snoc : {X : Type 0} (at : List X → List ℕ → Read X) (n : ℕ) (front : List X) (bytes : List ℕ) (all : List X) (rest : List ℕ) (x : X) (after : List ℕ) → many_at at n front bytes ≡ Ok (all, rest) → at all rest ≡ Ok (x, after) → many_at at (n + 1) front bytes ≡ Ok (all ++ x ∷ [], after)
 unfolding many_at
 many_snoc {X} at zero front bytes all rest x after reads next =
@@ -83,7 +83,7 @@ many_snoc {X} at (suc n) front bytes all rest x after reads next =
     let k : suc n + 1 ≡ suc (n + 1) = omega arith in
     ap (λ (m : ℕ). many_at at m front bytes) k ∙ rw b.1 more
 
--- ---- going past values
+-- ---- checks of values
 
 -- an entry, from its parts
 pub entry_reads : (version : Version) (front : List Entry) (bytes topic : List ℕ) (partition : ℕ) (rest : List ℕ) (offset : ℕ) (metadata after : List ℕ) → key_at bytes ≡ Ok ((topic, partition), rest) → list_any (is_of topic partition) front ≡ false → kept_at version rest ≡ Ok ((offset, metadata), after)
@@ -98,7 +98,7 @@ pub member_reads : (version : Version) (front : List Member) (bytes id rest : Li
 unfolding member_at
 member_reads version front bytes id rest instance more profile after named new known other kept = rw (named, new, known, other, kept) refl
 
--- so many values were read from the start, and the others behind them are all the others
+-- i values were decoded from the start, and the remaining ones follow them
 pub record IsChecked {X : Type 0} (at : List X → List ℕ → Read X) (count i : ℕ) (start rest : List ℕ) : Type 0 where
   pub front : List X
   pub reads : many_at at i [] start ≡ Ok (front, rest)
@@ -127,9 +127,9 @@ pub checked_end : {X : Type 0} (at : List X → List ℕ → Read X) (count i : 
 checked_end at count i start rest checked le =
     (checked.front, many_end at count i checked.front rest (many_at at count [] start) le checked.more)
 
--- ---- going past commands
+-- ---- checks of commands
 
--- commands were read, and what is left is theirs
+-- some commands were decoded, and the remaining bytes hold the others
 pub record IsPassed (version : Version) (bytes rest : List ℕ) : Type 0 where
   pub front : List Command
   pub left : IsLeft version bytes front rest (commands_to_end version (length bytes) bytes)

@@ -1,4 +1,4 @@
--- The laws of commands: what is read is spelled so, and what is spelled so is read.
+-- The laws of commands: decoding inverts encoding, and only encodings are decoded.
 use Rattle.std.proofs.Common.{◌≡◌, ℕ, zero, suc, ◌+◌, ◌<◌, ◌≤◌, true, false, cond, eqb, List, [], ◌∷◌, ◌++◌, length, take, Result, Ok, Err, refl, sym, ap, subst, ◌∙◌, arith}
 use Rattle.std.specs.Prelude.{IfOk, MatchResult, sum_by}
 use Rattle.std.specs.List.{flat_map, AllByRecursion}
@@ -33,7 +33,7 @@ kind_of (kinds.Replaced replaced) = REPLACED_KIND
 kind_of (kinds.Committed committed) = COMMITTED_KIND
 kind_of (kinds.Deleted deleted) = DELETED_KIND
 
--- its fields
+-- the encoded fields of a command
 abbrev pub body_text : Command → List ℕ
 body_text (kinds.Assigned assigned) = assigned_text assigned
 body_text (kinds.Emptied emptied) = emptied_text emptied
@@ -41,7 +41,7 @@ body_text (kinds.Replaced replaced) = replaced_text replaced
 body_text (kinds.Committed committed) = committed_text committed
 body_text (kinds.Deleted deleted) = deleted_text deleted
 
--- what a reader of one kind took, as the command of that kind
+-- what the decoder of one kind accepts, as the command of that kind
 kind_takes : {A : Type 0} {at : List ℕ → Read A} {text : A → List ℕ} {Is : A → Type 0} (make : A → Command) → Reads at text Is
     → ((a : A) → body_text (make a) ≡ text a) → ((a : A) → Is a → IsCommand (make a))
     → (bytes : List ℕ) (x : Command) (rest : List ℕ) → IsBytes bytes → made make (at bytes) ≡ Ok (x, rest) → Takes bytes (body_text x) rest × ((a : A) × (make a ≡ x)) × IsCommand x
@@ -52,7 +52,7 @@ kind_takes {A} {at} {text} {Is} make reader same there bytes x rest fits e =
     let taken : Takes bytes (body_text (make b.0.0)) b.0.1 = subst (λ (l : List ℕ). Takes bytes l b.0.1) (sym (same b.0.0)) t.0 in
     subst (λ (y : Command × List ℕ). Takes bytes (body_text y.0) y.1 × ((a : A) × (make a ≡ y.0)) × IsCommand y.0) made_is (taken, (b.0.0, refl), there b.0.0 t.2)
 
--- what a chain of kinds answers comes from this kind, or from the others
+-- the result of a chain of kinds comes from this kind, or from the others
 kind_cases : {A : Type 0} (kind this : ℕ) (x y : Read A) (z : A × List ℕ) (P : Type 0) → cond (eqb kind this) x y ≡ Ok z → (kind ≡ this → x ≡ Ok z → P) → (y ≡ Ok z → P) → P
 kind_cases {A} kind this x y z P e here there =
     elim (eqb kind this) as (λ b. eqb kind this ≡ b → cond b x y ≡ Ok z → P) [
@@ -60,7 +60,7 @@ kind_cases {A} kind this x y z P e here there =
       | false ↦ λ is got. there got
     ] refl e
 
--- a command of a kind that was read, with its kind byte
+-- a command of this kind was decoded, with its kind byte
 abbrev IsRead : List ℕ → ℕ → Command → List ℕ → Type 0
 IsRead bytes kind x rest = Takes bytes (body_text x) rest × (kind_of x ≡ kind) × IsCommand x
 
@@ -117,7 +117,7 @@ reads_command version =
     (λ x known is. is.1)
     (λ x known is. (kind_small x, is))
 
--- a command has a byte
+-- an encoded command has at least one byte
 pub text_not_empty : (x : Command) → 1 ≤ length (command_text x)
 unfolding command_text
 text_not_empty (kinds.Assigned a) = omega arith
@@ -145,7 +145,7 @@ to_end_take version (suc most) (b ∷ bytes) commands fits le e =
     let whole : b ∷ bytes ≡ flat_map command_text (p.0.0 ∷ q.0) = t.0.parts ∙ ap (λ (l : List ℕ). command_text p.0.0 ++ l) u.1 ∙ sym (flat_map-cons command_text p.0.0 q.0) in
     subst (λ (l : List Command). AreCommands l × (b ∷ bytes ≡ flat_map command_text l)) (ok_is (p.0.0 ∷ q.0) commands q.2) ((t.2, u.0), whole)
 
--- where bytes are left, the next command is read
+-- where bytes are left, the next command is decoded
 pub to_end_step : (version : Version) (most : ℕ) (bytes : List ℕ) → 1 ≤ length bytes → commands_to_end version (suc most) bytes ≡ (command_at version bytes >>= λ first. commands_to_end version most first.1 >>= λ others. Ok (first.0 ∷ others))
 unfolding commands_to_end
 to_end_step version most [] h = absurd (omega arith)
@@ -168,7 +168,7 @@ to_end_again version (x ∷ commands) (suc most) are le =
     ap (commands_to_end version (suc most)) spelled ∙ to_end_step version most (command_text x ++ rest) some
     ∙ rw ((reads_command version).again x rest tt are.0, to_end_again version commands most are.1 shorter) refl
 
--- what is read is spelled so
+-- decoded bytes are the encoding of their commands
 pub commands_take : (bytes : List ℕ) (commands : List Command) → IsBytes bytes → commands_of bytes ≡ Ok commands → AreCommands commands × (bytes ≡ spelling commands)
 unfolding commands_of version_of spelling
 commands_take bytes commands fits e =
@@ -180,33 +180,33 @@ commands_take bytes commands fits e =
     let first : a.0.0 ≡ VERSION_ONE = eqb-true _ _ g.0 in
     (u.0, t.0.parts ∙ ap (λ (n : ℕ). n ∷ a.0.1) first ∙ ap (λ (l : List ℕ). VERSION_ONE ∷ l) u.1)
 
--- what is spelled so is read
+-- an encoding decodes to its commands
 pub commands_again : (commands : List Command) → AreCommands commands → commands_of (spelling commands) ≡ Ok commands
 unfolding commands_of version_of spelling byte_at
 commands_again commands are = to_end_again One commands (length (flat_map command_text commands)) are (omega arith)
 
--- what is left behind a command is shorter
+-- the bytes after a command are fewer
 pub command_shortens : {X : Type 0} (view : X → Command × List ℕ) (r : Result X RecordFault) (version : Version) (bytes : List ℕ) → IsBytes bytes → Builds view r (command_at version bytes) → IfOk r (λ x. length (view x).1 < length bytes)
 command_shortens view (Ok x) version bytes fits built =
     let t = (reads_command version).takes bytes (view x).0 (view x).1 fits built in
     omega (arith, text_not_empty (view x).0, ap length t.0.parts, length-append (command_text (view x).0) (view x).1)
 command_shortens view (Err fault) version bytes fits built = tt
 
--- the same of one that is gone past
+-- the same for a command that is only checked
 pub skipped_shortens : {X : Type 0} (behind : X → List ℕ) (r : Result X RecordFault) (version : Version) (bytes : List ℕ) → IsBytes bytes → Skips behind r (command_at version bytes) → IfOk r (λ x. length (behind x) < length bytes)
 skipped_shortens behind (Ok x) version bytes fits skips =
     let t = (reads_command version).takes bytes skips.0 (behind x) fits skips.1 in
     omega (arith, text_not_empty skips.0, ap length t.0.parts, length-append (command_text skips.0) (behind x))
 skipped_shortens behind (Err fault) version bytes fits skips = tt
 
--- ---- what a reader of all the bytes returned
+-- ---- the result of the decoder of a payload
 
 pub is_found : {X : Type 0} (items : X → List Command) (r : Result X RecordFault) (bytes : List ℕ) → IsBytes bytes
     → MatchResult r (λ v. commands_of bytes ≡ Ok (items v)) (λ fault. Tells fault (commands_of bytes)) → IfOk r (λ v. AreCommands (items v) × (bytes ≡ spelling (items v)))
 is_found items (Ok v) bytes fits told = commands_take bytes (items v) fits told
 is_found items (Err fault) bytes fits told = tt
 
--- of bytes that are read no fault is told but want of memory
+-- bytes that can be decoded have no fault but a failed allocation
 none_but_memory : {A : Type 0} (fault : RecordFault) (x : A) (read : Result A RecordFault) → read ≡ Ok x → Tells fault read → fault ≡ Memory
 none_but_memory Memory x read e told = refl
 none_but_memory fault x read e told = absurd cc
@@ -216,7 +216,7 @@ pub is_only : {X : Type 0} (items : X → List Command) (r : Result X RecordFaul
 is_only items (Ok v) bytes commands are spelled told = ok_is (items v) commands (sym told ∙ ap commands_of spelled ∙ commands_again commands are)
 is_only items (Err fault) bytes commands are spelled told = none_but_memory fault commands (commands_of bytes) (ap commands_of spelled ∙ commands_again commands are) told
 
--- ---- what a writer of all the commands wrote
+-- ---- the result of the encoder of a payload
 
 pub whole_spelled : (commands : List Command) (i : ℕ) (text : List ℕ) → length commands ≤ i → text ≡ VERSION_ONE ∷ flat_map command_text (take i commands) → text ≡ spelling commands
 unfolding spelling

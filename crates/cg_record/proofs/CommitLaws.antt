@@ -1,4 +1,4 @@
--- The law of a commit: its reader takes its text, and nothing else.
+-- The law of a commit: its decoder accepts exactly its encoding.
 use Rattle.std.proofs.Common.{◌≡◌, ℕ, ◌≤◌, false, List, [], ◌++◌, length, refl, sym, ap, ◌∙◌, append_assoc, arith}
 use Rattle.std.specs.Prelude.{not}
 use Rattle.std.specs.List.{flat_map, list_any, AllByRecursion}
@@ -25,7 +25,7 @@ use Rattle.cg_record.proofs.Laws.{Reads, reads_only, reads_then, reads_end, read
 use Rattle.cg_record.proofs.ManyLaws.{Grows, AreRead, reads_many}
 use Rattle.cg_record.proofs.FieldLaws.{reads_byte, reads_four, reads_eight, reads_name, reads_text, from_to-true, is_from_to-true}
 
--- ---- a partition of a topic, and what is kept for it
+-- ---- a partition of a topic, and its offset and metadata
 
 abbrev pub key_text : List ℕ × ℕ → List ℕ
 key_text key = name_text key.0 ++ four key.1
@@ -57,7 +57,7 @@ reads_kept One =
 
 -- ---- an entry
 
--- an entry of a partition that none of the others has
+-- an entry for a partition that none of the others has
 abbrev pub IsNext : List Entry → Entry → Type 0
 IsNext front e = IsEntry e × (list_any (λ other. have_one_key other e) front ≡ false)
 

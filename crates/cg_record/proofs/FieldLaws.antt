@@ -1,4 +1,4 @@
--- The law of each field: it takes the text of its value, and nothing else.
+-- The law of each field: its decoder accepts exactly its encoding.
 use Rattle.std.proofs.Common.{◌≡◌, ℕ, ◌^◌, ◌<◌, ◌≤◌, Bool, true, false, cond, ltb, leb, List, [], ◌∷◌, ◌++◌, length, take, drop, Option, Some, None, Ok, Err, refl, sym, ap, subst, arith}
 use Rattle.std.specs.Prelude.{is_none}
 use Rattle.std.specs.Int.{Width, w32, w64, byte_len, from_be_bytes, to_be_bytes}
@@ -15,7 +15,7 @@ use Rattle.cg_record.specs.Texts.{number, four, eight, name_text, bytes_text}
 use Rattle.cg_record.specs.Fields.{at_most, is_from_to, is_name, byte_at, bytes_at, number_at, four_at, eight_at, name_at, text_at}
 use Rattle.cg_record.proofs.Laws.{IsBytes, ok_is, Takes, Takes-one, Reads, Anything, reads_only, reads_then, reads_as, reads_known}
 
--- a test that let the end of the bytes pass
+-- a length check that passed
 long_enough : {A : Type 0} (short : Bool) (fault : RecordFault) (x y : A) → cond short (Err fault) (Ok x) ≡ Ok y → (short ≡ false) × (x ≡ y)
 long_enough true fault x y e = absurd cc
 long_enough false fault x y e = (refl, cc)
@@ -43,7 +43,7 @@ pub reads_byte : Reads byte_at (λ b. b ∷ []) IsByte
 unfolding byte_at
 reads_byte = record { takes = byte_takes; again = λ b rest known is. refl }
 
--- ---- so many bytes
+-- ---- bytes of a given length
 
 abbrev pub HasLength : ℕ → List ℕ → Type 0
 HasLength n text = length text ≡ n
@@ -67,7 +67,7 @@ reads_bytes n = record { takes = bytes_take n; again = λ text rest known is. by
 
 -- ---- numbers
 
--- the numbers of a width are those below a limit, and their bytes give them back
+-- the numbers of a width are below a limit, and their bytes decode to them
 record IsWide (w : Width) (limit : ℕ) : Type 0 where
   pub len : (n : ℕ) → length (to_be_bytes w n) ≡ byte_len w
   pub back : (bytes : List ℕ) → length bytes ≡ byte_len w → IsBytes bytes → to_be_bytes w (from_be_bytes w bytes) ≡ bytes
@@ -117,7 +117,7 @@ reads_four = record { takes = number_takes w32 (2 ^ 32) wide_four; again = λ n 
 pub reads_eight : Reads eight_at eight (IsBelow (2 ^ 64))
 reads_eight = record { takes = number_takes w64 (2 ^ 64) wide_eight; again = λ n rest known is. number_again w64 (2 ^ 64) wide_eight n rest is }
 
--- ---- texts behind their length
+-- ---- bytes after their length
 
 pub none_is : {X : Type 0} (o : Option X) → is_none o ≡ true → o ≡ None
 none_is None e = refl

@@ -1,4 +1,4 @@
--- The laws of what is told of groups: its reader takes its text, and nothing else.
+-- The laws of group commands: each decoder accepts exactly the encoding.
 use Rattle.std.proofs.Common.{◌≡◌, ℕ, List, ◌++◌, refl, sym, ap, ◌∙◌, append_assoc, arith}
 use Rattle.std.proofs.lemmas.List.{append-nil}
 use Rattle.cg_names.specs.declared.name.TheConstants.{NAME_BYTES_MAX}

@@ -1,20 +1,20 @@
--- When a list has distinct keys, by its first element and by its last.
+-- Lists with distinct keys, by their first element and by their last.
 use Rattle.std.proofs.Common.{◌≡◌, ◌-◌, ◌<◌, Bool, true, false, List, [], ◌∷◌, ◌++◌, length, take, drop, get_or, refl, sym, subst, arith}
 use Rattle.std.specs.Prelude.{◌||◌}
 use Rattle.std.proofs.lemmas.List.{take_all}
 use Rattle.std.specs.List.{list_any, AllByRecursion, IsDistinct}
 
--- an `or` that is false has false sides
+-- both sides of an `or` that is false are false
 pub both_false : (a b : Bool) → (a || b) ≡ false → (a ≡ false) × (b ≡ false)
 both_false true b e = absurd cc
 both_false false b e = (refl, e)
 
--- where no element passes the test, each fails it
+-- if no element passes the test, each fails it
 pub all_fail : {X : Type 0} (p : X → Bool) (xs : List X) → list_any p xs ≡ false → AllByRecursion (λ x. p x ≡ false) xs
 all_fail p [] e = tt
 all_fail p (x ∷ xs) e = let h = both_false (p x) (list_any p xs) e in (h.0, all_fail p xs h.1)
 
--- where each element fails the test, none passes it
+-- if each element fails the test, none passes it
 none_passes : {X : Type 0} (p : X → Bool) (xs : List X) → AllByRecursion (λ x. p x ≡ false) xs → list_any p xs ≡ false
 none_passes p [] h = refl
 none_passes p (x ∷ xs) h = rw (h.0, none_passes p xs h.1) refl
@@ -23,7 +23,7 @@ pub AllByRecursion-push : {X : Type 0} (P : X → Type 0) (xs : List X) (y : X) 
 AllByRecursion-push P [] y h p = (p, tt)
 AllByRecursion-push P (x ∷ xs) y h p = (h.0, AllByRecursion-push P xs y h.1 p)
 
--- where no element passes either of two tests, none passes both of them joined by `or`
+-- if no element passes either of two tests, none passes their `or`
 pub neither : {X : Type 0} (p q : X → Bool) (xs : List X) → list_any p xs ≡ false → list_any q xs ≡ false → list_any (λ x. p x || q x) xs ≡ false
 neither p q [] none other = refl
 neither p q (x ∷ xs) none other =
@@ -39,7 +39,7 @@ neither_parts p q (x ∷ xs) none =
     let there = neither_parts p q xs n.1 in
     (rw (here.0, there.0) refl, rw (here.1, there.1) refl)
 
--- distinct keys, and one more that none of them is
+-- distinct keys, and one more that differs from all of them
 pub IsDistinct-push : {X : Type 0} (e : X → X → Bool) (xs : List X) (y : X) → IsDistinct e xs → list_any (λ x. e x y) xs ≡ false → IsDistinct e (xs ++ y ∷ [])
 unfolding IsDistinct
 IsDistinct-push e [] y h none = (tt, tt)
@@ -51,7 +51,7 @@ AllByRecursion-middle : {X : Type 0} (P : X → Type 0) (xs : List X) (y : X) (y
 AllByRecursion-middle P [] y ys h = h.0
 AllByRecursion-middle P (x ∷ xs) y ys h = AllByRecursion-middle P xs y ys h.1
 
--- one of distinct keys is none of those before it
+-- one of distinct keys differs from those before it
 pub IsDistinct-middle : {X : Type 0} (e : X → X → Bool) (xs : List X) (y : X) (ys : List X) → IsDistinct e (xs ++ y ∷ ys) → list_any (λ x. e x y) xs ≡ false
 unfolding IsDistinct
 IsDistinct-middle e [] y ys h = refl
@@ -66,14 +66,14 @@ unfolding IsDistinct
 nil_is_distinct e [] h = tt
 nil_is_distinct e (x ∷ xs) h = absurd (omega arith)
 
--- what stands behind the first, as a slice's pattern gives it
+-- the elements after the first, as a slice pattern gives them
 abbrev pub behind : {X : Type 0} → List X → List X
 behind xs = take (length xs - 1) (drop 1 xs)
 
 behind-cons : {X : Type 0} (y : X) (xs : List X) → behind (y ∷ xs) ≡ xs
 behind-cons y xs = take_all (length (y ∷ xs) - 1) xs (omega arith)
 
--- the first is none of the others, which are distinct
+-- the first differs from the others, which are distinct
 pub distinct_parts : {X : Type 0} (e : X → X → Bool) (xs : List X) (x : X) → 0 < length xs → x ≡ get_or xs 0 x → IsDistinct e xs → (list_any (e x) (behind xs) ≡ false) × IsDistinct e (behind xs)
 unfolding IsDistinct
 distinct_parts e [] x long first h = absurd (omega arith)

@@ -1,10 +1,10 @@
--- A reader takes what a text spells, and nothing else: the law, and how it is made for one field after another.
+-- The law of a decoder: it accepts exactly the encoding. The law of a value is built from those of its fields.
 use Rattle.std.proofs.Common.{◌≡◌, ℕ, ◌+◌, ◌<◌, Bool, true, false, cond, List, [], ◌++◌, length, get_or, drop, Result, Ok, Err, refl, sym, ap, subst, ◌∙◌, append_assoc}
 use Rattle.std.proofs.lemmas.List.{get_or-drop, drop_at}
 use Rattle.cg_record.specs.declared.fault.RecordFault.{RecordFault}
 use Rattle.cg_record.specs.Fields.{Read, ◌>>=◌, only, made}
 
--- each is a byte
+-- each element is a byte
 abbrev pub IsBytes : List ℕ → Type 0
 IsBytes bytes = (i : ℕ) → get_or bytes i 0 < 256
 
@@ -19,7 +19,7 @@ pub bind_ok : {A B : Type 0} (r : Result A RecordFault) (f : A → Result B Reco
 bind_ok (Ok x) f y e = (x, refl, e)
 bind_ok (Err d) f y e = absurd cc
 
--- a test that did not fail
+-- a check that passed
 pub test_ok : {A : Type 0} (b : Bool) (fault : RecordFault) (x y : A) → cond b (Ok x) (Err fault) ≡ Ok y → (b ≡ true) × (x ≡ y)
 test_ok true fault x y e = (refl, cc)
 test_ok false fault x y e = absurd cc
@@ -30,7 +30,7 @@ done x = Ok x
 pub ok_is : {A : Type 0} (x y : A) → done x ≡ done y → x ≡ y
 ok_is x y e = cc
 
--- what a reader took from the front
+-- the prefix that a decoder accepted
 pub record Takes (bytes text rest : List ℕ) : Type 0 where
   pub parts : bytes ≡ text ++ rest
   pub rest_fits : IsBytes rest
@@ -41,7 +41,7 @@ Takes-one bytes text rest fits e = record { parts = e; rest_fits = IsBytes-behin
 pub Takes-then : (a x b y c : List ℕ) → Takes a x b → Takes b y c → Takes a (x ++ y) c
 Takes-then a x b y c p q = record { parts = p.parts ∙ ap (λ (t : List ℕ). x ++ t) q.parts ∙ sym (append_assoc x y c); rest_fits = q.rest_fits }
 
--- The reader of what is left of a value, some fields of which are known: it takes their texts, and nothing else.
+-- The decoder of the remaining fields of a value: it accepts exactly their encoding.
 pub record ReadsRest {X : Type 0} (at : List ℕ → Read X) (Known : X → Type 0) (text : X → List ℕ) (Is : X → Type 0) : Type 0 where
   pub takes : (bytes : List ℕ) (x : X) (rest : List ℕ) → IsBytes bytes → at bytes ≡ Ok (x, rest) → Takes bytes (text x) rest × Known x × Is x
   pub again : (x : X) (rest : List ℕ) → Known x → Is x → at (text x ++ rest) ≡ Ok (x, rest)
@@ -49,11 +49,11 @@ pub record ReadsRest {X : Type 0} (at : List ℕ → Read X) (Known : X → Type
 abbrev pub Anything : {X : Type 0} → X → Type 0
 Anything x = Unit {0}
 
--- The reader of a value: it takes the value's text, and nothing else.
+-- The decoder of a value: it accepts exactly the encoding.
 abbrev pub Reads : {X : Type 0} → (List ℕ → Read X) → (X → List ℕ) → (X → Type 0) → Type 0
 Reads at text Is = ReadsRest at Anything text Is
 
--- a test of what is read
+-- a test of the decoded value
 pub reads_only : {X : Type 0} {at : List ℕ → Read X} {text : X → List ℕ} {Is : X → Type 0} → (passes : X → Bool) (fault : RecordFault) → Reads at text Is
     → Reads (λ bytes. only passes fault (at bytes)) text (λ x. Is x × (passes x ≡ true))
 reads_only {X} {at} {text} {Is} passes fault reader = record {
@@ -65,7 +65,7 @@ reads_only {X} {at} {text} {Is} passes fault reader = record {
   again = λ x rest known is. rw (reader.again x rest tt is.0, is.1) refl;
 }
 
--- a field, and then what is left
+-- a field, and then the remaining fields
 pub reads_then : {A X : Type 0} {at : List ℕ → Read A} {text : A → List ℕ} {Is : A → Type 0} {next : A → List ℕ → Read X} (field : X → A) {Known : X → Type 0} {more : X → List ℕ} {More : X → Type 0}
     → Reads at text Is → ((a : A) → Is a → ReadsRest (next a) (λ x. Known x × (field x ≡ a)) more More)
     → ReadsRest (λ bytes. at bytes >>= λ a. next a.0 a.1) Known (λ x. text (field x) ++ more x) (λ x. Is (field x) × More x)
@@ -93,7 +93,7 @@ reads_end {X} y {Known} known only_one = record {
   again = λ x rest is_known is. ap (λ (z : X). Ok (z, rest)) (only_one x is_known);
 }
 
--- a value that is another's only field
+-- a value with a single field
 pub reads_made : {A X : Type 0} {at : List ℕ → Read A} {text : A → List ℕ} {Is : A → Type 0} (make : A → X) (back : X → A) {text_of : X → List ℕ} {IsX : X → Type 0}
     → Reads at text Is → ((a : A) → (text_of (make a) ≡ text a)) → ((a : A) → Is a → IsX (make a)) → ((x : X) → make (back x) ≡ x) → ((x : X) → IsX x → Is (back x))
     → Reads (λ bytes. made make (at bytes)) text_of IsX
@@ -110,7 +110,7 @@ reads_made {A} {X} {at} {text} {Is} make back {text_of} {IsX} reader same_text t
       ap (λ (l : List ℕ). made make (at (l ++ rest))) spelled ∙ one ∙ ap (λ (z : X). Ok (z, rest)) (returns x);
 }
 
--- the same reader under an equal text and an equal law
+-- the same decoder under an equal encoding and an equal law
 pub reads_as : {X : Type 0} {at : List ℕ → Read X} {Known : X → Type 0} {text other : X → List ℕ} {Is Other : X → Type 0} → ReadsRest at Known text Is → ((x : X) → text x ≡ other x) → ((x : X) → Known x → Is x → Other x) → ((x : X) → Known x → Other x → Is x) → ReadsRest at Known other Other
 reads_as {X} {at} {Known} {text} {other} {Is} {Other} reader same there back = record {
   takes = λ bytes x rest fits e.
@@ -119,7 +119,7 @@ reads_as {X} {at} {Known} {text} {other} {Is} {Other} reader same there back = r
   again = λ x rest known is. ap (λ (l : List ℕ). at (l ++ rest)) (sym (same x)) ∙ reader.again x rest known (back x known is);
 }
 
--- the same reader where a part of the law is known
+-- the same decoder where a part of the law is known
 pub reads_known : {X : Type 0} {at : List ℕ → Read X} {text : X → List ℕ} {Is Known Other : X → Type 0} → Reads at text Is → ((x : X) → Is x → Known x × Other x) → ((x : X) → Known x → Other x → Is x) → ReadsRest at Known text Other
 reads_known {X} {at} {text} {Is} {Known} {Other} reader split join = record {
   takes = λ bytes x rest fits e.

@@ -1,4 +1,4 @@
--- The law of many values, one after the other: reading them takes their texts, and nothing else.
+-- The law of a list of values: its decoder accepts exactly the encodings in their order.
 use Rattle.std.proofs.Common.{◌≡◌, ℕ, zero, suc, ◌<◌, ◌≤◌, List, [], ◌∷◌, ◌++◌, length, Ok, refl, sym, ap, subst, ◌∙◌, append_assoc, arith}
 use Rattle.std.specs.List.{flat_map, AllByRecursion}
 use Rattle.std.proofs.lemmas.List.{append-nil}
@@ -8,13 +8,13 @@ use Rattle.cg_record.specs.Fields.{Read, ◌>>=◌, only, is_from_to, byte_at, m
 use Rattle.cg_record.proofs.Laws.{IsBytes, bind_ok, ok_is, Takes, Takes-one, Takes-then, Anything, Reads, reads_only, reads_then, reads_as, reads_known}
 use Rattle.cg_record.proofs.FieldLaws.{reads_byte, from_to-true, is_from_to-true}
 
--- what holds of values as a list grows by one that is new behind those before it
+-- a property of a list that each new element preserves
 pub record Grows {X : Type 0} (Apart : List X → Type 0) (IsNew : List X → X → Type 0) : Type 0 where
   pub nil : Apart []
   pub push : (front : List X) (x : X) → Apart front → IsNew front x → Apart (front ++ x ∷ [])
   pub middle : (front : List X) (x : X) (more : List X) → Apart (front ++ x ∷ more) → IsNew front x
 
--- so many values were read behind others
+-- n values were decoded after others
 pub record Took {X : Type 0} (text : X → List ℕ) (Is : X → Type 0) (Apart : List X → Type 0) (n : ℕ) (front : List X) (bytes : List ℕ) (all : List X) (rest : List ℕ) (xs : List X) : Type 0 where
   pub all_is : all ≡ front ++ xs
   pub taken : Takes bytes (flat_map text xs) rest
@@ -27,7 +27,7 @@ pub record AreRead {X : Type 0} (Is : X → Type 0) (Apart : List X → Type 0) 
   pub distinct : Apart xs
   pub each : AllByRecursion Is xs
 
--- at least one value, and at most so many
+-- at least one value, and at most `max`
 pub record AreCounted {X : Type 0} (Is : X → Type 0) (Apart : List X → Type 0) (max : ℕ) (xs : List X) : Type 0 where
   pub some : 1 ≤ length xs
   pub few : length xs ≤ max

@@ -1,4 +1,4 @@
--- The law of a member: its reader takes its text, and nothing else.
+-- The law of a member: its decoder accepts exactly its encoding.
 use Rattle.std.proofs.Common.{◌≡◌, ℕ, ◌<◌, ◌≤◌, true, false, cond, eqb, List, [], ◌∷◌, ◌++◌, length, Option, Some, None, Ok, refl, sym, ap, subst, ◌∙◌, append_assoc, arith}
 use Rattle.std.specs.Prelude.{IfSome, IsSome, is_none, not}
 use Rattle.std.specs.List.{list_any}
@@ -57,12 +57,12 @@ reads_profile One =
 
 -- ---- an optional name
 
--- its length, or 0
+-- the length of an optional name, or 0
 abbrev size_of : Option (List ℕ) → ℕ
 size_of None = 0
 size_of (Some name) = length name
 
--- what stands behind the length
+-- the bytes after the length
 abbrev letters_of : Option (List ℕ) → List ℕ
 letters_of None = []
 letters_of (Some name) = name
@@ -115,7 +115,7 @@ reads_optional max below =
 
 -- ---- a member
 
--- neither its id nor its instance is one of those before it
+-- neither the id nor the instance is one of those before it
 abbrev pub IsNext : List Member → Member → Type 0
 IsNext front m = list_any (λ other. have_one_name other m) front ≡ false
 
@@ -136,7 +136,7 @@ reads_member version front =
 
 -- ---- a replaced member
 
--- a name that is there
+-- a name that is given
 abbrev pub IsRequired : ℕ → Option (List ℕ) → Type 0
 IsRequired max o = IsSome o × IsOptional max o
 

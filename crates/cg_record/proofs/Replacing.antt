@@ -1,4 +1,4 @@
--- A member that takes another's place among the members of a group.
+-- The replacement of a member in a group.
 use Rattle.std.proofs.Common.{◌≡◌, ℕ, zero, suc, ◌+◌, ◌<◌, ◌≤◌, Bool, true, false, cond, List, [], ◌∷◌, length, get_or, set, map, Option, Some, None, refl, sym, ap, subst, ◌∙◌, arith}
 use Rattle.std.specs.Prelude.{◌||◌, ◌&&◌, not, bytes_eq, position, nat_lt}
 use Rattle.std.proofs.lemmas.List.Quantifiers.{position-Some}
@@ -13,7 +13,7 @@ use Rattle.cg_record.proofs.Keys.{both_false, all_fail}
 -- ---- one element of a list that passes a test
 
 module _ {X : Type 0} (e : X → X → Bool) (p : X → Bool) (clash : (x y : X) → p x ≡ true → p y ≡ true → e x y ≡ true) (new : X) where
-  -- no other passes the test that this one passes
+  -- no other element passes the test that this one passes
   others_fail : (x : X) (xs : List X) → p x ≡ true → AllByRecursion (λ y. e x y ≡ false) xs → AllByRecursion (λ y. p y ≡ false) xs
   others_fail x [] here apart = tt
   others_fail x (y ∷ ys) here apart = (fails (p y) refl, others_fail x ys here apart.1)
@@ -27,7 +27,7 @@ module _ {X : Type 0} (e : X → X → Bool) (p : X → Bool) (clash : (x y : X)
   each_at P (x ∷ xs) zero d lt each = each.0
   each_at P (x ∷ xs) (suc i) d lt each = each_at P xs i d (omega arith) each.1
 
-  -- one before it fails the test
+  -- an element before it fails the test
   first_fails : (x : X) (xs : List X) (i : ℕ) (d : X) → i < length xs → AllByRecursion (λ y. e x y ≡ false) xs → p (get_or xs i d) ≡ true → p x ≡ false
   first_fails x xs i d lt apart hit = fails (p x) refl
     where
@@ -42,7 +42,7 @@ module _ {X : Type 0} (e : X → X → Bool) (p : X → Bool) (clash : (x y : X)
   unmoved [] each = refl
   unmoved (x ∷ xs) each = rw (each.0, unmoved xs each.1) refl
 
-  -- to put the new one where the test passes is to set it there
+  -- replacing the elements that pass is an assignment at the index
   pub map-set : (xs : List X) (i : ℕ) (d : X) → IsDistinct e xs → i < length xs → p (get_or xs i d) ≡ true → map (λ x. cond (p x) new x) xs ≡ set xs i new
   unfolding IsDistinct
   map-set [] i d apart lt hit = absurd (omega arith)
@@ -58,14 +58,14 @@ module _ {X : Type 0} (e : X → X → Bool) (p : X → Bool) (clash : (x y : X)
   or_false true = refl
   or_false false = refl
 
-  -- what is asked of the one that passes
+  -- a further condition on the element that passes
   pub any-and : (q : X → Bool) (xs : List X) (i : ℕ) (d : X) → IsDistinct e xs → i < length xs → p (get_or xs i d) ≡ true → list_any (λ x. p x && q x) xs ≡ q (get_or xs i d)
   unfolding IsDistinct
   any-and q [] i d apart lt hit = absurd (omega arith)
   any-and q (x ∷ xs) zero d apart lt hit = rw (hit, none_of_both q xs (others_fail x xs hit apart.0)) (or_false (q x))
   any-and q (x ∷ xs) (suc i) d apart lt hit = rw (first_fails x xs i d (omega arith) apart.0 hit) (any-and q xs i d apart.1 (omega arith) hit)
 
-  -- the new one is apart from this one, if this one stays
+  -- the new element differs from this one, if this one stays
   abbrev pub IsApartFrom : X → Type 0
   IsApartFrom x = p x ≡ false → (e x new ≡ false) × (e new x ≡ false)
 
@@ -82,7 +82,7 @@ module _ {X : Type 0} (e : X → X → Bool) (p : X → Bool) (clash : (x y : X)
   row_apart x [] apart ax each = tt
   row_apart x (y ∷ ys) apart ax each = (pair_apart x y apart.0 ax each.0, row_apart x ys apart.1 ax each.1)
 
-  -- distinct ones stay distinct
+  -- distinct elements stay distinct
   pub map-apart : (xs : List X) → IsDistinct e xs → AllByRecursion IsApartFrom xs → IsDistinct e (map (λ x. cond (p x) new x) xs)
   unfolding IsDistinct
   map-apart [] apart each = tt
@@ -127,9 +127,9 @@ join_names new x y is also = right (has_id y.id x) (has_instance y.instance x) (
     right true b e = refl
     right false b e = e
 
--- ---- the members with the new one among them
+-- ---- the members after the replacement
 
--- one that stays has neither the new one's id nor its instance
+-- a member that stays has neither the new one's id nor its instance
 stays_apart : (new x : Member) → has_id_of_other new x ≡ false → takes_place_of new x ≡ false → (have_one_name x new ≡ false) × (have_one_name new x ≡ false)
 stays_apart new x no_id no_instance =
     let id : has_id new.id x ≡ false = other_id (has_id new.id x) (takes_place_of new x) no_id no_instance in
@@ -155,7 +155,7 @@ seated_set new xs i d apart lt hit = map-set have_one_name (takes_place_of new) 
 pub leads_and_goes_at : (new : Member) (leader : List ℕ) (xs : List Member) (i : ℕ) (d : Member) → AreApart xs → i < length xs → takes_place_of new (get_or xs i d) ≡ true → list_any (leads_and_goes new leader) xs ≡ has_id leader (get_or xs i d)
 leads_and_goes_at new leader xs i d apart lt hit = any-and have_one_name (takes_place_of new) (join_names new) new (has_id leader) xs i d apart lt hit
 
--- ---- who leads then
+-- ---- the leader after the replacement
 
 bytes_eq-same : (a : List ℕ) → bytes_eq a a ≡ true
 bytes_eq-same a = (bytes_eq-Decides a a).1 refl
@@ -188,7 +188,7 @@ leads_then : (b : Bool) (new : Member) (leader : List ℕ) (xs : List Member) �
 leads_then true new leader xs goes some led = led_by_new new xs some
 leads_then false new leader xs goes some led = led_by_old new leader xs goes led
 
--- the members stay those of one group, of whom one leads
+-- the members stay lawful, and one of them leads
 pub seated_roster : (new : Member) (roster : RosterParts) → IsRoster roster → list_any (takes_place_of new) roster.members ≡ true → list_any (has_id_of_other new) roster.members ≡ false
     → IsRoster (roster_of roster.protocol (leader_after new roster) (map (seated new) roster.members))
 seated_roster new roster is some none = record {
@@ -200,7 +200,7 @@ seated_roster new roster is some none = record {
   led = leads_then (list_any (leads_and_goes new roster.leader) roster.members) new roster.leader roster.members refl some is.led;
 }
 
--- ---- where the place is
+-- ---- the index of the replaced member
 
 any_of_position : {X : Type 0} (p : X → Bool) (xs : List X) (i : ℕ) (d : X) → i < length xs → p (get_or xs i d) ≡ true → list_any p xs ≡ true
 any_of_position p [] i d lt hit = absurd (omega arith)
@@ -247,7 +247,7 @@ and_parts_not true true e = absurd cc
 and_parts_not true false e = (refl, refl)
 and_parts_not false b e = absurd cc
 
--- what the members are once the new one sits there
+-- the members after the new one is written at the index
 pub placed : (new : Member) (roster : RosterParts) (at : ℕ) (old : Member) (leads : Bool) (leader : List ℕ) (members : List Member) → IsRoster roster → IsPlace new roster.members at
     → old ≡ get_or roster.members at old → leads ≡ has_id roster.leader old → leader ≡ cond leads new.id roster.leader → members ≡ set roster.members at new
     → IsRoster (roster_of roster.protocol leader members) × (roster_of roster.protocol leader members ≡ replaced_in new roster)

@@ -1,4 +1,4 @@
--- The laws of the members of a group, and of a group that has its assignments: each reader takes its text, and nothing else.
+-- The laws of a roster and of an assigned group: each decoder accepts exactly the encoding.
 use Rattle.std.proofs.Common.{◌≡◌, ℕ, true, List, [], ◌∷◌, ◌++◌, length, refl, sym, subst, append_assoc, arith}
 use Rattle.std.specs.List.{flat_map, AllByRecursion}
 use Rattle.std.proofs.lemmas.List.{append-nil}
@@ -32,7 +32,7 @@ members_grow = record {
 pub reads_members : (version : Version) (n : ℕ) → Reads (many_at (member_at version) n []) (flat_map member_text) (AreRead IsMember AreApart n)
 reads_members version n = reads_many (member_at version) member_text IsMember AreApart IsNext members_grow (reads_member version) n
 
--- the members of a group, each in its ranges
+-- the members of a group, each in range
 abbrev pub AreListed : List Member → Type 0
 AreListed members = AreMembers members × AllByRecursion IsMember members
 

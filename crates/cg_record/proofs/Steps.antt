@@ -1,4 +1,4 @@
--- Reading one after the other, as a loop does.
+-- Decoding in a loop: one more value, or one more command.
 use Rattle.std.proofs.Common.{◌≡◌, ℕ, suc, ◌+◌, ◌-◌, ◌<◌, ◌≤◌, List, [], ◌∷◌, ◌++◌, length, Result, Ok, Err, refl, sym, ap, ◌∙◌, append_assoc, arith}
 use Rattle.std.proofs.lemmas.List.{append-nil, nil_from_length, length-append}
 use Rattle.cg_record.specs.declared.format.Version.{Version}
@@ -9,12 +9,12 @@ use Rattle.cg_record.specs.Fields.{Read, ◌>>=◌, many_at}
 use Rattle.cg_record.specs.Reading.{Fails, command_at, commands_to_end}
 use Rattle.cg_record.proofs.CommandLaws.{to_end_step, to_end_nil}
 
--- a step that fails is the failure of what comes of it
+-- if a step fails, the whole decoding fails
 pub fails_then : {A B : Type 0} (fault : RecordFault) (r : Result A RecordFault) (f : A → Result B RecordFault) (total : Result B RecordFault) → Fails fault r → (r >>= f) ≡ total → Fails fault total
 fails_then Memory r f total h e = tt
 fails_then fault r f total h e = sym e ∙ rw h refl
 
--- ---- many, one after the other
+-- ---- a list of values
 
 pub many_step : {X : Type 0} (at : List X → List ℕ → Read X) (count i : ℕ) (front : List X) (bytes : List ℕ) → i < count → many_at at (count - i) front bytes ≡ (at front bytes >>= λ next. many_at at (count - (i + 1)) (front ++ next.0 ∷ []) next.1)
 unfolding many_at
@@ -37,7 +37,7 @@ many_end at count i front bytes total le so_far =
 
 -- ---- commands
 
--- what was read before, and what is still read
+-- the commands in front, followed by those that are still decoded
 abbrev pub behind_front : List Command → Result (List Command) RecordFault → Result (List Command) RecordFault
 behind_front front read = read >>= λ others. Ok (front ++ others)
 
@@ -45,7 +45,7 @@ regroup : (front : List Command) (x : Command) (read : Result (List Command) Rec
 regroup front x (Ok others) = ap (λ (l : List Command). Ok l) (sym (append_assoc front (x ∷ []) others))
 regroup front x (Err fault) = refl
 
--- the bytes that are left after some commands, of each of which there is a byte at least
+-- the remaining bytes after some commands, each of which has at least one byte
 pub record IsLeft (version : Version) (bytes : List ℕ) (front : List Command) (rest : List ℕ) (total : Result (List Command) RecordFault) : Type 0 where
   pub enough : length rest + length front ≤ length bytes
   pub so_far : behind_front front (commands_to_end version (length bytes - length front) rest) ≡ total
@@ -59,7 +59,7 @@ commands_start version bytes =
     let all : length bytes - 0 ≡ length bytes = omega arith in
     record { enough = omega arith; so_far = front_nil (commands_to_end version (length bytes - 0) bytes) ∙ ap (λ (n : ℕ). commands_to_end version n bytes) all }
 
--- what is read where bytes are left
+-- the decoding of the next command where bytes are left
 pub left_step : (version : Version) (bytes : List ℕ) (front : List Command) (rest : List ℕ) (most : ℕ) (total : Result (List Command) RecordFault) → IsLeft version bytes front rest total → 1 ≤ length rest → length bytes - length front ≡ suc most
     → behind_front front (command_at version rest >>= λ first. commands_to_end version most first.1 >>= λ others. Ok (first.0 ∷ others)) ≡ total
 left_step version bytes front rest most total left some k =

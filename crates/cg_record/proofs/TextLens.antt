@@ -1,4 +1,4 @@
--- How many bytes texts have, and how lists of texts grow.
+-- The lengths of encodings, and of lists of encodings that grow.
 use Rattle.std.proofs.Common.{◌≡◌, ℕ, ◌+◌, ◌<◌, List, [], ◌∷◌, ◌++◌, length, get_or, take, refl, sym, ap, subst, ◌∙◌, arith}
 use Rattle.std.specs.List.{flat_map, AllByRecursion}
 use Rattle.std.proofs.lemmas.List.{length-append, take_more, append-nil}
@@ -93,13 +93,13 @@ pub replaced_len : (r : Replaced) → length (replaced_text r) ≡ length r.grou
 unfolding replaced_text
 replaced_len r = omega (arith, length-append (name_text r.group) (member_text r.member))
 
--- one more text
+-- one more encoding
 pub flat_map-more : {X : Type 0} (f : X → List ℕ) (xs : List X) (i : ℕ) (d : X) → i < length xs → flat_map f (take (i + 1) xs) ≡ flat_map f (take i xs) ++ f (get_or xs i d)
 flat_map-more f xs i d lt =
     ap (flat_map f) (take_more xs i d lt) ∙ flat_map-append f (take i xs) (get_or xs i d ∷ [])
     ∙ ap (λ (l : List ℕ). flat_map f (take i xs) ++ l) (flat_map-cons f (get_or xs i d) [] ∙ append-nil (f (get_or xs i d)))
 
--- one more element of which it holds
+-- one more element with the property
 pub each-more : {X : Type 0} (P : X → Type 0) (xs : List X) (i : ℕ) (d : X) → i < length xs → AllByRecursion P (take i xs) → P (get_or xs i d) → AllByRecursion P (take (i + 1) xs)
 each-more P xs i d lt so_far here = subst (AllByRecursion P) (sym (take_more xs i d lt)) (AllByRecursion-push P (take i xs) (get_or xs i d) so_far here)
 

@@ -1,4 +1,4 @@
--- Reading tells faults of the bytes alone, and never want of memory.
+-- Decoding reports faults of the bytes, and never a failed allocation.
 use Rattle.std.proofs.Common.{◌≡◌, ℕ, zero, suc, Bool, true, false, cond, eqb, ltb, List, [], ◌∷◌, ◌++◌, length, take, drop, None, Result, Ok, Err, refl, subst}
 use Rattle.std.specs.Int.{Width, w32, byte_len, from_be_bytes}
 use Rattle.cg_names.specs.declared.name.TheConstants.{NAME_BYTES_MAX, MEMBER_ID_BYTES_MAX}
@@ -27,7 +27,7 @@ abbrev pub IsTold : RecordFault → Type 0
 IsTold Memory = ⊥
 IsTold fault = Unit {0}
 
--- what is read, or a fault of the bytes
+-- a decoded value, or a fault of the bytes
 abbrev pub Told : {A : Type 0} → Result A RecordFault → Type 0
 Told (Ok x) = Unit {0}
 Told (Err fault) = IsTold fault
@@ -214,13 +214,13 @@ told_commands bytes =
     told_then _ _ (told_byte bytes) (λ first.
     told_then _ _ (told_version first.0) (λ version. told_to_end version (length first.1) first.1))
 
--- ---- what is told of a fault
+-- ---- the reported fault
 
 tells_from : {A : Type 0} (fault : RecordFault) (read : Result A RecordFault) → Told read → read ≡ Err fault → Tells fault read
 tells_from Memory read told e = absurd (subst Told e told)
 tells_from fault read told e = e
 
--- a fault that reading gives is told as itself
+-- the fault of the decoding is reported as it is
 pub commands_tell : (fault : RecordFault) (bytes : List ℕ) → commands_of bytes ≡ Err fault → Tells fault (commands_of bytes)
 commands_tell fault bytes e = tells_from fault (commands_of bytes) (told_commands bytes) e
 

@@ -1,4 +1,4 @@
--- What a command is: each field in its range. The types keep this of every value.
+-- Which values are commands: each field is in range. The types guarantee this for every value.
 use Rattle.std.specs.Prelude.{ℕ, ◌≤◌, List, length, IsSome}
 use Rattle.std.specs.List.{AllByRecursion}
 use Rattle.cg_names.specs.Grammar.{IsName}
@@ -24,7 +24,7 @@ pub record IsKey (name : List ℕ) (number : ℕ) : Type 0 where
   pub topic : IsName NAME_BYTES_MAX name
   pub partition : number ≤ PARTITION_MAX
 
--- an offset, and the metadata beside it
+-- an offset and its metadata
 pub record IsKept (number : ℕ) (bytes : List ℕ) : Type 0 where
   pub offset : number ≤ OFFSET_MAX
   pub metadata : length bytes ≤ METADATA_BYTES_MAX
@@ -34,13 +34,13 @@ pub record IsEntry (entry : Entry) : Type 0 where
   pub key : IsKey entry.topic entry.partition
   pub kept : IsKept entry.offset entry.metadata
 
--- a group's commit
+-- a commit of a group
 pub record IsCommitted (committed : Committed) : Type 0 where
   pub group : IsName NAME_BYTES_MAX committed.group
   pub entries : AreEntries committed.entries
   pub each : AllByRecursion IsEntry committed.entries
 
--- what the members of a group joined in
+-- the members of a completed rebalance
 pub record IsJoined (roster : RosterParts) : Type 0 where
   pub protocol : IsName NAME_BYTES_MAX roster.protocol
   pub leader : IsName MEMBER_ID_BYTES_MAX roster.leader
@@ -55,24 +55,24 @@ pub record IsAssigned (assigned : Assigned) : Type 0 where
   pub kind : IsName NAME_BYTES_MAX assigned.kind
   pub roster : IsJoined assigned.roster
 
--- the end of a group's members
+-- a group that its last member left
 pub record IsEmptied (emptied : Emptied) : Type 0 where
   pub group : IsName NAME_BYTES_MAX emptied.group
   pub started : 1 ≤ emptied.generation
   pub generation : emptied.generation ≤ GENERATION_MAX
   pub kind : IsName NAME_BYTES_MAX emptied.kind
 
--- a member with an instance, which takes another's place
+-- a member that replaces the one with its instance
 pub record IsReplaced (replaced : Replaced) : Type 0 where
   pub group : IsName NAME_BYTES_MAX replaced.group
   pub member : IsMember replaced.member
   pub instance : IsSome replaced.member.instance
 
--- the end of a group
+-- a group that is deleted
 pub record IsDeleted (deleted : Deleted) : Type 0 where
   pub group : IsName NAME_BYTES_MAX deleted.group
 
--- one change of the durable state
+-- a change of the durable state
 abbrev pub IsCommand : Command → Type 0
 IsCommand (kinds.Assigned assigned) = IsAssigned assigned
 IsCommand (kinds.Emptied emptied) = IsEmptied emptied

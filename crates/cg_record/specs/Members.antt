@@ -1,4 +1,4 @@
--- A member of a group: what it is, its text, and how it is read.
+-- A member of a group: its ranges, its encoding and its decoding.
 use Rattle.std.specs.Prelude.{ℕ, ◌≤◌, Bool, not, List, ◌++◌, length, Option, IfSome, Ok}
 use Rattle.std.specs.List.{list_any}
 use Rattle.cg_names.specs.Grammar.{IsName}
@@ -13,7 +13,7 @@ use Rattle.cg_record.specs.Rosters.{has_id, has_instance}
 use Rattle.cg_record.specs.Texts.{four, name_text, optional_text, bytes_text}
 use Rattle.cg_record.specs.Fields.{Read, ◌>>=◌, only, at_most, is_from_to, four_at, name_at, optional_name_at, text_at}
 
--- what is known of a member beside its names
+-- the fields of a member besides its id and instance
 pub record Profile : Type 0 where
   pub client : List ℕ
   pub session : ℕ
@@ -21,7 +21,7 @@ pub record Profile : Type 0 where
   pub subscription : List ℕ
   pub assignment : List ℕ
 
--- each in its range
+-- each field is in range
 pub record IsProfile (profile : Profile) : Type 0 where
   pub client : IsName NAME_BYTES_MAX profile.client
   pub shortest : SESSION_MS_MIN ≤ profile.session
@@ -34,22 +34,22 @@ pub record IsProfile (profile : Profile) : Type 0 where
 abbrev pub profile_of : Member → Profile
 profile_of m = record { client = m.client; session = m.session; rebalance = m.rebalance; subscription = m.subscription; assignment = m.assignment }
 
--- a member: its names, and the others
+-- each field of the member is in range
 pub record IsMember (member : Member) : Type 0 where
   pub id : IsName MEMBER_ID_BYTES_MAX member.id
   pub instance : IfSome member.instance (IsName NAME_BYTES_MAX)
   pub profile : IsProfile (profile_of member)
 
--- ---- texts
+-- ---- encoding
 
 unfoldable pub profile_text : Profile → List ℕ
 profile_text p = name_text p.client ++ four p.session ++ four p.rebalance ++ bytes_text p.subscription ++ bytes_text p.assignment
 
--- a member: id, instance, client, session and rebalance time-out, subscription, assignment
+-- the encoding of a member: id, instance, client, session and rebalance timeout, subscription, assignment
 unfoldable pub member_text : Member → List ℕ
 member_text m = name_text m.id ++ optional_text m.instance ++ profile_text (profile_of m)
 
--- ---- reading
+-- ---- decoding
 
 unfoldable pub profile_at : Version → List ℕ → Read Profile
 profile_at One bytes = do
@@ -60,7 +60,7 @@ profile_at One bytes = do
   assignment ← text_at ASSIGNMENT_BYTES_MAX subscription.1
   Ok (record { client = client.0; session = session.0; rebalance = rebalance.0; subscription = subscription.0; assignment = assignment.0 }, assignment.1)
 
--- a member, from its parts
+-- a member from its parts
 abbrev pub member_of : List ℕ → Option (List ℕ) → Profile → Member
 member_of id instance p = record { id = id; instance = instance; client = p.client; session = p.session; rebalance = p.rebalance; subscription = p.subscription; assignment = p.assignment }
 
@@ -72,7 +72,7 @@ is_new_id front id = not (list_any (has_id id) front)
 abbrev pub is_new_instance : List Member → Option (List ℕ) → Bool
 is_new_instance front instance = not (list_any (has_instance instance) front)
 
--- a member behind others of its group
+-- the next member of a group, after those in front
 unfoldable pub member_at : Version → List Member → List ℕ → Read Member
 member_at version front bytes = do
   id ← only (is_new_id front) Repeated (name_at MEMBER_ID_BYTES_MAX bytes)

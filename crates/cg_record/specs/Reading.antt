@@ -1,4 +1,4 @@
--- Reading commands from left to right, with the first fault that is met.
+-- Decoding of commands from left to right, up to the first fault.
 use Rattle.std.specs.Prelude.{◌≡◌, ℕ, zero, suc, Bool, not, ◌==◌, List, [], ◌∷◌, length, Some, Result, Ok, Err, IsOk, if◌then◌else◌}
 use Rattle.std.specs.List.{list_any}
 use Rattle.cg_names.specs.declared.name.TheConstants.{NAME_BYTES_MAX, MEMBER_ID_BYTES_MAX}
@@ -36,25 +36,25 @@ key_at bytes = do
   partition ← only (at_most PARTITION_MAX) BadLength (four_at topic.1)
   Ok ((topic.0, partition.0), partition.1)
 
--- an offset, and the metadata beside it
+-- an offset and its metadata
 unfoldable pub kept_at : Version → List ℕ → Read (ℕ × List ℕ)
 kept_at One bytes = do
   offset ← only (at_most OFFSET_MAX) BadLength (eight_at bytes)
   metadata ← text_at METADATA_BYTES_MAX offset.1
   Ok ((offset.0, metadata.0), metadata.1)
 
--- none of the entries is of this partition
+-- none of the entries is for this partition
 abbrev pub is_new : List Entry → List ℕ × ℕ → Bool
 is_new front key = not (list_any (is_of key.0 key.1) front)
 
--- an entry behind others of its commit
+-- the next entry of a commit, after those in front
 unfoldable pub entry_at : Version → List Entry → List ℕ → Read Entry
 entry_at version front bytes = do
   key ← only (is_new front) Repeated (key_at bytes)
   kept ← kept_at version key.1
   Ok (record { topic = key.0.0; partition = key.0.1; offset = kept.0.0; metadata = kept.0.1 }, kept.1)
 
--- so many entries, behind others of their commit
+-- n more entries of a commit, after those in front
 abbrev pub entries_at : Version → ℕ → List Entry → List ℕ → Read (List Entry)
 entries_at version n front bytes = many_at (entry_at version) n front bytes
 
@@ -67,17 +67,17 @@ committed_at version bytes = do
 
 -- ---- groups
 
--- so many members, behind others of their group
+-- n more members of a group, after those in front
 abbrev pub members_at : Version → ℕ → List Member → List ℕ → Read (List Member)
 members_at version n front bytes = many_at (member_at version) n front bytes
 
--- the members of a group, with their number before them
+-- the number of members, and the members
 unfoldable pub listed_at : Version → List ℕ → Read (List Member)
 listed_at version bytes = do
   count ← only (is_from_to 1 MEMBERS_MAX) BadLength (byte_at bytes)
   members_at version count.0 [] count.1
 
--- the leader is known to be a member only at the end
+-- a leader that is not a member is a fault only at the end of the members
 unfoldable pub roster_at : Version → List ℕ → Read RosterParts
 roster_at version bytes = do
   protocol ← name_at NAME_BYTES_MAX bytes
@@ -100,7 +100,7 @@ emptied_at version bytes = do
   kind ← name_at NAME_BYTES_MAX generation.1
   Ok (record { group = group.0; generation = generation.0; kind = kind.0 }, kind.1)
 
--- a member that takes another's place has an instance
+-- the member of a `Replaced` has an instance
 unfoldable pub replaced_at : Version → List ℕ → Read Replaced
 replaced_at version bytes = do
   group ← name_at NAME_BYTES_MAX bytes
@@ -131,7 +131,7 @@ command_at version bytes = do
   kind ← byte_at bytes
   body_at version kind.0 kind.1
 
--- commands to the end of the bytes, which are at most `most`
+-- commands up to the end of the bytes, of which there are at most `most`
 unfoldable pub commands_to_end : Version → ℕ → List ℕ → Result (List Command) RecordFault
 commands_to_end version zero bytes = Ok []
 commands_to_end version (suc most) [] = Ok []
@@ -140,45 +140,45 @@ commands_to_end version (suc most) (b ∷ bytes) = do
   others ← commands_to_end version most first.1
   Ok (first.0 ∷ others)
 
--- the version that a byte tells
+-- the version of a first byte
 unfoldable pub version_of : ℕ → Result Version RecordFault
 version_of b = if b == VERSION_ONE then Ok One else Err BadKind
 
--- the commands that the bytes spell, all of the bytes, or the first fault
+-- the commands of a payload, up to its end, or the first fault
 unfoldable pub commands_of : List ℕ → Result (List Command) RecordFault
 commands_of bytes = do
   first ← byte_at bytes
   version ← version_of first.0
   commands_to_end version (length first.1) first.1
 
--- ---- what functions answer
+-- ---- results of functions
 
--- what a function returned, seen by view, is what reading gives
+-- the function's result, through this view, is that of the decoding
 abbrev pub Gives : {X Y : Type 0} → (X → Y) → Result X RecordFault → Result Y RecordFault → Type 0
 Gives view (Ok x) read = read ≡ Ok (view x)
 Gives view (Err fault) read = read ≡ Err fault
 
--- the fault that reading gives, or want of memory
+-- the fault of the decoding, or an allocation failure
 abbrev pub Fails : {Y : Type 0} → RecordFault → Result Y RecordFault → Type 0
 Fails Memory read = Unit {0}
 Fails fault read = read ≡ Err fault
 
--- what a function returned, seen by view, is what reading gives, unless memory ran out
+-- the function's result, through this view, is that of the decoding, unless an allocation fails
 abbrev pub Builds : {X Y : Type 0} → (X → Y) → Result X RecordFault → Result Y RecordFault → Type 0
 Builds view (Ok x) read = read ≡ Ok (view x)
 Builds view (Err fault) read = Fails fault read
 
--- what a function returned are the bytes behind what reading gives
+-- the function returns the bytes after the decoded value, or the fault
 abbrev pub Skips : {X Y : Type 0} → (X → List ℕ) → Result X RecordFault → Read Y → Type 0
 Skips {Y = Y} rest (Ok x) read = (y : Y) × (read ≡ Ok (y, rest x))
 Skips rest (Err fault) read = read ≡ Err fault
 
--- what a function returned is whether reading gives a value, and else its fault
+-- the function returns whether the decoding succeeds, or the fault
 abbrev pub Checks : {X Y : Type 0} → Result X RecordFault → Result Y RecordFault → Type 0
 Checks (Ok x) read = IsOk read
 Checks (Err fault) read = read ≡ Err fault
 
--- the fault that reading gives; want of memory is told only where reading gives none
+-- the fault of the decoding; an allocation failure only if the decoding has no fault
 abbrev pub Tells : {Y : Type 0} → RecordFault → Result Y RecordFault → Type 0
 Tells Memory read = IsOk read
 Tells fault read = read ≡ Err fault

@@ -1,17 +1,17 @@
--- What the members of a group are together: how many, that no id and no instance comes twice, and that one of them leads.
+-- Which members a stable group can have, and the replacement of one (KIP-345).
 use Rattle.std.specs.Prelude.{◌≡◌, ℕ, ◌<◌, ◌≤◌, Bool, true, false, not, ◌||◌, ◌&&◌, List, length, map, slice_index_or, Option, Some, None, IsTrue, if◌then◌else◌}
 use Rattle.std.specs.List.{list_any, IsDistinct}
 use Rattle.std.specs.Str.{bytes_eq}
 use Rattle.cg_record.specs.declared.roster.TheConstants.{MEMBERS_MAX}
 use Rattle.cg_record.specs.declared.member.Member.{Member}
 
--- the protocol of a join phase, its leader, and the members in joining order
+-- the protocol of a completed rebalance, its leader, and the members in joining order
 pub record RosterParts : Type 0 where
   pub protocol : List ℕ
   pub leader : List ℕ
   pub members : List Member
 
--- these parts
+-- the record of these parts
 abbrev pub roster_of : List ℕ → List ℕ → List Member → RosterParts
 roster_of protocol leader members = record { protocol = protocol; leader = leader; members = members }
 
@@ -19,7 +19,7 @@ roster_of protocol leader members = record { protocol = protocol; leader = leade
 abbrev pub has_id : List ℕ → Member → Bool
 has_id id member = bytes_eq member.id id
 
--- both are there, and are one
+-- both instances are given, and are equal
 abbrev pub is_one_instance : Option (List ℕ) → Option (List ℕ) → Bool
 is_one_instance (Some a) (Some b) = bytes_eq a b
 is_one_instance (Some a) None = false
@@ -29,7 +29,7 @@ is_one_instance None b = false
 abbrev pub has_instance : Option (List ℕ) → Member → Bool
 has_instance instance member = is_one_instance member.instance instance
 
--- both have one id, or one instance
+-- both have the same id, or the same instance
 abbrev pub have_one_name : Member → Member → Bool
 have_one_name a b = has_id b.id a || has_instance b.instance a
 
@@ -37,7 +37,7 @@ have_one_name a b = has_id b.id a || has_instance b.instance a
 abbrev pub is_led_by : List ℕ → List Member → Bool
 is_led_by leader members = list_any (has_id leader) members
 
--- no two members have one id or one instance
+-- no two members have the same id or instance
 abbrev pub AreApart : List Member → Type 0
 AreApart members = IsDistinct have_one_name members
 
@@ -47,18 +47,18 @@ pub record AreMembers (members : List Member) : Type 0 where
   pub few : length members ≤ MEMBERS_MAX
   pub apart : AreApart members
 
--- the members of one group, of whom one leads
+-- the members of one group, one of whom leads
 pub record IsRoster (roster : RosterParts) : Type 0 where
   pub members : AreMembers roster.members
   pub led : IsTrue (is_led_by roster.leader roster.members)
 
--- ---- a member that takes another's place (KIP-345)
+-- ---- the replacement of a member (KIP-345)
 
 -- the new member has the old one's instance
 abbrev pub takes_place_of : Member → Member → Bool
 takes_place_of new old = has_instance new.instance old
 
--- the new member has the id of one whose place it does not take
+-- the new member has the id of a member that it does not replace
 abbrev pub has_id_of_other : Member → Member → Bool
 has_id_of_other new other = has_id new.id other && not (takes_place_of new other)
 
@@ -66,25 +66,25 @@ has_id_of_other new other = has_id new.id other && not (takes_place_of new other
 abbrev pub may_replace : Member → List Member → Bool
 may_replace new members = list_any (takes_place_of new) members && not (list_any (has_id_of_other new) members)
 
--- the place of the one with its instance, which it may take
+-- the index of the member that the new one may replace
 pub record IsPlace (new : Member) (members : List Member) (at : ℕ) : Type 0 where
   pub may : may_replace new members ≡ true
   pub within : at < length members
   pub taken : (d : Member) → takes_place_of new (slice_index_or members at d) ≡ true
 
--- the new member in the place of the one with its instance
+-- the new member, if it replaces this one
 abbrev pub seated : Member → Member → Member
 seated new old = if takes_place_of new old then new else old
 
--- the leader is the one whose place is taken
+-- the replaced member leads
 abbrev pub leads_and_goes : Member → List ℕ → Member → Bool
 leads_and_goes new leader old = takes_place_of new old && has_id leader old
 
--- the new one's id, where it takes the leader's place
+-- the new one's id, if it replaces the leader
 abbrev pub leader_after : Member → RosterParts → List ℕ
 leader_after new roster = if list_any (leads_and_goes new roster.leader) roster.members then new.id else roster.leader
 
--- the members with the new one in the place of the one with its instance, where it may take it
+-- the members after the replacement, if it is allowed
 unfoldable pub replaced_in : Member → RosterParts → RosterParts
 replaced_in new roster =
     if may_replace new roster.members then roster_of roster.protocol (leader_after new roster) (map (seated new) roster.members)

@@ -1,4 +1,4 @@
--- The one text of each list of commands.
+-- The encoding of commands (docs/FORMATS.md). Each list of commands has exactly one.
 use Rattle.std.specs.Prelude.{ℕ, List, ◌∷◌, ◌++◌, length}
 use Rattle.std.specs.List.{flat_map}
 use Rattle.cg_record.specs.declared.entry.Entry.{Entry}
@@ -14,11 +14,11 @@ use Rattle.cg_record.specs.Rosters.{RosterParts}
 use Rattle.cg_record.specs.Members.{member_text}
 pub use Rattle.cg_record.specs.Texts.{number, four, eight, name_text, optional_text, bytes_text}
 
--- what the members of a group joined in: protocol, leader, one byte of count, members
+-- a roster: protocol, leader, one byte of count, members
 unfoldable pub roster_text : RosterParts → List ℕ
 roster_text r = name_text r.protocol ++ name_text r.leader ++ (length r.members ∷ flat_map member_text r.members)
 
--- an assigned group: group, generation, type, and what its members joined in
+-- an assigned group: group, generation, type, roster
 unfoldable pub assigned_text : Assigned → List ℕ
 assigned_text a = name_text a.group ++ four a.generation ++ name_text a.kind ++ roster_text a.roster
 
@@ -50,6 +50,6 @@ command_text (kinds.Replaced replaced) = REPLACED_KIND ∷ replaced_text replace
 command_text (kinds.Committed committed) = COMMITTED_KIND ∷ committed_text committed
 command_text (kinds.Deleted deleted) = DELETED_KIND ∷ deleted_text deleted
 
--- commands: one byte of version, and one command after the other
+-- a payload: one byte of version, and the commands
 unfoldable pub spelling : List Command → List ℕ
 spelling commands = VERSION_ONE ∷ flat_map command_text commands

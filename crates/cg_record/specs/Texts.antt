@@ -1,8 +1,8 @@
--- The text of each field. All numbers are big-endian.
+-- The encoding of each field. All numbers are big-endian.
 use Rattle.std.specs.Prelude.{ℕ, List, [], ◌∷◌, ◌++◌, length, Option, Some, None}
 use Rattle.std.specs.Int.{Width, w32, w64, to_be_bytes}
 
--- a number as wide as this
+-- a number of this width
 unfoldable pub number : Width → ℕ → List ℕ
 number w n = to_be_bytes w n
 
@@ -18,11 +18,11 @@ eight n = number w64 n
 abbrev pub name_text : List ℕ → List ℕ
 name_text name = length name ∷ name
 
--- an optional name: the length 0 stands for none
+-- an optional name: no name is the length 0
 abbrev pub optional_text : Option (List ℕ) → List ℕ
 optional_text None = 0 ∷ []
 optional_text (Some name) = name_text name
 
--- any bytes: four bytes of length, and the bytes
+-- opaque bytes: four bytes of length, and the bytes
 abbrev pub bytes_text : List ℕ → List ℕ
 bytes_text bytes = four (length bytes) ++ bytes

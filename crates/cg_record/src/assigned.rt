@@ -1,3 +1,4 @@
+//! The command `Assigned`.
 use crate::generation::CompletedGeneration;
 use crate::roster::Roster;
 use cg_names::{GroupId, ProtocolName};
@@ -7,7 +8,7 @@ use cg_names::{GroupId, ProtocolName};
 pub struct Assigned {
     pub group: GroupId,
     pub generation: CompletedGeneration,
-    /// The type of the protocols of the group.
+    /// Protocol type of the group.
     pub kind: ProtocolName,
     pub roster: Roster,
 }

@@ -1,4 +1,4 @@
-//! Commands of their own memory, made from bytes in one pass.
+//! The decoder that builds commands, in one pass over the bytes.
 
 ghost use Rattle.std.specs.Prelude.{◌≡◌, ◌<◌, [], length, IfOk};
 ghost use Rattle.cg_record.specs.Keys.{AreEntries, HasDistinctKeys};
@@ -23,7 +23,7 @@ use crate::partition::Partition;
 use cg_names::NAME_BYTES_MAX;
 use std::alloc::{AllocError, Global};
 
-// A copy of what was read of an entry.
+// The preconditions make both `unwrap` calls safe.
 fn entry_of(alloc: Global, key: Key<'_>, kept: Kept<'_>) -> Result<Entry, AllocError>
     requires key { IsKey key.topic.now key.partition }
     requires kept { IsKept kept.offset kept.metadata.now }
@@ -41,7 +41,7 @@ fn entry_of(alloc: Global, key: Key<'_>, kept: Kept<'_>) -> Result<Entry, AllocE
     })
 }
 
-// An entry behind others of its commit.
+// Decodes the next entry of a commit. Reports `Repeated` if an entry of `front` has the same partition.
 #[tactic(auto, unfolding(crate::specs::Reading::entry_at))]
 fn entry_at<'a>(
     alloc: Global,
@@ -60,7 +60,7 @@ fn entry_at<'a>(
     Ok((entry, rest))
 }
 
-// So many entries.
+// Decodes this many entries.
 #[tactic(auto, using(crate::proofs::Steps::many_on, crate::proofs::Steps::many_fail, crate::proofs::Steps::many_end))]
 fn entries_at<'a>(
     alloc: Global,
@@ -140,7 +140,7 @@ fn command_at(
     body_at(alloc, version, kind, rest)
 }
 
-// Commands to the end of the bytes.
+// Decodes commands up to the end of the bytes.
 #[tactic(auto, using(crate::proofs::Steps::commands_start, crate::proofs::Steps::commands_on, crate::proofs::Steps::commands_fail, crate::proofs::Steps::commands_end))]
 fn commands_to_end(
     alloc: Global,
@@ -159,7 +159,8 @@ fn commands_to_end(
     Ok(commands)
 }
 
-/// The commands that the bytes spell, in one pass: where memory is refused, a later fault is not told.
+/// Decodes the commands of a payload in one pass. If an allocation fails, reports `Memory` even if a later byte has a
+/// fault.
 #[tactic(auto, unfolding(crate::specs::Reading::commands_of))]
 pub fn build(alloc: Global, bytes: &[u8]) -> Result<Vec<Command>, RecordFault>
     ensures { Builds (λ v. v.items) result (commands_of bytes.now) }

@@ -1,4 +1,4 @@
-//! The first fault of bytes, found without memory: what was read is read again where it is needed.
+//! The check for faults without an allocation: earlier fields are re-read from the bytes when needed.
 
 ghost use Rattle.std.specs.Prelude.{◌≡◌, ◌<◌, ◌==◌, ◌&&◌, ℕ, List, [], Ok, length, IfOk, IsSomeAnd};
 ghost use Rattle.std.specs.List.{list_any};
@@ -16,7 +16,7 @@ use crate::format::{
 use crate::passing::{check_assigned, check_deleted, check_emptied, check_replaced};
 use cg_names::NAME_BYTES_MAX;
 
-// The partition of an entry that was read before, and the bytes behind the entry.
+// Decodes the partition of an entry again, and returns the bytes after the entry.
 #[tactic(auto, unfolding(crate::specs::Reading::entry_at))]
 fn read_again(version: Version, bytes: &[u8]) -> Option<(Key<'_>, &[u8])>
     ensures { (front : List Entry) (e : Entry) (after : List ℕ) → entry_at version front bytes.now ≡ Ok (e, after) →
@@ -33,7 +33,7 @@ fn is_same(key: Key<'_>, topic: &[u8], partition: u32) -> bool
     key.partition == partition && key.topic == topic
 }
 
-// Whether one of the entries that were read from the start is of this partition.
+// Returns whether one of the first `count` entries from `start` has this partition. Decodes them again.
 fn is_repeated(version: Version, start: &[u8], count: u8, topic: &[u8], partition: u32) -> bool
     ensures { (front : List Entry) (rest : List ℕ) → entries_at version count [] start.now ≡ Ok (front, rest) →
         result ≡ list_any (is_of topic.now partition) front }
@@ -53,7 +53,7 @@ fn is_repeated(version: Version, start: &[u8], count: u8, topic: &[u8], partitio
     false
 }
 
-// Goes past an entry behind others, which were read from the start.
+// Checks the next entry, after the first `count` entries from `start`. Returns the bytes after it.
 #[tactic(auto, unfolding(crate::specs::Reading::entry_at))]
 fn check_entry<'a>(
     version: Version,
@@ -72,7 +72,7 @@ fn check_entry<'a>(
     Ok(rest)
 }
 
-// Goes past so many entries. Reads each again for each one behind it.
+// Checks this many entries. Quadratic in their number, which is at most 64.
 #[tactic(auto, using(crate::proofs::Again::checked_start, crate::proofs::Again::checked_on, crate::proofs::Again::checked_fail, crate::proofs::Again::checked_end))]
 fn check_entries(version: Version, count: u8, bytes: &[u8]) -> Result<&[u8], RecordFault>
     ensures { Skips (λ rest. rest.now) result (entries_at version count [] bytes.now) }
@@ -121,7 +121,7 @@ fn check_command(version: Version, bytes: &[u8]) -> Result<&[u8], RecordFault>
     check_body(version, kind, rest)
 }
 
-// Goes past commands to the end of the bytes.
+// Checks commands up to the end of the bytes.
 #[tactic(auto, using(crate::proofs::Again::passed_start, crate::proofs::Again::passed_on, crate::proofs::Again::passed_fail, crate::proofs::Again::passed_end))]
 fn check_to_end(version: Version, bytes: &[u8]) -> Result<(), RecordFault>
     ensures { Checks result (commands_to_end version (length bytes.now) bytes.now) }
@@ -133,7 +133,7 @@ fn check_to_end(version: Version, bytes: &[u8]) -> Result<(), RecordFault>
     Ok(())
 }
 
-/// The first fault of the bytes, if they have one.
+/// Returns the first fault of the bytes, if they have one. No allocation.
 #[tactic(auto, unfolding(crate::specs::Reading::commands_of))]
 pub fn check(bytes: &[u8]) -> Result<(), RecordFault>
     ensures { Checks result (commands_of bytes.now) }

@@ -1,10 +1,11 @@
+//! The commands of the durable state.
 use crate::assigned::Assigned;
 use crate::committed::Committed;
 use crate::deleted::Deleted;
 use crate::emptied::Emptied;
 use crate::replaced::Replaced;
 
-/// One change of the durable state.
+/// A change of the durable state.
 #[derive(Debug, Drop)]
 pub enum Command {
     Assigned(Assigned),

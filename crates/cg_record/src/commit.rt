@@ -1,4 +1,4 @@
-//! The parts of a commit at the front of bytes, read without a copy.
+//! Fields of a commit at the start of the bytes, decoded without a copy.
 
 ghost use Rattle.std.specs.Prelude.{◌≡◌, ◌≤◌, IfOk};
 ghost use Rattle.std.specs.List.{list_any};
@@ -17,20 +17,21 @@ use crate::offset::OFFSET_MAX;
 use crate::partition::PARTITION_MAX;
 use cg_names::NAME_BYTES_MAX;
 
-/// A partition of a topic, as it stands in bytes.
+/// The topic and partition of an entry, borrowed from the bytes.
 #[derive(Clone, Copy)]
 pub struct Key<'a> {
     pub topic: &'a [u8],
     pub partition: u32,
 }
 
-/// An offset and the metadata beside it, as they stand in bytes.
+/// The offset and metadata of an entry, borrowed from the bytes.
 #[derive(Clone, Copy)]
 pub struct Kept<'a> {
     pub offset: u64,
     pub metadata: &'a [u8],
 }
 
+/// Decodes the topic and partition of an entry.
 #[tactic(auto, unfolding(crate::specs::Reading::key_at))]
 pub fn key_at(bytes: &[u8]) -> Result<(Key<'_>, &[u8]), RecordFault>
     ensures gives { Gives (λ x. ((x.0.topic.now, x.0.partition), x.1.now)) result (key_at bytes.now) }
@@ -57,6 +58,7 @@ fn kept_in_one(bytes: &[u8]) -> Result<(Kept<'_>, &[u8]), RecordFault>
     Ok((Kept { offset, metadata }, rest))
 }
 
+/// Decodes the offset and metadata of an entry.
 pub fn kept_at(version: Version, bytes: &[u8]) -> Result<(Kept<'_>, &[u8]), RecordFault>
     ensures gives { Gives (λ x. ((x.0.offset, x.0.metadata.now), x.1.now)) result (kept_at version bytes.now) }
     ensures kept { IfOk result (λ x. IsKept x.0.offset x.0.metadata.now) }
@@ -66,7 +68,7 @@ pub fn kept_at(version: Version, bytes: &[u8]) -> Result<(Kept<'_>, &[u8]), Reco
     }
 }
 
-/// How many entries a commit has.
+/// Decodes the number of entries of a commit.
 pub fn count_at(bytes: &[u8]) -> Result<(u8, &[u8]), RecordFault>
     ensures gives { Gives (λ x. (x.0, x.1.now)) result (only (is_from_to 1 ENTRIES_MAX) RecordFault.BadLength (byte_at bytes.now)) }
     ensures low { IfOk result (λ x. 1 ≤ x.0) }
@@ -80,7 +82,7 @@ pub fn count_at(bytes: &[u8]) -> Result<(u8, &[u8]), RecordFault>
     }
 }
 
-/// Whether one of the entries is of this partition. Goes through them.
+/// Returns whether one of the entries has this partition. Linear in the entries.
 pub fn is_taken(front: &[Entry], topic: &[u8], partition: u32) -> bool
     ensures { result ≡ list_any (is_of topic.now partition) front.now }
 {

@@ -1,3 +1,4 @@
+//! The command `Committed`.
 use crate::entries::Entries;
 use cg_names::GroupId;
 

@@ -1,4 +1,4 @@
-//! Copies of what was read without one.
+//! Owned copies of decoded fields.
 
 ghost use Rattle.std.specs.Prelude.{◌≡◌, IfOk, IfSome};
 ghost use Rattle.std.specs.Option.{option_copied};
@@ -12,7 +12,7 @@ use crate::profile::Fields;
 use cg_names::{InstanceId, MEMBER_ID_BYTES_MAX, NAME_BYTES_MAX, Name};
 use std::alloc::{AllocError, Global};
 
-/// A copy of a name that was read.
+/// Copies a decoded name. The contract leaves an allocation failure as the only error.
 pub fn name_of<const MAX: usize, const SORT: u8>(
     alloc: Global,
     name: &[u8],
@@ -23,7 +23,6 @@ pub fn name_of<const MAX: usize, const SORT: u8>(
     Name::from_bytes(alloc, name).map_err(|_| AllocError)
 }
 
-// A copy of an instance that was read, if there is one.
 fn instance_of(alloc: Global, instance: Option<&[u8]>) -> Result<Option<InstanceId>, AllocError>
     requires { IfSome (option_copied instance) (IsName NAME_BYTES_MAX) }
     ensures { IfOk result (λ copy. copy ≡ option_copied instance.entry) }
@@ -37,7 +36,7 @@ fn instance_of(alloc: Global, instance: Option<&[u8]>) -> Result<Option<Instance
     }
 }
 
-/// A copy of what was read of a member.
+/// Builds a member from its decoded fields.
 pub fn member_of(
     alloc: Global,
     id: &[u8],

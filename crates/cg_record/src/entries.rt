@@ -1,3 +1,4 @@
+//! The entries of a commit.
 ghost use Rattle.std.specs.Prelude.{◌≡◌, ◌↔◌, IsTrue, length, MatchResult};
 ghost use Rattle.std.specs.List.{list_any};
 ghost use Rattle.cg_record.specs.Keys.{HasDistinctKeys, AreEntries, have_one_key};
@@ -5,11 +6,11 @@ ghost use Rattle.cg_record.specs.Keys.{HasDistinctKeys, AreEntries, have_one_key
 use crate::entry::Entry;
 use std::marker::Model;
 
-/// The greatest number of entries of one commit.
+/// Maximum number of entries of a commit.
 pub const ENTRIES_MAX: usize = 64;
 
-/// The entries of one commit: at least one and at most `ENTRIES_MAX`, of different partitions.
-/// Contracts see them as a list, in the order in which they were given.
+/// The entries of a commit: 1 to `ENTRIES_MAX`, all for different partitions. Contracts see the list, in the order of
+/// the commit.
 #[derive(Debug, Drop)]
 pub struct Entries {
     items: Vec<Entry>,
@@ -27,14 +28,13 @@ impl Model for Entries {
     ghost invariant = { λ e. AreEntries e.items.items };
 }
 
-// Whether one of the others is of the same partition.
 fn is_among(entry: &Entry, others: &[Entry]) -> bool
     ensures { result ≡ list_any (have_one_key entry.now) others.now }
 {
     others.iter().any(|other| entry.has_key_of(other))
 }
 
-// Whether no partition comes twice. Compares each entry with each.
+// Quadratic in the number of entries, which is at most 64.
 fn have_distinct_keys(entries: &[Entry]) -> bool
     ensures { IsTrue result ↔ HasDistinctKeys entries.now }
 {
@@ -45,7 +45,8 @@ fn have_distinct_keys(entries: &[Entry]) -> bool
 }
 
 impl Entries {
-    /// The entries of a commit; what is none is given back. Compares each entry with each.
+    /// Builds the entries of a commit. Returns the vector unchanged if it is empty, too long or has duplicates.
+    /// Compares each entry with each other one.
     pub fn from_vec(items: Vec<Entry>) -> Result<Self, Vec<Entry>>
         ensures cases { MatchResult result
             (λ entries. AreEntries items.items × (entries ≡ items.items))
@@ -58,7 +59,7 @@ impl Entries {
         }
     }
 
-    /// The entries of a commit, by a caller who knows that they are: takes no time.
+    /// Builds the entries of a commit from a vector that the caller knows to be lawful, in constant time.
     pub fn from_lawful(items: Vec<Entry>) -> Self
         requires { AreEntries items.items }
         ensures { result ≡ items.items }
@@ -66,7 +67,7 @@ impl Entries {
         Entries { items }
     }
 
-    /// The entries in their order.
+    /// Returns the entries in the order of the commit.
     pub fn as_slice(&self) -> &[Entry]
         ensures value { result.now ≡ self.now }
         ensures lawful { AreEntries self.now }
@@ -74,7 +75,7 @@ impl Entries {
         self.items.as_slice()
     }
 
-    /// How many entries there are, from 1 to `ENTRIES_MAX`.
+    /// Returns the number of entries.
     pub fn len(&self) -> usize
         ensures value { result ≡ length self.now }
         ensures lawful { AreEntries self.now }

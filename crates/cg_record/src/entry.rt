@@ -1,3 +1,4 @@
+//! A committed offset.
 ghost use Rattle.std.specs.Prelude.{◌≡◌};
 ghost use Rattle.cg_record.specs.Keys.{have_one_key};
 
@@ -16,7 +17,7 @@ pub struct Entry {
 }
 
 impl Entry {
-    /// Whether both are of one partition of one topic.
+    /// Returns whether both entries are for the same partition of the same topic.
     pub fn has_key_of(&self, other: &Entry) -> bool
         ensures { result ≡ have_one_key self.now other.now }
     {

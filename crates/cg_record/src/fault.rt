@@ -1,29 +1,31 @@
+//! The faults of a payload.
 ghost use Rattle.std.specs.Prelude.{◌≡◌};
 ghost use Rattle.cg_record.specs.declared.fault.RecordFault.TheVariants.{Memory};
 
 use std::alloc::{AllocError, AllocFailed};
 use thiserror::Error;
 
-/// Why bytes could not be read as commands: the first fault from the left.
+/// The first fault of a payload, from left to right.
 #[derive(Clone, Copy, Debug, PartialEq, Eq, Error)]
 pub enum RecordFault {
-    /// The bytes are those of commands, and there was no memory to keep them.
+    /// An allocation failed, and the payload has no fault.
     #[error("no memory for commands")]
     Memory,
     /// The bytes end inside a field.
     #[error("the bytes end inside a field")]
     Short,
-    /// The first byte is no version, or the first of a command no kind.
+    /// The first byte is not a known version, or the first byte of a command is not a known kind.
     #[error("a version or a kind is none that is known")]
     BadKind,
-    /// A name has no byte, or more than names of its sort may have (told before `Short`), or is outside the grammar of names;
-    /// a member that takes another's place has no instance; or, told at the command's end, a leader is no member.
+    /// A name is empty, too long (reported before `Short`), or outside the grammar of names; the member of a `Replaced`
+    /// has no instance; or, reported at the end of the command, the leader is not a member.
     #[error("a name is none")]
     BadName,
-    /// A number, a count or a length of bytes is outside its range; of a length this is told before `Short`.
+    /// A number, a count or a length is outside its range; a length is reported before `Short`.
     #[error("a number or a length is out of its range")]
     BadLength,
-    /// A partition, a member id or an instance comes for the second time in one command; told before what stands behind it.
+    /// A partition, a member id or an instance appears twice in one command; reported before the bytes after it are
+    /// read.
     #[error("a partition, a member or an instance comes twice in one command")]
     Repeated,
 }

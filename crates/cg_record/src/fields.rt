@@ -1,4 +1,4 @@
-//! Fields at the front of bytes, read without a copy.
+//! Fields at the start of the bytes, decoded without a copy.
 
 ghost use Rattle.std.specs.Prelude.{◌≡◌, ◌≤◌, length, IfOk, IfSome};
 ghost use Rattle.cg_names.specs.Grammar.{IsName};
@@ -10,6 +10,7 @@ use crate::fault::RecordFault;
 use crate::fault::RecordFault::{BadLength, BadName, Short};
 use cg_names::Name;
 
+/// Splits off one byte. Reports `Short` if there is none.
 #[tactic(auto, unfolding(crate::specs::Fields::byte_at))]
 pub fn byte_at(bytes: &[u8]) -> Result<(u8, &[u8]), RecordFault>
     ensures { Gives (λ x. (x.0, x.1.now)) result (byte_at bytes.now) }
@@ -20,6 +21,7 @@ pub fn byte_at(bytes: &[u8]) -> Result<(u8, &[u8]), RecordFault>
     }
 }
 
+/// Splits off `n` bytes. Reports `Short` if there are fewer.
 #[tactic(auto, unfolding(crate::specs::Fields::bytes_at))]
 pub fn bytes_at(n: usize, bytes: &[u8]) -> Result<(&[u8], &[u8]), RecordFault>
     ensures gives { Gives (λ x. (x.0.now, x.1.now)) result (bytes_at n bytes.now) }
@@ -31,6 +33,7 @@ pub fn bytes_at(n: usize, bytes: &[u8]) -> Result<(&[u8], &[u8]), RecordFault>
     Ok(bytes.split_at(n))
 }
 
+/// Decodes a big-endian number of four bytes.
 #[tactic(auto, unfolding(crate::specs::Fields::number_at))]
 pub fn four_at(bytes: &[u8]) -> Result<(u32, &[u8]), RecordFault>
     ensures { Gives (λ x. (x.0, x.1.now)) result (four_at bytes.now) }
@@ -43,6 +46,7 @@ pub fn four_at(bytes: &[u8]) -> Result<(u32, &[u8]), RecordFault>
     Ok((number, rest))
 }
 
+/// Decodes a big-endian number of eight bytes.
 #[tactic(auto, unfolding(crate::specs::Fields::number_at))]
 pub fn eight_at(bytes: &[u8]) -> Result<(u64, &[u8]), RecordFault>
     ensures { Gives (λ x. (x.0, x.1.now)) result (eight_at bytes.now) }
@@ -57,7 +61,7 @@ pub fn eight_at(bytes: &[u8]) -> Result<(u64, &[u8]), RecordFault>
     Ok((number, rest))
 }
 
-// A name of this many bytes.
+// Decodes a name of this length.
 fn sized_at<const MAX: usize>(size: usize, bytes: &[u8]) -> Result<(&[u8], &[u8]), RecordFault>
     ensures gives { Gives (λ x. (x.0.now, x.1.now)) result (only (is_name MAX) RecordFault.BadName (bytes_at size bytes.now)) }
     ensures name { IfOk result (λ x. IsName MAX x.0.now) }
@@ -69,7 +73,7 @@ fn sized_at<const MAX: usize>(size: usize, bytes: &[u8]) -> Result<(&[u8], &[u8]
     }
 }
 
-/// The bytes of a name of at most `MAX` bytes.
+/// Decodes a name of 1 to `MAX` bytes, with its length byte.
 #[tactic(auto, unfolding(crate::specs::Fields::name_at))]
 pub fn name_at<const MAX: usize>(bytes: &[u8]) -> Result<(&[u8], &[u8]), RecordFault>
     ensures gives { Gives (λ x. (x.0.now, x.1.now)) result (name_at MAX bytes.now) }
@@ -83,7 +87,7 @@ pub fn name_at<const MAX: usize>(bytes: &[u8]) -> Result<(&[u8], &[u8]), RecordF
     sized_at::<MAX>(size, rest)
 }
 
-// A name of this many bytes; of none, none.
+// Decodes a name of this length; the length 0 is no name.
 fn named_at<const MAX: usize>(
     size: usize,
     bytes: &[u8],
@@ -98,7 +102,7 @@ fn named_at<const MAX: usize>(
     Ok((Some(name), rest))
 }
 
-/// The bytes of a name of at most `MAX` bytes, or none.
+/// Decodes an optional name of at most `MAX` bytes, with its length byte.
 #[tactic(auto, unfolding(crate::specs::Fields::optional_name_at))]
 pub fn optional_name_at<const MAX: usize>(
     bytes: &[u8],
@@ -114,7 +118,7 @@ pub fn optional_name_at<const MAX: usize>(
     named_at::<MAX>(size, rest)
 }
 
-/// At most `max` bytes of any kind.
+/// Decodes at most `max` opaque bytes, with their four-byte length.
 #[tactic(auto, unfolding(crate::specs::Fields::text_at))]
 pub fn text_at(max: usize, bytes: &[u8]) -> Result<(&[u8], &[u8]), RecordFault>
     ensures gives { Gives (λ x. (x.0.now, x.1.now)) result (text_at max bytes.now) }

@@ -1,33 +1,34 @@
+//! The version byte and the kind bytes of the format.
 ghost use Rattle.cg_record.specs.Reading.{version_of, Gives};
 
 use crate::fault::RecordFault;
 
-/// The first byte of bytes of the first version, the one that is written.
+/// First byte of a payload in version 1, the version that `write` encodes.
 pub const VERSION_ONE: u8 = 1;
 
-/// The kind byte of `Assigned`.
+/// Kind byte of `Assigned`.
 pub const ASSIGNED_KIND: u8 = 1;
 
-/// The kind byte of `Emptied`.
+/// Kind byte of `Emptied`.
 pub const EMPTIED_KIND: u8 = 2;
 
-/// The kind byte of `Replaced`.
+/// Kind byte of `Replaced`.
 pub const REPLACED_KIND: u8 = 3;
 
-/// The kind byte of `Committed`.
+/// Kind byte of `Committed`.
 pub const COMMITTED_KIND: u8 = 4;
 
-/// The kind byte of `Deleted`.
+/// Kind byte of `Deleted`.
 pub const DELETED_KIND: u8 = 5;
 
-/// How the fields of commands are laid out. Later versions are read beside the first.
+/// A version of the format. A later version is decoded in addition to the first.
 #[derive(Clone, Copy, Debug, PartialEq, Eq)]
 pub enum Version {
     One,
 }
 
 impl Version {
-    /// The version that the first byte tells.
+    /// Returns the version of a payload's first byte. Reports `BadKind` for an unknown one.
     #[tactic(auto, unfolding(crate::specs::Reading::version_of))]
     pub fn of(byte: u8) -> Result<Version, RecordFault>
         ensures { Gives (λ v. v) result (version_of byte) }

@@ -1,10 +1,11 @@
+//! The generation of a completed rebalance.
 ghost use Rattle.std.specs.Prelude.{◌≡◌, ℕ, ◌≤◌, SomeIff};
 ghost use Rattle.cg_names.specs.declared.generation.TheConstants.{GENERATION_MAX};
 
 use cg_names::{GENERATION_MAX, Generation};
 use std::marker::Model;
 
-/// A generation that a join phase has completed: a number from 1 to `GENERATION_MAX`. Contracts see the number.
+/// A generation that a rebalance has completed, from 1 to `GENERATION_MAX`. Contracts see the number.
 #[derive(Clone, Copy, Debug, PartialEq, Eq, PartialOrd, Ord, Hash)]
 pub struct CompletedGeneration {
     number: u32,
@@ -24,7 +25,7 @@ impl Model for CompletedGeneration {
 }
 
 impl CompletedGeneration {
-    /// None where the number is 0 or past `GENERATION_MAX`.
+    /// Checks the number. Returns `None` for 0 and above `GENERATION_MAX`.
     pub fn new(number: u32) -> Option<Self>
         ensures { SomeIff result ((1 ≤ number) × (number ≤ GENERATION_MAX)) number }
     {
@@ -35,6 +36,7 @@ impl CompletedGeneration {
         }
     }
 
+    /// Returns the number of the generation.
     pub fn get(self) -> u32
         ensures number { result ≡ self }
         ensures low { 1 ≤ self }
@@ -43,7 +45,7 @@ impl CompletedGeneration {
         self.number
     }
 
-    /// The same, as a generation of any group.
+    /// Converts to the generation of a group.
     pub fn generation(self) -> Generation
         ensures { result ≡ self }
     {

@@ -1,4 +1,4 @@
-//! What is told of groups at the front of bytes, read without a copy.
+//! Fields of a group at the start of the bytes, decoded without a copy.
 
 ghost use Rattle.std.specs.Prelude.{◌≡◌, ◌≤◌, IfOk};
 ghost use Rattle.cg_record.specs.Fields.{only, is_from_to, byte_at, four_at};
@@ -10,7 +10,7 @@ use crate::fields::{byte_at, four_at};
 use crate::roster::MEMBERS_MAX;
 use cg_names::GENERATION_MAX;
 
-/// A generation that a join phase has completed.
+/// Decodes the generation of a completed rebalance, from 1 to `GENERATION_MAX`.
 pub fn generation_at(bytes: &[u8]) -> Result<(u32, &[u8]), RecordFault>
     ensures gives { Gives (λ x. (x.0, x.1.now)) result (only (is_from_to 1 GENERATION_MAX) RecordFault.BadLength (four_at bytes.now)) }
     ensures low { IfOk result (λ x. 1 ≤ x.0) }
@@ -24,7 +24,7 @@ pub fn generation_at(bytes: &[u8]) -> Result<(u32, &[u8]), RecordFault>
     }
 }
 
-/// How many members a group has.
+/// Decodes the number of members of a group, from 1 to `MEMBERS_MAX`.
 pub fn members_count_at(bytes: &[u8]) -> Result<(u8, &[u8]), RecordFault>
     ensures gives { Gives (λ x. (x.0, x.1.now)) result (only (is_from_to 1 MEMBERS_MAX) RecordFault.BadLength (byte_at bytes.now)) }
     ensures low { IfOk result (λ x. 1 ≤ x.0) }

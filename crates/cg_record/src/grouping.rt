@@ -1,4 +1,4 @@
-//! What commands tell of groups and their members, of its own memory, made from bytes in one pass.
+//! The decoder that builds the commands about groups and members, in one pass over the bytes.
 
 ghost use Rattle.std.specs.Prelude.{◌≡◌, [], length, IfOk};
 ghost use Rattle.std.specs.List.{list_any};
@@ -23,7 +23,7 @@ use crate::roster::{Roster, is_led_by};
 use cg_names::{InstanceId, MEMBER_ID_BYTES_MAX, NAME_BYTES_MAX};
 use std::alloc::Global;
 
-// Whether both are there, and are one.
+// Returns whether both instances are given, and are equal.
 fn is_one_instance(held: &Option<InstanceId>, instance: Option<&[u8]>) -> bool
     ensures { result ≡ is_one_instance held.now (option_copied instance.entry) }
 {
@@ -33,14 +33,14 @@ fn is_one_instance(held: &Option<InstanceId>, instance: Option<&[u8]>) -> bool
     }
 }
 
-// Whether one of the members has this instance. Goes through them.
+// Returns whether an instance is given and one of the members has it. Linear in the members.
 fn is_instance_taken(front: &[Member], instance: Option<&[u8]>) -> bool
     ensures { result ≡ list_any (has_instance (option_copied instance.entry)) front.now }
 {
     front.iter().any(|m| is_one_instance(&m.instance, instance))
 }
 
-// A member behind others of its group.
+// Decodes the next member of a group. Reports `Repeated` if a member of `front` has the same id or instance.
 #[tactic(auto, unfolding(crate::specs::Members::member_at))]
 fn member_at<'a>(
     alloc: Global,
@@ -63,7 +63,7 @@ fn member_at<'a>(
     Ok((member, rest))
 }
 
-// So many members.
+// Decodes this many members.
 #[tactic(auto, using(crate::proofs::Steps::many_on, crate::proofs::Steps::many_fail, crate::proofs::Steps::many_end))]
 fn members_at<'a>(
     alloc: Global,
@@ -85,7 +85,7 @@ fn members_at<'a>(
     Ok((members, rest))
 }
 
-// The members of a group, with their number before them.
+// Decodes the number of members and the members.
 #[tactic(auto, unfolding(crate::specs::Reading::listed_at))]
 fn listed_at(
     alloc: Global,
@@ -115,7 +115,7 @@ fn roster_at(alloc: Global, version: Version, bytes: &[u8]) -> Result<(Roster, &
     Ok((Roster::from_lawful(protocol, leader, members), rest))
 }
 
-/// What stands behind the kind of an assigned group.
+/// Decodes the fields of an `Assigned`, after its kind byte.
 #[tactic(auto, unfolding(crate::specs::Reading::assigned_at))]
 pub fn assigned_at(
     alloc: Global,
@@ -142,7 +142,7 @@ pub fn assigned_at(
     ))
 }
 
-/// What stands behind the kind of an emptied group.
+/// Decodes the fields of an `Emptied`, after its kind byte.
 #[tactic(auto, unfolding(crate::specs::Reading::emptied_at))]
 pub fn emptied_at(
     alloc: Global,
@@ -167,7 +167,7 @@ pub fn emptied_at(
     ))
 }
 
-/// What stands behind the kind of a deleted group.
+/// Decodes the fields of a `Deleted`, after its kind byte.
 #[tactic(auto, unfolding(crate::specs::Reading::deleted_at))]
 pub fn deleted_at(
     alloc: Global,
@@ -181,7 +181,7 @@ pub fn deleted_at(
     Ok((Deleted { group }, rest))
 }
 
-/// What stands behind the kind of a replaced member.
+/// Decodes the fields of a `Replaced`, after its kind byte.
 #[tactic(auto, unfolding(crate::specs::Reading::replaced_at))]
 pub fn replaced_at(
     alloc: Global,

@@ -1,6 +1,5 @@
-//! The commands that change the durable state of a coordinator, and their bytes.
-//! A command is lawful by its type: its numbers are in their ranges, its lists within their lengths and without repetition.
-//! It stands on the names of `cg_names` alone.
+//! The commands that change the durable state of a coordinator, and their encoding (docs/FORMATS.md). A command is
+//! lawful by its type: its numbers are in range, and its lists have no duplicates and fit their limits.
 #![tactic(auto)]
 
 mod assigned;

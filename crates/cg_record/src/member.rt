@@ -1,3 +1,4 @@
+//! A member as a command stores it.
 ghost use Rattle.std.specs.Prelude.{◌≡◌, IfOk};
 ghost use Rattle.cg_record.specs.Rosters.{have_one_name, has_id_of_other, is_one_instance, takes_place_of};
 
@@ -6,21 +7,21 @@ use crate::opaque::{Assignment, Subscription};
 use cg_names::{ClientId, InstanceId, MemberId};
 use std::alloc::AllocError;
 
-/// A member of a group, as it is kept once a join phase is complete.
+/// A member of a group, as a command stores it after a rebalance.
 #[derive(Debug, Drop)]
 pub struct Member {
     pub id: MemberId,
-    /// The name that a static member gives itself (KIP-345).
+    /// Instance id of a static member (KIP-345); `None` for a dynamic one.
     pub instance: Option<InstanceId>,
     pub client: ClientId,
     pub session: SessionTimeout,
     pub rebalance: RebalanceTimeout,
-    /// What it wants, in the words of the protocol that was chosen.
+    /// Subscription of the member for the chosen protocol.
     pub subscription: Subscription,
     pub assignment: Assignment,
 }
 
-// Whether both are there, and are one.
+// Returns whether both instances are given, and are equal.
 fn is_one_instance(a: &Option<InstanceId>, b: &Option<InstanceId>) -> bool
     ensures { result ≡ is_one_instance a.now b.now }
 {
@@ -43,21 +44,21 @@ fn copied_instance(instance: &Option<InstanceId>) -> Result<Option<InstanceId>, 
 }
 
 impl Member {
-    /// Whether this one takes the other's place: it has the other's instance (KIP-345).
+    /// Returns whether this member replaces the other: both have the same instance (KIP-345).
     pub fn takes_place_of(&self, other: &Member) -> bool
         ensures { result ≡ takes_place_of self.now other.now }
     {
         is_one_instance(&other.instance, &self.instance)
     }
 
-    /// Whether this one has the id of the other, whose place it does not take.
+    /// Returns whether this member has the id of the other, but does not replace it.
     pub fn has_id_of_other(&self, other: &Member) -> bool
         ensures { result ≡ has_id_of_other self.now other.now }
     {
         other.id.as_bytes() == self.id.as_bytes() && !self.takes_place_of(other)
     }
 
-    /// Whether both have one id, or one instance.
+    /// Returns whether both have the same id or the same instance.
     pub fn has_name_of(&self, other: &Member) -> bool
         ensures { result ≡ have_one_name self.now other.now }
     {

@@ -1,13 +1,14 @@
+//! The metadata of a committed offset.
 ghost use Rattle.std.specs.Prelude.{◌≡◌, ℕ, ◌<◌, ◌≤◌, List, length, IfOk, MatchResult};
 ghost use Rattle.cg_record.specs.declared.metadata.TheConstants.{METADATA_BYTES_MAX};
 
 use std::alloc::{AllocError, Global};
 use std::marker::Model;
 
-/// The greatest length of the metadata of one committed offset, in bytes.
+/// Maximum size of the metadata of one committed offset, in bytes.
 pub const METADATA_BYTES_MAX: usize = 4_096;
 
-/// What a client keeps beside a committed offset: bytes that nobody else reads. Contracts see them as a list.
+/// The metadata of a committed offset: bytes that only clients read. Contracts see a list.
 #[derive(Debug, Drop)]
 pub struct Metadata {
     bytes: Vec<u8>,
@@ -22,7 +23,7 @@ impl Model for Metadata {
 }
 
 impl Metadata {
-    /// A copy of the bytes.
+    /// Copies the bytes.
     pub fn from_bytes(alloc: Global, bytes: &[u8]) -> Result<Self, AllocError>
         requires { length bytes.now ≤ METADATA_BYTES_MAX }
         ensures { IfOk result (λ metadata. metadata ≡ bytes.now) }
@@ -32,7 +33,7 @@ impl Metadata {
         })
     }
 
-    /// The bytes without a copy. Bytes past the limit are given back.
+    /// Wraps the bytes without a copy. Returns them unchanged if they are too long.
     pub fn from_vec(bytes: Vec<u8>) -> Result<Self, Vec<u8>>
         ensures cases { MatchResult result
             (λ metadata. (length bytes.items ≤ METADATA_BYTES_MAX) × (metadata ≡ bytes.items))
@@ -45,6 +46,7 @@ impl Metadata {
         }
     }
 
+    /// Returns the bytes.
     pub fn as_bytes(&self) -> &[u8]
         ensures bytes { result.now ≡ self.now }
         ensures in_range { length self.now ≤ METADATA_BYTES_MAX }

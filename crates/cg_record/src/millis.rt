@@ -1,26 +1,27 @@
+//! Timeouts in milliseconds.
 ghost use Rattle.std.specs.Prelude.{◌≡◌, ℕ, ◌≤◌, SomeIff};
 
 use std::marker::Model;
 
-/// The least session time-out, in milliseconds (`group.min.session.timeout.ms`).
+/// Minimum session timeout, in milliseconds (`group.min.session.timeout.ms`).
 pub const SESSION_MS_MIN: u32 = 6_000;
 
-/// The greatest session time-out, in milliseconds (`group.max.session.timeout.ms`).
+/// Maximum session timeout, in milliseconds (`group.max.session.timeout.ms`).
 pub const SESSION_MS_MAX: u32 = 1_800_000;
 
-/// The greatest rebalance time-out, in milliseconds: the protocol writes it in an `INT32`.
+/// Maximum rebalance timeout, in milliseconds: the protocol encodes it as an `INT32`.
 pub const REBALANCE_MS_MAX: u32 = 2_147_483_647;
 
-/// A span of `MIN` to `MAX` milliseconds. Contracts see the number.
+/// A duration of `MIN` to `MAX` milliseconds. Contracts see the number.
 #[derive(Clone, Copy, Debug, PartialEq, Eq, PartialOrd, Ord, Hash)]
 pub struct Millis<const MIN: u32, const MAX: u32> {
     number: u32,
 }
 
-/// How long a member may go unheard (KIP-62).
+/// Session timeout: a member that is not heard for this long expires (KIP-62).
 pub type SessionTimeout = Millis<SESSION_MS_MIN, SESSION_MS_MAX>;
 
-/// How long a rebalance waits for a member (KIP-62).
+/// Rebalance timeout: how long a rebalance waits for a member (KIP-62).
 pub type RebalanceTimeout = Millis<0, REBALANCE_MS_MAX>;
 
 impl<const MIN: u32, const MAX: u32> Model for Millis<MIN, MAX> {
@@ -34,7 +35,7 @@ impl<const MIN: u32, const MAX: u32> Model for Millis<MIN, MAX> {
 }
 
 impl<const MIN: u32, const MAX: u32> Millis<MIN, MAX> {
-    /// None where the number is below `MIN` or past `MAX`.
+    /// Checks the number. Returns `None` if it is out of range.
     pub fn new(number: u32) -> Option<Self>
         ensures { SomeIff result ((MIN ≤ number) × (number ≤ MAX)) number }
     {
@@ -45,6 +46,7 @@ impl<const MIN: u32, const MAX: u32> Millis<MIN, MAX> {
         }
     }
 
+    /// Returns the number of milliseconds.
     pub fn get(self) -> u32
         ensures number { result ≡ self.entry }
         ensures low { MIN ≤ self.entry }

@@ -1,12 +1,13 @@
+//! The offset of a partition.
 ghost use Rattle.std.specs.Prelude.{◌≡◌, ℕ, ◌≤◌, SomeIff};
 ghost use Rattle.cg_record.specs.declared.offset.TheConstants.{OFFSET_MAX};
 
 use std::marker::Model;
 
-/// The greatest offset in a partition: Kafka's offsets are signed 64-bit numbers, and a committed one is from 0 on.
+/// Maximum offset of a partition: Kafka's offsets are signed 64-bit numbers, and a committed offset is not negative.
 pub const OFFSET_MAX: u64 = 9_223_372_036_854_775_807;
 
-/// A place in a partition, counted in messages from 0. Contracts see it as that number.
+/// An offset in a partition, counted in messages from 0. Contracts see the number.
 #[derive(Clone, Copy, Debug, PartialEq, Eq, PartialOrd, Ord, Hash)]
 pub struct Offset {
     number: u64,
@@ -23,7 +24,7 @@ impl Model for Offset {
 }
 
 impl Offset {
-    /// None where the number is past `OFFSET_MAX`.
+    /// Checks the number. Returns `None` above `OFFSET_MAX`.
     pub fn new(number: u64) -> Option<Self>
         ensures { SomeIff result (number ≤ OFFSET_MAX) number }
     {
@@ -34,6 +35,7 @@ impl Offset {
         }
     }
 
+    /// Returns the offset as a number.
     pub fn get(self) -> u64
         ensures number { result ≡ self }
         ensures in_range { self ≤ OFFSET_MAX }

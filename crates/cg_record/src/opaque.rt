@@ -1,3 +1,4 @@
+//! Opaque bytes of clients: subscriptions and assignments.
 ghost use Rattle.std.specs.Prelude.{◌≡◌, ℕ, ◌<◌, ◌≤◌, List, [], length, nat_eq, IfOk, MatchResult};
 ghost use Rattle.std.specs.Cmp.Lexicographic.{pointwise, nat_list_eq_equiv};
 ghost use Rattle.std.specs.Cmp.{partial_equiv_from_equiv};
@@ -5,22 +6,23 @@ ghost use Rattle.std.specs.Cmp.{partial_equiv_from_equiv};
 use std::alloc::{AllocError, Global};
 use std::marker::Model;
 
-/// The greatest length of the subscription of a member for one protocol, in bytes.
+/// Maximum size of a member's subscription for one protocol, in bytes.
 pub const SUBSCRIPTION_BYTES_MAX: usize = 1_024;
 
-/// The greatest length of the assignment of a member, in bytes.
+/// Maximum size of a member's assignment, in bytes.
 pub const ASSIGNMENT_BYTES_MAX: usize = 4_096;
 
-/// At most `MAX` bytes that only clients read. Bytes of different sorts (`SORT`) are different types. Contracts see them as a list.
+/// At most `MAX` bytes that only clients read. Bytes with a different `SORT` have a different type. Contracts see a
+/// list.
 #[derive(Debug, Drop)]
 pub struct Opaque<const MAX: usize, const SORT: u8> {
     bytes: Vec<u8>,
 }
 
-/// What a member says to the leader beside the protocol that was chosen.
+/// Subscription of a member, in the encoding of its protocol.
 pub type Subscription = Opaque<SUBSCRIPTION_BYTES_MAX, 0>;
 
-/// What the leader gave a member.
+/// Assignment of a member, from the leader.
 pub type Assignment = Opaque<ASSIGNMENT_BYTES_MAX, 1>;
 
 impl<const MAX: usize, const SORT: u8> Model for Opaque<MAX, SORT> {
@@ -32,7 +34,7 @@ impl<const MAX: usize, const SORT: u8> Model for Opaque<MAX, SORT> {
 }
 
 impl<const MAX: usize, const SORT: u8> Opaque<MAX, SORT> {
-    /// No bytes. Takes no memory.
+    /// Creates an empty value, without an allocation.
     pub fn empty(alloc: Global) -> Self
         ensures { result ≡ [] }
     {
@@ -41,7 +43,7 @@ impl<const MAX: usize, const SORT: u8> Opaque<MAX, SORT> {
         }
     }
 
-    /// The bytes without a copy. Bytes past the limit are given back.
+    /// Wraps the bytes without a copy. Returns them unchanged if they are too long.
     pub fn from_vec(bytes: Vec<u8>) -> Result<Self, Vec<u8>>
         ensures cases { MatchResult result
             (λ opaque. (length bytes.items ≤ MAX) × (opaque ≡ bytes.items))
@@ -54,7 +56,7 @@ impl<const MAX: usize, const SORT: u8> Opaque<MAX, SORT> {
         }
     }
 
-    /// A copy of the bytes.
+    /// Copies the bytes.
     pub fn from_bytes(alloc: Global, bytes: &[u8]) -> Result<Self, AllocError>
         requires { length bytes.now ≤ MAX }
         ensures { IfOk result (λ copy. copy ≡ bytes.now) }
@@ -64,7 +66,7 @@ impl<const MAX: usize, const SORT: u8> Opaque<MAX, SORT> {
         })
     }
 
-    /// The bytes, at most `MAX` of them.
+    /// Returns the bytes.
     pub fn as_bytes(&self) -> &[u8]
         ensures bytes { result.now ≡ self.now }
         ensures in_range { length self.now ≤ MAX }

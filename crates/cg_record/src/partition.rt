@@ -1,12 +1,13 @@
+//! The number of a partition.
 ghost use Rattle.std.specs.Prelude.{◌≡◌, ℕ, ◌≤◌, SomeIff};
 ghost use Rattle.cg_record.specs.declared.partition.TheConstants.{PARTITION_MAX};
 
 use std::marker::Model;
 
-/// The greatest number of a partition of a topic: Kafka's partitions are signed 32-bit numbers from 0 on.
+/// Maximum partition number of a topic: Kafka's partitions are signed 32-bit numbers from 0.
 pub const PARTITION_MAX: u32 = 2_147_483_647;
 
-/// The number of a partition of a topic. Contracts see it as that number.
+/// A partition number of a topic. Contracts see the number.
 #[derive(Clone, Copy, Debug, PartialEq, Eq, PartialOrd, Ord, Hash)]
 pub struct Partition {
     number: u32,
@@ -23,7 +24,7 @@ impl Model for Partition {
 }
 
 impl Partition {
-    /// None where the number is past `PARTITION_MAX`.
+    /// Checks the number. Returns `None` above `PARTITION_MAX`.
     pub fn new(number: u32) -> Option<Self>
         ensures { SomeIff result (number ≤ PARTITION_MAX) number }
     {
@@ -34,6 +35,7 @@ impl Partition {
         }
     }
 
+    /// Returns the partition number.
     pub fn get(self) -> u32
         ensures number { result ≡ self }
         ensures in_range { self ≤ PARTITION_MAX }

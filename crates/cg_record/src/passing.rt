@@ -1,4 +1,4 @@
-//! What commands tell of groups and their members, gone past without memory: what was read is read again where it is needed.
+//! The check of group commands without an allocation: earlier fields are re-read from the bytes when needed.
 
 ghost use Rattle.std.specs.Prelude.{◌≡◌, ℕ, List, [], Ok, IsSomeAnd};
 ghost use Rattle.std.specs.List.{list_any};
@@ -16,14 +16,14 @@ use crate::group::{generation_at, members_count_at};
 use crate::profile::profile_at;
 use cg_names::{MEMBER_ID_BYTES_MAX, NAME_BYTES_MAX};
 
-// What a member is called, as it stands in bytes.
+// The id and instance of a member, borrowed from the bytes.
 #[derive(Clone, Copy)]
 struct Names<'a> {
     id: &'a [u8],
     instance: Option<&'a [u8]>,
 }
 
-// The names of a member that was read before, and the bytes behind the member.
+// Decodes the id and instance of a member again, and returns the bytes after the member.
 #[tactic(auto, unfolding(crate::specs::Members::member_at))]
 fn read_again(version: Version, bytes: &[u8]) -> Option<(Names<'_>, &[u8])>
     ensures { (front : List Member) (m : Member) (after : List ℕ) → member_at version front bytes.now ≡ Ok (m, after) →
@@ -41,7 +41,7 @@ fn is_same_id(id: &[u8], other: &[u8]) -> bool
     id == other
 }
 
-// Whether both are there, and are one.
+// Returns whether both instances are given, and are equal.
 fn is_one_instance(a: Option<&[u8]>, b: Option<&[u8]>) -> bool
     ensures { result ≡ is_one_instance (option_copied a.entry) (option_copied b.entry) }
 {
@@ -51,7 +51,7 @@ fn is_one_instance(a: Option<&[u8]>, b: Option<&[u8]>) -> bool
     }
 }
 
-// Whether one of the members that were read from the start has this id.
+// Returns whether one of the first `count` members from `start` has this id. Decodes them again.
 fn is_id_repeated(version: Version, start: &[u8], count: u8, id: &[u8]) -> bool
     ensures { (front : List Member) (rest : List ℕ) → members_at version count [] start.now ≡ Ok (front, rest) →
         result ≡ list_any (has_id id.now) front }
@@ -71,7 +71,7 @@ fn is_id_repeated(version: Version, start: &[u8], count: u8, id: &[u8]) -> bool
     false
 }
 
-// Whether one of the members that were read from the start has this instance.
+// Returns whether an instance is given and one of the first `count` members from `start` has it. Decodes them again.
 fn is_instance_repeated(version: Version, start: &[u8], count: u8, instance: Option<&[u8]>) -> bool
     ensures { (front : List Member) (rest : List ℕ) → members_at version count [] start.now ≡ Ok (front, rest) →
         result ≡ list_any (has_instance (option_copied instance.entry)) front }
@@ -91,7 +91,7 @@ fn is_instance_repeated(version: Version, start: &[u8], count: u8, instance: Opt
     false
 }
 
-// Goes past a member behind others, which were read from the start.
+// Checks the next member, after the first `count` members from `start`. Returns the bytes after it.
 #[tactic(auto, unfolding(crate::specs::Members::member_at))]
 fn check_member<'a>(
     version: Version,
@@ -114,7 +114,7 @@ fn check_member<'a>(
     Ok(rest)
 }
 
-// Goes past so many members. Reads each again twice for each one behind it.
+// Checks this many members. Quadratic in their number, which is at most 64.
 #[tactic(auto, using(crate::proofs::Again::checked_start, crate::proofs::Again::checked_on, crate::proofs::Again::checked_fail, crate::proofs::Again::checked_end))]
 fn check_members(version: Version, count: u8, bytes: &[u8]) -> Result<&[u8], RecordFault>
     ensures { Skips (λ rest. rest.now) result (members_at version count [] bytes.now) }
@@ -126,7 +126,7 @@ fn check_members(version: Version, count: u8, bytes: &[u8]) -> Result<&[u8], Rec
     Ok(rest)
 }
 
-// Goes past the members of a group, one of whom has to be the leader.
+// Checks the protocol, the leader and the members, of whom one has to be the leader.
 #[tactic(auto, unfolding(crate::specs::Reading::roster_at, crate::specs::Reading::listed_at))]
 fn check_roster(version: Version, bytes: &[u8]) -> Result<&[u8], RecordFault>
     ensures { Skips (λ rest. rest.now) result (roster_at version bytes.now) }
@@ -142,7 +142,7 @@ fn check_roster(version: Version, bytes: &[u8]) -> Result<&[u8], RecordFault>
     }
 }
 
-/// Goes past what stands behind the kind of an assigned group.
+/// Checks the fields of an `Assigned`, after its kind byte. Returns the bytes after them.
 #[tactic(auto, unfolding(crate::specs::Reading::assigned_at))]
 pub fn check_assigned(version: Version, bytes: &[u8]) -> Result<&[u8], RecordFault>
     ensures { Skips (λ rest. rest.now) result (assigned_at version bytes.now) }
@@ -154,7 +154,7 @@ pub fn check_assigned(version: Version, bytes: &[u8]) -> Result<&[u8], RecordFau
     Ok(rest)
 }
 
-/// Goes past what stands behind the kind of an emptied group.
+/// Checks the fields of an `Emptied`, after its kind byte. Returns the bytes after them.
 #[tactic(auto, unfolding(crate::specs::Reading::emptied_at))]
 pub fn check_emptied(version: Version, bytes: &[u8]) -> Result<&[u8], RecordFault>
     ensures { Skips (λ rest. rest.now) result (emptied_at version bytes.now) }
@@ -165,7 +165,7 @@ pub fn check_emptied(version: Version, bytes: &[u8]) -> Result<&[u8], RecordFaul
     Ok(rest)
 }
 
-/// Goes past what stands behind the kind of a deleted group.
+/// Checks the fields of a `Deleted`, after its kind byte. Returns the bytes after them.
 #[tactic(auto, unfolding(crate::specs::Reading::deleted_at))]
 pub fn check_deleted(version: Version, bytes: &[u8]) -> Result<&[u8], RecordFault>
     ensures { Skips (λ rest. rest.now) result (deleted_at version bytes.now) }
@@ -174,7 +174,7 @@ pub fn check_deleted(version: Version, bytes: &[u8]) -> Result<&[u8], RecordFaul
     Ok(rest)
 }
 
-/// Goes past what stands behind the kind of a replaced member.
+/// Checks the fields of a `Replaced`, after its kind byte. Returns the bytes after them.
 #[tactic(auto, unfolding(crate::specs::Reading::replaced_at))]
 pub fn check_replaced(version: Version, bytes: &[u8]) -> Result<&[u8], RecordFault>
     ensures { Skips (λ rest. rest.now) result (replaced_at version bytes.now) }

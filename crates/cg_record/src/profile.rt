@@ -1,4 +1,4 @@
-//! The fields of a member behind its names, at the front of bytes, read without a copy.
+//! The fields of a member after its id and instance, decoded without a copy.
 
 ghost use Rattle.std.specs.Prelude.{◌≡◌, IfOk};
 ghost use Rattle.cg_record.specs.Members.{Profile, IsProfile, profile_at};
@@ -12,7 +12,7 @@ use crate::millis::{REBALANCE_MS_MAX, SESSION_MS_MAX, SESSION_MS_MIN};
 use crate::opaque::{ASSIGNMENT_BYTES_MAX, SUBSCRIPTION_BYTES_MAX};
 use cg_names::NAME_BYTES_MAX;
 
-/// What stands behind the names of a member, as it stands in bytes.
+/// The fields of a member after its id and instance, borrowed from the bytes.
 #[derive(Clone, Copy)]
 pub struct Fields<'a> {
     pub client: &'a [u8],
@@ -48,7 +48,7 @@ fn profile_in_one(bytes: &[u8]) -> Result<(Fields<'_>, &[u8]), RecordFault>
     Ok((fields, rest))
 }
 
-/// The fields of a member behind its names.
+/// Decodes the fields of a member after its id and instance.
 pub fn profile_at(version: Version, bytes: &[u8]) -> Result<(Fields<'_>, &[u8]), RecordFault>
     ensures gives { Gives (λ x. (record { client = x.0.client.now; session = x.0.session; rebalance = x.0.rebalance; subscription = x.0.subscription.now; assignment = x.0.assignment.now }, x.1.now)) result (profile_at version bytes.now) }
     ensures lawful { IfOk result (λ x. IsProfile (record { client = x.0.client.now; session = x.0.session; rebalance = x.0.rebalance; subscription = x.0.subscription.now; assignment = x.0.assignment.now })) }

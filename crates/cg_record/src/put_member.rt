@@ -1,4 +1,4 @@
-//! The texts of members.
+//! The encoder of members.
 
 ghost use Rattle.std.specs.Prelude.{◌≡◌, ◌≤◌, ◌++◌, length, OnOk, IfSome};
 ghost use Rattle.std.specs.List.{flat_map, AllByRecursion};
@@ -52,7 +52,7 @@ fn put_profile(out: &mut Vec<u8>, member: &Member) -> Result<(), AllocError>
     Ok(())
 }
 
-/// Puts the text of a member at the end.
+/// Appends the encoding of a member. If an allocation fails, a part of it may have been appended.
 #[tactic(auto, unfolding(crate::specs::Members::member_text))]
 pub fn put_member(out: &mut Vec<u8>, member: &Member) -> Result<(), AllocError>
     ensures ok { OnOk result (out.new.items ≡ out.old.items ++ member_text member.now) }
@@ -74,7 +74,7 @@ fn put_members(out: &mut Vec<u8>, members: &[Member]) -> Result<(), AllocError>
     Ok(())
 }
 
-/// Puts the text of what the members of a group joined in at the end.
+/// Appends the encoding of a roster. If an allocation fails, a part of it may have been appended.
 #[tactic(auto, unfolding(crate::specs::Spelling::roster_text))]
 pub fn put_roster(out: &mut Vec<u8>, roster: &Roster) -> Result<(), AllocError>
     ensures ok { OnOk result (out.new.items ≡ out.old.items ++ roster_text roster.now) }

@@ -1,3 +1,4 @@
+//! The decoder of a payload.
 ghost use Rattle.std.specs.Prelude.{◌≡◌, List, Ok, IfOk, MatchResult};
 ghost use Rattle.cg_record.specs.declared.command.Command.{Command};
 ghost use Rattle.cg_record.specs.Lawful.{AreCommands};
@@ -10,7 +11,7 @@ use crate::command::Command;
 use crate::fault::RecordFault;
 use std::alloc::Global;
 
-// The fault to tell where building met this one: want of memory gives way to a fault that needs none to be found.
+// Returns the fault to report after building met this one: if an allocation failed, a fault of the bytes comes first.
 #[tactic(auto, using(crate::proofs::Told::commands_tell, crate::proofs::Told::fails_tells))]
 fn fault_to_tell(fault: RecordFault, bytes: &[u8]) -> RecordFault
     ensures { Fails fault (commands_of bytes.now) → Tells result (commands_of bytes.now) }
@@ -32,16 +33,16 @@ fn read_or_tell(alloc: Global, bytes: &[u8]) -> Result<Vec<Command>, RecordFault
     build(alloc, bytes).map_err(|fault| fault_to_tell(fault, bytes))
 }
 
-/// The commands that the bytes spell, all of the bytes: the version byte alone spells none.
-/// Time and memory are linear in the bytes, but that each entry of a commit is compared with those before it, 64 at most.
-/// Where memory is refused, the bytes are gone through once more for a fault that can be told without it.
+/// Decodes the commands of a payload, up to its end; a payload of the version byte alone has none. Time and memory are
+/// linear in the bytes, except that each entry of a commit and each member of a group is compared with those before it,
+/// 64 at most. If an allocation fails, a second pass without an allocation looks for a fault of the bytes.
 pub fn read(alloc: Global, bytes: &[u8]) -> Result<Vec<Command>, RecordFault>
-    // What is read is spelled so.
+    // The bytes are the encoding of the commands.
     ensures found { IfOk result (λ v. AreCommands v.items × (bytes.now ≡ spelling v.items)) }
-    // What is spelled so is read, unless memory is refused.
+    // Every encoding is decoded, unless an allocation fails.
     ensures only { (commands : List Command) → AreCommands commands → bytes.now ≡ spelling commands →
         MatchResult result (λ v. v.items ≡ commands) (λ fault. fault ≡ RecordFault.Memory) }
-    // Which fault is told: the first from the left; want of memory only where there is none.
+    // The fault is the first from left to right; `Memory` only if the bytes have none.
     ensures exact { MatchResult result
         (λ v. commands_of bytes.now ≡ Ok v.items)
         (λ fault. Tells fault (commands_of bytes.now)) }

@@ -1,10 +1,11 @@
+//! The command `Replaced`.
 ghost use Rattle.std.specs.Prelude.{◌≡◌, IsSome, MatchResult};
 
 use crate::member::Member;
 use cg_names::GroupId;
 use std::marker::Model;
 
-/// A member with an instance (KIP-345). Contracts see it as the member.
+/// A static member (KIP-345). Contracts see the member.
 #[derive(Debug, Drop)]
 pub struct StaticMember {
     member: Member,
@@ -22,7 +23,7 @@ impl Model for StaticMember {
 }
 
 impl StaticMember {
-    /// A member without an instance is given back.
+    /// Checks that the member has an instance. Returns the member unchanged if it has none.
     pub fn new(member: Member) -> Result<Self, Member>
         ensures { MatchResult result
             (λ s. IsSome member.instance × (s ≡ member))
@@ -35,7 +36,7 @@ impl StaticMember {
         }
     }
 
-    /// A member with an instance, by a caller who knows that it has one.
+    /// Wraps a member that the caller knows to have an instance.
     pub fn from_lawful(member: Member) -> Self
         requires { IsSome member.instance }
         ensures { result ≡ member }
@@ -43,7 +44,7 @@ impl StaticMember {
         StaticMember { member }
     }
 
-    /// The member, which has an instance.
+    /// Returns the member, which has an instance.
     pub fn member(&self) -> &Member
         ensures value { result.now ≡ self.now }
         ensures instance { IsSome self.now.instance }
@@ -52,7 +53,7 @@ impl StaticMember {
     }
 }
 
-/// A member takes the place of the member with its instance (KIP-345, "fencing").
+/// A member replaces the one with its instance (KIP-345, fencing).
 #[derive(Debug, Drop)]
 pub struct Replaced {
     pub group: GroupId,

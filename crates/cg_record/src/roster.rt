@@ -1,3 +1,4 @@
+//! The members of a stable group.
 ghost use Rattle.std.specs.Prelude.{◌≡◌, ◌<◌, ◌↔◌, false, length, slice_set, position, if◌then◌else◌, IsTrue, IfOk, MatchOption, MatchResult};
 ghost use Rattle.std.specs.List.{list_any};
 ghost use Rattle.cg_record.specs.Rosters.{AreApart, AreMembers, IsPlace, IsRoster, roster_of, has_id_of_other, have_one_name, is_led_by, may_replace, replaced_in, takes_place_of};
@@ -7,12 +8,12 @@ use cg_names::{MemberId, ProtocolName};
 use std::alloc::{AllocError, Global};
 use std::marker::Model;
 
-/// The greatest number of members of a group.
+/// Maximum number of members of a group.
 pub const MEMBERS_MAX: usize = 64;
 
-/// What the members of a group joined in: the protocol that was chosen, the leader, and the members in joining order.
-/// They are at least one and at most `MEMBERS_MAX`, no two of one id or one instance, and the leader is one of them.
-/// Contracts see it as its parts.
+/// The members of a completed rebalance: the chosen protocol, the leader, and the members in joining order. There are 1
+/// to `MEMBERS_MAX` members, with different ids and different instances, and the leader is one of them. Contracts see
+/// the parts.
 #[derive(Debug, Drop)]
 pub struct Roster {
     protocol: ProtocolName,
@@ -30,14 +31,13 @@ impl Model for Roster {
     ghost invariant = { λ r. IsRoster (roster_of r.protocol r.leader r.members.items) };
 }
 
-// Whether one of the others has the member's id or its instance.
 fn is_among(member: &Member, others: &[Member]) -> bool
     ensures { result ≡ list_any (have_one_name member.now) others.now }
 {
     others.iter().any(|other| member.has_name_of(other))
 }
 
-// Whether no id and no instance comes twice. Compares each member with each.
+// Quadratic in the number of members, which is at most 64.
 fn are_apart(members: &[Member]) -> bool
     ensures { IsTrue result ↔ AreApart members.now }
 {
@@ -47,35 +47,33 @@ fn are_apart(members: &[Member]) -> bool
     }
 }
 
-/// Whether one of the members has this id. Goes through them.
+/// Returns whether one of the members has this id. Linear in the members.
 pub fn is_led_by(leader: &[u8], members: &[Member]) -> bool
     ensures { result ≡ is_led_by leader.now members.now }
 {
     members.iter().any(|member| member.id.as_bytes() == leader)
 }
 
-// Whether these may be the members of a group.
 fn are_members(members: &[Member]) -> bool
     ensures { IsTrue result ↔ AreMembers members.now }
 {
     !members.is_empty() && members.len() <= MEMBERS_MAX && are_apart(members)
 }
 
-// Whether another of the members has the new one's id.
+// Returns whether a member that the new one does not replace has its id.
 fn is_id_taken(new: &Member, members: &[Member]) -> bool
     ensures { result ≡ list_any (has_id_of_other new.now) members.now }
 {
     members.iter().any(|other| new.has_id_of_other(other))
 }
 
-// Where the member with the new one's instance stands.
 fn seat_of(new: &Member, members: &[Member]) -> Option<usize>
     ensures { result ≡ position (takes_place_of new.now) members.now }
 {
     members.iter().position(|old| new.takes_place_of(old))
 }
 
-// The place that the new member may take: that of the one with its instance, where no other has its id.
+// Returns the index of the member that the new one may replace: it has the same instance, and no other has the new id.
 #[tactic(auto, using(crate::proofs::Replacing::place_found, crate::proofs::Replacing::place_missed, crate::proofs::Replacing::place_refused))]
 fn place_of(new: &Member, members: &[Member]) -> Option<usize>
     ensures { MatchOption result
@@ -105,7 +103,6 @@ fn lead(leader: &mut MemberId, leads: bool, id: MemberId)
     }
 }
 
-// Copies of the members, in their order.
 fn copied(alloc: Global, members: &[Member]) -> Result<Vec<Member>, AllocError>
     ensures { IfOk result (λ copies. copies.items ≡ members.now) }
 {
@@ -117,7 +114,7 @@ fn copied(alloc: Global, members: &[Member]) -> Result<Vec<Member>, AllocError>
 }
 
 impl Roster {
-    /// The members of a group; what is none is given back. Compares each member with each.
+    /// Builds a roster. Returns its parts unchanged if they are not lawful. Compares each member with each other one.
     pub fn new(
         protocol: ProtocolName,
         leader: MemberId,
@@ -138,7 +135,7 @@ impl Roster {
         }
     }
 
-    /// The members of a group, by a caller who knows that they are: takes no time.
+    /// Builds a roster from parts that the caller knows to be lawful, in constant time.
     pub fn from_lawful(protocol: ProtocolName, leader: MemberId, members: Vec<Member>) -> Self
         requires { IsRoster (roster_of protocol leader members.items) }
         ensures { result ≡ roster_of protocol leader members.items }
@@ -150,8 +147,9 @@ impl Roster {
         }
     }
 
-    /// Puts the new member, whose id this is, into the place of the one with its instance, and lets it lead where that one led
-    /// (KIP-345). Where none has its instance, or another its id, nothing changes. Takes no memory.
+    /// Replaces the member with the new one's instance; the new member leads if the old one led (KIP-345). `id` is a
+    /// copy of the new member's id. Nothing changes if no member has the instance, or another one has the id. No
+    /// allocation.
     pub fn replace(&mut self, new: Member, id: MemberId)
         requires { id ≡ new.id }
         ensures { self.new ≡ replaced_in new self.old }
@@ -166,21 +164,21 @@ impl Roster {
         }
     }
 
-    /// The protocol that was chosen.
+    /// Returns the chosen protocol.
     pub fn protocol(&self) -> &ProtocolName
         ensures { result.now ≡ self.now.protocol }
     {
         &self.protocol
     }
 
-    /// The id of the member that leads.
+    /// Returns the id of the leader.
     pub fn leader(&self) -> &MemberId
         ensures { result.now ≡ self.now.leader }
     {
         &self.leader
     }
 
-    /// The members in joining order.
+    /// Returns the members in joining order.
     pub fn members(&self) -> &[Member]
         ensures value { result.now ≡ self.now.members }
         ensures lawful { IsRoster self.now }

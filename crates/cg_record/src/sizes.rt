@@ -1,3 +1,4 @@
+//! The sizes of encoded commands, in bytes.
 ghost use Rattle.std.specs.Prelude.{◌≡◌, ◌≤◌, ◌*◌, length};
 ghost use Rattle.std.specs.List.{flat_map};
 ghost use Rattle.cg_record.specs.Spelling.{entry_text, optional_text, roster_text, assigned_text, emptied_text, replaced_text, deleted_text, committed_text, command_text};
@@ -15,28 +16,31 @@ use crate::replaced::Replaced;
 use crate::roster::{MEMBERS_MAX, Roster};
 use cg_names::InstanceId;
 
-// The bytes of an entry but for its topic and its metadata: a length of 1, a number of 4, one of 8, a length of 4.
+// Size of an entry without its topic and metadata: a length of 1 byte, numbers of 4 and 8 bytes, a length of 4 bytes.
 const ENTRY_FIXED_BYTES: u64 = 17;
 
-// The bytes of an entry at most.
+// Maximum size of an entry.
 const ENTRY_BYTES_MAX: u64 = 4_213;
 
-// The bytes of a member but for its names and what only clients read: two lengths of 1, two numbers of 4, two lengths of 4.
+// Size of a member without its id, instance, client, subscription and assignment: two lengths of 1 byte, two numbers of
+// 4 bytes, two lengths of 4 bytes. The length byte of the instance counts with the instance.
 const MEMBER_FIXED_BYTES: u64 = 18;
 
-// The bytes of a member at most.
+// Maximum size of a member.
 const MEMBER_BYTES_MAX: u64 = 5_476;
 
-// The bytes of what members joined in but for the names and the members: two lengths of 1, a count of 1.
+// Size of a roster without its names and members: two lengths and a count of 1 byte each.
 const ROSTER_FIXED_BYTES: u64 = 3;
 
-// The bytes of an assigned or emptied group but for its names and its members: a length of 1, a number of 4, a length of 1.
+// Size of an `Assigned` or `Emptied` without its names and members: a length of 1 byte, a number of 4 bytes, a length
+// of 1 byte.
 const GROUP_FIXED_BYTES: u64 = 6;
 
-// The bytes of a commit but for its group and its entries: a length of 1, a count of 1.
+// Size of a `Committed` without its group and entries: a length and a count of 1 byte each.
 const COMMITTED_FIXED_BYTES: u64 = 2;
 
-/// No command has more bytes than this. It is a bound for sums: the longest command, an Assigned of `MEMBERS_MAX` members, has fewer.
+/// Upper bound of the size of a command, in bytes, for sums. The longest command, an `Assigned` of `MEMBERS_MAX`
+/// members, is shorter.
 pub const COMMAND_BYTES_MAX: u64 = 352_001;
 
 #[tactic(auto, using(crate::proofs::TextLens::entry_len, cg_names::proofs::Names::length_from_name))]
@@ -165,7 +169,7 @@ fn deleted_size(deleted: &Deleted) -> u64
     1 + group.len() as u64
 }
 
-/// The number of bytes that `write` spends on the command. Goes through its members or entries, and takes no memory.
+/// Returns the number of bytes of the encoded command. Linear in its members or entries, no allocation.
 #[tactic(auto, unfolding(crate::specs::Spelling::command_text))]
 pub fn size(command: &Command) -> u64
     ensures size { result ≡ length (command_text command.now) }

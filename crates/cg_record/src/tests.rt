@@ -1,11 +1,12 @@
-//! Commands beside their bytes, and the faults of bytes, written by hand from the tables of `docs/FORMATS.md`.
+//! Commands and their encodings, and the faults of bytes, written by hand from the tables of `docs/FORMATS.md`.
 use crate::RecordFault::{BadKind, BadLength, BadName, Repeated, Short};
 use crate::{Command, RecordFault, read, size, write};
 use std::alloc::{AllocError, Global};
 use std::test::Fail;
 
-// Group g, generation 7, type k, protocol r, leader n; the member m with the instance i, the client c, the session timeout
-// 6,000 (0x1770), the rebalance timeout 5, the subscription 9 and the assignment 8; the member n without instance and bytes.
+// Group g, generation 7, type k, protocol r, leader n; the member m with the instance i, the client c, the session
+// timeout 6,000 (0x1770), the rebalance timeout 5, the subscription 9 and the assignment 8; the member n without
+// instance, subscription and assignment.
 const ASSIGNED: &[u8] =
     b"\x01\x01\x01g\0\0\0\x07\x01k\x01r\x01n\x02\x01m\x01i\x01c\0\0\x17\x70\0\0\0\x05\0\0\0\x01\x09\0\0\0\x01\x08\x01n\0\x01c\0\0\x17\x70\0\0\0\x05\0\0\0\0\0\0\0\0";
 
@@ -78,7 +79,7 @@ fn commands_have_their_bytes(rt: HostRuntime) -> Result<(), Fail> {
     Ok(())
 }
 
-// Whether each cut of the bytes after the version is too short.
+// Returns whether each proper prefix that is longer than the version byte is too short.
 fn is_short_when_cut(alloc: Global, bytes: &[u8]) -> bool {
     for len in 2..bytes.len() {
         if read(alloc, &bytes[..len]).err() != Some(Short) {
@@ -95,7 +96,7 @@ fn cut_bytes_are_short(rt: HostRuntime) {
     }
 }
 
-// The fault of the bytes with the byte at this position changed, if it makes one.
+// Returns the fault of the bytes with the byte at this position changed, if there is one.
 fn fault_with(
     alloc: Global,
     bytes: &[u8],
@@ -109,10 +110,10 @@ fn fault_with(
     Ok(read(alloc, &bytes).err())
 }
 
-// The positions in order, of a commit: version, kind, group, count, topic, partition, offset, length of the metadata; of an
-// emptied group: group, generation, type; of a deleted one: group; of a replaced member: group, id, instance, client, session
-// timeout, rebalance timeout, subscription, assignment; of an assigned group: group, generation, type, protocol, leader,
-// count, id and instance of the first member, of the second.
+// The positions in order, of a commit: version, kind, group, count, topic, partition, offset, length of the metadata;
+// of an emptied group: group, generation, type; of a deleted one: group; of a replaced member: group, id, instance,
+// client, session timeout, rebalance timeout, subscription, assignment; of an assigned group: group, generation, type,
+// protocol, leader, count, id and instance of the first member, of the second.
 const CHANGED: [(&[u8], usize, u8, Option<RecordFault>); 69] = [
     (COMMITTED, 0, 2, Some(BadKind)),
     (COMMITTED, 0, 0, Some(BadKind)),
@@ -197,15 +198,15 @@ fn a_changed_byte_has_its_fault(rt: HostRuntime) -> Result<(), Fail> {
     Ok(())
 }
 
-// The bytes of an assigned group up to its second member, with no member but m so far.
+// The bytes of an assigned group up to its second member; the first member is m.
 const ONE_MEMBER: &[u8] =
     b"\x01\x01\x01g\0\0\0\x07\x01k\x01r\x01n\x02\x01m\x01i\x01c\0\0\x17\x70\0\0\0\x05\0\0\0\x01\x09\0\0\0\x01\x08";
 
 // The bytes of a commit of two entries up to the second.
 const ONE_ENTRY: &[u8] = b"\x01\x04\x01g\x02\x01t\0\0\0\0\0\0\0\0\0\0\0\x2a\0\0\0\0";
 
-// What comes for the second time is a fault before the bytes after it are looked at; so is a partition out of its range. A
-// leader who is no member is a fault only at the command's end.
+// A repeated partition, id or instance is a fault before the bytes after it are read, and so is a partition out of
+// range. A leader that is not a member is a fault only at the end of the command.
 const SECOND: [(&[u8], &[u8], RecordFault); 12] = [
     (b"", b"", Short),
     (ONE_MEMBER, b"\x01m", Repeated),

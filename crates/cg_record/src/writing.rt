@@ -1,3 +1,4 @@
+//! The encoder of commands.
 ghost use Rattle.std.specs.Prelude.{◌≡◌, ◌<◌, ◌≤◌, ◌+◌, ◌++◌, Ok, length, sum_by, IfOk, OnOk, OnErr};
 ghost use Rattle.std.specs.List.{flat_map, AllByRecursion};
 ghost use Rattle.cg_names.specs.Grammar.{IsName};
@@ -21,6 +22,7 @@ use crate::sizes::size;
 use cg_names::Name;
 use std::alloc::{AllocError, Global};
 
+/// Appends a big-endian number of four bytes.
 #[tactic(auto, unfolding(crate::specs::Texts::number))]
 pub fn put_four(out: &mut Vec<u8>, n: u32) -> Result<(), AllocError>
     ensures { OnOk result (out.new.items ≡ out.old.items ++ four n) }
@@ -35,6 +37,7 @@ fn put_eight(out: &mut Vec<u8>, n: u64) -> Result<(), AllocError>
     out.extend_from_slice(&n.to_be_bytes())
 }
 
+/// Appends a name, with its length byte.
 #[tactic(auto, using(cg_names::proofs::Names::length_from_name))]
 pub fn put_name<const MAX: usize, const SORT: u8>(
     out: &mut Vec<u8>,
@@ -167,8 +170,8 @@ fn put_command(out: &mut Vec<u8>, command: &Command) -> Result<(), AllocError>
     Ok(())
 }
 
-/// Puts the text of a command behind what is there: `size` bytes. It is spelled in `room` first, whose bytes do not matter before
-/// and after. Where memory is refused, the text is as it was.
+/// Appends the encoding of a command, `size` bytes. The command is encoded in `room` first, whose contents are
+/// overwritten. If an allocation fails, `text` is unchanged.
 pub fn append_command(
     text: &mut Vec<u8>,
     room: &mut Vec<u8>,
@@ -184,7 +187,7 @@ pub fn append_command(
     Ok(())
 }
 
-// Room for the text of the commands: it saves growths, and nothing rests on it.
+// Only a capacity: it saves allocations while `write` appends, and no contract depends on it.
 fn text_size(commands: &[Command]) -> usize {
     let mut total = 1u64;
     for command in commands {
@@ -193,11 +196,11 @@ fn text_size(commands: &[Command]) -> usize {
     total as usize
 }
 
-/// The text of the commands, in one allocation: the version byte, and `size` bytes for each.
+/// Encodes the commands in one allocation: the version byte, and `size` bytes for each command.
 pub fn write(alloc: Global, commands: &[Command]) -> Result<Vec<u8>, AllocError>
     ensures spelled { IfOk result (λ v. v.items ≡ spelling commands.now) }
     ensures len { IfOk result (λ v. length v.items ≡ 1 + sum_by (λ c. length (command_text c)) commands.now) }
-    // The commands are in their ranges, and what is written reads back as they are.
+    // The commands are in range, and the encoding decodes to them.
     ensures lawful { OnOk result (AreCommands commands.now) }
     ensures reads_back { IfOk result (λ v. commands_of v.items ≡ Ok commands.now) }
 {

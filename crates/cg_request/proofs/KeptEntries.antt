@@ -1,4 +1,4 @@
--- The entries of a COMMIT are those of a command.
+-- The entries of a COMMIT are lawful entries of a command.
 use Rattle.std.proofs.Common.{◌≡◌, ℕ, ◌≤◌, Bool, true, false, not, List, [], ◌∷◌, map, refl, sym, subst}
 use Rattle.std.specs.List.{list_any, AllByRecursion, IsDistinct}
 use Rattle.std.proofs.lemmas.Bool.{and_parts, or_parts}

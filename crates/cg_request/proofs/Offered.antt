@@ -1,4 +1,4 @@
--- The names of protocols, and the members of what a leader hands in.
+-- Searches by the name of a protocol and by the member of a SYNC entry, as searches over lists of names.
 use Rattle.std.proofs.Common.{◌≡◌, ℕ, List, [], ◌∷◌, ◌||◌, map, refl, ap}
 use Rattle.std.specs.List.{list_any}
 use Rattle.cg_request.specs.declared.protocol.Protocol.{Protocol}

@@ -6,7 +6,7 @@ use Rattle.cg_request.specs.declared.event.Event.{Event}
 use Rattle.cg_request.specs.declared.event.Event.TheVariants as event
 use Rattle.cg_request.specs.declared.ticket.Ticket.{Ticket}
 
--- the event of a request: the call with this ticket asks; a JOIN takes the UUID
+-- the event of a request under a ticket; a JOIN keeps the UUID
 abbrev pub asked : Request → Ticket → List ℕ → Event
 asked (request.Join r) ticket fresh = event.Join ticket r fresh
 asked (request.Sync r) ticket fresh = event.Sync ticket r

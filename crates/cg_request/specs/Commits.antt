@@ -1,4 +1,4 @@
--- What a COMMIT says of partitions, and what is kept of it.
+-- Which entries a COMMIT can have, and what a command keeps of them.
 use Rattle.std.specs.Prelude.{◌≡◌, ◌≤◌, Bool, true, not, ◌&&◌, nat_lt, List, [], ◌∷◌, length}
 use Rattle.std.specs.List.{list_any}
 use Rattle.cg_record.specs.declared.entries.TheConstants.{ENTRIES_MAX}
@@ -7,15 +7,15 @@ use Rattle.cg_record.specs.declared.metadata.TheConstants.{METADATA_BYTES_MAX}
 use Rattle.cg_record.specs.Keys.{have_one_key}
 use Rattle.cg_request.specs.declared.commit_entry.CommitEntry.{CommitEntry}
 
--- an entry, as the command keeps it
+-- the entry of the command
 abbrev pub kept_entry : CommitEntry → Entry
 kept_entry e = record { topic = e.topic; partition = e.partition; offset = e.offset; metadata = e.metadata }
 
--- both are of one partition of one topic
+-- both entries are for one partition of one topic
 abbrev pub share_partition : CommitEntry → CommitEntry → Bool
 share_partition a b = have_one_key (kept_entry a) (kept_entry b)
 
--- no partition comes twice
+-- no two entries are for one partition
 unfoldable pub are_apart : List CommitEntry → Bool
 are_apart [] = true
 are_apart (e ∷ es) = not (list_any (share_partition e) es) && are_apart es
@@ -26,10 +26,10 @@ pub record AreCommits (entries : List CommitEntry) : Type 0 where
   pub few : length entries ≤ ENTRIES_MAX
   pub apart : are_apart entries ≡ true
 
--- the metadata of an entry is longer than what is kept
+-- the metadata of the entry is longer than a command keeps
 abbrev pub is_long : CommitEntry → Bool
 is_long e = nat_lt METADATA_BYTES_MAX (length e.metadata)
 
--- so is that of one of the entries; entries within this limit are together within that of a whole commit, 262,144 bytes
+-- the metadata of some entry is too long; entries within this limit are together within that of a commit, 262,144 bytes
 abbrev pub is_too_large : List CommitEntry → Bool
 is_too_large entries = list_any is_long entries

@@ -1,4 +1,4 @@
-//! Requests, before the call that asks is known.
+//! The request enum: what a client sends, before it has a ticket.
 ghost use Rattle.std.specs.Prelude.{◌≡◌};
 ghost use Rattle.cg_request.specs.Asking.{asked};
 
@@ -10,7 +10,7 @@ use crate::ticket::Ticket;
 use cg_names::GroupId;
 use uuid::Uuid;
 
-/// What a client asks for: an event of the machine without the ticket of its call.
+/// A request of a client: an event of the group machine without its ticket.
 #[derive(Debug, Drop)]
 pub enum Request {
     Join(JoinRequest),
@@ -19,16 +19,17 @@ pub enum Request {
     Leave(LeaveRequest),
     Commit(CommitRequest),
     Fetch(FetchRequest),
-    /// DELETE (DeleteGroups request), of one group.
+    /// DELETE (DeleteGroups request) of one group.
     Delete(Option<GroupId>),
-    /// DESCRIBE (DescribeGroups request), of one group.
+    /// DESCRIBE (DescribeGroups request) of one group.
     Describe(Option<GroupId>),
     /// LIST (ListGroups request).
     List,
 }
 
 impl Request {
-    /// The event of the call with this ticket; a JOIN takes the UUID to draw a member id with.
+    /// Returns the event of this request under the ticket. A JOIN keeps the UUID, from which a member id may be drawn.
+    /// Moves the request and does not allocate.
     pub fn into_event(self, ticket: Ticket, fresh: Uuid) -> Event
         ensures { result ≡ asked self ticket fresh }
     {

@@ -1,8 +1,10 @@
+//! One entry of a COMMIT.
 use crate::listed::Listed;
 use cg_names::Topic;
 use cg_record::{Offset, Partition};
 
-/// What a COMMIT says of one partition. Its metadata may be longer than what is kept: such a commit is refused.
+/// One partition of a COMMIT (OffsetCommit request). A line may carry longer metadata than `METADATA_BYTES_MAX`; the
+/// machine refuses such a commit with 12.
 #[derive(Debug, Drop)]
 pub struct CommitEntry {
     pub topic: Topic,

@@ -1,3 +1,4 @@
+//! The entries of a COMMIT, checked for number and duplicates.
 ghost use Rattle.std.specs.Prelude.{◌≡◌, ◌↔◌, false, true, map, IsTrue, IfOk, MatchResult, MatchOption};
 ghost use Rattle.std.specs.List.{list_any};
 ghost use Rattle.cg_request.specs.Commits.{AreCommits, are_apart, is_long, is_too_large, kept_entry, share_partition};
@@ -7,7 +8,7 @@ use cg_record::{ENTRIES_MAX, Entries, Entry, Metadata};
 use std::alloc::{AllocError, Global};
 use std::marker::Model;
 
-/// What a COMMIT says of partitions: at least one and at most `ENTRIES_MAX`, all different. Contracts see the list.
+/// The entries of a COMMIT: 1 to `ENTRIES_MAX`, all for different partitions. Contracts see the list.
 #[derive(Debug, Drop)]
 pub struct Commits {
     items: Vec<CommitEntry>,
@@ -37,7 +38,7 @@ fn is_among(entry: &CommitEntry, others: &[CommitEntry]) -> bool
     others.iter().any(|other| share_partition(entry, other))
 }
 
-// Whether no partition comes twice. Compares each entry with each.
+// Quadratic in the number of entries, which is at most 64.
 #[tactic(auto, unfolding(crate::specs::Commits::are_apart))]
 fn are_apart(entries: &[CommitEntry]) -> bool
     ensures { result ≡ are_apart entries.now }
@@ -54,7 +55,7 @@ fn are_commits(entries: &[CommitEntry]) -> bool
     !entries.is_empty() && entries.len() <= ENTRIES_MAX && are_apart(entries)
 }
 
-// The entry as it is kept; none where its metadata is too long.
+// Returns `None` if the metadata is longer than `METADATA_BYTES_MAX`.
 fn kept(entry: CommitEntry) -> Option<Entry>
     ensures { MatchOption result
         (is_long entry ≡ true)
@@ -77,7 +78,7 @@ fn kept(entry: CommitEntry) -> Option<Entry>
     }
 }
 
-// The entries as they are kept, without a copy of what they say.
+// Moves the entries; only the new vector is allocated.
 fn all_kept(alloc: Global, items: Vec<CommitEntry>) -> Result<Option<Vec<Entry>>, AllocError>
     ensures { IfOk result (λ o. MatchOption o
         (is_too_large items.items ≡ true)
@@ -94,7 +95,8 @@ fn all_kept(alloc: Global, items: Vec<CommitEntry>) -> Result<Option<Vec<Entry>>
 }
 
 impl Commits {
-    /// What a COMMIT says, without a copy; what is none is given back. Compares each entry with each.
+    /// Builds the entries of a COMMIT without a copy. Returns the vector unchanged if it is empty, too long or has
+    /// duplicates. Compares each entry with each other one.
     pub fn from_vec(items: Vec<CommitEntry>) -> Result<Self, Vec<CommitEntry>>
         ensures { MatchResult result
             (λ commits. AreCommits items.items × (commits ≡ items.items))
@@ -107,7 +109,7 @@ impl Commits {
         }
     }
 
-    /// The entries in the order in which they were given.
+    /// Returns the entries in request order.
     pub fn as_slice(&self) -> &[CommitEntry]
         ensures value { result.now ≡ self.now }
         ensures lawful { AreCommits self.now }
@@ -115,7 +117,8 @@ impl Commits {
         self.items.as_slice()
     }
 
-    /// The entries as a command keeps them; none where the metadata of one is too long.
+    /// Converts the entries to those of a command, without a copy of their contents. Returns `None` if the metadata of
+    /// an entry is longer than `METADATA_BYTES_MAX` (error 12).
     #[tactic(auto, using(crate::proofs::KeptEntries::entries_of_commits))]
     pub fn into_entries(self, alloc: Global) -> Result<Option<Entries>, AllocError>
         ensures { IfOk result (λ o. MatchOption o

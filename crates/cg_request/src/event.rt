@@ -1,3 +1,4 @@
+//! The events of the group machine.
 use crate::request::{
     BeatRequest, CommitRequest, FetchRequest, JoinRequest, LeaveRequest, SyncRequest,
 };
@@ -5,25 +6,25 @@ use crate::ticket::Ticket;
 use cg_names::GroupId;
 use uuid::Uuid;
 
-/// What the machine meets, one at a time.
+/// An input of the group machine, which takes one at a time.
 #[derive(Debug, Drop)]
 pub enum Event {
-    /// A JOIN, with the UUID to draw a member id with.
+    /// JOIN (JoinGroup request), with the UUID from which a member id may be drawn.
     Join(Ticket, JoinRequest, Uuid),
     Sync(Ticket, SyncRequest),
     Beat(Ticket, BeatRequest),
     Leave(Ticket, LeaveRequest),
     Commit(Ticket, CommitRequest),
-    /// A question for offsets.
+    /// FETCH (OffsetFetch request).
     Fetch(Ticket, FetchRequest),
-    /// The end of a group without members.
+    /// DELETE (DeleteGroups request).
     Delete(Ticket, Option<GroupId>),
-    /// A question for one group.
+    /// DESCRIBE (DescribeGroups request).
     Describe(Ticket, Option<GroupId>),
-    /// A question for all groups.
+    /// LIST (ListGroups request).
     List(Ticket),
-    /// This session is closed: nobody hears answers to its calls any more.
+    /// The end of this session. Its parked calls get 15.
     Gone(u64),
-    /// Time has gone by.
+    /// The passing of time, which expires sessions and ends rebalances at their deadline.
     Tick,
 }

@@ -1,5 +1,5 @@
-//! What clients ask of a coordinator: requests, the lawful lists in them, and the events that they are to the machine.
-//! Bounds that depend on a request alone are held by its types.
+//! Requests of clients, the checked lists in them, and the events of the group machine. The types hold the bounds
+//! whose violation makes a request malformed; the machine refuses all others with an error code.
 #![tactic(auto)]
 
 pub mod asking;

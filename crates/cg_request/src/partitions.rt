@@ -1,3 +1,4 @@
+//! The partitions of a FETCH, checked for number and duplicates.
 ghost use Rattle.std.specs.Prelude.{◌≡◌, ◌↔◌, IsTrue, MatchResult};
 ghost use Rattle.std.specs.List.{list_any};
 ghost use Rattle.cg_request.specs.Partitions.{ArePartitions, are_apart, are_one};
@@ -6,7 +7,7 @@ use crate::topic_partition::TopicPartition;
 use cg_record::ENTRIES_MAX;
 use std::marker::Model;
 
-/// What a FETCH asks for: at least one and at most `ENTRIES_MAX` partitions, all different. Contracts see the list.
+/// The partitions of a FETCH: 1 to `ENTRIES_MAX`, all different. Contracts see the list.
 #[derive(Debug, Drop)]
 pub struct Partitions {
     items: Vec<TopicPartition>,
@@ -36,7 +37,7 @@ fn is_among(partition: &TopicPartition, others: &[TopicPartition]) -> bool
     others.iter().any(|other| are_one(partition, other))
 }
 
-// Whether no partition comes twice. Compares each with each.
+// Quadratic in the number of partitions, which is at most 64.
 #[tactic(auto, unfolding(crate::specs::Partitions::are_apart))]
 fn are_apart(partitions: &[TopicPartition]) -> bool
     ensures { result ≡ are_apart partitions.now }
@@ -54,7 +55,8 @@ fn are_partitions(partitions: &[TopicPartition]) -> bool
 }
 
 impl Partitions {
-    /// What a FETCH asks for, without a copy; what is none is given back. Compares each partition with each.
+    /// Builds the partitions of a FETCH without a copy. Returns the vector unchanged if it is empty, too long or has
+    /// duplicates. Compares each partition with each other one.
     pub fn from_vec(items: Vec<TopicPartition>) -> Result<Self, Vec<TopicPartition>>
         ensures { MatchResult result
             (λ partitions. ArePartitions items.items × (partitions ≡ items.items))
@@ -67,7 +69,7 @@ impl Partitions {
         }
     }
 
-    /// The partitions in the order in which they were given.
+    /// Returns the partitions in request order.
     pub fn as_slice(&self) -> &[TopicPartition]
         ensures value { result.now ≡ self.now }
         ensures lawful { ArePartitions self.now }
@@ -75,7 +77,7 @@ impl Partitions {
         self.items.as_slice()
     }
 
-    /// The partitions as a `Vec`, without a copy.
+    /// Returns the vector, without a copy.
     pub fn into_vec(self) -> Vec<TopicPartition>
         ensures { result.items ≡ self }
     {

@@ -1,3 +1,4 @@
+//! The protocol list of a JOIN, checked for number and duplicate names.
 ghost use Rattle.std.specs.Prelude.{◌≡◌, ◌↔◌, [], ◌∷◌, map, true, IsTrue, IfOk, MatchResult};
 ghost use Rattle.std.specs.List.{list_any};
 ghost use Rattle.cg_request.specs.Offers.{AreProtocols};
@@ -8,8 +9,8 @@ use cg_names::ProtocolName;
 use std::alloc::{AllocError, Global};
 use std::marker::Model;
 
-/// The protocols that a member offers, the one that it likes best first: one to `PROTOCOLS_MAX`, with different names.
-/// Contracts see the list.
+/// The protocols that a member supports, in order of preference: 1 to `PROTOCOLS_MAX`, with different names. Contracts
+/// see the list.
 #[derive(Debug, Drop)]
 pub struct Protocols {
     items: Vec<Protocol>,
@@ -33,14 +34,14 @@ fn is_offered(name: &ProtocolName, protocols: &[Protocol]) -> bool
     protocols.iter().any(|p| *name == p.name)
 }
 
-// Whether one of these has the name.
+// The same search over a list of names, as the definition has it.
 fn is_named_among(name: &ProtocolName, others: &[Protocol]) -> bool
     ensures { result ≡ list_any (is_same name.now) (map (λ p. p.name) others.now) }
 {
     is_offered(name, others)
 }
 
-// Whether no name comes twice. Compares each with each.
+// Quadratic in the number of protocols, which is at most 4.
 #[tactic(auto, unfolding(crate::specs::Names::are_distinct))]
 fn have_own_names(protocols: &[Protocol]) -> bool
     ensures { result ≡ are_distinct (map (λ p. p.name) protocols.now) }
@@ -76,7 +77,8 @@ fn copied_all(alloc: Global, protocols: &[Protocol]) -> Result<Vec<Protocol>, Al
 }
 
 impl Protocols {
-    /// The protocols without a copy. None, too many, or one name twice: they are given back.
+    /// Builds the protocol list without a copy. Returns the vector unchanged if it is empty, too long or repeats a
+    /// name.
     pub fn from_vec(items: Vec<Protocol>) -> Result<Self, Vec<Protocol>>
         ensures { MatchResult result
             (λ protocols. AreProtocols items.items × (protocols ≡ items.items))
@@ -89,7 +91,7 @@ impl Protocols {
         }
     }
 
-    /// One protocol alone.
+    /// Creates a list of one protocol.
     #[tactic(auto, unfolding(crate::specs::Names::are_distinct))]
     pub fn only(alloc: Global, protocol: Protocol) -> Result<Self, AllocError>
         ensures { IfOk result (λ protocols. protocols ≡ protocol ∷ []) }
@@ -99,7 +101,7 @@ impl Protocols {
         Ok(Protocols { items })
     }
 
-    /// The protocols, the one that is liked best first.
+    /// Returns the protocols, the preferred one first.
     pub fn as_slice(&self) -> &[Protocol]
         ensures value { result.now ≡ self.now }
         ensures lawful { AreProtocols self.now }

@@ -1,3 +1,4 @@
+//! The fields of each request.
 use crate::commits::Commits;
 use crate::partitions::Partitions;
 use crate::protocols::Protocols;
@@ -9,21 +10,21 @@ use cg_record::{Assignment, RebalanceTimeout};
 #[derive(Debug, Drop)]
 pub struct JoinRequest {
     pub group: Option<GroupId>,
-    /// None from who is no member yet.
+    /// Member id of the caller; `None` for a new member.
     pub member: Option<MemberId>,
-    /// From a static member: its own name for itself (KIP-345).
+    /// Instance id of a static member (KIP-345).
     pub instance: Option<InstanceId>,
     pub client: ClientId,
-    /// The session time-out, in milliseconds.
+    /// Session timeout in milliseconds, not yet checked against its limits (KIP-62).
     pub session_ms: u32,
-    /// The rebalance time-out.
+    /// Rebalance timeout (KIP-62).
     pub rebalance: RebalanceTimeout,
     pub kind: ProtocolName,
-    /// The protocols that the member offers, the one that it likes best first.
+    /// Protocols that the member supports, the preferred one first.
     pub protocols: Protocols,
 }
 
-/// What the leader assigned to one member.
+/// Assignment of one member, from the leader's SYNC.
 #[derive(Debug, Drop)]
 pub struct SyncEntry {
     pub member: MemberId,
@@ -36,9 +37,9 @@ pub struct SyncRequest {
     pub group: Option<GroupId>,
     pub generation: i32,
     pub member: Option<MemberId>,
-    /// From a static member: its own name for itself (KIP-345).
+    /// Instance id of a static member (KIP-345).
     pub instance: Option<InstanceId>,
-    /// From the leader: what each member got.
+    /// Assignments of the members, from the leader; otherwise empty.
     pub entries: SyncEntries,
 }
 
@@ -48,7 +49,7 @@ pub struct BeatRequest {
     pub group: Option<GroupId>,
     pub generation: i32,
     pub member: Option<MemberId>,
-    /// From a static member: its own name for itself (KIP-345).
+    /// Instance id of a static member (KIP-345).
     pub instance: Option<InstanceId>,
 }
 
@@ -57,7 +58,7 @@ pub struct BeatRequest {
 pub struct LeaveRequest {
     pub group: Option<GroupId>,
     pub member: Option<MemberId>,
-    /// Of the static member that leaves; the member id may be left out then (KIP-345).
+    /// Instance id of the static member that leaves; the member id may then be left out (KIP-345).
     pub instance: Option<InstanceId>,
 }
 
@@ -65,10 +66,10 @@ pub struct LeaveRequest {
 #[derive(Debug, Drop)]
 pub struct CommitRequest {
     pub group: Option<GroupId>,
-    /// Negative from who is no member.
+    /// Generation of the caller; negative for a non-member (a simple consumer).
     pub generation: i32,
     pub member: Option<MemberId>,
-    /// From a static member: its own name for itself (KIP-345).
+    /// Instance id of a static member (KIP-345).
     pub instance: Option<InstanceId>,
     pub entries: Commits,
 }

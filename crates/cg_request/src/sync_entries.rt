@@ -1,3 +1,4 @@
+//! The entries of a SYNC, checked for number and duplicate members.
 ghost use Rattle.std.specs.Prelude.{◌≡◌, ◌↔◌, [], map, IsTrue, MatchResult};
 ghost use Rattle.std.specs.List.{list_any};
 ghost use Rattle.cg_request.specs.Handing.{AreSyncEntries};
@@ -9,7 +10,7 @@ use cg_record::MEMBERS_MAX;
 use std::alloc::Global;
 use std::marker::Model;
 
-/// What a leader hands in: at most `MEMBERS_MAX` entries, no two for one member. Contracts see the list.
+/// The entries of a leader's SYNC: at most `MEMBERS_MAX`, all for different members. Contracts see the list.
 #[derive(Debug, Drop)]
 pub struct SyncEntries {
     items: Vec<SyncEntry>,
@@ -33,14 +34,14 @@ fn is_for(member: &MemberId, entries: &[SyncEntry]) -> bool
     entries.iter().any(|e| *member == e.member)
 }
 
-// Whether one of these is for the member.
+// The same search over a list of ids, as the definition has it.
 fn is_among(member: &MemberId, others: &[SyncEntry]) -> bool
     ensures { result ≡ list_any (is_same member.now) (map (λ e. e.member) others.now) }
 {
     is_for(member, others)
 }
 
-// Whether no two are for one member. Compares each with each.
+// Quadratic in the number of entries, which is at most 64.
 #[tactic(auto, unfolding(crate::specs::Names::are_distinct))]
 fn have_own_members(entries: &[SyncEntry]) -> bool
     ensures { result ≡ are_distinct (map (λ e. e.member) entries.now) }
@@ -58,7 +59,7 @@ fn are_sync_entries(entries: &[SyncEntry]) -> bool
 }
 
 impl SyncEntries {
-    /// No entries, as from a member that does not lead. Takes no memory.
+    /// Creates an empty list, as of a member that does not lead, without an allocation.
     #[tactic(auto, unfolding(crate::specs::Names::are_distinct))]
     pub fn none(alloc: Global) -> Self
         ensures { result ≡ [] }
@@ -68,7 +69,8 @@ impl SyncEntries {
         }
     }
 
-    /// The entries without a copy. Too many, or two for one member: they are given back. Compares each with each.
+    /// Builds the entries without a copy. Returns the vector unchanged if it is too long or repeats a member. Compares
+    /// each entry with each other one.
     pub fn from_vec(items: Vec<SyncEntry>) -> Result<Self, Vec<SyncEntry>>
         ensures { MatchResult result
             (λ entries. AreSyncEntries items.items × (entries ≡ items.items))
@@ -81,7 +83,7 @@ impl SyncEntries {
         }
     }
 
-    /// The entries in the order in which they were given.
+    /// Returns the entries in request order.
     pub fn as_slice(&self) -> &[SyncEntry]
         ensures value { result.now ≡ self.now }
         ensures lawful { AreSyncEntries self.now }

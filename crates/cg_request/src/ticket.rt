@@ -1,4 +1,5 @@
-/// A call of a client: the session that it came on, and its number there. Whoever hands an event in picks both.
+//! The ticket of a call.
+/// The identity of a call: its session, and its number in that session. The caller of the machine picks both.
 #[derive(Clone, Copy, Debug, PartialEq, Eq)]
 pub struct Ticket {
     pub session: u64,

@@ -1,3 +1,4 @@
+//! One partition of a topic.
 use cg_names::Topic;
 use cg_record::Partition;
 

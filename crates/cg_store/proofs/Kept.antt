@@ -47,6 +47,6 @@ module _ (n : ℕ) (state : State) (commands : List Command) (payload : List ℕ
       ])
       (leaves keeps.frames keeps.kept)
 
--- before anything was written
+-- before the first write
 pub images-before : (history : History) (end n : ℕ) (state : State) (commands : List Command) → Keeps history end n state → LeavesOnly history history (CarriesBeforeOrAfter n state commands)
 images-before history end n state commands keeps = LeavesOnly-starts history (CarriesBeforeOrAfter n state commands) (λ image left. inl (keeps-carry history end n state keeps image left))

@@ -1,4 +1,4 @@
--- What a loading gives, once the disk was synced.
+-- The result of a recovery from a synced disk.
 use Rattle.std.proofs.Common.{◌≡◌, ℕ, ◌+◌, ◌≤◌, Bool, true, false, [], ◌∙◌, subst, refl, arith, lit≤, Err, not}
 use Rattle.cg_disk.specs.Disk.{History, Image, IsSynced, Stays, present}
 use Rattle.cg_disk.proofs.Moments.{IsSynced-image, Stays-content, Stays-synced}
@@ -23,7 +23,7 @@ spelled-read image loading all read = subst (λ (b : Bool). IsRead b read.frames
 pub carries-read : (image : Image) (loading : Loading) → loading.count ≤ COMMAND_NUMBER_MAX → loading.all_read ≡ true → HasRead image loading → Carries image loading.count loading.durable
 carries-read image loading few all read = record { frames = read.frames; whole = whole-read image loading few read; spelled = spelled-read image loading all read }
 
--- frames of which one is no text of commands
+-- one of the frames cannot be decoded
 pub bad-record : (image : Image) (loading : Loading) → loading.count ≤ COMMAND_NUMBER_MAX → loading.all_read ≡ false → HasRead image loading → Tells image variants.BadRecord
 bad-record image loading few not_all read =
     let whole = whole-read image loading few read in (
@@ -55,7 +55,7 @@ keeps-carry history end n state keeps image left = record {
   spelled = keeps.spelled;
 }
 
--- an image whose first gate is closed carries nothing
+-- an image whose first gate is closed has no commands
 pub carries-nothing : (image : Image) → IsClosed image (FIRST_SEGMENT_SECTOR + 0) → Carries image 0 empty
 carries-nothing image closed = record {
   frames = [];
@@ -63,7 +63,7 @@ carries-nothing image closed = record {
   spelled = Spell-nil;
 }
 
--- frames that could not be gone through
+-- the frames cannot be read
 pub tells-read : (image : Image) (fault : OpenFault) → Reads image (Err fault) → Tells image fault
 tells-read image variants.Memory reads = tt
 tells-read image variants.Device reads = tt

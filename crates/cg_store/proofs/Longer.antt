@@ -1,4 +1,4 @@
--- A text with the text of one more command behind it.
+-- A payload with one more command.
 use Rattle.std.proofs.Common.{◌≡◌, ℕ, ◌≤◌, List, [], ◌∷◌, ◌++◌, length, sym, ap, ◌∙◌, arith, Ok, append-nil}
 use Rattle.std.specs.List.{AllByRecursion, flat_map}
 use Rattle.std.proofs.lemmas.Grind.{flat_map-append}
@@ -27,7 +27,7 @@ few-spelled : (cs : List Command) → length cs ≤ length (spelling cs)
 unfolding spelling
 few-spelled cs = omega (arith, few-told cs)
 
--- the text of one command more
+-- the payload with one more command
 pub record IsLonger (bytes : List ℕ) (c : Command) : Type 0 where
   pub text : IsText (bytes ++ command_text c)
   pub commands : told (bytes ++ command_text c) ≡ told bytes ++ c ∷ []

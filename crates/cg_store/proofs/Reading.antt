@@ -1,4 +1,4 @@
--- How far the frames of an image were read.
+-- The frames of an image that were read so far.
 use Rattle.std.proofs.Common.{◌≡◌, ◌⊎◌, inl, inr, ℕ, ◌+◌, ◌<◌, Bool, true, false, List, [], ◌∷◌, ◌++◌, length, get_or, sym, ap, ◌∙◌, subst, refl, arith, Result, Ok, Err, Option, Some, None}
 use Rattle.std.proofs.Math.Dec.{lit<}
 use Rattle.std.proofs.lemmas.List.Sums.{sum_by-append}
@@ -18,7 +18,7 @@ use Rattle.cg_store.specs.declared.segment.TheConstants.{COMMAND_NUMBER_MAX, FIR
 use Rattle.cg_store.proofs.Spelled.{Spell-nil, Spell-push, none-at, none-push}
 use Rattle.cg_store.proofs.Whole.{closed-same}
 
--- ---- one frame more
+-- ---- one more frame
 
 read-push : (is : Bool) (frames : List (ℕ × List ℕ)) (n count : ℕ) (payload : List ℕ) (before now : State)
     → Spell frames n before → Adds is count payload before now → IsRead is (frames ++ (count, payload) ∷ []) (n + count) now
@@ -65,7 +65,7 @@ goes_on image end count n count' end' payload was is before now so_far frame cou
   is_read = is_read;
 }
 
--- ---- what stands in an image with the same sectors
+-- ---- images with the same sectors
 
 pub Finds-same : (a b : Image) (end : ℕ) (result : Result (Option Frame) OpenFault) → ((s : ℕ) → b s ≡ a s) → Finds a end result → Finds b end result
 Finds-same a b end (Ok None) same found = closed-same a b (FIRST_SEGMENT_SECTOR + end) same found
@@ -78,7 +78,7 @@ Finds-same a b end (Err variants.BadFrame) same found = (
 )
 Finds-same a b end (Err variants.BadRecord) same found = found
 
--- ---- how reading ends
+-- ---- the end of the frames
 
 pub ends : (image : Image) (loading : Loading) → Progress image loading.end loading.count loading.all_read loading.durable → IsClosed image (FIRST_SEGMENT_SECTOR + loading.end) → HasRead image loading
 ends image loading so_far closed = record {
@@ -95,7 +95,7 @@ stops image end count is state variants.BadFrame so_far found =
     λ frames whole. HasFrames-bad image first_segment frames so_far.frames end (lit< tt) so_far.chain found.0 found.1 whole.has
 stops image end count is state variants.BadRecord so_far found = absurd found
 
--- frames that were read are the first of all
+-- the frames that were read are a prefix of all frames
 first-ones : (image : Image) (read : List (ℕ × List ℕ)) (at pos : ℕ) (all : List (ℕ × List ℕ)) (end : ℕ) → Chain image first_segment at read pos → Chain image first_segment at all end
     → IsClosed image (FIRST_SEGMENT_SECTOR + end) → (more : List (ℕ × List ℕ)) × (all ≡ read ++ more)
 first-ones image [] at pos all end going there closed = (all, refl)
@@ -104,7 +104,7 @@ first-ones image (f ∷ read) at pos all end going there closed =
     let rest = first-ones image read (next_gate at (length f.1)) pos next.0 end going.1 next.2 closed in
     (rest.0, next.1 ∙ ap (λ (l : List (ℕ × List ℕ)). f ∷ l) rest.1)
 
--- frames that count more than can be numbered
+-- the frames count more commands than there are sequence numbers
 pub too-many : (image : Image) (end count n : ℕ) (payload : List ℕ) (is : Bool) (state : State) → Progress image end count is state → FrameAt image first_segment end n payload
     → COMMAND_NUMBER_MAX < count + n → Tells image variants.BadFrame
 too-many image end count n payload is state so_far frame many frames whole =

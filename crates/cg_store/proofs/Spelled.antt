@@ -1,4 +1,4 @@
--- What frames spell.
+-- The batches that frames encode.
 use Rattle.std.proofs.Common.{◌≡◌, ℕ, ◌+◌, List, [], ◌∷◌, ◌++◌, length, map, sym, ap, ◌∙◌, refl, arith, Ok, append-nil}
 use Rattle.std.specs.List.{AllByRecursion}
 use Rattle.std.proofs.lemmas.Grind.{flat_map-append}
@@ -15,7 +15,7 @@ use Rattle.cg_store.specs.Carried.{Spell, counted, frame_of, joined}
 use Rattle.cg_store.specs.Loading.{IsNoText, IsTextOf}
 use Rattle.cg_store.proofs.Longer.{all-push}
 
--- ---- one batch more
+-- ---- one more batch
 
 joined-push : (batches : List (List Command)) (commands : List Command) → joined (batches ++ commands ∷ []) ≡ joined batches ++ commands
 joined-push batches commands =
@@ -42,9 +42,9 @@ Spell-push frames n state count payload commands spell text =
       state_is = ap (λ s. after s commands) spell.state_is ∙ sym (fold-append effect empty (joined spell.batches) commands) ∙ sym (ap folded all);
     }
 
--- ---- a batch that spells none stays
+-- ---- a frame that cannot be decoded stays so
 
--- the last of these frames is one of commands, and so are the others
+-- the last of these frames encodes a batch, and so do the others
 record Split (frames : List (ℕ × List ℕ)) (frame : ℕ × List ℕ) : Type 0 where
   pub batches : List (List Command)
   pub last : List Command
@@ -70,7 +70,7 @@ split (f ∷ frames) frame (b ∷ batches) are is =
       last_lawful = rest.last_lawful;
     }
 
--- frames that are not all of commands
+-- some frame does not encode a batch
 abbrev pub SpellsNone : List (ℕ × List ℕ) → Type 0
 SpellsNone frames = (batches : List (List Command)) → AllByRecursion AreCommands batches → frames ≡ map frame_of batches → ⊥
 
@@ -82,7 +82,7 @@ none-at frames count payload no_text batches are is =
     let parts = split frames (count, payload) batches are is in
     no_text parts.last (record { lawful = parts.last_lawful; spelled = ap (λ (f : ℕ × List ℕ). f.1) parts.last_is; number = ap (λ (f : ℕ × List ℕ). f.0) parts.last_is })
 
--- ---- what frames spell is one list of batches
+-- ---- frames encode exactly one list of batches
 
 pub commands-unique : (a b : List Command) → AreCommands a → AreCommands b → spelling a ≡ spelling b → a ≡ b
 commands-unique a b of_a of_b is =
@@ -107,7 +107,7 @@ Spell-unique frames n m state other a b =
     let all = ap joined (batches-unique a.batches b.batches a.lawful b.lawful (sym a.frames_are ∙ b.frames_are)) in
     (a.number ∙ ap length all ∙ sym b.number, a.state_is ∙ ap folded all ∙ sym b.state_is)
 
--- ---- the number is what the frames count
+-- ---- the number of commands is the sum of the counts
 
 counted-batches : (batches : List (List Command)) → counted (map frame_of batches) ≡ length (joined batches)
 counted-batches [] = refl

@@ -1,4 +1,4 @@
--- Images that have the same sectors, and the one pair that an image carries.
+-- Images with the same sectors, and the one content of an image.
 use Rattle.std.proofs.Common.{◌≡◌, ◌⊎◌, inl, inr, ℕ, ◌+◌, List, get_or, sym, ap, ◌∙◌, subst, refl}
 use Rattle.std.proofs.Math.Dec.{lit<}
 use Rattle.cg_disk.specs.Disk.{Image}
@@ -34,16 +34,16 @@ Tells-same a b variants.BadFrame same tells = λ frames whole. tells frames (who
 Tells-same a b variants.BadRecord same tells =
     ((tells.0.0, whole-same a b tells.0.0 same tells.0.1), λ n state carries. tells.1 n state (Carries-same b a n state (λ s. sym (same s)) carries))
 
--- an image has one list of frames
+-- an image has exactly one list of frames
 pub whole-unique : (image : Image) (frames others : List (ℕ × List ℕ)) → IsWhole image frames → IsWhole image others → frames ≡ others
 whole-unique image frames others a b = HasFrames-unique image first_segment frames others (lit< tt) a.has b.has
 
--- and carries one pair
+-- an image has exactly one number and state
 pub Carries-unique : (image : Image) (n m : ℕ) (state other : State) → Carries image n state → Carries image m other → (n ≡ m) × (state ≡ other)
 Carries-unique image n m state other a b =
     Spell-unique b.frames n m state other (subst (λ (l : List (ℕ × List ℕ)). Spell l n state) (whole-unique image a.frames b.frames a.whole b.whole) a.spelled) b.spelled
 
--- of an image that carries a pair no damage is told
+-- an image with content has no damage
 pub carried-fault : (image : Image) (n : ℕ) (state : State) (fault : OpenFault) → Carries image n state → Tells image fault → (fault ≡ variants.Memory) ⊎ (fault ≡ variants.Device)
 carried-fault image n state variants.Memory carries tells = inl refl
 carried-fault image n state variants.Device carries tells = inr refl

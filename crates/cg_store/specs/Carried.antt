@@ -1,4 +1,4 @@
--- The pair that an image carries: how many commands its frames spell, and the state that these make.
+-- The content of an image: the number of commands in its frames, and the state after them.
 use Rattle.std.specs.Prelude.{◌≡◌, ◌⊎◌, ℕ, ◌+◌, ◌≤◌, List, map, length, sum_by}
 use Rattle.std.specs.List.{flat_map, AllByRecursion}
 use Rattle.cg_disk.specs.Disk.{History, Image, IsImage, present}
@@ -12,11 +12,11 @@ use Rattle.cg_record.specs.Lawful.{AreCommands}
 use Rattle.cg_record.specs.Spelling.{spelling}
 use Rattle.cg_store.specs.declared.segment.TheConstants.{COMMAND_NUMBER_MAX, FIRST_SEGMENT_SECTOR}
 
--- the segment that has the frames
+-- the segment with the frames
 abbrev pub first_segment : Segment
 first_segment = record { first = FIRST_SEGMENT_SECTOR; sectors = SEGMENT_SECTORS }
 
--- the frame of a batch: how many commands it has, and the text of these
+-- the frame of a batch: the number of its commands, and their encoding
 abbrev pub frame_of : List Command → ℕ × List ℕ
 frame_of commands = (length commands, spelling commands)
 
@@ -24,11 +24,11 @@ frame_of commands = (length commands, spelling commands)
 abbrev pub joined : List (List Command) → List Command
 joined batches = flat_map (λ (commands : List Command). commands) batches
 
--- how many commands frames count
+-- the number of commands, by the counts of the frames
 abbrev pub counted : List (ℕ × List ℕ) → ℕ
 counted frames = sum_by (λ (frame : ℕ × List ℕ). frame.0) frames
 
--- frames that each spell as many commands as they count: n together, which make the state
+-- the frames are encoded batches, with n commands in all, after which the state is this one
 pub record Spell (frames : List (ℕ × List ℕ)) (n : ℕ) (state : State) : Type 0 where
   pub batches : List (List Command)
   pub frames_are : frames ≡ map frame_of batches
@@ -36,32 +36,32 @@ pub record Spell (frames : List (ℕ × List ℕ)) (n : ℕ) (state : State) : T
   pub number : n ≡ length (joined batches)
   pub state_is : state ≡ folded (joined batches)
 
--- an image has these frames, and their commands can be numbered
+-- an image has these frames, and there are sequence numbers for their commands
 pub record IsWhole (image : Image) (frames : List (ℕ × List ℕ)) : Type 0 where
   pub has : HasFrames image first_segment frames
   pub in_range : counted frames ≤ COMMAND_NUMBER_MAX
 
--- an image carries the number of its commands and the state that they make
+-- an image has n commands, after which the state is this one
 pub record Carries (image : Image) (n : ℕ) (state : State) : Type 0 where
   pub frames : List (ℕ × List ℕ)
   pub whole : IsWhole image frames
   pub spelled : Spell frames n state
 
--- whatever a crash leaves carries the pair
+-- every crash image has n commands and this state
 abbrev pub AllCarry : History → ℕ → State → Type 0
 AllCarry history n state = (image : Image) → IsImage (present history) image → Carries image n state
 
--- an image carries the pair, or the one with these commands too
+-- an image has n commands and this state, or these commands as well
 abbrev pub CarriesBeforeOrAfter : ℕ → State → List Command → Image → Type 0
 CarriesBeforeOrAfter n state commands image = Carries image n state ⊎ Carries image (n + length commands) (after state commands)
 
--- whatever a crash leaves carries the pair, in frames up to a closed gate at `end`
+-- every crash image has n commands and this state, in frames up to a closed gate at `end`
 pub record Keeps (history : History) (end n : ℕ) (state : State) : Type 0 where
   pub frames : List (ℕ × List ℕ)
   pub kept : KeepsFramesTo (present history) first_segment frames end
   pub in_range : counted frames ≤ COMMAND_NUMBER_MAX
   pub spelled : Spell frames n state
 
--- whatever a crash leaves has a closed gate at `end`
+-- every crash image has a closed gate at `end`
 abbrev pub IsFree : History → ℕ → Type 0
 IsFree history end = (image : Image) → IsImage (present history) image → IsClosed image (FIRST_SEGMENT_SECTOR + end)

@@ -1,4 +1,4 @@
--- What a refusal of a store tells.
+-- The meaning of each fault of a store.
 use Rattle.std.specs.Prelude.{◌≡◌, ◌⊎◌, ℕ, List, Bool, true, false, Option, Some, None, Result, Ok, Err}
 use Rattle.cg_disk.specs.Disk.{Image}
 use Rattle.cg_fold.specs.Durable.{State}
@@ -8,14 +8,14 @@ use Rattle.cg_store.specs.declared.fault.OpenFault.TheVariants as open_fault
 use Rattle.cg_store.specs.declared.fault.StoreFault.{StoreFault}
 use Rattle.cg_store.specs.declared.fault.StoreFault.TheVariants as store_fault
 
--- what a fault tells of an image: no frames can be gone through, or they can and the image carries no pair
+-- what a fault says of an image: it is not a list of frames, or it is one that has no decodable commands
 abbrev pub Tells : Image → OpenFault → Type 0
 Tells image open_fault.Memory = Unit {0}
 Tells image open_fault.Device = Unit {0}
 Tells image open_fault.BadFrame = (frames : List (ℕ × List ℕ)) → ¬ IsWhole image frames
 Tells image open_fault.BadRecord = ((frames : List (ℕ × List ℕ)) × IsWhole image frames) × ((n : ℕ) (state : State) → ¬ Carries image n state)
 
--- a loading failed by the device
+-- a recovery failed because of the disk
 abbrev pub is_loading_failure : OpenFault → Bool
 is_loading_failure open_fault.Memory = false
 is_loading_failure open_fault.Device = true
@@ -26,12 +26,12 @@ abbrev pub failed_loading : {T : Type 0} → Result T OpenFault → Bool
 failed_loading (Ok x) = false
 failed_loading (Err fault) = is_loading_failure fault
 
--- an opening failed by the device
+-- an opening failed because of the disk
 abbrev pub failed_opening : {T D : Type 0} → Result T (OpenFault × D) → Bool
 failed_opening (Ok x) = false
 failed_opening (Err refused) = is_loading_failure refused.0
 
--- an append failed by the device
+-- an append failed because of the disk
 abbrev pub is_append_failure : StoreFault → Bool
 is_append_failure store_fault.Memory = false
 is_append_failure store_fault.Device = true
@@ -47,7 +47,7 @@ abbrev pub failed_append : {T B : Type 0} → Result T (StoreFault × B) → Boo
 failed_append (Ok x) = false
 failed_append (Err refused) = is_append_failure refused.0
 
--- what is told where these refuse: the refusal itself; where there is none, want of memory or a failure of the device
+-- the reported fault: the refusal if there is one, otherwise an allocation failure or a disk failure
 abbrev pub IsToldOf : Option StoreFault → StoreFault → Type 0
 IsToldOf (Some refusal) fault = fault ≡ refusal
 IsToldOf None fault = (fault ≡ store_fault.Memory) ⊎ (fault ≡ store_fault.Device)

@@ -1,4 +1,4 @@
--- How a segment is read: one frame, its commands, and the frames so far.
+-- Recovery: one frame, its commands, and the frames so far.
 use Rattle.std.specs.Prelude.{◌≡◌, ℕ, ◌+◌, List, map, length, Bool, true, false, Option, Some, None, Result, Ok, Err}
 use Rattle.std.specs.List.{AllByRecursion}
 use Rattle.cg_disk.specs.Disk.{Image}
@@ -15,7 +15,7 @@ use Rattle.cg_store.specs.declared.fault.OpenFault.TheVariants.{Memory, Device, 
 use Rattle.cg_store.specs.declared.loading.Loading.{Loading}
 use Rattle.cg_store.specs.declared.segment.TheConstants.{FIRST_SEGMENT_SECTOR}
 
--- what stands at a position: a closed gate, a frame, or an open gate before none
+-- the result of reading at a position: a closed gate, a frame, or an open gate without a frame
 abbrev pub Finds : Image → ℕ → Result (Option Frame) OpenFault → Type 0
 Finds image end (Ok None) = IsClosed image (FIRST_SEGMENT_SECTOR + end)
 Finds image end (Ok (Some frame)) = FrameAt image first_segment end frame.count frame.payload.items
@@ -24,34 +24,34 @@ Finds image end (Err Device) = Unit {0}
 Finds image end (Err BadFrame) = IsOpen image (FIRST_SEGMENT_SECTOR + end) × ((count : ℕ) (payload : List ℕ) → ¬ FrameAt image first_segment end count payload)
 Finds image end (Err BadRecord) = ⊥
 
--- a payload is the text of as many commands as its frame counts
+-- a payload is the encoding of as many commands as its frame counts
 pub record IsTextOf (count : ℕ) (payload : List ℕ) (commands : List Command) : Type 0 where
   pub lawful : AreCommands commands
   pub spelled : payload ≡ spelling commands
   pub number : count ≡ length commands
 
--- a payload is the text of no commands that its frame counts
+-- a payload is not the encoding of as many commands as its frame counts
 abbrev pub IsNoText : ℕ → List ℕ → Type 0
 IsNoText count payload = (commands : List Command) → ¬ IsTextOf count payload commands
 
--- whether a payload was read, and what it made of the state
+-- the state after a payload, or the fact that it cannot be decoded
 abbrev pub Adds : Bool → ℕ → List ℕ → State → State → Type 0
 Adds true count payload before now = (commands : List Command) × IsTextOf count payload commands × (now ≡ after before commands)
 Adds false count payload before now = IsNoText count payload
 
--- whether each of these frames spells its commands, and what they make
+-- the state after these frames, or the fact that one of them cannot be decoded
 abbrev pub IsRead : Bool → List (ℕ × List ℕ) → ℕ → State → Type 0
 IsRead true frames count state = Spell frames count state
 IsRead false frames count state = (batches : List (List Command)) → AllByRecursion AreCommands batches → frames ≡ map frame_of batches → ⊥
 
--- what was read are all frames of an image
+-- all frames of an image were read
 pub record HasRead (image : Image) (loading : Loading) : Type 0 where
   pub frames : List (ℕ × List ℕ)
   pub has : HasFramesTo image first_segment frames loading.end
   pub count_is : loading.count ≡ counted frames
   pub is_read : IsRead loading.all_read frames loading.count loading.durable
 
--- what going through the frames of an image gives
+-- the result of reading all frames of an image
 abbrev pub Reads : Image → Result Loading OpenFault → Type 0
 Reads image (Ok loading) = HasRead image loading
 Reads image (Err Memory) = Unit {0}

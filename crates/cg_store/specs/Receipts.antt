@@ -1,7 +1,7 @@
--- What a receipt is seen as.
+-- The model of a receipt.
 use Rattle.cg_store.specs.declared.batch.Batch.{Batch}
 use Rattle.cg_store.specs.declared.receipt.Receipt.{Receipt}
 
--- the batch that was appended
+-- the appended batch
 abbrev pub batch_of : Receipt → Batch
 batch_of receipt = receipt.batch

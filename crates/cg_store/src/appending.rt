@@ -1,4 +1,4 @@
-//! Appending batches.
+//! The append of a batch.
 ghost use Rattle.std.specs.Prelude.{◌≡◌, ◌≢◌, ℕ, ◌+◌, ◌≤◌, ◌<◌, true, false, length, Option, IfOk, IfErr, OnOk, IsErrOf, MatchResult, None};
 ghost use Rattle.std.specs.Option.{MatchOption};
 ghost use Rattle.cg_disk.specs.Disk.{Counts, LeavesOnly};
@@ -21,7 +21,7 @@ use cg_disk::SectorDisk;
 use cg_frame::{FrameFault, fits};
 use std::alloc::Global;
 
-// Appends the frame of a batch, and answers the position of the gate behind it.
+// Appends the frame of a batch. Returns the position of the gate after it.
 fn append_frame<D: SectorDisk>(
     alloc: Global,
     disk: &mut D,
@@ -54,7 +54,7 @@ impl<D: SectorDisk> Store<D> {
     ghost use Rattle.cg_store.specs.Receipts.{batch_of};
     ghost use Rattle.cg_store.specs.Store.{IsUnchanged, StandsAt, disk_of, end_of, front_of, has_failed, refusal};
 
-    // Whether the frame of a batch fits, and its commands can be numbered.
+    // Returns whether the frame of a batch fits, and its commands have sequence numbers left.
     fn has_room_for(&self, batch: &Batch) -> bool
         ensures { result ≡ has_room (end_of self.now) (front_of self.now) batch.now.commands }
     {
@@ -63,7 +63,7 @@ impl<D: SectorDisk> Store<D> {
         commands.len() as u64 <= COMMAND_NUMBER_MAX - self.front && fits(segment(), self.end, bytes)
     }
 
-    // Why a batch is refused without a call of the disk and without memory, if it is.
+    // Returns the fault that can be reported without a disk call and without an allocation, if there is one.
     #[tactic(auto, unfolding(crate::specs::Batches::refusal_of))]
     fn refusal(&self, batch: &Batch) -> Option<StoreFault>
         ensures value { result ≡ refusal self.now batch.now }
@@ -83,7 +83,7 @@ impl<D: SectorDisk> Store<D> {
         None
     }
 
-    // Appends a batch, which the caller keeps.
+    // Appends a batch without taking ownership of it, so that `append` can return it with a fault.
     fn put(&mut self, alloc: Global, batch: &Batch) -> Result<(), StoreFault>
         ensures ok { (n : ℕ) (state : State) → StandsAt D.is_honest D.history self.old n state
             → OnOk result (StandsAt D.is_honest D.history self.new (n + length batch.now.commands) (after state batch.now.commands)) }
@@ -121,9 +121,9 @@ impl<D: SectorDisk> Store<D> {
         }
     }
 
-    /// Appends a batch in one frame, in four calls of the disk. Each image since it began carries the pair before it or the one
-    /// after it; once it is `Ok` each crash leaves the batch, and the receipt has it. Each refusal gives the batch back.
-    /// After `Device` every call but `front` and `into_disk` answers `Failed`.
+    /// Appends a batch in one frame, in four disk calls. Every crash image since the start has the state before or
+    /// after the batch. After `Ok` every crash image has the batch, and the receipt holds it. A refused batch is
+    /// returned with its fault. After `Device` every further append reports `Failed`.
     pub fn append(&mut self, alloc: Global, batch: Batch) -> Result<Receipt, (StoreFault, Batch)>
         ensures ok { (n : ℕ) (state : State) → StandsAt D.is_honest D.history self.old n state
             → OnOk result (StandsAt D.is_honest D.history self.new (n + length batch.commands) (after state batch.commands)) }
@@ -137,7 +137,7 @@ impl<D: SectorDisk> Store<D> {
         ensures serves { OnOk result (has_failed self.new ≡ has_failed self.old) }
         ensures same_number { IfErr result (λ refused. front_of self.new ≡ front_of self.old) }
         ensures same_end { IfErr result (λ refused. end_of self.new ≡ end_of self.old) }
-        // Which refusal is told, and when.
+        // The fault, and when it is reported.
         ensures told { MatchResult result
             (λ _. refusal self.old batch ≡ None)
             (λ refused. IsToldOf (refusal self.old batch) refused.0) }

@@ -6,17 +6,17 @@ ghost use Rattle.cg_store.specs.Batches.{IsBatch};
 use crate::commands::Commands;
 use cg_frame::LARGEST_PAYLOAD_BYTES;
 
-/// Commands that are appended together: at least one, and at most as many as one frame holds.
+/// Commands that are appended together: at least one, and at most as many as fit one frame.
 #[derive(Debug, Drop)]
 pub struct Batch {
-    /// The number of the first command; each further one has the next.
+    /// Sequence number of the first command; the others have the numbers after it.
     pub first: u64,
     pub commands: Commands,
     ghost whole: { IsBatch commands },
 }
 
 impl Batch {
-    /// A batch; commands that are none are given back. Takes no memory.
+    /// Builds a batch. Returns the commands unchanged if there are none or too many for one frame. No allocation.
     pub fn new(first: u64, commands: Commands) -> Result<Self, Commands>
         ensures { MatchResult result
             (λ batch. (batch.first ≡ first) × (batch.commands ≡ commands))

@@ -1,4 +1,4 @@
-//! Commands as they go to the disk.
+//! Commands in the encoding that is written to disk.
 ghost use Rattle.std.specs.Prelude.{◌≡◌, ◌<◌, ◌^◌, ◌↔◌, ◌++◌, ◌∷◌, [], length, IfOk, OnOk, OnErr, IsTrue};
 ghost use Rattle.cg_record.specs.Lawful.{AreCommands};
 ghost use Rattle.cg_record.specs.Spelling.{spelling};
@@ -8,7 +8,8 @@ use cg_record::{Command, append_command};
 use std::alloc::{AllocError, Global};
 use std::marker::Model;
 
-/// Commands in their order, kept as the text that a frame holds. Contracts see the commands: each list of them has one text.
+/// Commands in their order, stored as the payload of a frame. Contracts see the commands, as each list of them has
+/// exactly one encoding.
 #[derive(Debug, Drop)]
 pub struct Commands {
     len: usize,
@@ -27,7 +28,7 @@ impl Model for Commands {
     ghost view = { λ c. told c.bytes.items };
 }
 
-// Bytes from which commands are read: they are the one spelling of these.
+// States in its contract that bytes which decode are the only encoding of their commands.
 fn spelling_of(bytes: &[u8]) -> &[u8]
     requires { IsText bytes.now }
     ensures same { result.now ≡ bytes.now }
@@ -37,7 +38,7 @@ fn spelling_of(bytes: &[u8]) -> &[u8]
     bytes
 }
 
-// Puts the text of a command behind a text.
+// Appends the encoding of a command to a payload.
 fn put_text(bytes: &mut Vec<u8>, room: &mut Vec<u8>, command: &Command) -> Result<(), AllocError>
     requires { IsText bytes.old.items }
     ensures text { OnOk result (IsText bytes.new.items) }
@@ -45,14 +46,14 @@ fn put_text(bytes: &mut Vec<u8>, room: &mut Vec<u8>, command: &Command) -> Resul
     ensures few { OnOk result (length (told bytes.new.items) < 2 ^ 64) }
     ensures err { OnErr result (bytes.new.items ≡ bytes.old.items) }
 {
-    // A look at the text, for the commands that it spells.
+    // The call only brings the contract of `spelling_of` into scope.
     let _text = spelling_of(bytes.as_slice());
     append_command(bytes, room, command)?;
     Ok(())
 }
 
 impl Commands {
-    /// These commands. Their one want of memory is for as many bytes as their text has.
+    /// Encodes these commands, in one allocation of the size of the payload.
     pub fn new(alloc: Global, commands: &[Command]) -> Result<Self, AllocError>
         ensures { IfOk result (λ made. made ≡ commands.now) }
     {
@@ -61,8 +62,8 @@ impl Commands {
         Ok(Commands { len, bytes })
     }
 
-    /// Puts a command last. Its text is spelled in `room` first, whose bytes do not matter before and after. Where memory is
-    /// refused, the commands are as they were.
+    /// Appends a command. It is encoded in `room` first, whose contents are overwritten. If an allocation fails, the
+    /// commands are unchanged.
     pub fn push(&mut self, room: &mut Vec<u8>, command: &Command) -> Result<(), AllocError>
         ensures ok { OnOk result (self.new ≡ self.old ++ command.now ∷ []) }
         ensures err { OnErr result (self.new ≡ self.old) }
@@ -72,14 +73,14 @@ impl Commands {
         Ok(())
     }
 
-    /// How many there are.
+    /// Returns the number of commands, in constant time.
     pub fn len(&self) -> usize
         ensures { result ≡ length self.now }
     {
         self.len
     }
 
-    /// The bytes that spell them.
+    /// Returns the payload: the encoding of the commands.
     pub fn as_bytes(&self) -> &[u8]
         ensures spelled { result.now ≡ spelling self.now }
         ensures lawful { AreCommands self.now }
@@ -87,7 +88,7 @@ impl Commands {
         spelling_of(self.bytes.as_slice())
     }
 
-    /// Whether both are the same commands. Takes no memory.
+    /// Returns whether both are the same commands. Compares the payloads, without an allocation.
     pub fn is_same(&self, other: &Commands) -> bool
         ensures { IsTrue result ↔ (self.now ≡ other.now) }
     {

@@ -1,4 +1,4 @@
-//! Why a store refuses.
+//! The faults of a store.
 ghost use Rattle.std.specs.Prelude.{◌≡◌};
 ghost use Rattle.cg_store.specs.declared.fault.OpenFault.TheVariants as open_fault;
 
@@ -6,20 +6,20 @@ use cg_disk::DiskFault;
 use std::alloc::AllocError;
 use thiserror::Error;
 
-/// Why a store was not opened. Roots are not written yet, so none is told to be wrong.
+/// The reason why a store was not opened. Roots are not written yet, so no fault is about them.
 #[derive(Clone, Copy, Debug, PartialEq, Eq, Error)]
 pub enum OpenFault {
-    /// There was no memory for what was read.
+    /// An allocation failed.
     #[error("no memory to open the store")]
     Memory,
     /// The disk failed.
     #[error("the disk failed")]
     Device,
-    /// An open gate stands before no frame, or the commands of the frames are more than can be numbered. It is told
-    /// before `BadRecord`.
+    /// An open gate has no frame after it, or there are more commands than sequence numbers. It is reported before
+    /// `BadRecord`.
     #[error("a frame is damaged")]
     BadFrame,
-    /// A payload is no text of commands, or has not as many as its frame counts.
+    /// A payload cannot be decoded, or the number of its commands differs from the count of its frame.
     #[error("a record is damaged")]
     BadRecord,
 }
@@ -40,22 +40,23 @@ impl From<DiskFault> for OpenFault {
     }
 }
 
-/// Why a batch was not appended. They are told in the order `Failed`, `OutOfOrder`, `Full`, `Memory`, `Device`.
+/// The reason why a batch was not appended. The faults are reported in the order `Failed`, `OutOfOrder`, `Full`,
+/// `Memory`, `Device`.
 #[derive(Clone, Copy, Debug, PartialEq, Eq, Error)]
 pub enum StoreFault {
-    /// There was no memory for the frame of the batch. The store is as it was.
+    /// An allocation for the frame failed. The store is unchanged.
     #[error("no memory for a batch")]
     Memory,
-    /// The disk failed. The batch may stand or not, and the store answers `Failed` from now on.
+    /// The disk failed. The batch may be on disk or not, and every further append reports `Failed`.
     #[error("the disk failed")]
     Device,
-    /// The frame of the batch does not fit, or its commands are more than can be numbered. The store is as it was.
+    /// The frame does not fit, or there are too few sequence numbers left. The store is unchanged.
     #[error("the store is full")]
     Full,
-    /// The first number of the batch is not the one after the store's. The store is as it was.
+    /// The first number of the batch is not the one after the store's last. The store is unchanged.
     #[error("the batch is not the next one")]
     OutOfOrder,
-    /// The disk failed before.
+    /// The disk failed in an earlier call.
     #[error("the store has failed")]
     Failed,
 }

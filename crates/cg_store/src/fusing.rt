@@ -1,4 +1,4 @@
-//! Stores on disks that can be made to fail.
+//! Fault injection below a store.
 ghost use Rattle.std.specs.Prelude.{◌≡◌, ℕ};
 ghost use Rattle.cg_disk.specs.Fuse.{blown_calls, calls_left, inner_of};
 ghost use Rattle.cg_fold.specs.Durable.{State};
@@ -9,7 +9,7 @@ use cg_disk::{FuseDisk, SectorDisk};
 impl<D: SectorDisk> Store<FuseDisk<D>> {
     ghost use Rattle.cg_store.specs.Store.{StandsAt, disk_of, end_of, front_of, has_failed};
 
-    /// From now on the disk passes that many calls and then fails each; `None`: it passes every call. Nothing else changes.
+    /// Sets how many more calls the disk passes before it fails each; `None` passes every call. Nothing else changes.
     pub fn set_fuse(&mut self, calls: Option<u64>)
         ensures fuse { calls_left (disk_of self.new) ≡ calls }
         ensures disk { inner_of (disk_of self.new) ≡ inner_of (disk_of self.old) }

@@ -1,6 +1,5 @@
-//! The store: batches of commands on a disk, and the state that they make.
-//! Each image that a crash may leave carries how many commands were appended and what they make, and the batch on its way at
-//! most besides. It stands on the frames of `cg_frame`, the texts of `cg_record` and the state of `cg_fold`.
+//! The store: batches of commands on a disk, and recovery of the state that they make. Every crash image has the state
+//! and the number of the appended commands, with or without the batch in flight.
 #![tactic(auto)]
 
 mod appending;

@@ -1,4 +1,4 @@
-//! Reading the commands of a segment back from the disk alone.
+//! Recovery: the commands of a segment are read back from the disk alone.
 ghost use Rattle.std.specs.Prelude.{◌≡◌, ◌⊎◌, ℕ, ◌+◌, ◌≤◌, ◌<◌, ◌∷◌, [], ◌++◌, true, length, List, IfOk, IfErr, IfSome, OnOk, MatchResult};
 ghost use Rattle.std.specs.Option.{MatchOption};
 ghost use Rattle.cg_disk.specs.Disk.{Counts, Stays, present};
@@ -18,20 +18,20 @@ use cg_frame::{Frame, ScanFault};
 use cg_record::{Command, RecordFault};
 use std::alloc::{AllocError, Global};
 
-/// What was read of a segment, from its first frame on.
+/// The progress of a recovery, from the first frame on.
 #[derive(Drop)]
 pub(crate) struct Loading {
-    /// The position of the gate behind the frames.
+    /// Position of the gate after the frames.
     pub end: u64,
-    /// How many commands the frames count.
+    /// Number of commands, by the counts of the frames.
     pub count: u64,
-    /// Whether each frame spells as many commands as it counts.
+    /// Whether each payload so far decodes to as many commands as its frame counts.
     pub all_read: bool,
-    /// What the commands make, where each frame spells them.
+    /// State after the commands, as long as `all_read`.
     pub durable: Durable,
 }
 
-// The frame at a position, where its gate is open.
+// Reads the frame at a position, if its gate is open.
 fn next_frame<D: SectorDisk>(
     alloc: Global,
     disk: &mut D,
@@ -55,7 +55,8 @@ fn next_frame<D: SectorDisk>(
     }
 }
 
-// The commands whose text the payload of a frame is, where they are as many as it counts.
+// Decodes the payload of a frame. Returns `None` if it has a fault, or another number of commands than the frame
+// counts.
 fn commands_in(alloc: Global, frame: &Frame) -> Result<Option<Vec<Command>>, AllocError>
     ensures { IfOk result (λ o. MatchOption o
         (IsNoText frame.now.count frame.now.payload.items)
@@ -84,7 +85,7 @@ fn apply_all(durable: &mut Durable, commands: &[Command]) -> Result<(), AllocErr
     Ok(())
 }
 
-// Adds what the commands of a frame make; `false` where its payload is not their text.
+// Applies the commands of a frame. Returns `false` if its payload cannot be decoded.
 fn add_commands(alloc: Global, durable: &mut Durable, frame: &Frame) -> Result<bool, AllocError>
     ensures { IfOk result (λ is. Adds is frame.now.count frame.now.payload.items durable.old durable.new) }
 {
@@ -95,7 +96,7 @@ fn add_commands(alloc: Global, durable: &mut Durable, frame: &Frame) -> Result<b
     Ok(true)
 }
 
-// The same, unless a payload before it was no text: then the state is no longer looked at.
+// Applies the commands of a frame, unless an earlier payload could not be decoded: the state does not matter then.
 fn go_on(
     alloc: Global,
     all_read: bool,
@@ -112,7 +113,7 @@ fn go_on(
     Ok(is_text)
 }
 
-// The number of commands with those of a frame.
+// Adds the count of a frame. Reports `BadFrame` if there are more commands than sequence numbers.
 fn counted_on(count: u64, more: u64) -> Result<u64, OpenFault>
     ensures { MatchResult result
         (λ sum. (sum ≡ count + more) × (sum ≤ COMMAND_NUMBER_MAX))
@@ -125,7 +126,6 @@ fn counted_on(count: u64, more: u64) -> Result<u64, OpenFault>
 }
 
 impl Loading {
-    // Before the first frame.
     fn new(alloc: Global) -> Self
         ensures { (result.end ≡ 0) × (result.count ≡ 0) × (result.all_read ≡ true) × (result.durable ≡ empty) }
     {
@@ -137,7 +137,8 @@ impl Loading {
         }
     }
 
-    // Adds a frame. A payload that is no text of commands is kept in mind, since a frame behind it may be bad.
+    // Adds a frame. A payload that cannot be decoded is only noted, because a later frame may be bad and is reported
+    // first.
     fn add(&mut self, alloc: Global, frame: &Frame) -> Result<(), OpenFault>
         ensures read { (frames : List (ℕ × List ℕ)) → IsRead self.old.all_read frames self.old.count self.old.durable
             → OnOk result (IsRead self.new.all_read (frames ++ (frame.now.count, frame.now.payload.items) ∷ []) self.new.count self.new.durable) }
@@ -155,7 +156,7 @@ impl Loading {
     }
 }
 
-// Goes through the frames from the first to the closed gate behind the last.
+// Reads the frames from the first to the closed gate after the last.
 fn read_frames<D: SectorDisk>(alloc: Global, disk: &mut D) -> Result<Loading, OpenFault>
     requires { FIRST_SEGMENT_SECTOR + SEGMENT_SECTORS ≤ D.size disk.old }
     ensures reads { D.is_honest disk.old ≡ true → Reads (present (D.history disk.old)).content result }
@@ -173,8 +174,8 @@ fn read_frames<D: SectorDisk>(alloc: Global, disk: &mut D) -> Result<Loading, Op
     Ok(loading)
 }
 
-/// Syncs the disk, so that a crash leaves what is read, and reads its frames and then tells whether one is no text of
-/// commands. Each frame is read once.
+/// Syncs the disk, so that a crash cannot take back what is read, and reads each frame once. Reports `BadRecord` only
+/// after all frames are read.
 pub(crate) fn load<D: SectorDisk>(alloc: Global, disk: &mut D) -> Result<Loading, OpenFault>
     requires { FIRST_SEGMENT_SECTOR + SEGMENT_SECTORS ≤ D.size disk.old }
     ensures keeps { D.is_honest disk.old ≡ true → IfOk result (λ loading. Keeps (D.history disk.new) loading.end loading.count loading.durable) }

@@ -1,4 +1,4 @@
-//! Opening a store.
+//! The opening of a store.
 ghost use Rattle.std.specs.Prelude.{◌≡◌, ◌⊎◌, ℕ, ◌+◌, ◌≤◌, true, false, IfOk, IfErr, MatchResult};
 ghost use Rattle.cg_disk.specs.Disk.{Counts, Stays, present};
 ghost use Rattle.cg_frame.specs.declared.segment.TheConstants.{SEGMENT_SECTORS};
@@ -17,11 +17,12 @@ use std::alloc::Global;
 impl<D: SectorDisk> Store<D> {
     ghost use Rattle.cg_store.specs.Store.{StandsAt, disk_after, disk_of, front_of, has_failed};
 
-    /// Opens the store of a disk: the store, how many commands it has and what they make. It begins with a sync and writes nothing;
-    /// it reads each frame once, and then tells damage of frames before damage of records.
+    /// Opens the store on a disk. Returns the store, the number of its commands and the state after them. Syncs the
+    /// disk once, writes nothing, and reads each frame once. Reports a fault of a frame before one of a payload. A
+    /// fault comes with the disk.
     pub fn open(alloc: Global, disk: D) -> Result<(Self, u64, Durable), (OpenFault, D)>
         requires { FIRST_SEGMENT_SECTOR + SEGMENT_SECTORS ≤ D.size disk }
-        // What the content carries is what is opened; want of memory and failures of the disk aside.
+        // The opened number and state are those on the disk, unless an allocation or the disk fails.
         ensures carried { D.is_honest disk ≡ true → (n : ℕ) (state : State) → Carries (present (D.history disk)).content n state
             → MatchResult result
             (λ opened. (opened.1 ≡ n) × (opened.2 ≡ state))

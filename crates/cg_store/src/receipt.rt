@@ -1,9 +1,9 @@
-//! What is given for a batch that stands.
+//! The receipt for a durable batch.
 ghost use Rattle.std.specs.Prelude.{◌≡◌};
 
 use crate::batch::Batch;
 
-/// A batch that was appended. Only a store makes one, once each crash leaves the batch.
+/// The receipt for a batch that was appended. Only a store creates it, once every crash image has the batch.
 #[derive(Debug, Drop)]
 pub struct Receipt {
     batch: Batch,
@@ -12,20 +12,21 @@ pub struct Receipt {
 impl Receipt {
     ghost use Rattle.cg_store.specs.Receipts.{batch_of};
 
+    /// Wraps an appended batch; `append` is the only caller.
     pub(crate) fn new(batch: Batch) -> Self
         ensures { batch_of result ≡ batch }
     {
         Receipt { batch }
     }
 
-    /// The batch that was appended.
+    /// Returns the appended batch.
     pub fn batch(&self) -> &Batch
         ensures { result.now ≡ batch_of self.now }
     {
         &self.batch
     }
 
-    /// The batch that was appended, taken out.
+    /// Returns the appended batch, without a copy.
     pub fn into_batch(self) -> Batch
         ensures { result ≡ batch_of self }
     {

@@ -1,4 +1,4 @@
-//! Where the frames of a store stand.
+//! The layout of the disk: the segment with the frames of a store.
 ghost use Rattle.std.specs.Prelude.{◌≡◌, ◌+◌, ◌≤◌, true, OnOk, is_err};
 ghost use Rattle.cg_disk.specs.Disk.{Counts};
 ghost use Rattle.cg_fold.specs.Durable.{empty};
@@ -9,15 +9,16 @@ ghost use Rattle.cg_store.specs.declared.segment.TheConstants.{FIRST_SEGMENT_SEC
 use cg_disk::{DiskFault, SectorDisk};
 use cg_frame::{SEGMENT_SECTORS, Segment, close_gate};
 
-/// The first sector of the first segment: two root slots of a gate and a body stand before it.
+/// Position of the first segment, in sectors. Two root slots, each a gate and a body, come before it.
 pub const FIRST_SEGMENT_SECTOR: u64 = 4;
 
-/// The sectors of a disk with one segment.
+/// Size of a disk with one segment, in sectors.
 pub const DISK_SECTORS: u64 = FIRST_SEGMENT_SECTOR + SEGMENT_SECTORS;
 
-/// The greatest number of a command.
+/// Maximum sequence number of a command.
 pub const COMMAND_NUMBER_MAX: u64 = 9_223_372_036_854_775_807;
 
+/// Returns the segment that has the frames.
 pub(crate) fn segment() -> Segment
     ensures { result ≡ first_segment }
 {
@@ -27,8 +28,8 @@ pub(crate) fn segment() -> Segment
     }
 }
 
-/// Begins a first life on a disk: it writes and syncs one sector, takes no memory, and then the disk has no commands.
-/// What a crash during it leaves may carry nothing.
+/// Formats a disk: afterwards it has no commands. Writes and syncs one sector, without an allocation. A crash during
+/// the call may leave a disk that cannot be opened.
 pub fn format<D: SectorDisk>(disk: &mut D) -> Result<(), DiskFault>
     requires { FIRST_SEGMENT_SECTOR + SEGMENT_SECTORS ≤ D.size disk.old }
     ensures ok { D.is_honest disk.old ≡ true → OnOk result (AllCarry (D.history disk.new) 0 empty) }

@@ -6,7 +6,8 @@ ghost use Rattle.cg_store.specs.declared.segment.TheConstants.{COMMAND_NUMBER_MA
 
 use cg_disk::SectorDisk;
 
-/// Commands on a disk. It keeps how many there are and where the next frame goes, and none of them.
+/// The commands on a disk. The store keeps their number and the position of the next frame in memory, and none of the
+/// commands.
 #[derive(Drop)]
 pub struct Store<D: SectorDisk> {
     pub(crate) disk: D,
@@ -16,21 +17,22 @@ pub struct Store<D: SectorDisk> {
     ghost on_disk: { FIRST_SEGMENT_SECTOR + SEGMENT_SECTORS ≤ D.size disk },
     ghost inside: { end < SEGMENT_SECTORS },
     ghost in_range: { front ≤ COMMAND_NUMBER_MAX },
-    // Nothing stands behind the gate that the next frame will open.
+    // The gate that the next frame opens is closed, whatever a crash leaves.
     ghost gate: { has_failed ≡ false → D.is_honest disk ≡ true → IsFree (D.history disk) end },
 }
 
 impl<D: SectorDisk> Store<D> {
     ghost use Rattle.cg_store.specs.Store.{disk_of, front_of};
 
-    /// How many commands were appended since the first life began. A batch on which the disk failed does not count.
+    /// Returns the number of commands appended since the disk was formatted. A batch on which the disk failed does not
+    /// count.
     pub fn front(&self) -> u64
         ensures { result ≡ front_of self.now }
     {
         self.front
     }
 
-    /// The disk, as it is.
+    /// Returns the disk, without a disk call.
     pub fn into_disk(self) -> D
         ensures { result ≡ disk_of self }
     {

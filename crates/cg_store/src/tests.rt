@@ -1,3 +1,4 @@
+//! Appends on a disk that fails, the order of batches, and the faults of damaged disks.
 ghost use Rattle.std.specs.Prelude.{◌≡◌, IfOk, length};
 
 use super::*;
@@ -6,7 +7,7 @@ use std::alloc::{AllocError, Global};
 use std::process::Abort;
 use std::test::Fail;
 
-// A batch of two commands, which delete the groups g and h.
+// Returns a batch of two commands, which delete the groups g and h.
 fn batch(alloc: Global, first: u64) -> Result<Batch, Fail> {
     let commands = cg_record::read(alloc, b"\x01\x05\x01g\x05\x01h")?;
     let commands = Commands::new(alloc, &commands)?;
@@ -14,7 +15,7 @@ fn batch(alloc: Global, first: u64) -> Result<Batch, Fail> {
     Ok(batch)
 }
 
-// How many commands are there after the disk failed with this many calls of an append of two, and then crashed.
+// Returns the number of commands after a crash, where the disk failed with this many calls of an append of two.
 fn left_after(rt: &impl Abort, alloc: Global, calls: u64, kind: Crash) -> Result<u64, Fail> {
     let mut disk = MemDisk::new(alloc, DISK_SECTORS)?;
     format(&mut disk)?;
@@ -47,7 +48,7 @@ fn a_failed_append_leaves_all_or_nothing(rt: HostRuntime) -> Result<(), Fail> {
     Ok(())
 }
 
-// What an empty store says to a batch with this first number.
+// Returns the fault of appending a batch with this first number to an empty store.
 fn fault_of(alloc: Global, first: u64) -> Result<Option<StoreFault>, Fail> {
     let mut disk = MemDisk::new(alloc, DISK_SECTORS)?;
     format(&mut disk)?;
@@ -71,7 +72,7 @@ fn batches_come_in_order(rt: HostRuntime) -> Result<(), Fail> {
     Ok(())
 }
 
-// An open gate, and a body of this count and of a payload that begins with this version and deletes group g.
+// Returns an open gate, and a body with this count and with a payload of this version that deletes group g.
 fn frame_of(alloc: Global, count: u64, version: u8) -> Result<Vec<u8>, AllocError>
     ensures { IfOk result (λ frame. length frame.items ≡ 1024) }
 {
@@ -83,7 +84,7 @@ fn frame_of(alloc: Global, count: u64, version: u8) -> Result<Vec<u8>, AllocErro
     Ok(frame)
 }
 
-// What an opening reports of a frame and one after it.
+// Returns the fault of opening a disk with one frame, or two.
 fn fault_of_opening(
     alloc: Global,
     first: (u64, u8),
@@ -99,7 +100,7 @@ fn fault_of_opening(
 
 #[test]
 fn damage_is_reported(rt: HostRuntime) -> Result<(), Fail> {
-    // The count and the version of a frame, those of the one after it, what is reported.
+    // The count and the version of a frame, those of the one after it, and the reported fault.
     for (first, second, want) in [
         ((1, 1), None, None),
         ((2, 1), None, Some(OpenFault::BadRecord)),

@@ -1,4 +1,4 @@
--- The leader of a group is one of its members while assignments are handed out.
+-- The leader is a member of its group when the assignments are set.
 use Rattle.std.proofs.Common.{◌≡◌, ℕ, Bool, true, false, ◌||◌, List, [], ◌∷◌, map, find, cond, refl, sym, ap, ◌∙◌, Some}
 use Rattle.std.specs.List.{list_any}
 use Rattle.std.proofs.lemmas.Bool.{or_left, or_right}
@@ -13,7 +13,7 @@ use Rattle.cg_member.specs.Rebalance.{turn_of}
 use Rattle.cg_member.specs.Syncing.{assigned, assigning}
 use Rattle.cg_member.proofs.Keeping.{map-same, map-with_member}
 
--- whether one of these leads depends on their ids alone
+-- whether one of the members leads depends on their ids alone
 any_id : (p : List ℕ → Bool) (ms : List Member) → list_any (λ m. p m.id) ms ≡ list_any p (ids ms)
 any_id p [] = refl
 any_id p (m ∷ ms) = ap (λ b. p m.id || b) (any_id p ms)
@@ -33,7 +33,7 @@ any_found p id (x ∷ xs) m e h =
     some_is : {y : Member} → Some y ≡ Some m → y ≡ m
     some_is k = cc
 
--- the leader's SYNC: it still leads once it waits
+-- the leader's SYNC: it still leads once the SYNC is parked
 pub led_waiting : (now : ℕ) (id : List ℕ) (waits : Waits) (m : Member) (g : Group) → find_member id g.members ≡ Some m → leads g m ≡ true → is_led (waiting now id waits (turn_of (hearing now id g))).group ≡ true
 unfolding waiting hearing
 led_waiting now id waits m g e h =
@@ -41,7 +41,7 @@ led_waiting now id waits m g e h =
     (map-with_member (λ m. m.id) id (waits_with now waits) (λ m. refl) (with_member id (heard now) g.members) ∙ map-with_member (λ m. m.id) id (heard now) (λ m. refl) g.members)
     ∙ any_found (leads g) id g.members m e h
 
--- and once the assignments are set
+-- it still leads once the assignments are set
 pub led_assigning : (entries : List SyncEntry) (g : Group) → is_led g ≡ true → is_led (assigning entries g) ≡ true
 unfolding assigning
 led_assigning entries g h = any_same_ids (is_named g.leader) (map (assigned entries) g.members) g.members (map-same (λ m. m.id) (assigned entries) (λ m. refl) g.members) ∙ h

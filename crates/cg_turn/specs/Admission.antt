@@ -1,4 +1,4 @@
--- JOIN (protocol guide, "JoinGroup"; KIP-345): who may join, in the order of the refusals.
+-- JOIN (protocol guide, "JoinGroup"; KIP-345): its checks, in the order of the refusals.
 use Rattle.std.specs.Prelude.{ℕ, Bool, false, nat_le, List, length, Option, Some, None, Result, Ok, is_some}
 use Rattle.cg_names.specs.declared.code.Code.{Code}
 use Rattle.cg_names.specs.declared.code.Code.TheVariants.{CoordinatorNotAvailable, InconsistentGroupProtocol, UnknownMemberId, GroupMaxSizeReached}
@@ -15,12 +15,12 @@ use Rattle.cg_member.specs.Membership.{find_instance, find_member}
 use Rattle.cg_member.specs.Refusing.{◌>>=◌, refused_if}
 use Rattle.cg_member.specs.Replacing.{join_replacing}
 
--- one more member would be one too many; one that takes another's place is not one more
+-- a new member would exceed `MEMBERS_MAX`; a replacement needs no room
 abbrev pub is_full : Option Member → List Member → Bool
 is_full None members = nat_le MEMBERS_MAX (length members)
 is_full (Some old) members = false
 
--- a new member joins, or takes the place of the old one with its instance
+-- a new member joins, or replaces the old one with its instance
 abbrev pub join_placed : ℕ → JoinRequest → List ℕ → Ticket → Group → Option Member → Turn
 join_placed now r id ticket g None = join_new now r id ticket g
 join_placed now r id ticket g (Some old) = join_replacing now r id ticket old g
@@ -31,7 +31,7 @@ join_drawn now r id ticket g = do
   _ ← refused_if (is_some (find_member id g.members)) CoordinatorNotAvailable
   Ok (join_placed now r id ticket g (find_instance r.instance g.members))
 
--- JOIN in a group that is held
+-- JOIN in a loaded group
 unfoldable pub join_held : ℕ → JoinRequest → List ℕ → Ticket → Option (List ℕ) → Group → Result Turn Code
 join_held now r fresh ticket None g = do
   _ ← refused_if (is_full (find_instance r.instance g.members) g.members) GroupMaxSizeReached
@@ -42,7 +42,7 @@ join_held now r fresh ticket (Some id) g = do
   _ ← refused_if (is_inconsistent r g) InconsistentGroupProtocol
   Ok (join_known now r who.0 ticket who.1 g)
 
--- JOIN in a group that is not held
+-- JOIN in a group that is not loaded
 unfoldable pub join_unheld : ℕ → JoinRequest → List ℕ → Ticket → ℕ → List ℕ → Result Turn Code
 join_unheld now r fresh ticket held id = do
   _ ← refused_if (is_some r.member) UnknownMemberId

@@ -13,15 +13,15 @@ use Rattle.cg_member.specs.Fencing.{member_check}
 use Rattle.cg_member.specs.Membership.{hearing, is_preparing}
 use Rattle.cg_member.specs.Refusing.{◌>>=◌, refused_if}
 
--- a member is told to join again while its group prepares
+-- while a rebalance is under way, a BEAT gets 27
 unfoldable pub beat_reply : Group → Reply
 beat_reply g = if is_preparing g.phase then reply.Refused RebalanceInProgress else reply.Done
 
--- BEAT that is taken: the member is heard, also where it is told to join again
+-- BEAT that passes the checks: the member is heard, even if it gets 27
 unfoldable pub beat_taken : ℕ → List ℕ → Ticket → Group → Turn
 beat_taken now id ticket g = record { group = hearing now id g; replies = (ticket, beat_reply g) ∷ []; commands = [] }
 
--- BEAT in a group that is held
+-- BEAT in a loaded group
 unfoldable pub beat_held : ℕ → BeatRequest → Ticket → Group → Result Turn Code
 beat_held now r ticket g = do
   who ← member_check r.instance r.member g.members

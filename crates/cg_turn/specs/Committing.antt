@@ -1,4 +1,4 @@
--- COMMIT (protocol guide, "OffsetCommit"): how far a group has read.
+-- COMMIT (protocol guide, "OffsetCommit").
 use Rattle.std.specs.Prelude.{ℕ, ℤ, pos, int_lt, Bool, true, false, not, nat_le, List, [], ◌∷◌, map, Option, Some, None, Result, Ok, if◌then◌else◌}
 use Rattle.std.specs.Ordering.{int_eq}
 use Rattle.cg_names.specs.declared.code.Code.{Code}
@@ -20,7 +20,7 @@ use Rattle.cg_member.specs.Joining.{new_group}
 use Rattle.cg_member.specs.Membership.{hearing, is_empty}
 use Rattle.cg_member.specs.Refusing.{◌>>=◌, refused_if}
 
--- the commit of a client that is no member of a group
+-- a negative generation marks a commit from a non-member (a simple consumer)
 abbrev pub is_negative : ℤ → Bool
 is_negative generation = int_lt generation (pos 0)
 
@@ -30,7 +30,7 @@ is_completing Empty = false
 is_completing Preparing = false
 is_completing Stable = false
 
--- a COMMIT to a group with members: the member that commits
+-- a COMMIT to a group with members: the committing member
 unfoldable pub commit_of_member : ℤ → Option (List ℕ) → Option (List ℕ) → Group → Result (Option (List ℕ)) Code
 commit_of_member generation instance member g = do
   who ← member_check instance member g.members
@@ -38,13 +38,13 @@ commit_of_member generation instance member g = do
   _ ← refused_if (is_completing g.phase) RebalanceInProgress
   Ok (Some who.0)
 
--- a COMMIT to a group without members: nobody has to be one
+-- a COMMIT to a group without members: only one from a non-member passes
 abbrev pub commit_of_none : ℤ → Result (Option (List ℕ)) Code
 commit_of_none generation = do
   _ ← refused_if (not (is_negative generation)) UnknownMemberId
   Ok None
 
--- who commits
+-- the committing member; none if the group has no members
 unfoldable pub committer : ℤ → Option (List ℕ) → Option (List ℕ) → Group → Result (Option (List ℕ)) Code
 committer generation instance member g = if is_empty g.members then commit_of_none generation else commit_of_member generation instance member g
 
@@ -53,31 +53,31 @@ abbrev pub hearing_committer : ℕ → Option (List ℕ) → Group → Group
 hearing_committer now None g = g
 hearing_committer now (Some id) g = hearing now id g
 
--- the command that keeps entries for a group, and the reply
+-- the command that stores the entries for a group, and the reply
 abbrev pub commit_effects : List Entry → Ticket → List ℕ → Effects
 commit_effects entries ticket group = record { commands = command.Committed (record { group = group; entries = entries }) ∷ []; replies = (ticket, reply.Done) ∷ [] }
 
--- entries are kept for the group
+-- the step that stores the entries for the group
 unfoldable pub keeping_entries : List Entry → Ticket → Group → Turn
 keeping_entries entries ticket g = record { group = g; replies = (ticket, reply.Done) ∷ []; commands = command.Committed (record { group = g.id; entries = entries }) ∷ [] }
 
--- COMMIT that is taken
+-- COMMIT that passes the checks
 abbrev pub committed : List CommitEntry → Ticket → Group → Turn
 committed entries ticket g = keeping_entries (map kept_entry entries) ticket g
 
--- COMMIT of who may commit
+-- COMMIT after the check of its sender
 abbrev pub commit_by : ℕ → Option (List ℕ) → List CommitEntry → Ticket → Group → Result Turn Code
 commit_by now who entries ticket g = do
   _ ← refused_if (is_too_large entries) OffsetMetadataTooLarge
   Ok (committed entries ticket (hearing_committer now who g))
 
--- COMMIT in a group that is held
+-- COMMIT in a loaded group
 unfoldable pub commit_held : ℕ → ℤ → Option (List ℕ) → Option (List ℕ) → List CommitEntry → Ticket → Group → Result Turn Code
 commit_held now generation instance member entries ticket g = do
   who ← committer generation instance member g
   commit_by now who entries ticket g
 
--- COMMIT in a group that is not held: it is made, without members
+-- COMMIT in a group that is not loaded: the group is created, without members
 unfoldable pub commit_unheld : ℤ → List CommitEntry → Ticket → ℕ → List ℕ → Result Turn Code
 commit_unheld generation entries ticket held id = do
   _ ← refused_if (not (is_negative generation)) IllegalGeneration

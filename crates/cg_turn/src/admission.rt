@@ -1,4 +1,4 @@
-//! JOIN: who may join, in the order of the refusals.
+//! JOIN (JoinGroup request): its checks, in the order of the refusals.
 ghost use Rattle.std.specs.Prelude.{◌≡◌, ◌<◌, Ok, Err, None, Some, false, is_some, length, IfOk, MatchResult};
 ghost use Rattle.std.specs.Option.{option_copied};
 ghost use Rattle.std.specs.List.{list_any};
@@ -53,7 +53,7 @@ fn is_inconsistent(r: &JoinRequest, group: &Group) -> bool
         && (!has_kind(group, &r.kind) || !shares_protocol(r, group.members.as_slice()))
 }
 
-// Whether one more member would be one too many.
+// A replacement never needs room, as the old member is removed.
 fn is_full(old: Option<&Member>, members: &Members) -> bool
     ensures { result ≡ is_full (option_copied old.entry) members.now }
 {
@@ -151,7 +151,7 @@ fn join_member(
     Ok(Ok(turn))
 }
 
-/// JOIN in a group that is held.
+/// Returns the step of a JOIN in a loaded group, or its error code. Copies the group.
 #[tactic(auto, unfolding(crate::specs::Admission::join_held))]
 pub fn join_held(
     alloc: Global,
@@ -172,7 +172,7 @@ pub fn join_held(
     }
 }
 
-/// JOIN in a group that is not held, beside so many that are.
+/// Returns the step of a JOIN in a group that is not loaded, or its error code. `held` is the number of loaded groups.
 #[tactic(auto, unfolding(crate::specs::Admission::join_unheld, cg_member::specs::Joining::new_group, cg_member::specs::Membership::find_member, cg_member::specs::Membership::find_instance))]
 pub fn join_unheld(
     alloc: Global,

@@ -1,4 +1,4 @@
-//! BEAT: a member says that it is there.
+//! BEAT (Heartbeat request).
 ghost use Rattle.std.specs.Prelude.{◌≡◌, ℕ, Ok, Err, MatchResult};
 ghost use Rattle.cg_turn.specs.Beating.{beat_reply, beat_taken, beat_held};
 
@@ -9,7 +9,7 @@ use cg_names::{Code, MemberId};
 use cg_request::request::BeatRequest;
 use cg_request::ticket::Ticket;
 
-/// What a BEAT that is taken is answered.
+/// Returns the reply to a BEAT that passes the checks: 27 while a rebalance is under way, otherwise OK.
 #[tactic(auto, unfolding(crate::specs::Beating::beat_reply))]
 pub fn beat_reply(group: &Group) -> Reply
     ensures { result ≡ beat_reply group.now }
@@ -20,7 +20,7 @@ pub fn beat_reply(group: &Group) -> Reply
     }
 }
 
-/// The member from which a BEAT is taken in its group.
+/// Returns the id of the calling member if the BEAT passes the checks. Linear in the members, no allocation.
 #[tactic(auto, unfolding(crate::specs::Beating::beat_held))]
 pub fn beating_member<'a>(r: &'a BeatRequest, group: &Group) -> Result<&'a MemberId, Code>
     ensures { MatchResult result

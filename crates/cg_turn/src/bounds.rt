@@ -1,2 +1,3 @@
-/// The greatest number of groups that are held.
+//! The limit on loaded groups.
+/// Maximum number of loaded groups.
 pub const GROUPS_MAX: usize = 4_096;

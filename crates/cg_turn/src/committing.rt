@@ -1,4 +1,4 @@
-//! COMMIT: how far a group has read.
+//! COMMIT (OffsetCommit request): its checks and its command.
 ghost use Rattle.std.specs.Prelude.{◌≡◌, ℕ, List, Ok, Err, Some, IfOk, MatchResult};
 ghost use Rattle.std.specs.Option.{option_copied};
 ghost use Rattle.cg_turn.specs.Committing.{commit_effects, commit_of_member, commit_unheld, committer, keeping_entries};
@@ -16,7 +16,6 @@ use cg_request::commits::Commits;
 use cg_request::ticket::Ticket;
 use std::alloc::{AllocError, Global};
 
-// The member that commits to its group.
 #[tactic(auto, unfolding(crate::specs::Committing::commit_of_member))]
 fn committing_member<'a>(
     generation: i32,
@@ -38,7 +37,8 @@ fn committing_member<'a>(
     }
 }
 
-/// Who commits: a member, or nobody where the group has no members.
+/// Returns the id of the committing member, or `None` for a commit to a group without members. Linear in the members,
+/// no allocation.
 #[tactic(auto, unfolding(crate::specs::Committing::committer))]
 pub fn committer<'a>(
     generation: i32,
@@ -62,7 +62,7 @@ pub fn committer<'a>(
     }
 }
 
-/// The command that keeps a commit, and the reply. Takes no memory.
+/// Builds the command that stores the commit, and the reply, without an allocation.
 pub fn kept(alloc: Global, committed: Committed, ticket: Ticket) -> Effects
     ensures { result ≡ commit_effects committed.entries ticket committed.group }
 {
@@ -72,7 +72,8 @@ pub fn kept(alloc: Global, committed: Committed, ticket: Ticket) -> Effects
     }
 }
 
-/// What a COMMIT in a group that is not held keeps, beside so many that are.
+/// Returns the entries that a COMMIT stores in a group that is not loaded, or its error code. `held` is the number of
+/// loaded groups.
 #[tactic(auto, unfolding(crate::specs::Committing::commit_unheld, crate::specs::Committing::keeping_entries))]
 pub fn committing_unheld(
     alloc: Global,

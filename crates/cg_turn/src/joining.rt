@@ -1,4 +1,4 @@
-//! JOIN: what it does with a new member, and with one that joins again.
+//! JOIN (JoinGroup request) after its checks: a new member, or a known member.
 ghost use Rattle.std.specs.Prelude.{◌≡◌, ◌<◌, [], false, is_some, length, IfOk};
 ghost use Rattle.cg_record.specs.declared.roster.TheConstants.{MEMBERS_MAX};
 ghost use Rattle.cg_member.specs.Membership.{find_member, find_instance};
@@ -20,7 +20,7 @@ use cg_request::request::JoinRequest;
 use cg_request::ticket::Ticket;
 use std::alloc::{AllocError, Global};
 
-/// A group that is not held yet. Takes no memory.
+/// Creates a group without members, without an allocation.
 #[tactic(auto, unfolding(cg_member::specs::Joining::new_group))]
 pub fn new_group(alloc: Global, id: GroupId) -> Group
     ensures { result ≡ new_group id }
@@ -37,7 +37,7 @@ pub fn new_group(alloc: Global, id: GroupId) -> Group
     }
 }
 
-/// A member that joins under a new id, and the type of its protocols. Takes no memory.
+/// Creates a member with a new id; also returns the protocol type of the JOIN. No allocation.
 #[tactic(auto, unfolding(cg_member::specs::Joining::new_member))]
 pub fn new_member(
     now: Moment,
@@ -64,7 +64,7 @@ pub fn new_member(
     (member, request.kind)
 }
 
-// Puts the member last; in a group without members it leads, and its type is the group's.
+// Appends the member; in a group without members it leads, and its type is the group's.
 #[tactic(auto, unfolding(cg_member::specs::Joining::admitted))]
 fn admitted(member: Member, kind: ProtocolName, mut group: Group) -> Result<Group, AllocError>
     requires room { length group.members < MEMBERS_MAX }
@@ -90,7 +90,7 @@ fn in_join_phase(now: Moment, turn: Turn) -> Result<Turn, AllocError>
     }
 }
 
-/// JOIN of a new member.
+/// Returns the step of a JOIN by a new member.
 #[tactic(auto, unfolding(cg_member::specs::Joining::join_new, cg_member::specs::Joining::new_member))]
 pub fn join_new(
     alloc: Global,
@@ -119,7 +119,7 @@ fn updating(r: CheckedJoin, id: &MemberId, mut group: Group) -> Group
     group
 }
 
-/// A call of the member waits; one that waited before is told to join again.
+/// Parks a call of the member. An older parked call gets 27.
 #[tactic(auto, unfolding(cg_member::specs::Joining::waiting))]
 pub fn waiting(now: Moment, id: &MemberId, waits: Waits, turn: Turn) -> Result<Turn, AllocError>
     ensures { IfOk result (λ t. t ≡ waiting now id.now waits turn) }
@@ -141,7 +141,7 @@ pub fn waiting(now: Moment, id: &MemberId, waits: Waits, turn: Turn) -> Result<T
     })
 }
 
-/// The member joins with the others.
+/// Parks the JOIN in the rebalance, which begins if none is under way and completes if all members have joined.
 #[tactic(auto, unfolding(cg_member::specs::Joining::rejoined))]
 pub fn rejoined(
     alloc: Global,
@@ -190,7 +190,7 @@ fn join_current(
     Ok(turn)
 }
 
-// Whether a JOIN of the member changes nothing.
+// Returns whether a known member's JOIN changes nothing, so that it gets the current generation at once.
 #[tactic(auto, unfolding(cg_member::specs::Joining::is_current))]
 fn is_current(r: &JoinRequest, member: &Member, group: &Group) -> bool
     ensures { result ≡ is_current r.now member.now group.now group.now.phase }
@@ -204,7 +204,7 @@ fn is_current(r: &JoinRequest, member: &Member, group: &Group) -> bool
     }
 }
 
-/// JOIN of a member by its id.
+/// Returns the step of a JOIN by a known member. Copies the group.
 #[tactic(auto, unfolding(cg_member::specs::Joining::join_known))]
 pub fn join_known(
     alloc: Global,

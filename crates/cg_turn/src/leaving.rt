@@ -1,4 +1,4 @@
-//! LEAVE, and sessions that are closed.
+//! LEAVE (LeaveGroup request), and closed sessions.
 ghost use Rattle.std.specs.Prelude.{◌≡◌, Ok, Err, Some, not, IfOk, MatchResult};
 ghost use Rattle.cg_member.specs.Leaving.{after_removal, left, leave_taken, may_be, leaver, leave_held, gone_in};
 ghost use Rattle.cg_turn.specs.Touching.{gone_touches};
@@ -26,7 +26,7 @@ fn has_leader(group: &Group) -> bool
     group.members.as_slice().iter().any(|m| leads(group, m))
 }
 
-/// The leader, where it is still a member.
+/// Clears the leader if it is not a member any more.
 pub fn checked_leader(mut group: Group) -> Group
     ensures { result ≡ record group { leader = leader_among group.members group.leader } }
 {
@@ -36,7 +36,7 @@ pub fn checked_leader(mut group: Group) -> Group
     group
 }
 
-/// Prepares, where the members had joined; then tries.
+/// Starts a rebalance if the members had joined, and completes it if all remaining members have joined.
 #[tactic(auto, unfolding(cg_member::specs::Leaving::after_removal))]
 pub fn after_removal(alloc: Global, now: Moment, turn: Turn) -> Result<Turn, AllocError>
     ensures { IfOk result (λ t. t ≡ after_removal now turn) }
@@ -95,7 +95,7 @@ fn leave_taken(
     Ok(turn)
 }
 
-// Whether no id is given, or this one.
+// Returns whether no id is given, or this one.
 fn may_be(given: &Option<MemberId>, id: &MemberId) -> bool
     ensures { result ≡ may_be given.now id.now }
 {
@@ -105,7 +105,7 @@ fn may_be(given: &Option<MemberId>, id: &MemberId) -> bool
     }
 }
 
-// The member with the instance, where its id may be the one that is given.
+// Returns the member with the instance. Reports 25 if no member has it, and 82 if another id is given (KIP-345).
 #[tactic(auto, unfolding(cg_member::specs::Leaving::leaver))]
 fn static_leaver<'a>(
     instance: &InstanceId,
@@ -126,7 +126,7 @@ fn static_leaver<'a>(
     }
 }
 
-// Who leaves.
+// Returns the member that leaves, by its instance or else by its id.
 #[tactic(auto, unfolding(cg_member::specs::Leaving::leaver))]
 fn leaver<'a>(r: &LeaveRequest, members: &'a Members) -> Result<&'a Member, Code>
     ensures { MatchResult result
@@ -145,7 +145,7 @@ fn leaver<'a>(r: &LeaveRequest, members: &'a Members) -> Result<&'a Member, Code
     }
 }
 
-/// LEAVE in a group that is held.
+/// Returns the step of a LEAVE in a loaded group, or its error code. Copies the group.
 #[tactic(auto, unfolding(cg_member::specs::Leaving::leave_held))]
 pub fn leave_held(
     alloc: Global,
@@ -165,7 +165,7 @@ pub fn leave_held(
     }
 }
 
-/// Whether a call of the session waits in the group: one pass over its members. Takes no memory.
+/// Returns whether a call of the session is parked in the group. Linear in the members, no allocation.
 pub fn gone_touches(session: u64, group: &Group) -> bool
     ensures { result ≡ gone_touches session group.now }
 {
@@ -177,7 +177,7 @@ pub fn gone_touches(session: u64, group: &Group) -> bool
         .any(|m| is_waiting(which, m))
 }
 
-/// A closed session, in one group.
+/// Returns the step of a closed session in one group: its parked calls get 15. Copies the group.
 #[tactic(auto, unfolding(cg_member::specs::Leaving::gone_in))]
 pub fn gone_in(alloc: Global, now: Moment, session: u64, group: &Group) -> Result<Turn, AllocError>
     ensures { IfOk result (λ t. t ≡ gone_in now session group.now) }

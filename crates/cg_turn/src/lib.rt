@@ -1,5 +1,5 @@
-//! The turns of one group: what a request, a closed session or a tick makes of it, with its commands and replies.
-//! Each is the plain body of its definition, in the order of the protocol guide.
+//! The steps of one group: each takes a request, a closed session or a tick, and returns the changed group with its
+//! replies and commands. The functions implement the definitions in `specs/`, here and in `cg_member`.
 #![tactic(auto)]
 
 pub mod admission;

@@ -1,4 +1,4 @@
-//! The join phase: how it begins, when it completes, and what its members are told.
+//! The rebalance: its start, its completion, and the replies to its members (KIP-62).
 ghost use Rattle.std.specs.Prelude.{◌≡◌, ◌&&◌, ◌++◌, [], IfOk, OnOk, find, option_map};
 ghost use Rattle.std.specs.List.{list_any};
 ghost use Rattle.cg_member.specs.Rebalance.{turn_of, prepared, subscription_for, joined_member, joined_members, joined_reply, next_leader, next_round, emptied_command, emptied, told_to_joins, completed, is_ready, tried};
@@ -20,14 +20,14 @@ use cg_request::listed::Listed;
 use cg_request::protocol::Protocol;
 use std::alloc::{AllocError, Global};
 
-/// Whether the group's members are joining again.
+/// Returns whether a rebalance is under way.
 pub fn is_preparing(phase: Phase) -> bool
     ensures { result ≡ is_preparing phase }
 {
     matches!(phase, Phase::Preparing)
 }
 
-/// An event begins in the group.
+/// Creates the state at the start of an event. No allocation.
 pub fn turn_of(alloc: Global, group: Group) -> Turn
     ensures { result ≡ turn_of group }
 {
@@ -38,7 +38,7 @@ pub fn turn_of(alloc: Global, group: Group) -> Turn
     }
 }
 
-/// Every SYNC that waits is told to join again, and the join phase begins now.
+/// Starts a rebalance: every parked SYNC gets 27.
 #[tactic(auto, unfolding(cg_member::specs::Rebalance::prepared))]
 pub fn prepared(now: Moment, turn: Turn) -> Result<Turn, AllocError>
     ensures { IfOk result (λ t. t ≡ prepared now turn) }
@@ -74,7 +74,7 @@ fn is_chosen(protocol: &Option<ProtocolName>, name: &ProtocolName) -> bool
     }
 }
 
-/// What a member asks for in the words of the protocol.
+/// Returns a copy of the subscription for the protocol, or no bytes if the protocol is not in the list.
 #[tactic(auto, unfolding(cg_member::specs::Rebalance::subscription_for))]
 pub fn subscription_for(
     alloc: Global,
@@ -92,7 +92,7 @@ pub fn subscription_for(
     }
 }
 
-/// Whether the member leads the group.
+/// Returns whether the member leads the group.
 pub fn leads(group: &Group, member: &Member) -> bool
     ensures { result ≡ leads group.now member.now }
 {
@@ -136,7 +136,7 @@ fn joined_members(
     Ok(members)
 }
 
-/// What a JOIN of the member is answered in the present generation.
+/// Returns the reply to a JOIN of the member in the current generation. It copies all members for the leader.
 #[tactic(auto, unfolding(cg_member::specs::Rebalance::joined_reply))]
 pub fn joined_reply(alloc: Global, group: &Group, member: &Member) -> Result<Reply, AllocError>
     ensures { IfOk result (λ reply. reply ≡ joined_reply group.now member.now) }
@@ -156,7 +156,7 @@ pub fn joined_reply(alloc: Global, group: &Group, member: &Member) -> Result<Rep
     }))
 }
 
-/// Each is told the present generation.
+/// The rule that replies to each JOIN with the current generation.
 #[derive(Drop)]
 pub struct TellingJoined<'a> {
     alloc: Global,
@@ -237,7 +237,8 @@ fn in_next_round(alloc: Global, turn: Turn) -> Result<Turn, AllocError>
     })
 }
 
-// Puts the command last, that the generation has no members.
+// Appends the command that the generation has no members. A group that never had a member has no type and gets no
+// command.
 #[tactic(auto, unfolding(cg_member::specs::Rebalance::emptied_command))]
 fn push_emptied(group: &Group, commands: &mut Few<Command>) -> Result<(), AllocError>
     ensures { OnOk result (commands.new ≡ commands.old ++ emptied_command group.now) }
@@ -306,7 +307,7 @@ fn told_to_joins(alloc: Global, now: Moment, turn: Turn) -> Result<Turn, AllocEr
     })
 }
 
-/// The join phase completes.
+/// Completes the rebalance: the generation becomes the next, and every parked JOIN gets its reply.
 #[tactic(auto, unfolding(cg_member::specs::Rebalance::completed))]
 pub fn completed(alloc: Global, now: Moment, turn: Turn) -> Result<Turn, AllocError>
     ensures { IfOk result (λ t. t ≡ completed now turn) }
@@ -320,7 +321,7 @@ pub fn completed(alloc: Global, now: Moment, turn: Turn) -> Result<Turn, AllocEr
     Ok(turn)
 }
 
-/// Whether the join phase can complete: no member is left that it waits for.
+/// Returns whether a rebalance is under way and every member has a parked JOIN. Linear in the members.
 #[tactic(auto, unfolding(cg_member::specs::Rebalance::is_ready))]
 pub fn is_ready(group: &Group) -> bool
     ensures { result ≡ is_ready group.now }
@@ -328,7 +329,7 @@ pub fn is_ready(group: &Group) -> bool
     is_preparing(group.phase) && group.members.all_wait(Calls::Joins)
 }
 
-/// The join phase completes, where no member is left that it waits for.
+/// Completes the rebalance if it is ready.
 #[tactic(auto, unfolding(cg_member::specs::Rebalance::tried))]
 pub fn tried(alloc: Global, now: Moment, turn: Turn) -> Result<Turn, AllocError>
     ensures { IfOk result (λ t. t ≡ tried now turn) }

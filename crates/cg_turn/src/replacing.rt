@@ -1,4 +1,4 @@
-//! A member takes the place of the one with its instance.
+//! JOIN that replaces the member with the same instance (KIP-345).
 ghost use Rattle.std.specs.Prelude.{◌≡◌, Some, false, is_some, IfOk, IsSome};
 ghost use Rattle.std.specs.List.{list_any};
 ghost use Rattle.cg_record.specs.declared.member.Member.{Member as KeptMember};
@@ -27,7 +27,7 @@ use cg_request::listed::Listed;
 use cg_request::ticket::Ticket;
 use std::alloc::{AllocError, Global};
 
-// Whether the leader is the one whose place the new member takes.
+// Returns whether the replaced member leads.
 fn leader_goes(new: &Member, group: &Group) -> bool
     ensures { result ≡ list_any (leads_and_goes new.now group.now) group.now.members }
 {
@@ -38,7 +38,7 @@ fn leader_goes(new: &Member, group: &Group) -> bool
         .any(|m| has_instance(&new.instance, m) && leads(group, m))
 }
 
-// The group with the new member in the place of the one with its instance.
+// Puts the new member into the position of the old one, with the lead if the old one led.
 #[tactic(auto, unfolding(cg_member::specs::Replacing::replacing))]
 fn replacing(new: Member, mut group: Group) -> Result<Group, AllocError>
     requires own_id { is_some (find_member new.id group.members) ≡ false }
@@ -61,7 +61,7 @@ fn is_protocol(group: &Group, name: &Option<ProtocolName>) -> bool
     }
 }
 
-// Whether the group is stable, and its members vote for its protocol still.
+// Returns whether the group is stable and its vote still gives its protocol, so that no rebalance is needed.
 #[tactic(auto, unfolding(cg_member::specs::Replacing::keeps_generation))]
 fn keeps_generation(alloc: Global, group: &Group) -> Result<bool, AllocError>
     ensures { IfOk result (λ b. b ≡ keeps_generation group.now) }
@@ -75,7 +75,7 @@ fn keeps_generation(alloc: Global, group: &Group) -> Result<bool, AllocError>
     }
 }
 
-// The new member has its place; a call of the old one that waits is answered.
+// The parked call of the old member gets 82.
 #[tactic(auto, unfolding(cg_member::specs::Replacing::replaced))]
 fn replaced(alloc: Global, new: Member, old: &Member, group: &Group) -> Result<Turn, AllocError>
     requires own_id { is_some (find_member new.id group.now.members) ≡ false }
@@ -93,7 +93,7 @@ fn replaced(alloc: Global, new: Member, old: &Member, group: &Group) -> Result<T
     })
 }
 
-// What the new member is told: the leader from before the replacement, and no members.
+// The reply names the leader from before the replacement, and no members.
 fn replaced_reply(alloc: Global, id: MemberId, before: &Group) -> Result<Reply, AllocError>
     ensures { IfOk result (λ reply. reply ≡ replaced_reply id before.now) }
 {
@@ -110,7 +110,7 @@ fn replaced_reply(alloc: Global, id: MemberId, before: &Group) -> Result<Reply, 
     }))
 }
 
-// The new member as the command keeps it.
+// The contract leaves only members with an instance, so the record of a static member is lawful.
 fn kept_successor(alloc: Global, new: &Member, group: &Group) -> Result<StaticMember, AllocError>
     requires { IsSome new.now.instance }
     ensures { IfOk result (λ kept. kept ≡ kept_member group.now.protocol new.now) }
@@ -119,7 +119,7 @@ fn kept_successor(alloc: Global, new: &Member, group: &Group) -> Result<StaticMe
     Ok(StaticMember::from_lawful(kept))
 }
 
-// The generation goes on with the new member.
+// Appends the reply with the current generation, and the command that stores the replacement.
 #[tactic(auto, unfolding(cg_member::specs::Replacing::replaced_in_place))]
 fn replaced_in_place(
     alloc: Global,
@@ -150,7 +150,7 @@ fn replaced_in_place(
     })
 }
 
-/// JOIN of a member that takes the place of the old one. Its id is a new one.
+/// Returns the step of a JOIN that replaces the old member under the new id. Copies the group.
 #[tactic(auto, unfolding(cg_member::specs::Replacing::join_replacing, cg_member::specs::Joining::new_member))]
 pub fn join_replacing(
     alloc: Global,

@@ -1,4 +1,4 @@
-//! SYNC: the leader hands the assignments in, and each member gets its own.
+//! SYNC (SyncGroup request): the leader sends the assignments, and each member gets its own.
 ghost use Rattle.std.specs.Prelude.{◌≡◌, ◌++◌, true, Some, IfOk, OnOk, map};
 ghost use Rattle.cg_member.specs.Membership.{find_member, has_member, is_led};
 ghost use Rattle.cg_member.specs.Syncing.{assigning, kept_member, kept_roster, assigned_command, synced_reply, told_to_syncs, distributed, sync_waits, sync_current, sync_taken, sync_held};
@@ -47,7 +47,7 @@ fn assigning(alloc: Global, entries: &[SyncEntry], group: Group) -> Result<Group
     })
 }
 
-/// A member, as the command keeps it.
+/// Copies the member into the form that a command stores.
 pub fn kept_member(
     alloc: Global,
     protocol: &Option<ProtocolName>,
@@ -85,7 +85,7 @@ fn kept_members(
     Ok(kept)
 }
 
-// What the members of the group joined in, by this protocol and under this leader.
+// Copies the members into the form that a command stores, with this protocol and leader.
 #[tactic(auto, using(crate::proofs::Rostering::kept_roster_is))]
 fn kept_roster(
     alloc: Global,
@@ -102,7 +102,7 @@ fn kept_roster(
     Ok(Roster::from_lawful(protocol, leader, members))
 }
 
-// Puts the command last, that the generation has its assignments.
+// Appends the command that the generation has its assignments.
 #[tactic(auto, unfolding(cg_member::specs::Syncing::assigned_command))]
 fn push_assigned(
     alloc: Global,
@@ -135,7 +135,7 @@ fn push_assigned(
     }))
 }
 
-/// Each is told its assignment.
+/// The rule that replies to each SYNC with the member's assignment.
 #[derive(Drop)]
 pub struct TellingSynced;
 
@@ -261,7 +261,7 @@ fn sync_taken(
     }
 }
 
-/// SYNC in a group that is held.
+/// Returns the step of a SYNC in a loaded group, or its error code. Copies the group.
 #[tactic(auto, unfolding(cg_member::specs::Syncing::sync_held))]
 pub fn sync_held(
     alloc: Global,

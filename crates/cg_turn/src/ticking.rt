@@ -1,4 +1,4 @@
-//! Time-outs: sessions that expire, and the deadline of the join phase.
+//! Ticks: expired sessions, and the deadline of a rebalance (KIP-62).
 ghost use Rattle.std.specs.Prelude.{◌≡◌, IfOk};
 ghost use Rattle.cg_member.specs.Ticking.{can_complete, expired, greatest_rebalance, is_due, ended, at_deadline, ticked};
 ghost use Rattle.cg_turn.specs.Touching.{tick_touches};
@@ -108,14 +108,14 @@ fn at_deadline(alloc: Global, now: Moment, turn: Turn) -> Result<Turn, AllocErro
     )
 }
 
-/// Whether a Tick touches the group: one pass over its members. Takes no memory.
+/// Returns whether a tick changes the group. Linear in the members, no allocation.
 pub fn tick_touches(now: Moment, group: &Group) -> bool
     ensures { result ≡ tick_touches now group.now }
 {
     group.members.has_overdue(now) || is_ready(group) || is_due(now, group)
 }
 
-/// A Tick, in one group.
+/// Returns the step of a tick in one group. Copies the group.
 #[tactic(auto, unfolding(cg_member::specs::Ticking::ticked))]
 pub fn ticked(alloc: Global, now: Moment, group: &Group) -> Result<Turn, AllocError>
     ensures { IfOk result (λ t. t ≡ ticked now group.now) }

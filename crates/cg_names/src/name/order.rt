@@ -1,4 +1,4 @@
-//! Names are equal where their bytes are, and stand in the order of their bytes.
+//! Equality, order and hash of names, by their bytes.
 ghost use Rattle.std.specs.Prelude.{Some, nat_eq, refl};
 ghost use Rattle.std.specs.Ordering.{nat_cmp};
 ghost use Rattle.std.specs.Hash as fed;
