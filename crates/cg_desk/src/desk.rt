@@ -1,5 +1,5 @@
 //! The desk.
-ghost use Rattle.std.specs.Prelude.{◌≡◌, ◌≢◌, ◌∷◌, [], true, false, length, IsTrue, IsOk, IfOk, IfErr, OnOk, OnErr};
+ghost use Rattle.std.specs.Prelude.{◌≡◌, ◌≢◌, ◌↔◌, ◌∷◌, [], true, false, length, IsTrue, IsOk, IfOk, IfErr, OnOk, OnErr};
 ghost use Rattle.cg_desk.specs.Outgoings.{answer};
 ghost use Rattle.cg_desk.specs.Refusals.{is_refusal};
 ghost use Rattle.cg_desk.specs.Tokens.{call_of};
@@ -92,6 +92,13 @@ impl Desk {
             }
         }
         Ok(())
+    }
+
+    /// Returns whether nothing is loaded yet: what `loaded` requires, for a caller that took the desk out of a lock.
+    pub fn is_loading(&self) -> bool
+        ensures { IsTrue result ↔ (state_of self.now ≡ state.Loading) }
+    {
+        matches!(&self.phase, Phase::Loading)
     }
 
     /// The number of the last command.

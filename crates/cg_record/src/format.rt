@@ -1,5 +1,7 @@
 //! The version byte and the kind bytes of the format.
+ghost use Rattle.std.specs.Prelude.{◌≡◌};
 ghost use Rattle.cg_record.specs.Reading.{version_of, Gives};
+ghost use Rattle.cg_record.specs.declared.format.TheConstants.{ASSIGNED_KIND, COMMITTED_KIND, DELETED_KIND, EMPTIED_KIND, REPLACED_KIND, VERSION_ONE};
 
 use crate::fault::RecordFault;
 
@@ -40,3 +42,13 @@ impl Version {
         }
     }
 }
+
+/// The numbers of the format, on which the definitions rest by name: whoever changes one is refused here.
+pub fn format_has_these_bytes()
+    ensures version { VERSION_ONE ≡ 1 }
+    ensures assigned { ASSIGNED_KIND ≡ 1 }
+    ensures emptied { EMPTIED_KIND ≡ 2 }
+    ensures replaced { REPLACED_KIND ≡ 3 }
+    ensures committed { COMMITTED_KIND ≡ 4 }
+    ensures deleted { DELETED_KIND ≡ 5 }
+{}

@@ -44,6 +44,7 @@ pub use emptied::Emptied;
 pub use entries::{ENTRIES_MAX, Entries};
 pub use entry::Entry;
 pub use fault::RecordFault;
+pub use format::format_has_these_bytes;
 pub use generation::CompletedGeneration;
 pub use member::Member;
 pub use metadata::{METADATA_BYTES_MAX, Metadata};

@@ -17,7 +17,9 @@ pub use batch::Batch;
 pub use commands::Commands;
 pub use fault::{OpenFault, StoreFault};
 pub use receipt::Receipt;
-pub use segment::{COMMAND_NUMBER_MAX, DISK_SECTORS, FIRST_SEGMENT_SECTOR, format};
+pub use segment::{
+    COMMAND_NUMBER_MAX, DISK_SECTORS, FIRST_SEGMENT_SECTOR, format, layout_has_these_numbers,
+};
 pub use store::Store;
 
 #[cfg(test)]

@@ -4,7 +4,7 @@ ghost use Rattle.cg_disk.specs.Disk.{Counts};
 ghost use Rattle.cg_store.specs.Store.{disk_of};
 ghost use Rattle.cg_world.specs.Faults.{stopped_by_device};
 ghost use Rattle.cg_world.specs.Running.{IsRun, refusal_of_first};
-ghost use Rattle.cg_world.specs.Sights.{store_of};
+ghost use Rattle.cg_world.specs.Sights.{opening_of, store_of};
 
 use crate::recording::Recording;
 use crate::step::{Step, StopCause};
@@ -35,6 +35,7 @@ pub fn run<D: SectorDisk>(alloc: Global, world: World<D>, steps: Vec<Step>) -> (
     ensures device { Counts (D.failures (disk_of (store_of world))) (D.failures (disk_of (store_of result.0))) (stopped_by_device result.1.stopped) }
     ensures same_size { D.size (disk_of (store_of result.0)) ≡ D.size (disk_of (store_of world)) }
     ensures same_honesty { D.is_honest (disk_of (store_of result.0)) ≡ D.is_honest (disk_of (store_of world)) }
+    ensures opening { opening_of result.0 ≡ opening_of world }
 {
     if steps.is_empty() {
         return (world, Trace::of_none(alloc, None, None));

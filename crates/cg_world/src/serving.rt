@@ -15,7 +15,7 @@ use std::alloc::AllocError;
 use uuid::Uuid;
 
 impl<D: SectorDisk> World<D> {
-    ghost use Rattle.cg_world.specs.Sights.{sight, store_of};
+    ghost use Rattle.cg_world.specs.Sights.{opening_of, sight, store_of};
 
     /// A request of the call of this ticket; where memory is wanting, it is refused by -1.
     pub(crate) fn ask(
@@ -31,6 +31,7 @@ impl<D: SectorDisk> World<D> {
         ensures last { IfErr result (λ last. last ≡ answer ticket (reply.Refused code.UnknownServerError)) }
         ensures appended { (sight self.new).appended ≡ (sight self.old).appended }
         ensures store { store_of self.new ≡ store_of self.old }
+        ensures opening { opening_of self.new ≡ opening_of self.old }
     {
         let token = ReplyToken::new(ticket);
         match self.desk.request(token, request, now, fresh) {
@@ -46,6 +47,7 @@ impl<D: SectorDisk> World<D> {
         ensures err { OnErr result (sight self.new ≡ sight self.old) }
         ensures appended { (sight self.new).appended ≡ (sight self.old).appended }
         ensures store { store_of self.new ≡ store_of self.old }
+        ensures opening { opening_of self.new ≡ opening_of self.old }
     {
         let out = self.desk.gone(session, now)?;
         Ok(out)
@@ -58,6 +60,7 @@ impl<D: SectorDisk> World<D> {
         ensures err { OnErr result (sight self.new ≡ sight self.old) }
         ensures appended { (sight self.new).appended ≡ (sight self.old).appended }
         ensures store { store_of self.new ≡ store_of self.old }
+        ensures opening { opening_of self.new ≡ opening_of self.old }
     {
         let out = self.desk.tick(now)?;
         Ok(out)

@@ -21,7 +21,7 @@ pub struct Taken {
 }
 
 impl<D: SectorDisk> World<D> {
-    ghost use Rattle.cg_world.specs.Sights.{sight, store_of};
+    ghost use Rattle.cg_world.specs.Sights.{opening_of, sight, store_of};
 
     /// Takes a step. Where memory is wanting for it nothing has changed, and a request is refused.
     pub(crate) fn take_step(&mut self, step: Step) -> Result<Taken, Wanting>
@@ -33,6 +33,7 @@ impl<D: SectorDisk> World<D> {
         ensures device { Counts (D.failures (disk_of (store_of self.old))) (D.failures (disk_of (store_of self.new))) (failed_step result) }
         ensures same_size { D.size (disk_of (store_of self.new)) ≡ D.size (disk_of (store_of self.old)) }
         ensures same_honesty { D.is_honest (disk_of (store_of self.new)) ≡ D.is_honest (disk_of (store_of self.old)) }
+        ensures opening { opening_of self.new ≡ opening_of self.old }
     {
         match step {
             Step::Request(ticket, request, now, fresh) => {

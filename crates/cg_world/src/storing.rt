@@ -16,7 +16,7 @@ use cg_disk::SectorDisk;
 use cg_store::StoreFault;
 
 impl<D: SectorDisk> World<D> {
-    ghost use Rattle.cg_world.specs.Sights.{sight, store_of};
+    ghost use Rattle.cg_world.specs.Sights.{opening_of, sight, store_of};
 
     /// The desk hands the next batch out, where it has one.
     pub(crate) fn take(&mut self) -> Result<StepNote, Wanting>
@@ -24,6 +24,7 @@ impl<D: SectorDisk> World<D> {
         ensures after { IfOk result (λ note. taken note (sight self.old) ≡ quiet (sight self.new)) }
         ensures err { IfErr result (λ wanting. (sight self.new ≡ sight self.old) × (wanting.last ≡ None)) }
         ensures store { store_of self.new ≡ store_of self.old }
+        ensures opening { opening_of self.new ≡ opening_of self.old }
     {
         match self.desk.take_batch() {
             Ok(Some(batch)) => {
@@ -53,6 +54,7 @@ impl<D: SectorDisk> World<D> {
         ensures device { Counts (D.failures (disk_of (store_of self.old))) (D.failures (disk_of (store_of self.new))) (failed_append result) }
         ensures same_size { D.size (disk_of (store_of self.new)) ≡ D.size (disk_of (store_of self.old)) }
         ensures same_honesty { D.is_honest (disk_of (store_of self.new)) ≡ D.is_honest (disk_of (store_of self.old)) }
+        ensures opening { opening_of self.new ≡ opening_of self.old }
     {
         let Some(batch) = self.transit.take_batch() else {
             return Ok((StepNote::Nothing, Vec::new(self.alloc)));
@@ -82,6 +84,7 @@ impl<D: SectorDisk> World<D> {
         ensures after { IfOk result (λ told. settled told.0 (sight self.old) ≡ record { after = sight self.new; at_once = []; left = told.1.items }) }
         ensures err { IfErr result (λ wanting. (sight self.new ≡ sight self.old) × (wanting.last ≡ None)) }
         ensures store { store_of self.new ≡ store_of self.old }
+        ensures opening { opening_of self.new ≡ opening_of self.old }
     {
         let Some(receipt) = self.transit.take_receipt() else {
             return Ok((StepNote::Nothing, Vec::new(self.alloc)));

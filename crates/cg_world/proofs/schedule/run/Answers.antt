@@ -25,6 +25,7 @@ loop-step-init g c = (
   search rules,
   search rules,
   search rules,
+  search rules,
 )
 
 pub returns-then-put-clause-run : goal.returns-then-put-clause-run
@@ -42,6 +43,7 @@ loop-step-preserved g c =
           next c.put.ensures.notes c.put.ensures.out c.loop-step.invariant.0 c.in-Ok-take_step.ensures.ok c.take_step.ensures.nothing (search rules),
       omega (arith, ap length next, c.put.ensures.room.0, c.put.ensures.room.1, c.loop-step.invariant.1),
       omega (arith, ap length next, c.put.ensures.room_for_notes.0, c.put.ensures.room_for_notes.1, c.loop-step.invariant.2),
+      search rules,
       search rules,
       search rules,
       search rules,

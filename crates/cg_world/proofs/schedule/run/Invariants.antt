@@ -2,7 +2,7 @@ use Rattle.std.proofs.Common.{◌≡◌, ◌+◌, ◌≤◌, length}
 use Rattle.std.specs.Vec.{vec_len, vec_capacity}
 use Rattle.std.specs.Vec.Iter.{into_iter_items, into_iter_len}
 use Rattle.cg_store.specs.Store.{disk_of}
-use Rattle.cg_world.specs.Sights.{store_of}
+use Rattle.cg_world.specs.Sights.{opening_of, store_of}
 use Rattle.cg_world.proofs.Runs.{Going}
 use Rattle.cg_world.proofs.schedule.run.Given as goal
 
@@ -15,3 +15,4 @@ invariant-loop-step g l =
     × (g.D.SectorDisk.size (disk_of (store_of l.world)) ≡ g.D.SectorDisk.size (disk_of (store_of l.fn.world)))
     × (g.D.SectorDisk.is_honest (disk_of (store_of l.world)) ≡ g.D.SectorDisk.is_honest (disk_of (store_of l.fn.world)))
     × (into_iter_len l.step-iterator ≡ length (into_iter_items l.step-iterator))
+    × (opening_of l.world ≡ opening_of l.fn.world)
