@@ -1,4 +1,4 @@
--- A desk that serves is balanced from its loading on.
+-- A desk that serves is balanced from recovery on.
 use Rattle.std.proofs.Common.{ℕ, Bool, true, false, List, [], ◌∷◌, refl, sym, subst}
 use Rattle.std.specs.Prelude.{Option, Some, None, if◌then◌else◌}
 use Rattle.cg_fold.specs.Durable.{State as Durable}
@@ -30,7 +30,7 @@ loaded number durable now lawful = record {
   owed = begins number (revive durable now) (loaded-idle durable now);
 }
 
--- an event that keeps its calls
+-- an event that keeps its requests
 served-balanced : (b : Books) (handed : List ReplyToken) (e : Event) (now : ℕ) → KeepsCalls b.machine handed e now → IsBalanced b → IsBalanced (served b handed e now).books
 unfolding served letting_go
 served-balanced b handed e now keeps h = record { made = made-step b.machine e now h.made; owed = owed-served b handed e now h.owed keeps }
@@ -66,7 +66,7 @@ gone-balanced Loading session now h = tt
 gone-balanced (Failed n m) session now h = tt
 gone-balanced (Serving b) session now h = served-balanced b [] (Gone session) now (gone-keeps b.machine session now) h
 
--- what is taken or given back has no calls
+-- taking a batch or giving it back moves no request
 taking-balanced : (b : Books) → IsBalanced b → IsBalanced (taking b)
 unfolding taking
 taking-balanced b h = record { made = h.made; owed = h.owed }

@@ -1,4 +1,4 @@
--- Calls of members, by what their tickets weigh: each stage of a turn answers a call or leaves it waiting.
+-- Requests of members, by the weights of their tickets: each stage of a step answers a request or leaves it parked.
 use Rattle.std.proofs.Common.{◌≡◌, ℕ, ◌+◌, Bool, true, false, not, List, [], ◌∷◌, ◌++◌, refl, sym, ap, ◌∙◌, arith, eqb, leb}
 use Rattle.std.specs.Prelude.{Option, Some, None, is_some, filter, option_map, option_to_list, if◌then◌else◌, ◌&&◌, ◌||◌}
 use Rattle.std.specs.List.{list_any}
@@ -31,7 +31,7 @@ calls-append (r ∷ rs) qs = ap (λ l. r.0 ∷ l) (calls-append rs qs)
 pub told-append : (weight : Ticket → ℕ) (rs qs : List (Ticket × Reply)) → told_of weight (rs ++ qs) ≡ told_of weight rs + told_of weight qs
 told-append weight rs qs = ap (weight_calls weight) (calls-append rs qs) ∙ sum_by-append weight (calls_of rs) (calls_of qs)
 
--- a call that is one of these is one of all
+-- a request that is parked on this session is parked
 any-session : (b : Bool) (t u : Ticket) → (let o : Option Ticket = if b then Some t else None in o) ≡ Some u → u ≡ t
 any-session true t u is = cc
 any-session false t u is = absurd (cc)
@@ -48,7 +48,7 @@ called-any (OfSession s) Nothing t is = absurd (cc)
 called-any (OfSession s) (Join u) t is = ap Some (sym (any-session (eqb u.session s) u t is))
 called-any (OfSession s) (Sync u) t is = ap Some (sym (any-session (eqb u.session s) u t is))
 
--- an answer takes the call away
+-- an answer removes the parked request
 answer-at : (weight : Ticket → ℕ) (reply : Member → Reply) (now : ℕ) (m : Member) (o : Option Ticket) → ((t : Ticket) → o ≡ Some t → called Any m.waits ≡ Some t)
     → told_of weight (option_to_list (option_map (λ (t : Ticket). (t, reply m)) o)) + own weight (if is_some o then answered now m else m) ≡ own weight m
 answer-at weight reply now m None any = omega arith
@@ -130,7 +130,7 @@ pub removal-kept : (weight : Ticket → ℕ) (now : ℕ) (t : Turn) → total we
 unfolding after_removal
 removal-kept weight now t = tried-kept weight now (if has_joined t.group.phase then prepared now t else t) ∙ removal-at (has_joined t.group.phase) weight now t
 
--- members that wait for nothing may go
+-- members without a parked request may be removed
 idle-own : (weight : Ticket → ℕ) (o : Option Ticket) → is_some o ≡ false → weight_calls weight (option_to_list o) ≡ 0
 idle-own weight None idle = refl
 idle-own weight (Some t) idle = absurd (cc)
@@ -193,7 +193,7 @@ ticked-kept weight now g =
     let first = expired-kept weight now (turn_of g) in
     omega arith
 
--- a session that is closed, in one group
+-- a closed session, in one group
 pub gone-kept : (weight : Ticket → ℕ) (now session : ℕ) (g : Group) → total weight (gone_in now session g) ≡ waits_of weight g.members
 unfolding gone_in
 gone-kept weight now session g = answers-kept weight (OfSession session) (refusing CoordinatorNotAvailable) now g.members

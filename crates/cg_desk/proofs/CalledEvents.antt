@@ -1,4 +1,4 @@
--- Requests keep the calls of all groups.
+-- Requests keep the pending requests of all groups.
 use Rattle.std.proofs.Common.{◌≡◌, ℕ, ◌+◌, Bool, true, false, not, cond, List, [], ◌∷◌, find, is_some, refl, sym, ap, ◌∙◌, arith, Result, Ok, Err, ok_or}
 use Rattle.std.specs.Prelude.{Option, Some, None, max}
 use Rattle.std.specs.List.{list_any}
@@ -41,7 +41,7 @@ use Rattle.cg_desk.proofs.CalledGroups.{Takes, removed-kept, takes-held, takes-m
 use Rattle.cg_desk.proofs.CalledRequests.{and-true, beat-kept, commit-kept, known-kept, leave-kept, new-kept, not-true, or-false, sync-kept}
 use Rattle.cg_desk.proofs.CalledTurns.{replacing-kept}
 
--- who leaves is the one member with its id
+-- the member that leaves is the only one with its id
 
 absent : (p : Member → Bool) (id : List ℕ) (ms : List Member) (m : Member) → list_any (is_same id) (ids ms) ≡ false → find p ms ≡ Some m → is_same id m.id ≡ false
 absent p id [] m none found = cc
@@ -94,7 +94,7 @@ fine-left P now r ticket groups k = in_named r.group
         after_given P (find_group id groups) UnknownMemberId (λ g. leave_held now r ticket g)
         (λ g found. after_checked P (leaver r.instance r.member g.members) (λ m. Ok (leave_taken now m.id ticket m g)) (λ m is. k id g m found is))
 
--- what holds of every machine that events make of a loading
+-- what holds of every machine that events make after recovery
 pub record IsSound (s : Machine) : Type 0 where
   pub distinct : Each (λ g. AreDistinct g.members) s.groups
   pub in_order : InOrder s.groups
@@ -137,7 +137,7 @@ module _ (now : ℕ) (ticket : Ticket) (s : Machine) (sound : IsSound s) where
       (λ id none. takes-made s.groups id ticket (committed r.entries ticket (new_group id)) none (framed-committed now r.entries ticket None (new_group id)).0 (λ weight. commit-kept weight now r.entries ticket None (new_group id)))
       (λ id g who found _. takes-held s.groups id g ticket (committed r.entries ticket (hearing_committer now who g)) sound.in_order found (framed-committed now r.entries ticket who g).0 (λ weight. commit-kept weight now r.entries ticket who g))
 
--- the calls before, and the one that asks, are those that are answered and those that wait
+-- the requests before and the new one are those that are answered and those that are parked
 abbrev Keeps : Machine → Ticket → Outcome → Type 0
 Keeps s ticket o = (weight : Ticket → ℕ) → told_of weight o.effects.replies + in_groups weight o.after.groups ≡ in_groups weight s.groups + weight ticket
 

@@ -1,4 +1,4 @@
--- Calls over all groups.
+-- Pending requests over all groups.
 use Rattle.std.proofs.Common.{◌≡◌, ℕ, ◌+◌, List, [], ◌∷◌, ◌++◌, map, refl, ap, ◌∙◌, arith}
 use Rattle.std.specs.Prelude.{Option, Some, None, max, option_to_list}
 use Rattle.std.specs.FinMap as finmap
@@ -81,7 +81,7 @@ gone-keeps s session now weight =
     let turns = turned weight (gone_in m session) (λ g. gone-kept weight m session g) s.groups in
     omega arith
 
--- nobody waits after a loading
+-- no request is parked after recovery
 append-none : {X : Type 0} (xs ys : List X) → xs ≡ [] → ys ≡ [] → xs ++ ys ≡ []
 append-none xs ys none rest = ap (λ l. l ++ ys) none ∙ rest
 

@@ -1,4 +1,4 @@
--- The calls of all groups, where one group takes a turn, is made, or goes.
+-- The requests of all groups, when one group takes a step, is created or is removed.
 use Rattle.std.proofs.Common.{◌≡◌, ℕ, ◌+◌, true, false, cond, List, [], ◌∷◌, find, refl, sym, ap, ◌∙◌, arith}
 use Rattle.std.specs.Prelude.{Some, None, if◌then◌else◌}
 use Rattle.std.specs.Cmp.Lexicographic.{slice_cmp}
@@ -20,7 +20,7 @@ use Rattle.cg_desk.proofs.CalledEverywhere.{in_groups}
 one-more : (weight : Ticket → ℕ) (g : Group) (gs : List Group) → in_groups weight (g ∷ gs) ≡ waits_of weight g.members + in_groups weight gs
 one-more weight g gs = sum_by-cons (λ (h : Group). waits_of weight h.members) g gs
 
--- a group in its own place
+-- a group is replaced in its own position
 pub held-placed : (weight : Ticket → ℕ) (id : List ℕ) (gs : List Group) (g new : Group) → InOrder gs → find_group id gs ≡ Some g → new.id ≡ g.id
     → in_groups weight (with_group new gs) + waits_of weight g.members ≡ in_groups weight gs + waits_of weight new.members
 unfolding find_group with_group
@@ -45,7 +45,7 @@ held-placed weight id (x ∷ xs) g new o found same =
           omega arith
     ]) found
 
--- a group that is made
+-- a group is created
 made-at : (weight : Ticket → ℕ) (id : List ℕ) (x : Group) (xs : List Group) (new : Group) → is_same x.id id ≡ false → new.id ≡ id → in_groups weight (with_group new xs) ≡ in_groups weight xs + waits_of weight new.members
     → in_groups weight (match_ordering (slice_cmp nat_cmp new.id x.id) (new ∷ x ∷ xs) (new ∷ xs) (x ∷ with_group new xs)) ≡ in_groups weight (x ∷ xs) + waits_of weight new.members
 made-at weight id x xs new other same rest =
@@ -70,7 +70,7 @@ made-placed weight id (x ∷ xs) new none same =
       | false ↦ λ e none. made-at weight id x xs new e same (made-placed weight id xs new none same)
     ]) refl none
 
--- a group that goes, in which nobody waits
+-- a group without parked requests is removed
 pub removed-kept : (weight : Ticket → ℕ) (id : List ℕ) (gs : List Group) (g : Group) → find_group id gs ≡ Some g → waits_of weight g.members ≡ 0 → in_groups weight (without_group id gs) ≡ in_groups weight gs
 unfolding find_group without_group
 removed-kept weight id [] g found idle = cc
@@ -88,7 +88,7 @@ removed-kept weight id (x ∷ xs) g found idle =
           omega arith
     ]) found
 
--- what a turn does to the calls of all groups
+-- what a step does to the requests of all groups
 abbrev pub Takes : List Group → Ticket → Turn → Type 0
 Takes gs ticket t = (weight : Ticket → ℕ) → told_of weight t.replies + in_groups weight (with_group t.group gs) ≡ in_groups weight gs + weight ticket
 

@@ -1,4 +1,4 @@
--- Calls of members over a request: the one that asks is answered, or waits.
+-- Requests of members over a new request, which is answered or parked.
 use Rattle.std.proofs.Common.{◌≡◌, ℕ, ◌+◌, Bool, true, false, not, List, [], ◌∷◌, ◌++◌, map, refl, sym, ap, ◌∙◌, arith}
 use Rattle.std.specs.Prelude.{Option, Some, None, is_some, filter, option_map, option_to_list, if◌then◌else◌, ◌&&◌, ◌||◌}
 use Rattle.std.specs.List.{list_any}
@@ -35,7 +35,7 @@ use Rattle.cg_desk.specs.Owed.{weight_calls}
 use Rattle.cg_desk.specs.Turns.{own, told_of, total, waits_of}
 use Rattle.cg_desk.proofs.Called.{phase-kept, removal-kept, syncs-kept, told-append, tried-kept}
 
--- a change of a member that leaves its call waiting
+-- a change of a member that keeps its parked request
 same-at : (b : Bool) (weight : Ticket → ℕ) (change : Member → Member) (m : Member) (ms rest : List Member) → own weight (change m) ≡ own weight m → waits_of weight rest ≡ waits_of weight ms
     → waits_of weight (if b then change m ∷ ms else m ∷ rest) ≡ waits_of weight (m ∷ ms)
 same-at true weight change m ms rest same more =
@@ -64,7 +64,7 @@ pub answer-own : (weight : Ticket → ℕ) (reply : Reply) (o : Option Ticket) �
 answer-own weight reply None = refl
 answer-own weight reply (Some t) = refl
 
--- a call of the member with this id begins to wait, and one that waited before is answered
+-- a request of the member with this id is parked, and the one that was parked before is answered
 wait-at : (b : Bool) (weight : Ticket → ℕ) (now : ℕ) (waits : Waits) (m : Member) (ms rest : List Member) (found : Option Member) (ticket : ℕ) → weight_calls weight (option_to_list (called Any waits)) ≡ ticket
     → is_some (if b then Some m else found) ≡ true
     → (is_some found ≡ true → told_of weight (displaced found) + waits_of weight rest ≡ waits_of weight ms + ticket)
@@ -95,7 +95,7 @@ waiting-kept weight now id waits ticket t new has =
     let kept = wait-kept weight now id waits ticket t.group.members new has in
     omega arith
 
--- who is a member does not change where ids stay
+-- a change that keeps the ids keeps which ids are members
 some-at : (b c : Bool) (m n : Member) (o p : Option Member) → b ≡ c → is_some o ≡ is_some p → is_some (if b then Some m else o) ≡ is_some (if c then Some n else p)
 some-at true true m n o p same more = refl
 some-at false false m n o p same more = more
@@ -158,7 +158,7 @@ new-kept weight now r id ticket g =
     let more = admitted-kept weight now r id ticket r.kind g in
     omega arith
 
--- JOIN of a member that joins again, or that is told the present generation
+-- JOIN of a known member, which joins again or gets the current generation
 pub rejoined-kept : (weight : Ticket → ℕ) (now : ℕ) (id : List ℕ) (ticket : Ticket) (t : Turn) → is_some (find_member id t.group.members) ≡ true → total weight (rejoined now id ticket t) ≡ total weight t + weight ticket
 unfolding rejoined
 rejoined-kept weight now id ticket t has =
@@ -246,7 +246,7 @@ pub or-false : (a b : Bool) → (a || b) ≡ false → (a ≡ false) × (b ≡ f
 or-false true b is = absurd (cc)
 or-false false b is = (refl, is)
 
--- where none has the id, all stay
+-- if no member has the id, all stay
 pub others-kept : (weight : Ticket → ℕ) (id : List ℕ) (ms : List Member) → list_any (is_same id) (ids ms) ≡ false → waits_of weight (filter (λ other. not (has_id id other)) ms) ≡ waits_of weight ms
 others-kept weight id [] none = refl
 others-kept weight id (m ∷ ms) none =

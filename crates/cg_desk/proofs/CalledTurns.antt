@@ -1,4 +1,4 @@
--- A member takes another's place: the call of the one that goes is answered. With it, every turn keeps the calls of its group.
+-- Replacement of a static member: its parked request is answered. With it, every step keeps the requests of its group.
 use Rattle.std.proofs.Common.{◌≡◌, ℕ, ◌+◌, Bool, true, false, not, List, [], ◌∷◌, ◌++◌, map, refl, sym, ap, ◌∙◌, arith}
 use Rattle.std.specs.Prelude.{Option, Some, None, is_some, option_to_list, if◌then◌else◌}
 use Rattle.std.specs.List.{list_any}
@@ -25,11 +25,11 @@ use Rattle.cg_desk.specs.Turns.{TurnsKeepTheirCalls, own, total, waits_of}
 use Rattle.cg_desk.proofs.Called.{gone-kept, ticked-kept, told-append}
 use Rattle.cg_desk.proofs.CalledRequests.{and-true, answer-own, beat-kept, commit-kept, known-kept, leave-kept, new-kept, not-true, or-false, rejoined-kept, sync-kept}
 
--- a new member in the place of the one with this instance
+-- a new member replaces the one with this instance
 abbrev seat : Option (List ℕ) → Member → Member → Member
 seat instance new m = if has_instance instance m then new else m
 
--- where none has the instance, all stay
+-- if no member has the instance, all stay
 stays-at : (given : Option (List ℕ)) (instance : List ℕ) (weight : Ticket → ℕ) (new m : Member) (ms rest : List Member) → list_any (is_same instance) (option_to_list given ++ instances ms) ≡ false
     → (list_any (is_same instance) (instances ms) ≡ false → waits_of weight rest ≡ waits_of weight ms)
     → waits_of weight ((if is_named given instance then new else m) ∷ rest) ≡ waits_of weight (m ∷ ms)
@@ -51,7 +51,7 @@ stays : (instance : List ℕ) (weight : Ticket → ℕ) (new : Member) (ms : Lis
 stays instance weight new [] none = refl
 stays instance weight new (m ∷ ms) none = stays-at m.instance instance weight new m ms (map (seat (Some instance) new) ms) none (stays instance weight new ms)
 
--- no other has the instance of one
+-- no other member has the instance of one
 alone : (given : Option (List ℕ)) (instance : List ℕ) (rest : List (List ℕ)) → are_distinct (option_to_list given ++ rest) ≡ true → is_named given instance ≡ true → list_any (is_same instance) rest ≡ false
 unfolding are_distinct
 alone None instance rest distinct has = absurd (cc)
@@ -64,7 +64,7 @@ unfolding are_distinct
 others None rest distinct = distinct
 others (Some given) rest distinct = (and-true (not (list_any (is_same given) rest)) (are_distinct rest) distinct).1
 
--- the one with the instance goes, and waits no more
+-- the member with the instance is removed, and has no parked request any more
 seat-at : (b : Bool) (weight : Ticket → ℕ) (new old m : Member) (ms rest : List Member) (found : Option Member) → own weight new ≡ 0 → (if b then Some m else found) ≡ Some old
     → (b ≡ true → waits_of weight rest ≡ waits_of weight ms) → (found ≡ Some old → waits_of weight rest + own weight old ≡ waits_of weight ms)
     → waits_of weight ((if b then new else m) ∷ rest) + own weight old ≡ waits_of weight (m ∷ ms)
@@ -116,7 +116,7 @@ seated-found instance new old [] found = absurd (cc)
 seated-found instance new old (m ∷ ms) found =
     found-at (has_instance instance m) new old m (find_instance instance ms) (find_member new.id (map (seat instance new) ms)) found (seated-found instance new old ms)
 
--- JOIN of a member that takes the place of another
+-- JOIN of a member that replaces another
 replaced-kept : (weight : Ticket → ℕ) (now : ℕ) (r : JoinRequest) (id : List ℕ) (old : Member) (g : Group) → are_distinct (instances g.members) ≡ true → find_instance r.instance g.members ≡ Some old
     → total weight (replaced (successor now r id old) old g) ≡ waits_of weight g.members
 unfolding replaced replacing seating new_member

@@ -1,4 +1,4 @@
--- The token that is found for a call.
+-- The token that a search for a ticket finds.
 use Rattle.std.proofs.Common.{◌≡◌, ℕ, Bool, true, false, List, get_or, Some, ap, ◌∙◌, eqb, refl}
 use Rattle.std.specs.Prelude.{◌&&◌}
 use Rattle.std.specs.List.{position}

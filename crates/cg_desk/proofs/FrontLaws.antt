@@ -1,4 +1,4 @@
--- The front of the queue that one frame holds.
+-- The prefix of the queue that fits one frame.
 use Rattle.std.proofs.Common.{◌≡◌, ℕ, zero, suc, ◌+◌, ◌<◌, ◌≤◌, Bool, true, false, List, [], ◌∷◌, length, take, cond, leb, refl, arith}
 use Rattle.std.proofs.lemmas.Bool.{leb-true, leb-false}
 use Rattle.cg_frame.specs.declared.segment.TheConstants.{LARGEST_PAYLOAD_BYTES}
@@ -33,7 +33,7 @@ fitting-fits used [] within = omega arith
 fitting-fits used (c ∷ cs) within =
     step-fits (leb (used + length (command_text c)) LARGEST_PAYLOAD_BYTES) used c cs refl within (λ fits. fitting-fits (used + length (command_text c)) cs fits)
 
--- a front that is longer than what fits does not fit
+-- a prefix that is longer than what fits does not fit
 longer-at : (b : Bool) (used : ℕ) (c : Command) (cs : List Command) (more : ℕ) → leb (used + length (command_text c)) LARGEST_PAYLOAD_BYTES ≡ b
     → (fitting (used + length (command_text c)) cs < more → more ≤ length cs → LARGEST_PAYLOAD_BYTES < (used + length (command_text c)) + text_len (take more cs))
     → cond b (suc (fitting (used + length (command_text c)) cs)) 0 < suc more → more ≤ length cs → LARGEST_PAYLOAD_BYTES < used + text_len (take (suc more) (c ∷ cs))

@@ -1,4 +1,4 @@
--- A text that grows by a command, and when it is full.
+-- A payload that grows by commands, and when it is full.
 use Rattle.std.proofs.Common.{◌≡◌, ℕ, suc, ◌+◌, ◌<◌, ◌≤◌, Bool, true, false, List, [], ◌∷◌, ◌++◌, length, get_or, take, drop, cond, leb, refl, ap, ◌∙◌, subst, arith, length-append}
 use Rattle.std.specs.List.{flat_map}
 use Rattle.std.proofs.lemmas.Bool.{leb-true, leb-false}
@@ -8,7 +8,7 @@ use Rattle.cg_record.specs.declared.command.Command.{Command}
 use Rattle.cg_record.specs.Spelling.{command_text, spelling}
 use Rattle.cg_desk.specs.Fronts.{fitting, in_frame}
 
--- the bytes of commands, without the one of the version
+-- the encoded length of commands, without the byte of the version
 abbrev pub text_len : List Command → ℕ
 text_len commands = length (flat_map command_text commands)
 
@@ -26,7 +26,7 @@ text_len-push (d ∷ cs) c = omega (arith, text_len-push cs c, text_len-cons d c
 pub longer_by : (cs : List Command) (c : Command) → length (spelling (cs ++ c ∷ [])) ≡ length (spelling cs) + length (command_text c)
 longer_by cs c = omega (arith, spelling-len cs, spelling-len (cs ++ c ∷ []), text_len-push cs c)
 
--- a command that does not fit is the first that does not
+-- a command that does not fit ends the prefix that fits
 stops-at : (b : Bool) (n : ℕ) → b ≡ false → cond b (suc n) 0 ≡ 0
 stops-at true n is = absurd (cc)
 stops-at false n is = refl
@@ -40,7 +40,7 @@ unfolding fitting
 no_more used c cs past =
     stops-at (leb (used + length (command_text c)) LARGEST_PAYLOAD_BYTES) (fitting (used + length (command_text c)) cs) (no_leb (used + length (command_text c)) LARGEST_PAYLOAD_BYTES (leb (used + length (command_text c)) LARGEST_PAYLOAD_BYTES) refl past)
 
--- what fits, and then nothing more, is as long as it is
+-- commands that fit, before one that does not, are the whole prefix that fits
 goes-at : (b : Bool) (n m : ℕ) → b ≡ true → n ≡ m → cond b (suc n) 0 ≡ suc m
 goes-at true n m is same = ap suc same
 goes-at false n m is same = absurd (cc)
@@ -74,7 +74,7 @@ full_empty used (c ∷ cs) none = absurd (omega arith)
 pub none_fits : length (spelling []) ≤ LARGEST_PAYLOAD_BYTES
 none_fits = omega (arith, spelling-len [])
 
--- a text that is full has as many of the commands as one frame holds
+-- a full payload has as many of the commands as one frame holds
 pub is_front : (all cs rest : List Command) → all ≡ cs ++ rest → length (spelling cs) ≤ LARGEST_PAYLOAD_BYTES → fitting (length (spelling cs)) rest ≡ 0
     → (take (in_frame all) all ≡ cs) × (drop (in_frame all) all ≡ rest)
 is_front all cs rest is fits full =

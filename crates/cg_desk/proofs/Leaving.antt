@@ -1,4 +1,4 @@
--- Replies that leave, one after the other.
+-- Replies leave in their order.
 use Rattle.std.proofs.Common.{◌≡◌, ℕ, zero, suc, ◌+◌, ◌<◌, ◌≤◌, List, [], ◌∷◌, ◌++◌, length, get_or, map, take, drop, cond, true, false, refl, ap, sym, ◌∙◌, arith, leb, append_assoc, add-one, drop-cons, length-take}
 use Rattle.std.proofs.lemmas.List.{append-nil, get_or-take}
 use Rattle.std.proofs.lemmas.Option.{get_or_from_slice_get, slice_get_within}
@@ -43,19 +43,19 @@ answering-append (r ∷ rs) qs tokens =
     ap (λ out. answering_one r tokens ++ out) (answering-append rs qs (without r.0 tokens))
     ∙ sym (append_assoc (answering_one r tokens) (answering rs (without r.0 tokens)) (answering qs (after_answering rs (without r.0 tokens))))
 
--- the loop has gone as far as the replies that are left tell
+-- the loop has sent the replies before the remaining ones
 pub record Told (rs : List (Ticket × Reply)) (tokens : List ReplyToken) (out : List Outgoing) (qs : List (Ticket × Reply)) (left : List ReplyToken) (more : List Outgoing) : Type 0 where
   pub told : more ++ answering qs left ≡ out ++ answering rs tokens
   pub kept : after_answering qs left ≡ after_answering rs tokens
 
--- nothing is told yet
+-- no reply is sent yet
 pub told_here : (rs : List (Ticket × Reply)) (tokens : List ReplyToken) (out : List Outgoing) → Told rs tokens out rs tokens out
 told_here rs tokens out = record { told = refl; kept = refl }
 
 pub told_then : (rs qs ps : List (Ticket × Reply)) (tokens left last : List ReplyToken) (out more most : List Outgoing) → Told rs tokens out qs left more → Told qs left more ps last most → Told rs tokens out ps last most
 told_then rs qs ps tokens left last out more most a b = record { told = b.told ∙ a.told; kept = b.kept ∙ a.kept }
 
--- the replies in front are told
+-- the first replies are sent
 pub told_many : (items rs qs : List (Ticket × Reply)) (tokens left : List ReplyToken) (out more : List Outgoing) → items ≡ rs ++ qs → left ≡ after_answering rs tokens → more ≡ out ++ answering rs tokens
     → Told items tokens out qs left more
 told_many items rs qs tokens left out more is taken grown = record {
@@ -74,13 +74,13 @@ answering-single r tokens = answering-cons r [] tokens ∙ ap (λ l. answering_o
 after-single : (r : Ticket × Reply) (tokens : List ReplyToken) → after_answering (r ∷ []) tokens ≡ without r.0 tokens
 after-single r tokens = after-cons r [] tokens ∙ after-nil (without r.0 tokens)
 
--- the reply in front is told
+-- the first reply is sent
 pub told_one : (items rs : List (Ticket × Reply)) (r : Ticket × Reply) (tokens left : List ReplyToken) (out more : List Outgoing) → items ≡ r ∷ rs → left ≡ without r.0 tokens → more ≡ out ++ answering_one r tokens
     → Told items tokens out rs left more
 told_one items rs r tokens left out more is taken grown =
     told_many items (r ∷ []) rs tokens left out more is (taken ∙ sym (after-single r tokens)) (grown ∙ ap (λ l. out ++ l) (sym (answering-single r tokens)))
 
--- all are told
+-- all replies are sent
 pub told_out : (rs : List (Ticket × Reply)) (tokens left : List ReplyToken) (out more : List Outgoing) (qs : List (Ticket × Reply)) → qs ≡ [] → Told rs tokens out qs left more → more ≡ out ++ answering rs tokens
 told_out rs tokens left out more qs none told =
     sym (append-nil more) ∙ ap (λ l. more ++ l) (sym (answering-nil left)) ∙ ap (λ l. more ++ answering l left) (sym none) ∙ told.told
@@ -103,7 +103,7 @@ pub still-front : (settled : ℕ) (step : HeldStep) (rest items : List HeldStep)
 still-front settled step rest items is passes =
     ap (still_held settled) is ∙ ap (λ n. drop n (step ∷ rest)) (ready-front settled step rest passes)
 
--- where the front has to wait, nothing leaves
+-- if the first held step has to wait, no reply leaves
 pub ready-none : (settled : ℕ) (step : HeldStep) (items : List HeldStep) → 0 < length items → step ≡ get_or items 0 step → settled < step.need → ready settled items ≡ 0
 ready-none settled step [] some front waits = absurd (omega arith)
 ready-none settled step (s ∷ items) some front waits =
@@ -116,7 +116,7 @@ none-released settled items none = ap (λ n. replies_of (take n items)) none
 pub all-held : (settled : ℕ) (items : List HeldStep) → ready settled items ≡ 0 → still_held settled items ≡ items
 all-held settled items none = ap (λ n. drop n items) none
 
--- the refusals of the calls of more replies
+-- the refusals of two lists of replies
 pub refusals-append : (rs qs : List (Ticket × Reply)) → map refusal (calls_of (rs ++ qs)) ≡ map refusal (calls_of rs) ++ map refusal (calls_of qs)
 refusals-append [] qs = refl
 refusals-append (r ∷ rs) qs = ap (λ l. refusal r.0 ∷ l) (refusals-append rs qs)
@@ -126,7 +126,7 @@ past-end [] i none = omega arith
 past-end (x ∷ xs) zero none = absurd (cc)
 past-end (x ∷ xs) (suc i) none = let rest = past-end xs i none in omega arith
 
--- the calls from a place on, of as many as there are tokens
+-- the parked requests from a position on, at most as many as there are tokens
 pub calls-front : (waiting : List Ticket) (count i : ℕ) (t : Ticket) → i < count → slice_get waiting i ≡ Some t → drop i (take count waiting) ≡ t ∷ drop (i + 1) (take count waiting)
 calls-front waiting count i t within found =
     let there = slice_get_within waiting i t found in
@@ -145,7 +145,7 @@ calls-end waiting count i none =
 pub calls-past : (waiting : List Ticket) (count i : ℕ) → count ≤ i → drop i (take count waiting) ≡ []
 calls-past waiting count i past = let len = length-take count waiting in drop_of_length-le (take count waiting) (omega arith)
 
--- the calls of held replies are refused, then those that wait, then the rest
+-- the requests of held replies are refused, then the parked ones, then the rest
 pub all_refused : (calls waiting : List Ticket) (t0 t1 t2 t3 : List ReplyToken) (out0 out1 out2 out3 : List Outgoing) → out0 ≡ []
     → out1 ≡ out0 ++ answering (map refusal calls) t0 → t1 ≡ after_answering (map refusal calls) t0
     → out2 ≡ out1 ++ answering (map refusal (take (length t1) waiting)) t1 → t2 ≡ after_answering (map refusal (take (length t1) waiting)) t1
@@ -162,7 +162,7 @@ pub front_waits : (settled : ℕ) (items : List HeldStep) (next : HeldStep) → 
 front_waits settled [] next some front = absurd (omega arith)
 front_waits settled (x ∷ xs) next some front = ap (λ (h : HeldStep). nat_lt settled h.need) (sym front)
 
--- where those that are held do not wait with more behind them, they did not before
+-- if held replies do not wait after more were appended, they did not wait before
 pub was_waiting : (settled : ℕ) (items more : List HeldStep) → is_waiting settled (items ++ more) ≡ false → is_waiting settled items ≡ false
 was_waiting settled [] more free = refl
 was_waiting settled (x ∷ xs) more free = free
@@ -171,7 +171,7 @@ waiting-ready : (settled : ℕ) (items : List HeldStep) → is_waiting settled i
 waiting-ready settled [] waits = refl
 waiting-ready settled (x ∷ xs) waits = ap (λ b. cond b (1 + ready settled xs) 0) (lt-leb x.need settled (ltb-true settled x.need waits))
 
--- where the front has to wait, the books stay and nothing leaves
+-- if the first held step has to wait, the desk is unchanged and no reply leaves
 pub nothing_leaves : (b : Books) → is_waiting b.settled b.held ≡ true → letting_go b ≡ (let s : Served = record { books = b; out = [] } in s)
 unfolding letting_go answering after_answering
 nothing_leaves b waits =

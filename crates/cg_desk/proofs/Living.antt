@@ -1,4 +1,4 @@
--- A machine that events make of a loading: its groups stay in order and their members distinct, so requests keep the calls of all groups.
+-- A machine that events make after recovery: its groups stay ordered and its members distinct, so requests are kept.
 use Rattle.std.proofs.Common.{◌≡◌, ℕ, List, [], ◌∷◌, ◌++◌, refl, sym, ap, ◌∙◌, subst, max, Result, Ok, Err}
 use Rattle.cg_names.specs.declared.code.Code.{Code}
 use Rattle.cg_fold.specs.Durable.{State}
@@ -23,7 +23,7 @@ use Rattle.cg_desk.specs.Made.{EventsKeepCalls, IsMade}
 use Rattle.cg_desk.proofs.CalledEvents.{IsSound, request-keeps}
 use Rattle.cg_desk.proofs.CalledEverywhere.{gone-keeps, loaded-idle, tick-keeps}
 
--- the groups stay in order
+-- the groups stay ordered
 
 concluded-ordered : (s : Machine) (ticket : Ticket) (o : Result Turn Code) → InOrder s.groups → InOrder (concluded s ticket o).after.groups
 unfolding concluded

@@ -1,4 +1,4 @@
--- Each call without an answer has one token.
+-- Each pending request has one token.
 use Rattle.std.proofs.Common.{◌≡◌, ℕ, suc, ◌+◌, ◌≤◌, Bool, true, false, not, List, [], ◌∷◌, ◌++◌, length, map, take, drop, cond, refl, ap, sym, ◌∙◌, arith, eq-eqb}
 use Rattle.std.specs.Prelude.{Option, Some, None, is_some, nat_eq, nat_lt, ◌&&◌, if◌then◌else◌}
 use Rattle.std.specs.List.{position, position_or_len}
@@ -26,7 +26,7 @@ use Rattle.cg_desk.specs.declared.outgoing.Outgoing.{Outgoing}
 use Rattle.cg_desk.specs.declared.token.ReplyToken.{ReplyToken}
 use Rattle.cg_desk.proofs.Weights.{one-weight}
 
--- a ticket weighs one, and every other nothing
+-- the weight that is one for this ticket and zero for every other
 abbrev alone : Ticket → Ticket → ℕ
 alone ticket other = cond (nat_eq other.session ticket.session && nat_eq other.number ticket.number) 1 0
 
@@ -61,7 +61,7 @@ found : (ticket : Ticket) (tokens : List ReplyToken) → 1 ≤ weight_of (alone 
 unfolding has_token
 found ticket tokens some = found-at ticket tokens (position (is_for ticket) tokens) refl some
 
--- each of the replies leaves, and the tokens of the rest stay
+-- each of the replies leaves, and the other tokens stay
 record AllLeave (rs : List (Ticket × Reply)) (tokens : List ReplyToken) (rest : (Ticket → ℕ) → ℕ) : Type 0 where
   gone : answering rs tokens ≡ map sent rs
   stay : (weight : Ticket → ℕ) → weight_of weight (after_answering rs tokens) ≡ rest weight
@@ -92,7 +92,7 @@ calls-append : (rs qs : List (Ticket × Reply)) → calls_of (rs ++ qs) ≡ call
 calls-append [] qs = refl
 calls-append (r ∷ rs) qs = ap (λ l. r.0 ∷ l) (calls-append rs qs)
 
--- held replies are those that leave and those that stay
+-- held replies are those that leave and those that stay held
 take-drop : {X : Type 0} (n : ℕ) (xs : List X) → xs ≡ take n xs ++ drop n xs
 take-drop n xs = sym (take-append-drop n xs)
 

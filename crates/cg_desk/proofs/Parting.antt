@@ -1,4 +1,4 @@
--- A session that is closed makes no command.
+-- A closed session makes no command.
 use Rattle.std.proofs.Common.{◌≡◌, ℕ, List, [], ◌∷◌, refl}
 use Rattle.std.specs.List.{flat_map}
 use Rattle.cg_request.specs.declared.event.Event.TheVariants.{Gone}

@@ -26,7 +26,7 @@ use Rattle.cg_desk.specs.declared.outgoing.Outgoing.{Outgoing}
 use Rattle.cg_desk.specs.declared.token.ReplyToken.{ReplyToken}
 use Rattle.cg_desk.proofs.Found.{for_call}
 
--- one token and the rest weigh what all do
+-- one token and the rest weigh as much as all tokens
 taken-weight : (weight : Ticket → ℕ) (tokens : List ReplyToken) (ticket : Ticket) (at : ℕ) → position (is_for ticket) tokens ≡ Some at → weight ticket + weight_of weight (remove tokens at) ≡ weight_of weight tokens
 taken-weight weight tokens ticket at found =
     let none : ReplyToken = record { ticket = ticket } in

@@ -1,4 +1,4 @@
--- Each call without an answer has one token for good, whatever the desk is asked; so no reply waits for a token that is not there.
+-- Each pending request has one token throughout the life of a desk, so each reply that leaves finds its token.
 use Rattle.std.specs.Prelude.{◌≡◌, ◌+◌, ℕ, List, [], ◌∷◌, ◌++◌, map, Option}
 use Rattle.cg_fold.specs.Durable.{State as Durable}
 use Rattle.cg_request.specs.declared.asking.Request.{Request}
@@ -19,7 +19,7 @@ use Rattle.cg_desk.specs.Owed.{IsOwed, sent}
 use Rattle.cg_desk.specs.Tokens.{call_of}
 use Rattle.cg_desk.specs.declared.token.ReplyToken.{ReplyToken}
 
--- events made the machine of a loading, and the tokens stand for the calls without an answer
+-- events made the machine after recovery, and the tokens are those of the pending requests
 pub record IsBalanced (b : Books) : Type 0 where
   pub made : IsMade b.machine
   pub owed : IsOwed b
@@ -29,7 +29,7 @@ IsBalancedAt Loading = Unit {0}
 IsBalancedAt (Failed numbered settled) = Unit {0}
 IsBalancedAt (Serving b) = IsBalanced b
 
--- a desk that has loaded what commands made is balanced, and each of its calls leaves it so
+-- a desk that has just recovered is balanced, and each of its calls keeps it balanced
 pub record DesksStayBalanced : Type 0 where
   pub loaded : (number : ℕ) (durable : Durable) (now : ℕ) → AreRecords durable → IsBalancedAt (Serving (opened number (revive durable now)))
   pub request : (s : State) (r : Request) (token : ReplyToken) (fresh : List ℕ) (now : ℕ) → IsBalancedAt s → IsBalancedAt (request_on s token (asked r (call_of token) fresh) now).after
@@ -39,12 +39,12 @@ pub record DesksStayBalanced : Type 0 where
   pub give_back : (s : State) → IsBalancedAt s → IsBalancedAt (return_to s)
   pub settle : (s : State) (count : ℕ) → IsBalancedAt s → IsBalancedAt (settle_on s count).after
 
--- the replies that leave a step with their calls: all those whose commands are settled
+-- every reply of a step whose commands are settled leaves, with the ticket of its request
 abbrev pub AllLeave : Books → List ReplyToken → Event → ℕ → Type 0
 AllLeave b handed e now = (served b handed e now).out ≡ map sent (released b.settled (stepped b (step b.machine e now) handed).held)
 
--- each reply whose commands are settled finds its call; and a failure refuses the calls of held replies, those that wait, and no
--- others
+-- each reply whose commands are settled finds its request; a failure refuses the requests of held replies, then the
+-- parked ones, and no others
 pub record RepliesFindTheirCalls : Type 0 where
   pub request : (b : Books) (r : Request) (token : ReplyToken) (fresh : List ℕ) (now : ℕ) → IsBalanced b → AllLeave b (token ∷ []) (asked r (call_of token) fresh) now
   pub tick : (b : Books) (now : ℕ) → IsBalanced b → AllLeave b [] Tick now

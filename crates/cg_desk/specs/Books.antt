@@ -1,4 +1,4 @@
--- A desk that serves: what contracts see of it, and what each call does.
+-- What contracts see of a desk that serves, and what each call does.
 use Rattle.std.specs.Prelude.{◌≡◌, ◌+◌, ◌-◌, ◌*◌, ℕ, Bool, List, [], ◌++◌, length, map, take, drop, nat_lt, true, false, Option, Some, None}
 use Rattle.cg_member.specs.declared.effects.Effects.{Effects}
 use Rattle.cg_request.specs.declared.event.Event.{Event}
@@ -21,8 +21,8 @@ use Rattle.cg_desk.specs.declared.held.HeldStep.{HeldStep}
 use Rattle.cg_desk.specs.declared.outgoing.Outgoing.{Outgoing}
 use Rattle.cg_desk.specs.declared.token.ReplyToken.{ReplyToken}
 
--- the machine; the number of the last command, and of the last that is settled; the commands that were never taken; where the
--- batch stands that was taken last; the replies that wait; and the tokens of all calls without an answer
+-- the machine; the numbers of the last command and of the last settled command; the commands that were never taken; the
+-- state of the last batch; the held replies; and the tokens of all pending requests
 pub record Books : Type 0 where
   pub machine : Machine
   pub numbered : ℕ
@@ -32,16 +32,16 @@ pub record Books : Type 0 where
   pub held : List HeldStep
   pub tokens : List ReplyToken
 
--- a desk and the replies that leave it
+-- a desk after a call, and the replies that left in the call
 pub record Served : Type 0 where
   pub books : Books
   pub out : List Outgoing
 
--- fewer command numbers are left than a request may ask for
+-- fewer command numbers are left than a request may use
 abbrev pub is_short : Books → Bool
 is_short b = nat_lt (COMMAND_NUMBER_MAX - b.numbered) (SPARE_NUMBERS + SPARE_NUMBERS_PER_GROUP * length b.machine.groups)
 
--- the commands of a step are numbered, and then its replies are held, with the number of all commands as their need
+-- numbers the commands of a step, then holds its replies, with the number of the last command as their sequence number
 abbrev pub numbering : Books → Effects → Books
 numbering b effects = record b {
   numbered = b.numbered + length effects.commands;
@@ -49,11 +49,11 @@ numbering b effects = record b {
   held = b.held ++ holding (b.numbered + length effects.commands) effects.replies;
 }
 
--- a step of the machine, and the token of the call that asked for it, where there is one
+-- a step of the machine, and the token of the request that it comes from, if there is one
 abbrev pub stepped : Books → Outcome → List ReplyToken → Books
 stepped b o handed = numbering (record b { machine = o.after; tokens = b.tokens ++ handed }) o.effects
 
--- the replies whose commands are settled leave, each with the token of its call
+-- releases the replies whose commands are settled, each with the token of its request
 unfoldable pub letting_go : Books → Served
 letting_go b = record {
   books = record b {
@@ -63,16 +63,16 @@ letting_go b = record {
   out = answering (released b.settled b.held) b.tokens;
 }
 
--- an event is met, and what may leave does
+-- a step of the machine, after which the replies whose commands are settled leave
 unfoldable pub served : Books → List ReplyToken → Event → ℕ → Served
 served b handed event now = letting_go (stepped b (step b.machine event now) handed)
 
--- the batch in flight stands on the disk
+-- the batch in flight, of this many commands, is settled
 unfoldable pub settling : Books → ℕ → Served
 settling b count = letting_go (record b { settled = b.settled + count; course = Idle })
 
--- the calls of held replies are refused in their order, then those that wait, by group and joining order, as many as there are
--- tokens left, and then the rest, which is none where each call has one token
+-- refuses the requests of held replies in their order; then the parked ones, by group and joining order, at most as
+-- many as there are tokens left; then the rest, which is empty if each pending request has one token
 unfoldable pub failing : Books → List Outgoing
 failing b =
     let answered : List (Ticket × Reply) = map refusal (calls_of (replies_of b.held)) in
@@ -80,39 +80,41 @@ failing b =
     let waiting : List (Ticket × Reply) = map refusal (take (length left) (waiting_calls b.machine.groups)) in
     answering answered b.tokens ++ answering waiting left ++ map refused (after_answering waiting left)
 
--- the commands of the next batch, or none: those that were given back, or as many of the queue as one frame holds
+-- the commands of the next batch, if any: those that were given back, or the longest prefix of the queue that fits one
+-- frame
 abbrev pub next_batch : Course → List Command → List Command
 next_batch Idle queue = take (in_frame queue) queue
 next_batch (Away commands) queue = []
 next_batch (Returned commands) queue = commands
 
--- the queue without them
+-- the queue without the commands of the next batch
 abbrev pub queue_after : Course → List Command → List Command
 queue_after Idle queue = drop (in_frame queue) queue
 queue_after (Away commands) queue = queue
 queue_after (Returned commands) queue = queue
 
--- the next batch is taken
+-- takes the next batch
 unfoldable pub taking : Books → Books
 taking b = record b { course = Away (next_batch b.course b.queue); queue = queue_after b.course b.queue }
 
--- what a take gives, and leaves: no batch exactly where no command waits, since each command fits a frame
+-- the result of a take, and the desk after it: no batch exactly if no command is queued, since each command fits a
+-- frame
 abbrev pub IsTake : Books → Option Batch → Books → Type 0
 IsTake b None c = (b.course ≡ Idle) × (b.queue ≡ []) × (c ≡ b)
 IsTake b (Some batch) c = (batch.first ≡ b.settled + 1) × (batch.commands ≡ next_batch b.course b.queue) × (c ≡ taking b)
 
--- the batch in flight is given back
+-- takes back the batch in flight
 abbrev pub returning : Books → Books
 returning b = record b { course = Returned (unsettled b.course) }
 
--- it is the batch in flight: its commands, under their numbers
+-- the batch is the one in flight: the same commands, under the same numbers
 abbrev pub IsFlying : Course → ℕ → Batch → Type 0
 IsFlying course settled batch = (course ≡ Away batch.commands) × (batch.first ≡ settled + 1)
 
 abbrev pub IsInFlight : Books → Batch → Type 0
 IsInFlight b batch = IsFlying b.course b.settled batch
 
--- a fault is the reason why a batch is refused; memory can be wanting for the batch in flight alone
+-- the fault is the reason why a batch is refused; out of memory is reported only for the batch in flight
 abbrev pub IsWhy : Course → ℕ → Batch → SettleFault → Type 0
 IsWhy course settled batch Memory = IsFlying course settled batch
 IsWhy course settled batch NotInFlight = is_away course ≡ false

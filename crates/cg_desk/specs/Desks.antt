@@ -19,7 +19,7 @@ use Rattle.cg_desk.specs.declared.fault.SettleFault.TheVariants.{NotInFlight}
 use Rattle.cg_desk.specs.declared.outgoing.Outgoing.{Outgoing}
 use Rattle.cg_desk.specs.declared.token.ReplyToken.{ReplyToken}
 
--- nothing is loaded yet; it serves; or it failed, with the number of the last command and of the last that was settled
+-- loading; serving; or failed, with the numbers of the last command and of the last settled command
 pub data State : Type 0 where
   Loading : State
   Serving : (b : Books) → State
@@ -33,7 +33,7 @@ phase_state (phase.Failed numbered settled) = Failed numbered settled
 abbrev pub state_of : Desk → State
 state_of desk = phase_state desk.phase
 
--- a desk at the end of a call, and the replies that left in it
+-- a desk after a call, and the replies that left in the call
 pub record Answer : Type 0 where
   pub after : State
   pub out : List Outgoing
@@ -41,16 +41,16 @@ pub record Answer : Type 0 where
 abbrev pub serving : Served → Answer
 serving s = record { after = Serving s.books; out = s.out }
 
--- nothing happens
+-- a call that changes nothing and releases no reply
 abbrev pub at_rest : State → Answer
 at_rest state = record { after = state; out = [] }
 
--- a desk that has just loaded the state that so many commands make
+-- a desk that has just recovered the state that this many commands make
 abbrev pub opened : ℕ → Machine → Books
 opened number machine = record { machine = machine; numbered = number; settled = number; queue = []; course = Idle; held = []; tokens = [] }
 
--- a request, as an event of the call of this token: refused by 14 while loading, by 15 after a failure and where command
--- numbers are short
+-- a request, as an event with the ticket of this token: refused with 14 while loading, and with 15 after a failure or
+-- if command numbers are short
 unfoldable pub request_on : State → ReplyToken → Event → ℕ → Answer
 request_on Loading token e now = record { after = Loading; out = answer (call_of token) (Refused CoordinatorLoadInProgress) ∷ [] }
 request_on (Failed n s) token e now = record { after = Failed n s; out = answer (call_of token) (Refused CoordinatorNotAvailable) ∷ [] }
@@ -59,19 +59,19 @@ request_on (Serving b) token e now =
     then record { after = Serving b; out = answer (call_of token) (Refused CoordinatorNotAvailable) ∷ [] }
     else serving (served b (token ∷ []) e now)
 
--- a Tick; it does nothing where command numbers are short
+-- a Tick; it does nothing if command numbers are short
 unfoldable pub tick_on : State → ℕ → Answer
 tick_on Loading now = at_rest Loading
 tick_on (Failed n s) now = at_rest (Failed n s)
 tick_on (Serving b) now = if is_short b then at_rest (Serving b) else serving (served b [] event.Tick now)
 
--- a session that is closed
+-- a session is closed
 unfoldable pub gone_on : State → ℕ → ℕ → Answer
 gone_on Loading session now = at_rest Loading
 gone_on (Failed n s) session now = at_rest (Failed n s)
 gone_on (Serving b) session now = serving (served b [] (event.Gone session) now)
 
--- what a take gives, and leaves; nothing is taken but from a desk that serves
+-- the result of a take, and the desk after it; only a desk that serves has a batch
 abbrev pub IsTakenFrom : State → Option Batch → State → Type 0
 IsTakenFrom Loading o after = (o ≡ None) × (after ≡ Loading)
 IsTakenFrom (Failed n s) o after = (o ≡ None) × (after ≡ Failed n s)
@@ -85,31 +85,31 @@ is_out Loading = false
 is_out (Failed n s) = false
 is_out (Serving b) = is_away b.course
 
--- it is this one
+-- this batch is in flight
 abbrev pub IsOut : State → Batch → Type 0
 IsOut Loading batch = ⊥
 IsOut (Failed n s) batch = ⊥
 IsOut (Serving b) batch = IsInFlight b batch
 
--- why a batch is refused
+-- the reason why a batch is refused
 abbrev pub IsReasonAt : State → Batch → SettleFault → Type 0
 IsReasonAt Loading batch fault = fault ≡ NotInFlight
 IsReasonAt (Failed n s) batch fault = fault ≡ NotInFlight
 IsReasonAt (Serving b) batch fault = IsReason b batch fault
 
--- the batch in flight is given back
+-- takes back the batch in flight
 abbrev pub return_to : State → State
 return_to Loading = Loading
 return_to (Failed n s) = Failed n s
 return_to (Serving b) = Serving (returning b)
 
--- the batch in flight, of so many commands, stands on the disk
+-- the batch in flight, of this many commands, is settled
 unfoldable pub settle_on : State → ℕ → Answer
 settle_on Loading count = at_rest Loading
 settle_on (Failed n s) count = at_rest (Failed n s)
 settle_on (Serving b) count = serving (settling b count)
 
--- what a failure refuses
+-- the replies of a failure
 unfoldable pub failing_on : State → List Outgoing
 failing_on Loading = []
 failing_on (Failed n s) = []
@@ -121,7 +121,7 @@ numbered_of Loading = 0
 numbered_of (Failed n s) = n
 numbered_of (Serving b) = b.numbered
 
--- the number of the last command that is settled
+-- the number of the last settled command
 abbrev pub settled_of : State → ℕ
 settled_of Loading = 0
 settled_of (Failed n s) = s

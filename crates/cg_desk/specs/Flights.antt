@@ -1,28 +1,28 @@
--- Where the batch stands that was taken last.
+-- The state of the batch that was taken last.
 use Rattle.std.specs.Prelude.{ℕ, Bool, true, false, List, []}
 use Rattle.cg_record.specs.declared.command.Command.{Command}
 use Rattle.cg_desk.specs.declared.flight.Flight.{Flight}
 use Rattle.cg_desk.specs.declared.flight.Flight.TheVariants as flight
 
--- no batch is out; one with these commands is in flight; or one with these was given back
+-- no batch is unsettled; one with these commands is in flight; or one with these commands was given back
 pub data Course : Type 0 where
   Idle : Course
   Away : (commands : List Command) → Course
   Returned : (commands : List Command) → Course
 
--- where it stands
+-- the state that contracts see
 abbrev pub course_of : Flight → Course
 course_of flight.Idle = Idle
 course_of (flight.Away commands) = Away commands
 course_of (flight.Returned batch) = Returned batch.commands
 
--- its commands, where it is not settled
+-- the commands of a batch that is not settled
 abbrev pub unsettled : Course → List Command
 unsettled Idle = []
 unsettled (Away commands) = commands
 unsettled (Returned commands) = commands
 
--- the number of the first command of a batch that was given back
+-- the number of the first command of a batch that was given back; otherwise the next number
 abbrev pub first_of : Flight → ℕ → ℕ
 first_of flight.Idle next = next
 first_of (flight.Away commands) next = next

@@ -1,10 +1,10 @@
--- The commands that go to the disk together: as many from the front on as fit one frame.
+-- The commands of one batch: the longest prefix of the queue that fits one frame.
 use Rattle.std.specs.Prelude.{◌≡◌, ◌≤◌, ℕ, suc, ◌+◌, List, [], ◌∷◌, length, nat_le, if◌then◌else◌, Option, Some, None}
 use Rattle.cg_frame.specs.declared.segment.TheConstants.{LARGEST_PAYLOAD_BYTES}
 use Rattle.cg_record.specs.declared.command.Command.{Command}
 use Rattle.cg_record.specs.Spelling.{command_text, spelling}
 
--- how many of the commands fit behind the bytes that are used of a payload
+-- how many of the commands fit a payload after its first `used` bytes
 unfoldable pub fitting : ℕ → List Command → ℕ
 fitting used [] = 0
 fitting used (c ∷ cs) =
@@ -12,19 +12,19 @@ fitting used (c ∷ cs) =
     then suc (fitting (used + length (command_text c)) cs)
     else 0
 
--- how many of the commands one frame holds: its text begins with one byte
+-- how many of the commands fit one frame: a payload begins with one byte for the version
 abbrev pub in_frame : List Command → ℕ
 in_frame commands = fitting 1 commands
 
--- the commands of a text, where there is one
+-- the commands of a payload; without a payload, no commands
 abbrev pub spelled : Option (List Command) → List Command
 spelled None = []
 spelled (Some commands) = commands
 
--- one frame holds the text
+-- one frame holds the payload
 abbrev pub FitsFrame : Option (List Command) → Type 0
 FitsFrame text = length (spelling (spelled text)) ≤ LARGEST_PAYLOAD_BYTES
 
--- of the commands that come behind the text none fits the frame any more
+-- the first of the commands after the payload does not fit the frame, or there is none
 abbrev pub IsFull : Option (List Command) → List Command → Type 0
 IsFull text behind = fitting (length (spelling (spelled text))) behind ≡ 0

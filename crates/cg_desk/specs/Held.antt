@@ -5,16 +5,16 @@ use Rattle.cg_member.specs.declared.reply.Reply.{Reply}
 use Rattle.cg_request.specs.declared.ticket.Ticket.{Ticket}
 use Rattle.cg_desk.specs.declared.held.HeldStep.{HeldStep}
 
--- the replies of a step as they are held; a step without replies is not
+-- the replies of a step as they are held; a step without replies adds nothing
 abbrev pub holding : ℕ → List (Ticket × Reply) → List HeldStep
 holding need [] = []
 holding need (r ∷ rs) = record { need = need; replies = r ∷ rs } ∷ []
 
--- how many of the held steps, from the front on, have all the commands that they need
+-- the length of the longest prefix of the held steps whose commands are settled
 abbrev pub ready : ℕ → List HeldStep → ℕ
 ready settled held = prefix_len (λ (step : HeldStep). nat_le step.need settled) held
 
--- the first held step wants a command, and so all that are held wait
+-- the first held step depends on a command that is not settled, so all held replies wait
 abbrev pub is_waiting : ℕ → List HeldStep → Bool
 is_waiting settled [] = false
 is_waiting settled (step ∷ steps) = nat_lt settled step.need
@@ -27,10 +27,10 @@ replies_of held = flat_map (λ (step : HeldStep). step.replies) held
 abbrev pub released : ℕ → List HeldStep → List (Ticket × Reply)
 released settled held = replies_of (take (ready settled held) held)
 
--- the steps that are still held
+-- the steps that stay held
 abbrev pub still_held : ℕ → List HeldStep → List HeldStep
 still_held settled held = drop (ready settled held) held
 
--- the calls that replies go to
+-- the tickets of replies
 abbrev pub calls_of : List (Ticket × Reply) → List Ticket
 calls_of replies = map (λ (r : Ticket × Reply). r.0) replies

@@ -13,23 +13,24 @@ use Rattle.cg_desk.specs.Tokens.{call_of}
 use Rattle.cg_desk.specs.declared.outgoing.Outgoing.{Outgoing}
 use Rattle.cg_desk.specs.declared.token.ReplyToken.{ReplyToken}
 
--- No call is forgotten, and none is answered twice.
+-- Each request gets exactly one reply.
 
--- the tokens of calls without an answer
+-- the tokens of pending requests
 abbrev pub tokens_of : State → List ReplyToken
 tokens_of Loading = []
 tokens_of (Failed numbered settled) = []
 tokens_of (Serving b) = b.tokens
 
--- what the tickets of tokens, or of replies that left, weigh together
+-- the sum of the weights of the tickets of tokens
 abbrev pub weight_of : (Ticket → ℕ) → List ReplyToken → ℕ
 weight_of weight tokens = sum_by (λ (token : ReplyToken). weight (call_of token)) tokens
 
 abbrev pub weight_out : (Ticket → ℕ) → List Outgoing → ℕ
 weight_out weight out = sum_by (λ (outgoing : Outgoing). weight (ticket_of outgoing)) out
 
--- counted with repeats, the tickets without an answer before a call and of the token that it took are those of the replies that
--- left in it and those without an answer after it: whatever each ticket weighs, both weigh the same
+-- counted with repeats, the tickets that were pending before a call and the one that it took are those of the replies
+-- that left in it and those that are pending after it; "counted with repeats" says that both sums agree for every
+-- weight of tickets
 abbrev pub AreKept : List ReplyToken → List ReplyToken → List Outgoing → List ReplyToken → Type 0
 AreKept before taken out after =
     (weight : Ticket → ℕ) → weight_out weight out + weight_of weight after ≡ weight_of weight before + weight_of weight taken
@@ -43,7 +44,7 @@ pub record TicketsAreKept : Type 0 where
 
 -- A batch is as long as one frame allows.
 
--- so many commands are the longest front whose text one frame holds
+-- this many commands are the longest prefix whose encoding fits one frame
 pub record IsLongestFront (count : ℕ) (commands : List Command) : Type 0 where
   pub within : count ≤ length commands
   pub fits : 1 ≤ count → length (spelling (take count commands)) ≤ LARGEST_PAYLOAD_BYTES

@@ -1,4 +1,4 @@
--- Every event keeps the calls of all groups, and a loading begins without any.
+-- Every event keeps the pending requests of all groups, and recovery parks none.
 use Rattle.std.specs.Prelude.{◌≡◌, ℕ, List, [], ◌∷◌}
 use Rattle.cg_fold.specs.Durable.{State}
 use Rattle.cg_request.specs.declared.asking.Request.{Request}
@@ -14,7 +14,7 @@ use Rattle.cg_desk.specs.Owed.{KeepsCalls}
 use Rattle.cg_desk.specs.Tokens.{call_of}
 use Rattle.cg_desk.specs.declared.token.ReplyToken.{ReplyToken}
 
--- what these events make of a loading
+-- the machine that these events make after recovery
 pub record IsMade (s : Machine) : Type 0 where
   pub state : State
   pub began : ℕ

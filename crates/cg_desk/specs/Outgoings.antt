@@ -1,16 +1,16 @@
--- What a reply that leaves is seen as.
+-- What contracts see of a reply that leaves.
 use Rattle.cg_member.specs.declared.reply.Reply.{Reply}
 use Rattle.cg_request.specs.declared.ticket.Ticket.{Ticket}
 use Rattle.cg_desk.specs.declared.outgoing.Outgoing.{Outgoing}
 
--- the call that it answers
+-- the ticket of its request
 abbrev pub ticket_of : Outgoing → Ticket
 ticket_of outgoing = outgoing.ticket
 
--- what it says
+-- the reply
 abbrev pub reply_of : Outgoing → Reply
 reply_of outgoing = outgoing.reply
 
--- this reply to this call
+-- this reply to the request with this ticket
 abbrev pub answer : Ticket → Reply → Outgoing
 answer ticket reply = record { ticket = ticket; reply = reply }

@@ -1,4 +1,4 @@
--- Each call without an answer has one token: either a reply is held for it, or it waits in the machine.
+-- Each pending request has one token: its reply is held, or it is parked in the machine.
 use Rattle.std.specs.Prelude.{◌≡◌, ◌+◌, ℕ, List}
 use Rattle.std.specs.List.{sum_by}
 use Rattle.cg_request.specs.declared.event.Event.{Event}
@@ -14,17 +14,17 @@ use Rattle.cg_desk.specs.Outgoings.{answer}
 use Rattle.cg_desk.specs.declared.outgoing.Outgoing.{Outgoing}
 use Rattle.cg_desk.specs.declared.token.ReplyToken.{ReplyToken}
 
--- what the tickets of calls weigh together
+-- the sum of the weights of tickets
 abbrev pub weight_calls : (Ticket → ℕ) → List Ticket → ℕ
 weight_calls weight calls = sum_by weight calls
 
--- counted with repeats, the tokens stand for the calls of held replies and for those that wait
+-- counted with repeats, the tokens are those of the requests with a held reply and of the parked requests
 abbrev pub IsOwed : Books → Type 0
 IsOwed b =
     (weight : Ticket → ℕ) → weight_of weight b.tokens ≡ weight_calls weight (calls_of (replies_of b.held)) + weight_calls weight (waiting_calls b.machine.groups)
 
--- counted with repeats, the calls that waited before an event and the one that asked for it are those that it answers and those
--- that wait after it
+-- counted with repeats, the requests that were parked before an event and the one that it comes from are those that it
+-- answers and those that are parked after it
 abbrev pub KeepsCalls : Machine → List ReplyToken → Event → ℕ → Type 0
 KeepsCalls s handed e now =
     (weight : Ticket → ℕ) → weight_calls weight (calls_of (step s e now).effects.replies) + weight_calls weight (waiting_calls (step s e now).after.groups) ≡ weight_calls weight (waiting_calls s.groups) + weight_of weight handed

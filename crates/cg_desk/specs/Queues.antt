@@ -1,4 +1,4 @@
--- Commands that have their numbers and wait for the disk.
+-- What contracts see of the numbered commands that wait for the disk.
 use Rattle.std.specs.Prelude.{◌<◌, ◌++◌, List}
 use Rattle.std.specs.List.{flat_map}
 use Rattle.std.specs.VecDeque.{deque_capacity, deque_len}

@@ -1,4 +1,4 @@
--- The answers that rest on no command.
+-- The codes of a reply that depends on no command.
 use Rattle.std.specs.Prelude.{Bool, true, false}
 use Rattle.cg_names.specs.declared.code.Code.{Code}
 use Rattle.cg_names.specs.declared.code.Code.TheVariants.{UnknownServerError, CoordinatorLoadInProgress, CoordinatorNotAvailable, InvalidRequest}

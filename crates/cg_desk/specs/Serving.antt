@@ -20,8 +20,8 @@ books s = record {
   tokens = s.tokens.items;
 }
 
--- there is room for what a step makes, for as many more tokens, and in a list for every reply that may leave: for none where
--- those that are held wait
+-- there is room for what a step makes, for this many more tokens, and in the list for every reply that may leave; none
+-- may leave if held replies have to wait
 pub record HasRoom (s : Serving) (more : ℕ) (out : Vec Outgoing Global) : Type 0 where
   pub tokens : deque_len s.tokens + more ≤ deque_capacity s.tokens
   pub leaving : deque_len s.tokens + more ≤ vec_capacity s.leaving

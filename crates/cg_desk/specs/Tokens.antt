@@ -1,26 +1,26 @@
--- What a token stands for, and which tokens there are.
+-- The tickets of tokens, and looking for a token by its ticket.
 use Rattle.std.specs.Prelude.{ℕ, Bool, ◌&&◌, nat_eq, List, Option, Some, None, is_some}
 use Rattle.std.specs.List.{position, remove}
 use Rattle.cg_request.specs.declared.ticket.Ticket.{Ticket}
 use Rattle.cg_desk.specs.declared.token.ReplyToken.{ReplyToken}
 
--- the call that has no answer yet
+-- the ticket of the pending request
 abbrev pub call_of : ReplyToken → Ticket
 call_of token = token.ticket
 
--- a token stands for this call
+-- the token has this ticket
 abbrev pub is_for : Ticket → ReplyToken → Bool
 is_for ticket token = nat_eq (call_of token).session ticket.session && nat_eq (call_of token).number ticket.number
 
--- one of the tokens stands for this call
+-- one of the tokens has this ticket
 unfoldable pub has_token : Ticket → List ReplyToken → Bool
 has_token ticket tokens = is_some (position (is_for ticket) tokens)
 
--- the tokens without the one at this place, where one is given
+-- the tokens without the one at this position, if one is given
 abbrev pub without_place : Option ℕ → List ReplyToken → List ReplyToken
 without_place None tokens = tokens
 without_place (Some at) tokens = remove tokens at
 
--- the tokens without the first that stands for this call
+-- the tokens without the first one that has this ticket
 unfoldable pub without : Ticket → List ReplyToken → List ReplyToken
 without ticket tokens = without_place (position (is_for ticket) tokens) tokens

@@ -1,4 +1,4 @@
--- What a turn of one group does to the calls of its members: each is answered, or goes on waiting.
+-- What a step of one group does to the requests of its members: each is answered, or stays parked.
 use Rattle.std.specs.Prelude.{◌≡◌, ◌+◌, ℕ, true, List, Option, Some, is_some}
 use Rattle.std.specs.List.{sum_by}
 use Rattle.std.specs.Option.{option_to_list}
@@ -26,7 +26,7 @@ use Rattle.cg_member.specs.Waiting.{called}
 use Rattle.cg_desk.specs.Held.{calls_of}
 use Rattle.cg_desk.specs.Owed.{weight_calls}
 
--- what the ticket of a member's waiting call weighs, those of members together, and those that replies go to
+-- the weight of a member's parked request; below, the sums over members and over replies
 abbrev pub own : (Ticket → ℕ) → Member → ℕ
 own weight m = weight_calls weight (option_to_list (called Any m.waits))
 
@@ -36,19 +36,20 @@ waits_of weight members = sum_by (own weight) members
 abbrev pub told_of : (Ticket → ℕ) → List (Ticket × Reply) → ℕ
 told_of weight replies = weight_calls weight (calls_of replies)
 
--- what a turn has answered, and what waits in its group
+-- the weight of what a step has answered and of what is parked in its group
 abbrev pub total : (Ticket → ℕ) → Turn → ℕ
 total weight t = told_of weight t.replies + waits_of weight t.group.members
 
--- counted with repeats, what a turn has answered and what waits after it is what waited before it and the call that asks
+-- counted with repeats, what a step has answered and what is parked after it are what was parked before it and the
+-- request that it comes from
 abbrev pub TakesIn : Group → Ticket → Turn → Type 0
 TakesIn g ticket t = (weight : Ticket → ℕ) → total weight t ≡ waits_of weight g.members + weight ticket
 
--- the same of an event that no call asks for
+-- the same for an event that comes from no request
 abbrev pub TakesNone : Group → Turn → Type 0
 TakesNone g t = (weight : Ticket → ℕ) → total weight t ≡ waits_of weight g.members
 
--- every turn of a group keeps its calls
+-- every step of a group keeps its requests
 pub record TurnsKeepTheirCalls : Type 0 where
   pub first_join : (now : ℕ) (r : JoinRequest) (id : List ℕ) (ticket : Ticket) (g : Group) → TakesIn g ticket (join_new now r id ticket g)
   pub join : (now : ℕ) (r : JoinRequest) (id : List ℕ) (ticket : Ticket) (m : Member) (g : Group) → is_some (find_member id g.members) ≡ true → TakesIn g ticket (join_known now r id ticket m g)

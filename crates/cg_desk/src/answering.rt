@@ -1,4 +1,4 @@
-//! Replies that leave, each with the token of its call.
+//! Releasing replies: each reply leaves with the token of its request.
 ghost use Rattle.std.specs.Prelude.{◌≡◌, ◌≤◌, ◌+◌, ◌++◌, false, true, map, vec_len, vec_capacity, length, option_to_list};
 ghost use Rattle.std.specs.List.{position};
 ghost use Rattle.std.specs.Option.{MatchOption};
@@ -20,8 +20,8 @@ fn place_of(tokens: &VecDeque<ReplyToken>, ticket: Ticket) -> Option<usize>
     tokens.iter().position(|token| token.ticket() == ticket)
 }
 
-// Takes out the first token of a call, where there is one. Goes through the tokens before it, and moves these or those behind
-// it, whichever are fewer. Takes no memory.
+// Removes the first token with this ticket, if there is one. Searches from the front, then moves the tokens before or
+// after it, whichever are fewer. Does not allocate.
 #[tactic(auto, unfolding(crate::specs::Tokens::has_token, crate::specs::Tokens::without), using(crate::proofs::Found::for_call))]
 fn take_token(tokens: &mut VecDeque<ReplyToken>, ticket: Ticket) -> Option<ReplyToken>
     ensures cases { MatchOption result
@@ -34,7 +34,8 @@ fn take_token(tokens: &mut VecDeque<ReplyToken>, ticket: Ticket) -> Option<Reply
     tokens.remove(at)
 }
 
-/// Answers the call of this ticket by a reply that rests on all commands up to the number `need`, where the call has a token.
+/// Appends the reply to this ticket's request, if the request has a token. The reply depends on all commands up to
+/// number `need`. Linear in the tokens.
 pub fn answer_call(
     tokens: &mut VecDeque<ReplyToken>,
     call: (Ticket, Reply),
@@ -57,7 +58,6 @@ pub fn answer_call(
     }
 }
 
-// Answers calls by replies in a vector.
 fn answer_many(
     tokens: &mut VecDeque<ReplyToken>,
     replies: Vec<(Ticket, Reply)>,
@@ -78,7 +78,7 @@ fn answer_many(
     }
 }
 
-/// Answers calls by their replies, in their order.
+/// Appends the replies in their order, each with the token of its request. Linear in the replies times the tokens.
 #[tactic(auto, unfolding(crate::specs::Answering::answering, crate::specs::Answering::after_answering))]
 pub fn answer_calls(
     tokens: &mut VecDeque<ReplyToken>,
@@ -101,7 +101,7 @@ pub fn answer_calls(
     }
 }
 
-/// Refuses the call of this ticket, where it has a token: the disk failed, or the desk is closed.
+/// Appends a refusal with code 15 to this ticket's request, if the request has a token. Linear in the tokens.
 pub fn refuse_call(tokens: &mut VecDeque<ReplyToken>, ticket: Ticket, out: &mut Vec<Outgoing>)
     requires { vec_len out.old + deque_len tokens.old ≤ vec_capacity out.old }
     ensures out { out.new.items ≡ out.old.items ++ answering_one (refusal ticket) tokens.old.items }

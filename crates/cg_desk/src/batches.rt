@@ -1,4 +1,4 @@
-//! Batches on their way: taken, given back, settled.
+//! Taking, giving back and settling batches.
 ghost use Rattle.std.specs.Prelude.{◌≡◌, ◌≢◌, ◌<◌, ◌+◌, ◌^◌, ◌↔◌, ℕ, ⊤, [], true, false, length, take, drop, IfOk, IfErr, OnOk, OnErr, IsTrue, MatchOption, MatchResult};
 ghost use Rattle.cg_desk.specs.Flights.{Away, Returned, course_of, first_of, is_away, is_returned};
 ghost use Rattle.cg_desk.specs.Fronts.{in_frame};
@@ -16,8 +16,8 @@ use cg_store::{Batch, Commands, Receipt};
 use std::alloc::AllocError;
 use std::mem;
 
-// Takes as many commands from the front of the queue as one frame holds: their batch, and they again, to know it by. Want of memory
-// takes none.
+// Removes the longest prefix of the queue that fits one frame. Returns it as a batch, and a copy that recognises the
+// batch when it comes back. If an allocation fails, the queue is unchanged.
 fn take_front(queue: &mut Queue, settled: u64) -> Result<Option<(Batch, Commands)>, AllocError>
     requires { settled + length (commands_of queue.old) < 2 ^ 64 }
     ensures none { IfOk result (λ o. MatchOption o (commands_of queue.old ≡ []) (λ t. ⊤)) }
@@ -34,14 +34,13 @@ fn take_front(queue: &mut Queue, settled: u64) -> Result<Option<(Batch, Commands
     }
 }
 
-// Whether a number comes right behind another.
 fn is_next(before: u64, number: u64) -> bool
     ensures { IsTrue result ↔ (number ≡ before + 1) }
 {
     before < number && number - before == 1
 }
 
-// Whether the batch is the one in flight, and why not.
+// Checks that the batch is the one in flight, and reports why it is not.
 fn check(flight: &Flight, settled: u64, batch: &Batch) -> Result<(), SettleFault>
     ensures cases { MatchResult result
         (λ u. IsFlying (course_of flight.now) settled batch.now)
@@ -60,7 +59,7 @@ fn check(flight: &Flight, settled: u64, batch: &Batch) -> Result<(), SettleFault
     }
 }
 
-// The commands of a batch that was given back.
+// Returns a copy of the commands of the batch that was given back, if there is one.
 fn returned_commands(flight: &Flight) -> Result<Option<Commands>, AllocError>
     ensures { IfOk result (λ o. MatchOption o
         (is_returned (course_of flight.now) ≡ false)
@@ -75,7 +74,7 @@ fn returned_commands(flight: &Flight) -> Result<Option<Commands>, AllocError>
     }
 }
 
-// The batch that was given back leaves again.
+// Returns the batch that was given back, and puts it in flight again.
 fn leave_again(flight: &mut Flight, commands: Commands) -> Batch
     requires { course_of flight.old ≡ Returned commands }
     ensures batch { result.commands ≡ commands }
@@ -94,7 +93,6 @@ impl Serving {
     ghost use Rattle.cg_desk.specs.Serving.{books};
     ghost use Rattle.cg_store.specs.Receipts.{batch_of as batch_in};
 
-    // Takes a batch where none is in flight.
     fn take_next(&mut self) -> Result<Option<Batch>, AllocError>
         requires { is_away (books self.old).course ≡ false }
         ensures ok { IfOk result (λ o. IsTake (books self.old) o (books self.new)) }
@@ -103,7 +101,7 @@ impl Serving {
         if let Some(commands) = returned_commands(&self.flight)? {
             return Ok(Some(leave_again(&mut self.flight, commands)));
         }
-        // A look at the number, for its range.
+        // Reads the number because the prover takes its range from the type.
         let _numbered = self.numbered;
         match take_front(&mut self.queue, self.settled)? {
             None => Ok(None),
@@ -115,7 +113,8 @@ impl Serving {
         }
     }
 
-    /// Takes the next commands: the batch that was given back, or as many as one frame holds. None where nothing waits.
+    /// Returns the next batch: the one that was given back, or the longest prefix of the queue that fits one frame.
+    /// Returns `None` if no command is queued. Linear in the bytes of the batch.
     pub fn take_batch(&mut self) -> Result<Option<Batch>, TakeFault>
         ensures ok { IfOk result (λ o. IsTake (books self.old) o (books self.new)) }
         ensures in_flight { is_away (books self.old).course ≡ true → result ≡ Err TakeFault.InFlight }
@@ -131,7 +130,7 @@ impl Serving {
         }
     }
 
-    /// Takes the batch in flight back: the next take gives it again. Takes no memory.
+    /// Takes the batch in flight back; the next take returns it again. Does not allocate.
     pub fn give_back(&mut self, batch: Batch) -> Result<(), (SettleFault, Batch)>
         ensures ok { OnOk result (IsInFlight (books self.old) batch × (books self.new ≡ returning (books self.old))) }
         ensures err { IfErr result (λ e. (e.1 ≡ batch) × (e.0 ≢ SettleFault.Memory) × IsReason (books self.old) batch e.0) }
@@ -146,7 +145,8 @@ impl Serving {
         }
     }
 
-    /// The batch in flight stands on the disk: what waited for its commands leaves. After a refusal nothing has changed.
+    /// Counts the commands of the batch in flight as settled, and returns the replies that waited for them. After an
+    /// error nothing has changed.
     #[tactic(auto, unfolding(crate::specs::Books::letting_go, crate::specs::Books::settling))]
     pub fn settle(&mut self, receipt: Receipt) -> Result<Vec<Outgoing>, (SettleFault, Receipt)>
         ensures ok { IfOk result (λ out. IsInFlight (books self.old) (batch_in receipt)

@@ -1,5 +1,7 @@
-/// With fewer command numbers left than this, and `SPARE_NUMBERS_PER_GROUP` for each group that is held, the desk takes no request.
+//! The command numbers that a desk keeps in reserve.
+/// Command numbers in reserve: with fewer left than this plus `SPARE_NUMBERS_PER_GROUP` for each loaded group, the desk
+/// refuses requests with 15.
 pub const SPARE_NUMBERS: u64 = 4_294_967_296;
 
-/// How many command numbers each group that is held adds to `SPARE_NUMBERS`.
+/// Command numbers that each loaded group adds to `SPARE_NUMBERS`.
 pub const SPARE_NUMBERS_PER_GROUP: u64 = 64;

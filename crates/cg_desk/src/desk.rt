@@ -1,4 +1,4 @@
-//! The desk.
+//! The desk by its phase: loading, serving, failed.
 ghost use Rattle.std.specs.Prelude.{◌≡◌, ◌≢◌, ◌↔◌, ◌∷◌, [], true, false, length, IsTrue, IsOk, IfOk, IfErr, OnOk, OnErr};
 ghost use Rattle.cg_desk.specs.Outgoings.{answer};
 ghost use Rattle.cg_desk.specs.Refusals.{is_refusal};
@@ -16,22 +16,22 @@ use std::alloc::{AllocError, Global};
 use std::mem;
 use uuid::Uuid;
 
-/// What a desk is doing.
+/// Phase of a desk.
 pub enum Phase {
     /// Nothing is loaded yet.
     Loading,
     Serving(Serving),
-    /// The disk failed: the numbers of the last command and of the last that was settled.
+    /// The disk failed. Holds the number of the last command and the number of the last settled command.
     Failed(u64, u64),
 }
 
-/// Who is owed an answer, and when it may leave: a machine behind a queue of numbered commands.
+/// A group machine with numbered commands that wait for the disk and replies that wait for these commands.
 pub struct Desk {
     pub(crate) alloc: Global,
     pub(crate) phase: Phase,
 }
 
-// The answer to a call that the desk refuses by itself.
+// Returns the refusal of a request that never reaches the machine.
 fn refused_at_once(
     alloc: Global,
     token: ReplyToken,
@@ -58,7 +58,7 @@ impl Desk {
     ghost use Rattle.cg_desk.specs.Desks.{IsOut, IsReasonAt, IsTakenFrom, failing_on, gone_on, is_out, numbered_of, opened, request_on, return_to, settle_on, settled_of, state_of, tick_on};
     ghost use Rattle.cg_desk.specs.Desks as state;
 
-    /// A desk to which nothing is loaded yet: it answers each request by 14. Takes no memory.
+    /// Creates a desk with nothing loaded, which refuses each request with 14. Does not allocate.
     pub fn loading(alloc: Global) -> Result<Self, AllocError>
         ensures ok { IsOk result }
         ensures state { IfOk result (λ desk. state_of desk ≡ state.Loading) }
@@ -69,7 +69,7 @@ impl Desk {
         })
     }
 
-    /// Begins to serve: so many commands were loaded, and this is what they make. Want of memory gives the state back.
+    /// Begins to serve the state that the first `number` commands make. If an allocation fails, returns the state.
     pub fn loaded(
         &mut self,
         number: u64,
@@ -85,7 +85,8 @@ impl Desk {
         let serving = Serving::new(self.alloc, groups, number);
         match mem::replace(&mut self.phase, Phase::Serving(serving)) {
             Phase::Loading => {}
-            // Neither of these is loading, so they do not come; but a desk that serves cannot be let go.
+            // The precondition rules out both phases. A serving desk has tokens, which cannot be dropped, so `fail`
+            // spends them.
             Phase::Failed(_, _) => {}
             Phase::Serving(before) => {
                 let _ = before.fail();
@@ -101,7 +102,7 @@ impl Desk {
         matches!(&self.phase, Phase::Loading)
     }
 
-    /// The number of the last command.
+    /// Returns the number of the last command.
     pub fn numbered(&self) -> u64
         ensures { result ≡ numbered_of (state_of self.now) }
     {
@@ -112,7 +113,7 @@ impl Desk {
         }
     }
 
-    /// The number of the last command that is settled.
+    /// Returns the number of the last settled command.
     pub fn settled(&self) -> u64
         ensures { result ≡ settled_of (state_of self.now) }
     {
@@ -123,8 +124,8 @@ impl Desk {
         }
     }
 
-    /// A request of the call of this token: the replies that leave now, be it to this call or to others. It goes through all
-    /// calls without an answer. Want of memory gives the token back, and nothing has changed.
+    /// Handles a request. Returns the replies that leave now, which may belong to other requests. Linear in the pending
+    /// requests. If an allocation fails, returns the token, and nothing has changed.
     #[tactic(auto, unfolding(crate::specs::Desks::request_on))]
     pub fn request(
         &mut self,
@@ -152,7 +153,8 @@ impl Desk {
         }
     }
 
-    /// Time has gone by: the replies that leave now. After want of memory nothing has changed.
+    /// Runs the time-dependent rules for the moment `now`. Returns the replies that leave now. If an allocation fails,
+    /// nothing has changed.
     #[tactic(auto, unfolding(crate::specs::Desks::tick_on))]
     pub fn tick(&mut self, now: Moment) -> Result<Vec<Outgoing>, AllocError>
         ensures ok { IfOk result
@@ -171,7 +173,7 @@ impl Desk {
         }
     }
 
-    /// A session is closed: the replies that leave now. After want of memory nothing has changed.
+    /// Handles a closed session. Returns the replies that leave now. If an allocation fails, nothing has changed.
     #[tactic(auto, unfolding(crate::specs::Desks::gone_on))]
     pub fn gone(&mut self, session: u64, now: Moment) -> Result<Vec<Outgoing>, AllocError>
         ensures ok { IfOk result
@@ -185,8 +187,9 @@ impl Desk {
         }
     }
 
-    /// Takes the next commands, for the store: the batch that was given back, or as many as one frame holds. None where no
-    /// command waits, and where the desk does not serve. After a refusal nothing has changed.
+    /// Returns the next batch for the store: the one that was given back, or the longest prefix of the queue that fits
+    /// one frame. Returns `None` if no command is queued or the desk is not serving. Linear in the bytes of the batch.
+    /// After an error nothing has changed.
     pub fn take_batch(&mut self) -> Result<Option<Batch>, TakeFault>
         ensures ok { IfOk result (λ o. IsTakenFrom (state_of self.old) o (state_of self.new)) }
         ensures in_flight { is_out (state_of self.old) ≡ true → result ≡ Err TakeFault.InFlight }
@@ -200,8 +203,8 @@ impl Desk {
         }
     }
 
-    /// Takes the batch in flight back, since the store was full: the next take gives it again. Takes no memory; after a refusal
-    /// nothing has changed.
+    /// Takes back the batch in flight that the store had no room for; the next take returns it again. Does not
+    /// allocate. After an error nothing has changed.
     pub fn give_back(&mut self, batch: Batch) -> Result<(), (SettleFault, Batch)>
         ensures ok { OnOk result (IsOut (state_of self.old) batch) }
         ensures state { OnOk result (state_of self.new ≡ return_to (state_of self.old)) }
@@ -215,7 +218,9 @@ impl Desk {
         }
     }
 
-    /// The batch in flight stands on the disk: the replies that leave now. After a refusal nothing has changed.
+    /// Counts the batch in flight as settled, since the receipt shows that it is durable. Returns the replies that
+    /// leave now. Linear in the replies that leave times the pending requests before each. After an error nothing has
+    /// changed.
     #[tactic(auto, unfolding(crate::specs::Desks::settle_on))]
     pub fn settle(&mut self, receipt: Receipt) -> Result<Vec<Outgoing>, (SettleFault, Receipt)>
         ensures ok { OnOk result (IsOut (state_of self.old) (batch_of receipt)) }
@@ -231,9 +236,9 @@ impl Desk {
         }
     }
 
-    /// The disk failed: refuses every call without an answer by 15, those of held replies in their order, then those that wait,
-    /// by group and joining order. From now on the desk answers every request so. Takes no memory; a second failure gives
-    /// nothing.
+    /// Handles a device failure. Refuses every pending request with 15: first those with a held reply, in the order of
+    /// the replies, then the parked ones, by group and joining order. From then on the desk refuses every request with
+    /// 15. Does not allocate. A second failure returns no replies.
     #[tactic(auto, unfolding(crate::specs::Desks::failing_on))]
     pub fn fail(&mut self) -> Vec<Outgoing>
         ensures out { result.items ≡ failing_on (state_of self.old) }
@@ -247,7 +252,7 @@ impl Desk {
         }
     }
 
-    /// Ends the desk: refuses every call without an answer as `fail` does.
+    /// Ends the desk: refuses every pending request as `fail` does. Does not allocate.
     #[tactic(auto, unfolding(crate::specs::Desks::failing_on))]
     pub fn close(self) -> Vec<Outgoing>
         ensures { result.items ≡ failing_on (state_of self) }

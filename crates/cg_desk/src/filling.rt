@@ -1,4 +1,4 @@
-//! The text of the next batch: as many commands as one frame holds.
+//! The payload of the next batch: the longest prefix of the queue that fits one frame.
 ghost use Rattle.std.specs.Prelude.{◌≡◌, ◌≤◌, ◌<◌, ◌+◌, ◌++◌, ◌∷◌, [], true, false, length, if◌then◌else◌, IfOk, OnOk, OnErr};
 ghost use Rattle.cg_frame.specs.declared.segment.TheConstants.{LARGEST_PAYLOAD_BYTES};
 ghost use Rattle.cg_record.specs.Spelling.{command_text, spelling};
@@ -10,7 +10,7 @@ use cg_store::Commands;
 use std::alloc::{AllocError, Global};
 use std::collections::VecDeque;
 
-// Puts a command behind the text, where the frame has room for both.
+// Appends an encoded command to the payload if one frame holds both. Returns whether it did.
 fn put_behind(
     text: &mut Commands,
     room: &mut Vec<u8>,
@@ -30,7 +30,8 @@ fn put_behind(
     Ok(true)
 }
 
-/// Puts a command behind the text, which is begun where there is none; false: the frame has no room for both.
+/// Appends an encoded command to the payload if one frame holds both; without a payload, begins one. Returns whether it
+/// did. If an allocation fails, the payload has the same commands as before.
 pub fn spell(
     alloc: Global,
     text: &mut Option<Commands>,
@@ -55,7 +56,8 @@ pub fn spell(
     }
 }
 
-/// Puts as many commands behind the text as the frame has room for. Want of memory leaves the rest as they are.
+/// Moves commands from the queue into the payload until the next one does not fit the frame. If an allocation fails,
+/// the remaining commands stay queued.
 pub fn spell_front(
     alloc: Global,
     text: &mut Option<Commands>,

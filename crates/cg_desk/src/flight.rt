@@ -1,12 +1,13 @@
+//! The state of the batch that was taken last.
 use cg_store::{Batch, Commands};
 
-/// Where the batch stands that was taken last.
+/// State of the batch that was taken last.
 #[derive(Debug, Drop)]
 pub enum Flight {
-    /// There is none that is not settled.
+    /// No batch is unsettled.
     Idle,
-    /// It was taken: these are its commands, to know it again.
+    /// The batch is in flight. Holds a copy of its commands, which recognises it when it comes back.
     Away(Commands),
-    /// It was given back.
+    /// The batch was given back.
     Returned(Batch),
 }

@@ -1,4 +1,4 @@
-//! Replies that wait for their commands.
+//! Replies that are held until the commands they depend on are settled.
 ghost use Rattle.std.specs.Prelude.{◌≡◌, ◌≤◌, ◌<◌, ◌+◌, ◌++◌, vec_len, vec_capacity};
 ghost use Rattle.std.specs.VecDeque.{deque_capacity, deque_len};
 ghost use Rattle.cg_desk.specs.Answering.{after_answering, answering};
@@ -11,7 +11,7 @@ use crate::token::ReplyToken;
 use cg_group::{Few, Reply, Ticket};
 use std::collections::VecDeque;
 
-/// The replies of one step, in their order. They may leave once the command of the number `need` is settled.
+/// Replies of one step, in their order. They may leave once the command numbered `need` is settled.
 #[derive(Debug, Drop)]
 pub struct HeldStep {
     pub need: u64,
@@ -21,7 +21,7 @@ pub struct HeldStep {
 impl HeldStep {
     ghost use Rattle.cg_desk.specs.Held.{holding, is_waiting, released, still_held};
 
-    /// Holds the replies of a step; a step without replies is not held.
+    /// Holds the replies of a step. A step without replies adds nothing.
     pub fn hold(held: &mut VecDeque<HeldStep>, need: u64, replies: Few<(Ticket, Reply)>)
         requires { deque_len held.old < deque_capacity held.old }
         ensures { held.new.items ≡ held.old.items ++ holding need replies }
@@ -31,7 +31,7 @@ impl HeldStep {
         }
     }
 
-    /// Whether the replies in front wait for a command behind the number `settled`, so that no reply may leave.
+    /// Returns whether the first held replies depend on a command after number `settled`. If so, no reply may leave.
     #[tactic(auto, using(crate::proofs::Leaving::front_waits))]
     pub fn are_waiting(held: &VecDeque<HeldStep>, settled: u64) -> bool
         ensures { result ≡ is_waiting settled held.now.items }
@@ -42,7 +42,8 @@ impl HeldStep {
         }
     }
 
-    /// Lets the replies whose commands are settled leave, in the order in which they were made, up to the first whose are not.
+    /// Releases the held replies whose commands are settled, in the order in which they were made, and stops at the
+    /// first step that has to wait.
     pub fn release(
         held: &mut VecDeque<HeldStep>,
         tokens: &mut VecDeque<ReplyToken>,

@@ -1,7 +1,7 @@
-//! The desk: who is owed an answer, and when an answer may leave.
-//! A request is met by the machine of `cg_group`; the commands that it makes are numbered and wait for the disk, and its replies
-//! wait for them. Each call that has no answer has a token here, which can only be spent. Stands on `cg_group` and on the
-//! batches of `cg_store`.
+//! The desk numbers the commands of the group machine (`cg_group`), hands them to the store (`cg_store`) in batches,
+//! and
+//! holds each reply until all commands that were numbered before it are settled. Every pending request has a token,
+//! which cannot be dropped and can be spent once.
 #![tactic(auto)]
 
 mod answering;

@@ -1,9 +1,9 @@
-//! Replies that leave.
+//! Replies that leave the desk.
 ghost use Rattle.std.specs.Prelude.{◌≡◌};
 
 use cg_group::{Reply, Ticket};
 
-/// A reply on its way to the call of its ticket. Only a token that is spent makes one.
+/// A reply that leaves, with the ticket of its request. Only a spent token makes one.
 #[derive(Debug, Drop)]
 pub struct Outgoing {
     ticket: Ticket,
@@ -19,21 +19,21 @@ impl Outgoing {
         Outgoing { ticket, reply }
     }
 
-    /// The call that it answers.
+    /// Returns the ticket of the request.
     pub fn ticket(&self) -> Ticket
         ensures { result ≡ ticket_of self.now }
     {
         self.ticket
     }
 
-    /// The reply.
+    /// Returns the reply.
     pub fn reply(&self) -> &Reply
         ensures { result.now ≡ reply_of self.now }
     {
         &self.reply
     }
 
-    /// The reply, taken out.
+    /// Returns the reply and drops the ticket.
     pub fn into_reply(self) -> Reply
         ensures { result ≡ reply_of self }
     {

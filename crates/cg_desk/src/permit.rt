@@ -1,7 +1,8 @@
-//! Leave to answer.
+//! Permission to release replies.
 ghost use Rattle.std.specs.Prelude.{◌≡◌};
 
-/// Leave to let replies go whose need is at most its front. Only a desk makes one, and none leaves it.
+/// Permission to release the replies whose sequence number is at most `front`. Only a desk makes one, and it stays
+/// inside the desk.
 #[derive(Clone, Copy, Debug)]
 pub struct Permit {
     front: u64,
@@ -10,14 +11,14 @@ pub struct Permit {
 impl Permit {
     ghost use Rattle.cg_desk.specs.Permits.{front_of};
 
-    /// Leave up to the number of the last command that is settled.
+    /// Creates a permit for the replies that depend on commands up to number `settled`.
     pub(crate) fn new(settled: u64) -> Self
         ensures { front_of result ≡ settled }
     {
         Permit { front: settled }
     }
 
-    /// The greatest need of a reply that may go.
+    /// Returns the greatest sequence number of a reply that may leave.
     pub(crate) fn front(&self) -> u64
         ensures { result ≡ front_of self.now }
     {

@@ -1,4 +1,4 @@
-//! Commands that have their numbers and wait for the disk.
+//! Numbered commands that wait for the disk.
 ghost use Rattle.std.specs.Prelude.{◌≡◌, ◌≤◌, ◌<◌, ◌+◌, ◌++◌, ⊤, [], true, false, length, take, drop, IfOk, OnOk, OnErr, MatchOption};
 ghost use Rattle.std.specs.List.{flat_map};
 ghost use Rattle.std.specs.VecDeque.{deque_capacity, deque_len};
@@ -13,22 +13,22 @@ use std::alloc::{AllocError, Global};
 use std::collections::VecDeque;
 use std::mem;
 
-/// Commands in the order of their numbers: first the text of the next batch, behind it commands one by one, and behind these the
-/// lists that steps made. A command that a step made alone goes into the text at once, while nothing else waits behind that: its
-/// fields are let go then. A list waits as a whole until a batch is taken, so that a step needs room for one list, whatever it
-/// makes.
+/// Queued commands in the order of their numbers: the encoded payload of the next batch, then single commands, then the
+/// lists that steps made. If only the payload is queued, a command that a step made alone is encoded at once and
+/// dropped. A list waits as a whole until a batch is taken, so a step needs room for one list only, whatever its
+/// length.
 #[derive(Debug, Drop)]
 pub struct Queue {
     alloc: Global,
     pub text: Option<Commands>,
-    // The bytes in which a command is spelled.
+    // Scratch buffer in which a command is encoded.
     room: Vec<u8>,
     pub front: VecDeque<Command>,
     pub lists: VecDeque<Few<Command>>,
     ghost fits: { FitsFrame text },
 }
 
-// Puts commands last, in room that was kept for them.
+// Appends commands in reserved room.
 fn put_last(front: &mut VecDeque<Command>, commands: Few<Command>)
     requires { deque_len front.old + length commands ≤ deque_capacity front.old }
     ensures { front.new.items ≡ front.old.items ++ commands }
@@ -42,7 +42,7 @@ fn put_last(front: &mut VecDeque<Command>, commands: Few<Command>)
     }
 }
 
-// Puts a list last, where there are commands in it.
+// Appends a list in reserved room, unless it is empty.
 fn put_list(lists: &mut VecDeque<Few<Command>>, commands: Few<Command>)
     requires { deque_len lists.old < deque_capacity lists.old }
     ensures { flat_map (λ l. l) lists.new.items ≡ flat_map (λ l. l) lists.old.items ++ commands }
@@ -55,7 +55,7 @@ fn put_list(lists: &mut VecDeque<Few<Command>>, commands: Few<Command>)
 impl Queue {
     ghost use Rattle.cg_desk.specs.Queues.{commands_of, has_room};
 
-    /// No commands. Takes no memory.
+    /// Creates an empty queue. Does not allocate.
     #[tactic(auto, using(crate::proofs::FullTexts::none_fits))]
     pub fn new(alloc: Global) -> Self
         ensures { commands_of result ≡ [] }
@@ -69,7 +69,7 @@ impl Queue {
         }
     }
 
-    /// Keeps room for the commands of one more step.
+    /// Reserves room for the commands of one more step.
     pub fn reserve(&mut self) -> Result<(), AllocError>
         ensures commands { commands_of self.new ≡ commands_of self.old }
         ensures ok { OnOk result (has_room self.new) }
@@ -78,7 +78,8 @@ impl Queue {
         Ok(())
     }
 
-    // Spells a command that a step made alone, where nothing waits behind the text; whether it did.
+    // Encodes the only command of a step into the payload if nothing else is queued after the payload. Returns whether
+    // it did.
     fn spell_alone(&mut self, commands: &Few<Command>) -> bool
         ensures spelled { result ≡ true → commands_of self.new ≡ commands_of self.old ++ commands.now }
         ensures kept { result ≡ false → commands_of self.new ≡ commands_of self.old }
@@ -96,7 +97,8 @@ impl Queue {
         }
     }
 
-    /// Puts the commands of a step last, in the room that was kept.
+    /// Appends the commands of a step, in reserved room. Does not fail: a command that cannot be encoded stays queued
+    /// as it is.
     pub fn put(&mut self, commands: Few<Command>)
         requires { has_room self.old }
         ensures { commands_of self.new ≡ commands_of self.old ++ commands }
@@ -106,7 +108,7 @@ impl Queue {
         }
     }
 
-    // Takes the lists apart, so that every command stands in front. Want of memory leaves the rest as lists.
+    // Moves the commands out of their lists into `front`. If an allocation fails, the remaining lists stay queued.
     fn gather(&mut self) -> Result<(), AllocError>
         ensures commands { commands_of self.new ≡ commands_of self.old }
         ensures ok { OnOk result (self.new.lists.items ≡ []) }
@@ -121,7 +123,8 @@ impl Queue {
         Ok(())
     }
 
-    // Makes the text as long as one frame holds. Want of memory leaves the rest as it waits.
+    // Fills the payload until the next command does not fit the frame. If an allocation fails, the remaining commands
+    // stay queued.
     fn fill(&mut self) -> Result<(), AllocError>
         ensures commands { commands_of self.new ≡ commands_of self.old }
         ensures lists { OnOk result (self.new.lists.items ≡ []) }
@@ -132,8 +135,8 @@ impl Queue {
         spell_front(self.alloc, &mut self.text, &mut self.room, &mut self.front)
     }
 
-    /// Takes as many commands from the front as one frame holds, twice: to go, and to be known by. None where nothing waits.
-    /// Want of memory takes none.
+    /// Removes the longest prefix that fits one frame. Returns it and a copy of it, or `None` if nothing is queued. If
+    /// an allocation fails, the queue has the same commands as before. Linear in the bytes of the batch.
     pub fn take(&mut self) -> Result<Option<(Commands, Commands)>, AllocError>
         ensures none { IfOk result (λ o. MatchOption o (commands_of self.old ≡ []) (λ t. IsBatch t.0)) }
         ensures taken { IfOk result (λ o. MatchOption o ⊤ (λ t. (t.0 ≡ take (in_frame (commands_of self.old)) (commands_of self.old)) × (t.1 ≡ t.0))) }

@@ -1,4 +1,4 @@
-//! Calls that are refused all at once: the disk failed, or the desk is closed.
+//! Refusing every pending request, after a device failure or when the desk closes.
 ghost use Rattle.std.specs.Prelude.{◌≡◌, ◌≤◌, ◌+◌, ◌++◌, [], length, map, take, vec_len, vec_capacity};
 ghost use Rattle.std.specs.VecDeque.{deque_len};
 ghost use Rattle.cg_desk.specs.Answering.{after_answering, answering, answering_one, refusal, refused};
@@ -14,7 +14,6 @@ use cg_group::{Few, Groups, Items, Reply, Ticket};
 use cg_names::Code;
 use std::collections::VecDeque;
 
-// Refuses the call of a reply that was held, in place of the reply.
 fn refuse_reply(tokens: &mut VecDeque<ReplyToken>, held: (Ticket, Reply), out: &mut Vec<Outgoing>)
     requires { vec_len out.old + deque_len tokens.old ≤ vec_capacity out.old }
     ensures out { out.new.items ≡ out.old.items ++ answering_one (refusal held.0) tokens.old.items }
@@ -26,7 +25,6 @@ fn refuse_reply(tokens: &mut VecDeque<ReplyToken>, held: (Ticket, Reply), out: &
     refuse_call(tokens, ticket, out);
 }
 
-// Refuses the calls of replies in a vector.
 fn refuse_many(
     tokens: &mut VecDeque<ReplyToken>,
     replies: Vec<(Ticket, Reply)>,
@@ -43,7 +41,6 @@ fn refuse_many(
     }
 }
 
-// Refuses the calls of replies that were held.
 #[tactic(auto, unfolding(crate::specs::Answering::answering, crate::specs::Answering::after_answering))]
 fn refuse_calls(
     tokens: &mut VecDeque<ReplyToken>,
@@ -62,7 +59,7 @@ fn refuse_calls(
     }
 }
 
-/// Refuses the call of each held reply in its order, in place of the reply.
+/// Refuses the request of each held reply, in the order of the replies.
 pub fn refuse_held(
     tokens: &mut VecDeque<ReplyToken>,
     held: &mut VecDeque<HeldStep>,
@@ -80,7 +77,8 @@ pub fn refuse_held(
     }
 }
 
-/// Refuses the calls that wait in the machine, by group and joining order, as many as there are tokens.
+/// Refuses the requests that are parked in the machine, by group and joining order, at most as many as there are
+/// tokens. Each one costs a pass over the groups.
 pub fn refuse_waiting(tokens: &mut VecDeque<ReplyToken>, groups: &Groups, out: &mut Vec<Outgoing>)
     requires { vec_len out.old + deque_len tokens.old ≤ vec_capacity out.old }
     ensures out { out.new.items ≡ out.old.items ++ answering (map refusal (take (length tokens.old.items) (waiting_calls groups.now.groups))) tokens.old.items }
@@ -96,7 +94,7 @@ pub fn refuse_waiting(tokens: &mut VecDeque<ReplyToken>, groups: &Groups, out: &
     }
 }
 
-/// Refuses the calls of the tokens that are left, in their order.
+/// Refuses the requests of the remaining tokens, in their order.
 pub fn refuse_rest(tokens: &mut VecDeque<ReplyToken>, out: &mut Vec<Outgoing>)
     requires { vec_len out.old + deque_len tokens.old ≤ vec_capacity out.old }
     ensures out { out.new.items ≡ out.old.items ++ map refused tokens.old.items }

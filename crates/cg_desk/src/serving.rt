@@ -1,4 +1,4 @@
-//! A desk that serves.
+//! A desk that serves: steps of the machine, their commands and their replies.
 ghost use Rattle.std.specs.Prelude.{◌≡◌, ◌≤◌, ◌<◌, ◌+◌, ◌^◌, ◌∷◌, [], false, true, length, vec_len, vec_capacity, IfOk, IfErr, OnOk, OnErr, MatchOption, MatchResult};
 ghost use Rattle.std.specs.VecDeque.{deque_len};
 ghost use Rattle.cg_desk.specs.Flights.{course_of, first_of, is_away, unsettled};
@@ -19,22 +19,22 @@ use std::alloc::{AllocError, Global};
 use std::collections::VecDeque;
 use uuid::Uuid;
 
-/// A machine, the commands that it made, and the calls that it owes an answer.
+/// A group machine, its unsettled commands, and the tokens of its pending requests.
 pub struct Serving {
     pub alloc: Global,
     pub groups: Groups,
-    /// The number of the last command.
+    /// Number of the last command.
     pub numbered: u64,
-    /// The number of the last command that is settled.
+    /// Number of the last settled command.
     pub settled: u64,
-    /// The commands that were never taken.
+    /// Commands that were never taken in a batch.
     pub queue: Queue,
     pub flight: Flight,
-    /// The replies that wait for their commands.
+    /// Replies that wait for their commands.
     pub held: VecDeque<HeldStep>,
-    /// The tokens of all calls that have no answer yet: a reply is held for them, or they wait in the machine.
+    /// Tokens of all pending requests: their replies are held, or they are parked in the machine.
     pub tokens: VecDeque<ReplyToken>,
-    /// The list that a failure answers, with room for every token.
+    /// Empty list with room for every token: a failure returns its refusals in it without allocating.
     pub leaving: Vec<Outgoing>,
     ghost counted: { settled + length (unsettled (course_of flight)) + length (commands_of queue) ≡ numbered },
     ghost first: { first_of flight (settled + 1) ≡ settled + 1 },
@@ -50,7 +50,8 @@ impl Serving {
     ghost use Rattle.cg_desk.specs.Serving.{HasRoom, books};
     ghost use Rattle.cg_desk.specs.Tokens.{call_of};
 
-    /// A desk after a loading: it has numbered as many commands as were loaded, and owes nothing. Takes no memory.
+    /// Creates a desk after recovery, with `number` commands numbered and settled and no pending request. Does not
+    /// allocate.
     pub fn new(alloc: Global, groups: Groups, number: u64) -> Self
         ensures { books result ≡ record { machine = groups; numbered = number; settled = number; queue = []; course = course_of Flight.Idle; held = []; tokens = [] } }
     {
@@ -67,7 +68,7 @@ impl Serving {
         }
     }
 
-    /// Whether fewer command numbers are left than a request may ask for.
+    /// Returns whether fewer command numbers are left than a request may use.
     pub fn is_short(&self) -> bool
         ensures { result ≡ is_short (books self.now) }
     {
@@ -76,9 +77,9 @@ impl Serving {
         left < per_groups.saturating_add(SPARE_NUMBERS)
     }
 
-    // Keeps room for all that a step makes, and makes the list of the replies that may leave. Where those that are held wait, none
-    // does, and the list takes no memory. Else it has room for a reply to every call without an answer, since how many leave is
-    // known only after the step.
+    // Reserves room for whatever a step makes, and returns the list for the replies that leave. The list has room for a
+    // reply to every pending request, since how many leave is known only after the step. If held replies have to wait,
+    // none leaves, and the list does not allocate.
     fn reserve(&mut self, more: usize) -> Result<Vec<Outgoing>, AllocError>
         requires { more ≤ 1 }
         ensures books { books self.new ≡ books self.old }
@@ -95,7 +96,7 @@ impl Serving {
         Vec::with_capacity(self.alloc, tokens)
     }
 
-    // Lets the replies go whose commands are settled.
+    // Releases the replies whose commands are settled.
     #[tactic(auto, unfolding(crate::specs::Books::letting_go))]
     fn let_go(&mut self, out: Vec<Outgoing>) -> Vec<Outgoing>
         requires empty { out.items ≡ [] }
@@ -111,7 +112,7 @@ impl Serving {
         out
     }
 
-    // Numbers the commands that a step made, holds its replies, and lets those go whose commands are settled.
+    // Numbers the commands of a step, holds its replies, and releases those whose commands are settled.
     #[tactic(auto, using(crate::proofs::Leaving::was_waiting))]
     fn finish(&mut self, effects: Effects, out: Vec<Outgoing>) -> Vec<Outgoing>
         requires room { HasRoom self.old 0 out }
@@ -125,7 +126,7 @@ impl Serving {
         self.let_go(out)
     }
 
-    /// A request. Want of memory gives the token back, and nothing has changed.
+    /// Handles a request. If an allocation fails, returns the token, and nothing has changed.
     #[tactic(auto, unfolding(crate::specs::Books::served))]
     pub fn ask(
         &mut self,
@@ -154,7 +155,7 @@ impl Serving {
         }
     }
 
-    /// Time has gone by. After want of memory nothing has changed.
+    /// Runs the time-dependent rules. If an allocation fails, nothing has changed.
     #[tactic(auto, unfolding(crate::specs::Books::served))]
     pub fn tick(&mut self, now: Moment) -> Result<Vec<Outgoing>, AllocError>
         requires { is_short (books self.old) ≡ false }
@@ -167,7 +168,7 @@ impl Serving {
         Ok(self.finish(effects, out))
     }
 
-    /// A session is closed. After want of memory nothing has changed.
+    /// Handles a closed session. If an allocation fails, nothing has changed.
     #[tactic(auto, unfolding(crate::specs::Books::served))]
     pub fn gone(&mut self, session: u64, now: Moment) -> Result<Vec<Outgoing>, AllocError>
         ensures ok { IfOk result
@@ -175,14 +176,14 @@ impl Serving {
         ensures err { OnErr result (books self.new ≡ books self.old) }
     {
         let out = self.reserve(0)?;
-        // A look at the number, for its range.
+        // Reads the number because the prover takes its range from the type.
         let _numbered = self.numbered;
         let effects = self.groups.step(Event::Gone(session), now)?;
         Ok(self.finish(effects, out))
     }
 
-    /// Refuses every call without an answer: those of held replies in their order, then those that wait, by group and joining
-    /// order. Takes no memory.
+    /// Refuses every pending request: first those with a held reply, in the order of the replies, then the parked ones,
+    /// by group and joining order. Does not allocate.
     #[tactic(auto, unfolding(crate::specs::Books::failing))]
     pub fn fail(self) -> Vec<Outgoing>
         ensures { result.items ≡ failing (books self) }

@@ -1,4 +1,4 @@
-//! Calls of a desk that no script makes: batches that come back, of this desk and of another; a token that is refused.
+//! Uses of a desk that no script can make: a foreign batch, a batch given back, and a token that is refused directly.
 use crate::{Desk, ReplyToken, SettleFault};
 use cg_fold::Durable;
 use cg_group::{CommitEntry, CommitRequest, Commits, Listed, Reply, Request, Ticket};
@@ -27,7 +27,7 @@ fn a_refused_token_answers_its_call(rt: HostRuntime) {
     );
 }
 
-// `COMMIT g -1 - - t:0:offset:x`
+// Makes `COMMIT g -1 - - t:0:offset:x`.
 fn commit(alloc: Global, offset: u64) -> Result<Request, Fail> {
     let entries = vec![in alloc;
         CommitEntry {
@@ -46,7 +46,7 @@ fn commit(alloc: Global, offset: u64) -> Result<Request, Fail> {
     }))
 }
 
-// A desk that serves, without a command.
+// Makes a serving desk without commands.
 fn serving(alloc: Global) -> Result<Desk, Fail> {
     let mut desk = Desk::loading(alloc)?;
     match desk.loaded(0, Durable::new(alloc), Moment::from_millis(0)) {
@@ -58,7 +58,7 @@ fn serving(alloc: Global) -> Result<Desk, Fail> {
     }
 }
 
-// A commit of this offset, whose reply has to wait.
+// Sends a commit of this offset, whose reply is held.
 fn ask(alloc: Global, desk: &mut Desk, offset: u64) -> Result<(), Fail> {
     let request = commit(alloc, offset)?;
     let zero = Moment::from_millis(0);
@@ -72,7 +72,7 @@ fn ask(alloc: Global, desk: &mut Desk, offset: u64) -> Result<(), Fail> {
     }
 }
 
-// The batch that is taken after a commit of this offset.
+// Sends a commit of this offset and takes a batch.
 fn taken_after(alloc: Global, desk: &mut Desk, offset: u64) -> Result<Batch, Fail> {
     ask(alloc, desk, offset)?;
     let batch = desk.take_batch()?.ok_or("nothing waits")?;
@@ -87,7 +87,8 @@ fn refused(desk: &mut Desk, batch: Batch) -> Result<(SettleFault, Batch), Fail> 
     }
 }
 
-// Another desk's batch has the same numbers and is refused; the desk's own is taken again as it was, though more would fit.
+// A batch of another desk has the same numbers and is refused. The desk's own batch is taken again unchanged, though a
+// later command would fit too.
 fn batches_come_back(
     rt: &impl Abort,
     alloc: Global,

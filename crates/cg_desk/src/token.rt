@@ -1,4 +1,4 @@
-//! The right, and the duty, to answer a call.
+//! The obligation to answer one request.
 ghost use Rattle.std.specs.Prelude.{◌≡◌, ◌≤◌, IsTrue};
 ghost use Rattle.cg_desk.specs.Outgoings.{answer};
 ghost use Rattle.cg_desk.specs.Permits.{front_of};
@@ -9,7 +9,7 @@ use crate::permit::Permit;
 use cg_group::{Reply, Ticket};
 use cg_names::Code;
 
-/// Stands for one call that has no answer yet. It cannot be let go: it must be spent, and can be spent once.
+/// Obligation to answer one pending request. A token cannot be dropped and can be spent once.
 #[derive(Debug)]
 pub struct ReplyToken {
     ticket: Ticket,
@@ -18,21 +18,21 @@ pub struct ReplyToken {
 impl ReplyToken {
     ghost use Rattle.cg_desk.specs.Tokens.{call_of};
 
-    /// A token for a call.
+    /// Creates the token of the request with this ticket.
     pub fn new(ticket: Ticket) -> Self
         ensures { call_of result ≡ ticket }
     {
         ReplyToken { ticket }
     }
 
-    /// The call that it stands for.
+    /// Returns the ticket of the pending request.
     pub fn ticket(&self) -> Ticket
         ensures { result ≡ call_of self.now }
     {
         self.ticket
     }
 
-    /// Answers the call by a reply that rests on all commands up to the number `need`.
+    /// Answers the request with a reply that depends on all commands up to number `need`.
     pub fn spend(self, reply: Reply, need: u64, permit: &Permit) -> Outgoing
         requires { need ≤ front_of permit.now }
         ensures { result ≡ answer (call_of self) reply }
@@ -41,8 +41,8 @@ impl ReplyToken {
         Outgoing::new(ticket, reply)
     }
 
-    /// Answers the call by a code that rests on no command: the coordinator is loading or not available, wanted memory,
-    /// or could not read the request.
+    /// Answers the request with a code that depends on no command: -1 (an allocation failed), 14 (loading), 15 (not
+    /// available) or 42 (malformed request).
     pub fn refuse(self, code: Code) -> Outgoing
         requires { IsTrue (is_refusal code) }
         ensures { result ≡ answer (call_of self) (Reply.Refused code) }

@@ -1,4 +1,4 @@
--- What an answer to a line says, from what is read of its words.
+-- What is parsed from the words of a line, and what the line is the spelling of.
 use Rattle.std.proofs.Common.{◌≡◌, ℕ, ◌<◌, ◌⊎◌, inl, inr, List, length, refl, arith, Option, Some, None, Result, Ok, Err}
 use Rattle.std.specs.Prelude.{IsSome, IfOk}
 use Rattle.cg_request.specs.declared.asking.Request.{Request}
@@ -40,6 +40,6 @@ memory_spells line (Err Memory) reads is = let found = some_value (request_of (w
 memory_spells line (Err Malformed) reads is = absurd (cc)
 memory_spells line (Err TooLong) reads is = absurd reads
 
--- many words spell nothing
+-- more words than WORDS_MAX spell no request
 pub many_spell_none : (line : List ℕ) → WORDS_MAX < length (words_of line) → (r : Request) → Spells line r → ⊥
 many_spell_none line many r spells = let few = line_few line r spells in omega arith

@@ -1,4 +1,4 @@
--- The spelling of a lawful request is read as it.
+-- The line of a lawful request is parsed as that request.
 use Rattle.std.proofs.Common.{◌≡◌, ℕ, ℤ, ◌^◌, ◌<◌, ◌≤◌, Bool, true, cond, List, [], ◌∷◌, length, map, refl, ap, ◌∙◌, arith, Option, Some, None}
 use Rattle.std.specs.Prelude.{◌&&◌, codes}
 use Rattle.std.specs.Option.{option_map}
@@ -144,7 +144,7 @@ words_complete (request.Describe group) is = ap (option_map request.Describe) (g
 words_complete (request.Delete group) is = ap (option_map request.Delete) (group_complete group is)
 words_complete request.List is = refl
 
--- no word has a space, so the line has these words
+-- no word has a space, so the words of the line are those of the request
 line_words : (r : Request) → IsRequest r → words_of (spaced (request_words r)) ≡ request_words r
 unfolding request_words
 line_words (request.Join r) is = words_of-spaced (codes "JOIN") _ (
@@ -219,7 +219,7 @@ line_words (request.Describe group) is = words_of-spaced (codes "DESCRIBE") _ (r
 line_words (request.Delete group) is = words_of-spaced (codes "DELETE") _ (refl, (name_word_free NAME_BYTES_MAX group is, tt))
 line_words request.List is = words_of-spaced (codes "LIST") [] (refl, tt)
 
--- a request has few words
+-- a request has at most WORDS_MAX words
 few_words : (r : Request) → IsRequest r → length (request_words r) ≤ WORDS_MAX
 unfolding request_words
 few_words (request.Join r) is = let few = is.protocols.few in let len = length-map r.protocols protocol_word in omega (arith, few, len)
@@ -236,7 +236,7 @@ words_of_line : (line : List ℕ) (r : Request) → Spells line r → words_of l
 unfolding request_line
 words_of_line line r spells = ap words_of spells.1 ∙ line_words r spells.0
 
--- a line that a lawful request spells is read as it
+-- the line of a lawful request is parsed as that request
 pub line_complete : (line : List ℕ) (r : Request) → Spells line r → request_of (words_of line) ≡ Some r
 line_complete line r spells = ap request_of (words_of_line line r spells) ∙ words_complete r spells.0
 

@@ -1,4 +1,4 @@
--- What a search for a mark says of the parts before and behind it.
+-- What a search for a mark says of the parts before and after it.
 use Rattle.std.proofs.Common.{◌≡◌, ℕ, zero, suc, ◌<◌, List, [], ◌∷◌, length, take, drop, true, false, cond, refl, ap, sym, arith, eqb}
 use Rattle.memchr.specs.Find.{Passes, is_byte}
 use Rattle.cg_line.specs.Splitting.{before, behind, with_byte, words_of}

@@ -1,4 +1,4 @@
--- The one spelling of a number is read as that number, and what is read as a number is its spelling.
+-- The only spelling of a number is parsed as that number, and what is parsed as a number is its spelling.
 use Rattle.std.proofs.Common.{◌≡◌, ℕ, zero, suc, ◌^◌, ◌<◌, ◌≤◌, true, false, List, [], ◌∷◌, length, get_or, refl, ap, arith, rules, not, eqb}
 use Rattle.std.proofs.lemmas.Bool.Decides.{nat_tests}
 use Rattle.std.proofs.lemmas.Bool.{leb-true, le-leb}
@@ -16,7 +16,7 @@ AreDigits ds = list_all is_digit ds ≡ true
 own : IsNumeralModel AreDigits (value_from 0)
 own = numerals_by_fold AreDigits (search rules) value_from (search rules)
 
--- what a plain number has
+-- the properties of a plain number
 pub record IsPlain (w : List ℕ) : Type 0 where
   pub digits : list_all is_digit w ≡ true
   pub some : 0 < length w
@@ -49,7 +49,7 @@ number_parts most w is =
 pub value_of-le : (most : ℕ) (w : List ℕ) → is_number most w ≡ true → value_of w ≤ most
 value_of-le most w is = (number_parts most w is).1
 
--- a number's word has digits alone
+-- the word of a number has only digits
 pub digits_of_number : (most : ℕ) (w : List ℕ) → is_number most w ≡ true → list_all is_digit w ≡ true
 digits_of_number most w is = (number_parts most w is).0.digits
 

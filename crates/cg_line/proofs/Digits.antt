@@ -1,4 +1,4 @@
--- Digits of a line spell bytes, one for each two.
+-- Digits of a line give bytes, one for each two.
 use Rattle.std.proofs.Common.{◌≡◌, ℕ, ◌/◌, ◌%◌, ◌≤◌, true, List, [], ◌∷◌, length, drop, eqb, Ok, Err, sym, ap, ◌∙◌, refl, arith}
 use Rattle.std.specs.Prelude.{IsTrue, ◌&&◌}
 use Rattle.std.specs.List.{list_all}
@@ -39,7 +39,7 @@ length-decoded digits are =
     let half : length decoded.0 ≡ length digits / 2 = omega (arith, double) in
     ap (λ r. length (result_unwrap_or r [])) decoded.1 ∙ half
 
--- a word for few bytes is a word for bytes, and has few
+-- a word of at most `max` bytes is a word of bytes, with at most two digits for each
 pub opaque_parts : (max : ℕ) (word : List ℕ) → IsTrue (is_opaque max word) → IsTrue (is_bytes word) × (length (bytes_in word) ≤ max)
 unfolding is_opaque is_bytes bytes_in
 opaque_parts max word is =

@@ -1,4 +1,4 @@
--- What a test says of all texts, or of one of them, where each is reached by a reference.
+-- What a test says of all texts, or of one of them, when each is reached by a reference.
 use Rattle.std.proofs.Common.{◌≡◌, ℕ, zero, suc, ◌<◌, Bool, List, [], ◌∷◌, length, map, get_or, refl, ap, arith}
 use Rattle.std.specs.Prelude.{IsTrue, ◌&&◌, ◌||◌}
 use Rattle.std.specs.List.{list_any, list_all}

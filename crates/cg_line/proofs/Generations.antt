@@ -1,4 +1,4 @@
--- The one spelling of a generation is read as it, and what is read as one is its spelling.
+-- The only spelling of a generation is parsed as it, and what is parsed as a generation is its spelling.
 use Rattle.std.proofs.Common.{◌≡◌, ℕ, suc, ◌-◌, ◌^◌, ◌<◌, ◌≤◌, true, false, List, [], ◌∷◌, length, drop, refl, sym, ap, ◌∙◌, arith, ℤ, pos, negsuc, ◌≤ℤ◌}
 use Rattle.std.specs.Prelude.{◌&&◌}
 use Rattle.std.proofs.lemmas.Bool.Decides.{nat_tests}
@@ -17,7 +17,7 @@ minus_first : (w : List ℕ) → is_negative w ≡ true → w ≡ 45 ∷ drop 1 
 minus_first [] is = absurd (cc)
 minus_first (b ∷ bs) is = ap (λ n. n ∷ bs) (eqb-true b 45 is)
 
--- what a generation's word has, with a minus and without
+-- the properties of a generation's word, with a minus and without
 abbrev Below : List ℕ → Type 0
 Below w = (is_number 2147483648 (drop 1 w) ≡ true) × (1 ≤ value_of (drop 1 w))
 
@@ -99,7 +99,7 @@ generation_in-signed (negsuc n) low high =
     let back : suc n - 1 ≡ n = omega arith in
     rw (value_of-decimal (suc n) (omega arith)) (ap negsuc back)
 
--- no space stands in a number
+-- a number has no space
 pub decimal_free : (mark n : ℕ) → is_digit mark ≡ false → n < 2 ^ 64 → IsFree mark (decimal n)
 decimal_free mark n other small = free_from is_digit mark (decimal n) other (digits_of_decimal n small)
 

@@ -1,4 +1,4 @@
--- Lower-case digits spell bytes, and each bytes are spelled by one text.
+-- Lower-case digits give bytes, and bytes have only one spelling in lower-case digits.
 use Rattle.std.proofs.Common.{◌≡◌, ℕ, zero, suc, ◌+◌, ◌-◌, ◌*◌, ◌/◌, ◌%◌, ◌<◌, ◌≤◌, ◌⊎◌, inl, inr, Bool, true, false, List, [], ◌∷◌, length, drop, eqb, Ok, Option, Some, sym, ap, ◌∙◌, refl, arith}
 use Rattle.std.specs.Prelude.{IsTrue, ◌&&◌, slice_index, nat_le}
 use Rattle.std.specs.List.{list_all}
@@ -11,7 +11,7 @@ use Rattle.cg_line.specs.Fields.{are_pairs, begins_with_x, bytes_in, decoded, is
 use Rattle.cg_line.specs.Words.{bytes_word}
 use Rattle.cg_line.proofs.Value.{both_of}
 
--- the first n digits are lower-case digits, which computes
+-- the first n digits are lower-case digits, by computation
 abbrev all_lower : ℕ → Bool
 all_lower zero = true
 all_lower (suc n) = is_lower_hex_digit (slice_index lower_digits n) && all_lower n
@@ -45,7 +45,7 @@ value_of_six c low high = grind (arith, nat_tests)
 some_is : (a b : ℕ) (o : Option ℕ) → o ≡ Some a → o ≡ Some b → a ≡ b
 some_is a b o first second = cc
 
--- two lower-case digits of one value are one digit
+-- two lower-case digits with one value are equal
 one_digit : (c d v : ℕ) → is_lower_hex_digit c ≡ true → is_lower_hex_digit d ≡ true → hex_digit_value c ≡ Some v → hex_digit_value d ≡ Some v → d ≡ c
 one_digit c d v lower_c lower_d value_c value_d =
     elim (lower_cases c lower_c) [
@@ -59,7 +59,7 @@ one_digit c d v lower_c lower_d value_c value_d =
       ]
     ]
 
--- what a lower-case digit reads as, and that it stands at that place of the table
+-- the value of a lower-case digit, which is its position in the table
 pub record IsValue (c v : ℕ) : Type 0 where
   pub value : hex_digit_value c ≡ Some v
   pub small : v < 16
@@ -79,7 +79,7 @@ value_of_lower c lower =
       | inr six ↦ let low = six.0 in let high = six.1 in (c - 87, value_with c (c - 87) lower (value_of_six c low high) (omega arith))
     ]
 
--- what pairs of lower-case digits decode to
+-- the bytes to which pairs of lower-case digits decode
 pub record IsDecoded (i : ℕ) (digits bytes : List ℕ) : Type 0 where
   pub read : decode_pairs i digits ≡ Ok bytes
   pub back : encode_lower bytes ≡ digits
@@ -123,7 +123,7 @@ pub record Spell (digits bytes : List ℕ) : Type 0 where
   pub back : encode_lower bytes ≡ digits
   pub are_bytes : IsBytes bytes
 
--- lower-case digits in pairs are the spelling of what they decode to
+-- lower-case digits in pairs are the spelling of the bytes to which they decode
 pub digits_spell : (digits : List ℕ) → IsTrue (are_pairs digits) → Spell digits (decoded digits)
 digits_spell digits are =
     let parts = both_of (list_all is_lower_hex_digit digits) (eqb (length digits % 2) 0) are in
@@ -157,7 +157,7 @@ x_first : (word : List ℕ) → begins_with_x word ≡ true → word ≡ 120 ∷
 x_first [] is = absurd (cc)
 x_first (b ∷ bs) is = ap (λ n. n ∷ bs) (eqb-true b 120 is)
 
--- a word that spells bytes is the spelling of those bytes
+-- a word of bytes is the spelling of those bytes
 pub bytes_spelled : (word : List ℕ) → is_bytes word ≡ true → (bytes_word (bytes_in word) ≡ word) × IsBytes (bytes_in word)
 unfolding is_bytes bytes_in
 bytes_spelled word is =

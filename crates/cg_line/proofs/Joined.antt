@@ -1,4 +1,4 @@
--- Cutting what was joined gives the parts, and joining what was cut gives the whole.
+-- Splitting joined texts gives the parts, and joining split text gives the whole.
 use Rattle.std.proofs.Common.{◌≡◌, ℕ, ◌<◌, Bool, true, false, cond, List, [], ◌∷◌, ◌++◌, length, refl, sym, ap, ◌∙◌, arith, not, eqb, codes}
 use Rattle.std.specs.Prelude.{◌&&◌}
 use Rattle.std.specs.List.{list_all, AllByRecursion}
@@ -7,11 +7,11 @@ use Rattle.cg_line.specs.Splitting.{before, behind, with_byte, words_of}
 use Rattle.cg_line.specs.Words.{spaced}
 use Rattle.cg_line.proofs.Value.{both_of}
 
--- the mark does not stand in the text
+-- the text does not contain the mark
 abbrev pub IsFree : ℕ → List ℕ → Type 0
 IsFree mark text = list_all (λ b. not (eqb b mark)) text ≡ true
 
--- bytes of a kind that the mark is not
+-- a text whose bytes all pass a test that the mark does not pass
 pub free_from : (p : ℕ → Bool) (mark : ℕ) (text : List ℕ) → p mark ≡ false → list_all p text ≡ true → IsFree mark text
 free_from p mark [] other all = refl
 free_from p mark (b ∷ bs) other all =
@@ -50,7 +50,7 @@ before-free mark (x ∷ xs) free =
     let first = not_first x mark xs free in
     ap (λ t. cond t [] (x ∷ before mark xs)) first.0 ∙ ap (λ ws. x ∷ ws) (before-free mark xs first.1)
 
--- where something stands behind a mark, the whole is joined of the two
+-- if a text follows the mark, the whole is joined of the two parts
 pub joined-cut : (mark : ℕ) (w : List ℕ) → 0 < length (behind mark w) → before mark w ++ mark ∷ behind mark w ≡ w
 unfolding before behind
 joined-cut mark [] some = absurd (omega arith)

@@ -1,4 +1,4 @@
--- name=bytes and member=bytes, read and spelled.
+-- name=bytes and member=bytes, parsed and spelled.
 use Rattle.std.proofs.Common.{◌≡◌, ℕ, ◌*◌, ◌/◌, ◌<◌, ◌≤◌, true, List, [], ◌∷◌, ◌++◌, length, map, refl, ap, ◌∙◌, arith}
 use Rattle.std.specs.Prelude.{◌&&◌, nat_le}
 use Rattle.std.specs.List.{list_all, AllByRecursion}
@@ -29,7 +29,7 @@ use Rattle.cg_line.proofs.Lists.{map_seen, pass_all, seen_all}
 use Rattle.cg_line.proofs.Optionals.{IsName-from_test, bytes_free, is_name-from_name, name_free}
 use Rattle.cg_line.proofs.Value.{both_of}
 
--- a word that spells bytes is not empty
+-- a word of bytes is not empty
 pub bytes_some : (w : List ℕ) → is_bytes w ≡ true → 0 < length w
 unfolding is_bytes
 bytes_some [] is = absurd (cc)

@@ -1,4 +1,4 @@
--- Names on a line, and the word for none.
+-- Names on a line, and the word `-` for no name.
 use Rattle.std.proofs.Common.{◌≡◌, ℕ, true, false, cond, List, [], ◌∷◌, refl, sym, ap, eqb, Option, Some, None}
 use Rattle.std.specs.Prelude.{is_none, IfSome}
 use Rattle.std.proofs.lemmas.Bool.{eqb-true}

@@ -1,4 +1,4 @@
--- topic:partition:offset:bytes and topic:partition, read and spelled.
+-- topic:partition:offset:bytes and topic:partition, parsed and spelled.
 use Rattle.std.proofs.Common.{◌≡◌, ℕ, ◌^◌, ◌<◌, ◌≤◌, Bool, true, false, List, [], ◌∷◌, ◌++◌, length, map, refl, ap, sym, subst, ◌∙◌, arith, eqb}
 use Rattle.std.specs.Prelude.{◌&&◌, nat_le}
 use Rattle.std.specs.List.{list_all, list_any, AllByRecursion}
@@ -37,7 +37,7 @@ some_joined : (a b : List ℕ) (mark : ℕ) → 0 < length (a ++ mark ∷ b)
 some_joined [] b mark = omega arith
 some_joined (x ∷ xs) b mark = omega arith
 
--- what stands behind a mark is not empty where it is itself joined
+-- if the part after a mark is joined itself, it is not empty
 some_behind : (mark : ℕ) (w : List ℕ) → 0 < length (behind mark w) → 0 < length w
 some_behind mark w some =
     let P : List ℕ → Type 0 = λ v. 0 < length v in
@@ -49,7 +49,7 @@ partition_small n within = omega arith
 offset_small : (n : ℕ) → n ≤ OFFSET_MAX → n < 2 ^ 64
 offset_small n within = omega arith
 
--- numbers are one where their spellings are
+-- numbers with equal spellings are equal
 same_number : (most : ℕ) (a b : List ℕ) → most < 2 ^ 64 → is_number most a ≡ true → is_number most b ≡ true → bytes_eq a b ≡ eqb (value_of a) (value_of b)
 same_number most a b small is_a is_b =
     elim (eqb (value_of a) (value_of b)) as (λ t. eqb (value_of a) (value_of b) ≡ t → bytes_eq a b ≡ t) [
@@ -106,7 +106,7 @@ commit_lawful w is =
       metadata = (bytes_spelled (metadata_field w) parts.metadata).1;
     }
 
--- the fields of a spelled commit
+-- the fields of a commit's word
 pub record HasFields (w t p o m : List ℕ) : Type 0 where
   pub topic : topic_field w ≡ t
   pub partition : partition_field w ≡ p
@@ -172,7 +172,7 @@ commit_free e is =
     free_append 32 e.topic (58 ∷ (decimal e.partition ++ 58 ∷ (decimal e.offset ++ 58 ∷ bytes_word e.metadata))) (name_free 32 NAME_BYTES_MAX e.topic refl is.topic)
     (free_mark 58 (decimal e.partition ++ 58 ∷ (decimal e.offset ++ 58 ∷ bytes_word e.metadata)) refl more)
 
--- no two words share a place where no two of their values do
+-- two words have the same partition only if their values have
 apart_any : {A : Type 0} (share : A → A → Bool) (p : List ℕ → Bool) (read : List ℕ → A)
     → ((a b : List ℕ) → p a ≡ true → p b ≡ true → share_place a b ≡ share (read a) (read b))
     → (w : List ℕ) (ws : List (List ℕ)) → p w ≡ true → list_all p ws ≡ true → list_any (share_place w) ws ≡ list_any (share (read w)) (map read ws)
@@ -275,7 +275,7 @@ partition_free p is =
     free_append 32 p.topic (58 ∷ decimal p.partition) (name_free 32 NAME_BYTES_MAX p.topic refl is.topic)
     (free_mark 58 (decimal p.partition) refl (decimal_free 32 p.partition refl (partition_small p.partition is.partition)))
 
--- the number of a FETCH's word has no colon behind it
+-- the partition number in a FETCH's word has no colon after it
 plain_field : (w : List ℕ) → is_partition w ≡ true → partition_field w ≡ behind 58 w
 plain_field w is = before-free 58 (behind 58 w) (free_from is_digit 58 (behind 58 w) refl (digits_of_number PARTITION_MAX (behind 58 w) (partition_parts w is).partition))
 

@@ -1,4 +1,4 @@
--- What is read as a request is the spelling of it.
+-- What is parsed as a request is the spelling of that request.
 use Rattle.std.proofs.Common.{◌≡◌, ℕ, true, false, cond, List, [], ◌∷◌, refl, ap, sym, subst, ◌∙◌, arith, Option, Some, None}
 use Rattle.std.specs.Prelude.{◌&&◌, codes}
 use Rattle.std.specs.Option.{option_map}
@@ -31,7 +31,7 @@ use Rattle.cg_line.proofs.Optionals.{IsName-from_test, optional_lawful, optional
 use Rattle.cg_line.proofs.Placed.{commit_lawful, commit_spelled, commit_words_parts, commits_lawful, partition_lawful, partition_spelled, partition_words_parts, partitions_lawful}
 use Rattle.cg_line.proofs.Value.{both_of}
 
--- four words and more, each put for its equal
+-- four words and more, each replaced by its equal
 words_4 : (k a b c d a' b' c' d' : List ℕ) (ws vs : List (List ℕ)) → a ≡ a' → b ≡ b' → c ≡ c' → d ≡ d' → ws ≡ vs → k ∷ a ∷ b ∷ c ∷ d ∷ ws ≡ k ∷ a' ∷ b' ∷ c' ∷ d' ∷ vs
 words_4 k a b c d a' b' c' d' ws vs e1 e2 e3 e4 e5 = cc
 
@@ -41,7 +41,7 @@ words_3 k a b c a' b' c' ws vs e1 e2 e3 e5 = cc
 words_1 : (k a a' : List ℕ) (ws vs : List (List ℕ)) → a ≡ a' → ws ≡ vs → k ∷ a ∷ ws ≡ k ∷ a' ∷ vs
 words_1 k a a' ws vs e1 e2 = cc
 
--- the four words of a call
+-- the four words of a member's request
 pub record IsCall (g n m i : List ℕ) : Type 0 where
   pub group : is_optional NAME_BYTES_MAX g ≡ true
   pub generation : is_generation n ≡ true
@@ -239,12 +239,12 @@ join_sound [] j e = absurd (cc)
 abbrev IsSound : List ℕ → List (List ℕ) → Request → Type 0
 IsSound kind ws r = IsRequest r × (kind ∷ ws ≡ request_words r)
 
--- the value behind a variant
+-- the value inside a variant
 mapped_some : {A : Type 0} (make : A → Request) (o : Option A) (r : Request) → option_map make o ≡ Some r → (x : A) × (o ≡ Some x) × (make x ≡ r)
 mapped_some make None r e = absurd (cc)
 mapped_some make (Some x) r e = (x, refl, cc)
 
--- one kind: where its words are sound, so is its request
+-- one kind: if its words are sound, so is its request
 kind_sound : {A : Type 0} (make : A → Request) (name kind : List ℕ) (ws : List (List ℕ)) (o : Option A) (r : Request)
     → ((x : A) → o ≡ Some x → IsSound name ws (make x)) → bytes_eq kind name ≡ true → option_map make o ≡ Some r → IsSound kind ws r
 kind_sound make name kind ws o r sound is e =
@@ -307,7 +307,7 @@ words_sound (kind ∷ ws) r =
       | false ↦ λ e. group_call_sound kind ws r e
     ]
 
--- what is read from a line's words is spelled by the line
+-- a line is the spelling of what is parsed from its words
 pub line_sound : (line : List ℕ) (r : Request) → request_of (words_of line) ≡ Some r → Spells line r
 unfolding request_line
 line_sound line r e =

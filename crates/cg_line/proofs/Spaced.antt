@@ -1,11 +1,11 @@
--- Words with one space between them, and bytes by hexadecimal digits.
+-- Words with one space between them, and bytes as hexadecimal digits.
 use Rattle.std.proofs.Common.{◌≡◌, ◌≤◌, ℕ, List, [], ◌∷◌, ◌++◌, length, map, take, codes, sym, ap, ◌∙◌, append_assoc, append-nil, refl}
 use Rattle.std.proofs.lemmas.List.{take_all}
 use Rattle.std.specs.List.{flat_map}
 use Rattle.hex.specs.Hex.{encode_lower, encode_with}
 use Rattle.cg_line.specs.Words.{bytes_word, spaced}
 
--- each word behind the first stands behind a space
+-- each word after the first follows a space
 pub spaced_front : {A : Type 0} (f : A → List ℕ) (w : List ℕ) (ws : List (List ℕ)) (xs : List A)
     → spaced (w ∷ (ws ++ map f xs)) ≡ spaced (w ∷ ws) ++ flat_map (λ x. codes " " ++ f x) xs
 unfolding spaced
@@ -17,7 +17,7 @@ spaced_front f w (v ∷ ws) xs =
     ap (λ l. w ++ codes " " ++ l) (spaced_front f v ws xs)
     ∙ sym (append_assoc (w ++ codes " ") (spaced (v ∷ ws)) (flat_map (λ y. codes " " ++ f y) xs))
 
--- each byte is spelled by itself
+-- each byte is spelled separately
 pub lower_each : (bytes : List ℕ) → encode_lower bytes ≡ flat_map (λ b. encode_lower (b ∷ [])) bytes
 unfolding encode_with
 lower_each [] = refl

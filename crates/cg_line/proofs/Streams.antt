@@ -1,4 +1,4 @@
--- How far a run has come, from step to step.
+-- The progress of a run, step by step.
 use Rattle.std.proofs.Common.{take-append-drop, length-drop, ◌-◌, zero, suc, eqb, take, drop, ◌≡◌, ◌≤◌, ◌<◌, ℕ, ◌+◌, true, false, not, ◌&&◌, ◌==◌, List, [], ◌∷◌, ◌++◌, length, Option, None, Some, Result, Ok, Err, sym, ap, ◌∙◌, refl, append_assoc, append-nil, length-append, arith, subst, MatchResult, inl, inr, lit≤}
 use Rattle.std.proofs.lemmas.Bool.Decides.{nat_tests}
 use Rattle.std.proofs.Math.Seq.{take-length}
@@ -24,7 +24,7 @@ use Rattle.cg_line.specs.Lines.{Adds, IsBegun, begun_len}
 use Rattle.cg_line.specs.Running.{EndsAs, HasNoEnd, IsLine, IsServed, Ran, Served, Serves, Turns, answers_text, ended, line_feed, lines_text, malformed_line}
 use Rattle.cg_line.specs.Stream.{Answers, Done, Far, Stopped}
 
--- ---- known bytes
+-- Known bytes.
 
 pub appends_then : (a b c : Option (List ℕ)) (xs ys : List ℕ) → Appends a b xs → Appends b c ys → Appends a c (xs ++ ys)
 appends_then None b c xs ys p q = tt
@@ -51,13 +51,13 @@ keeps_appends None b same = tt
 keeps_appends (Some x) None same = absurd same
 keeps_appends (Some x) (Some y) same = same ∙ sym (append-nil x)
 
--- a write took the first of the bytes that are left
+-- a write took the first of the remaining bytes
 pub written_more : (bytes part rest : List ℕ) (n : ℕ) → bytes ≡ part ++ rest → bytes ≡ (part ++ take n rest) ++ take (length rest - n) (drop n rest)
 written_more bytes part rest n is =
     is ∙ ap (λ l. part ++ l) (sym (take-append-drop n rest)) ∙ sym (append_assoc part (take n rest) (drop n rest))
     ∙ ap (λ l. (part ++ take n rest) ++ l) (sym (ap (λ k. take k (drop n rest)) (sym (length-drop n rest)) ∙ take-length (drop n rest)))
 
--- ---- a line that has begun
+-- A line that has begun.
 
 pub begun_length : (begun : Begun) (line : List ℕ) → IsBegun begun line → begun_len begun ≡ length line
 begun_length (Kept bytes) line is = ap length is
@@ -104,13 +104,13 @@ no_end_take (b ∷ bs) (suc at) below nowhere =
       | false ↦ λ is. no_end_take bs at (omega arith) (λ k less is_feed. nowhere (suc k) (omega arith) is_feed)
     ] refl
 
--- a byte that passes is a line feed, and stands between what is before it and behind it
+-- a byte that passes is a line feed, between the bytes before it and those after it
 pub cut_at : (bytes : List ℕ) (at : ℕ) → at < length bytes → Passes (is_byte line_feed) bytes at → bytes ≡ take at bytes ++ (line_feed ∷ drop (suc at) bytes)
 cut_at [] at below is = absurd (omega arith)
 cut_at (b ∷ bs) zero below is = let same : b ≡ 10 = grind (arith, nat_tests) in ap (λ x. x ∷ bs) same
 cut_at (b ∷ bs) (suc at) below is = ap (λ l. b ∷ l) (cut_at bs at (omega arith) is)
 
--- ---- lines that were served
+-- Lines that were served.
 
 pub serves_more : {S : Type 0} (gives : S → Request → Reply → S → Type 0) (before between after : S) (served : List Served) (s : Served)
     → Serves gives before served between → IsServed s → Turns gives between s.call after → Serves gives before (served ++ s ∷ []) after
@@ -122,7 +122,7 @@ serves_more gives before between after (t ∷ ts) s serves is turns =
 one_more : (f : Served → List ℕ) (served : List Served) (s : Served) → flat_map f (served ++ s ∷ []) ≡ flat_map f served ++ f s
 one_more f served s = flat_map-append f served (s ∷ []) ∙ ap (λ l. flat_map f served ++ l) (append-nil (f s))
 
--- ---- an answer
+-- The reply to a line.
 
 pub answers_asked : (line : List ℕ) (request : Request) (reply : Reply) (result : Result (Unit {0}) Refusal) (text : List ℕ) → IsRequest request → line ≡ request_line request
     → MatchResult result (λ _. text ≡ ended (reply_line reply)) (λ refusal. refusal ≡ refused.Memory) → Answers line (Some (request, reply)) result text
@@ -130,7 +130,7 @@ answers_asked line request reply (Ok u) text lawful spelled is = (reply_line rep
 answers_asked line request reply (Err refused.Malformed) text lawful spelled is = absurd (cc)
 answers_asked line request reply (Err refused.Memory) text lawful spelled is = (lawful, spelled, inr refl)
 
--- ---- a run, from step to step
+-- A run, step by step.
 
 module _ {S : Type 0} (gives : S → Request → Reply → S → Type 0) (read : List ℕ) (before between : S) (old mid : Option (List ℕ)) where
   pub far_flushed : (new : Option (List ℕ)) (left : List ℕ) (begun : Begun) → Appends mid new [] → Far gives read before between old mid left begun
@@ -285,7 +285,7 @@ module _ {S : Type 0} (gives : S → Request → Reply → S → Type 0) (read :
       };
     }
 
--- a line that stands whole where it was read, and nothing has begun
+-- a line that lies whole in what was read, with no line begun
 module _ {S : Type 0} (gives : S → Request → Reply → S → Type 0) (read : List ℕ) (before between : S) (old mid : Option (List ℕ)) (front left : List ℕ) (begun : Begun)
     (far : Far gives read before between old mid (front ++ (line_feed ∷ left)) begun) (no_end : HasNoEnd front) (empty : IsBegun begun []) (short : length front ≤ LINE_BYTES_MAX)
     (after : S) (new : Option (List ℕ)) (result : Result (Unit {0}) RunFault) (done : IsLine front → Done gives front between after mid new result) where
@@ -344,7 +344,7 @@ memory_stops gives before old = record {
   };
 }
 
--- ---- the answer to a line that is too long
+-- The reply to a line that is too long.
 
 module _ {S : Type 0} (gives : S → Request → Reply → S → Type 0) (read : List ℕ) (before after : S) (old mid new : Option (List ℕ))
     (stopped : Stopped gives (Err TooLong) read before after old mid) (part : List ℕ) (written : Appends mid new part) where

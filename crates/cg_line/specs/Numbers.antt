@@ -1,4 +1,4 @@
--- Numbers on a line: decimal, without zeros in front and without a plus.
+-- Numbers on a line: decimal, without leading zeros and without a plus.
 use Rattle.std.specs.Prelude.{ℕ, ℤ, pos, negsuc, ◌+◌, ◌-◌, ◌*◌, Bool, false, not, ◌&&◌, ◌==◌, nat_le, List, [], ◌∷◌, drop, if◌then◌else◌}
 use Rattle.std.specs.List.{list_all, fold}
 
@@ -6,35 +6,35 @@ use Rattle.std.specs.List.{list_all, fold}
 abbrev pub is_digit : ℕ → Bool
 is_digit b = nat_le 48 b && nat_le b 57
 
--- the number that digits spell in base ten, behind a number that stands in front
+-- the number in base ten of digits that follow a number
 abbrev pub value_from : ℕ → List ℕ → ℕ
 value_from n digits = fold (λ n d. 10 * n + (d - 48)) n digits
 
--- the number that digits spell in base ten
+-- the number of digits in base ten
 unfoldable pub value_of : List ℕ → ℕ
 value_of digits = value_from 0 digits
 
--- the one spelling of a number: at least one digit, and no zero in front of others
+-- the only spelling of a number: at least one digit, and no leading zero
 abbrev pub is_plain : List ℕ → Bool
 is_plain [] = false
 is_plain (d ∷ []) = is_digit d
 is_plain (d ∷ e ∷ ds) = not (d == 48) && list_all is_digit (d ∷ e ∷ ds)
 
--- the spelling of a number from 0 to `most`
+-- a number from 0 to `most`
 unfoldable pub is_number : ℕ → List ℕ → Bool
 is_number most word = is_plain word && nat_le (value_of word) most
 
--- a minus stands first
+-- the word begins with a minus
 abbrev pub is_negative : List ℕ → Bool
 is_negative [] = false
 is_negative (b ∷ bs) = b == 45
 
--- the spelling of a number from -2147483648 to 2147483647; zero has no minus
+-- a number from -2147483648 to 2147483647; zero has no minus
 unfoldable pub is_generation : List ℕ → Bool
 is_generation word = if is_negative word
     then is_number 2147483648 (drop 1 word) && nat_le 1 (value_of (drop 1 word))
     else is_number 2147483647 word
 
--- the number that it spells
+-- the number of a generation's word
 unfoldable pub generation_in : List ℕ → ℤ
 generation_in word = if is_negative word then negsuc (value_of (drop 1 word) - 1) else pos (value_of word)

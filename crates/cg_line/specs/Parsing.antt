@@ -1,4 +1,4 @@
--- Reading a request from the words of a line.
+-- Parsing a request from the words of a line.
 use Rattle.std.specs.Prelude.{◌≡◌, ℕ, Bool, true, not, ◌&&◌, ◌||◌, nat_le, List, [], ◌∷◌, length, map, codes, Option, Some, None, Result, Ok, Err, IsSome, if◌then◌else◌}
 use Rattle.std.specs.Option.{option_map}
 use Rattle.std.specs.List.{list_all, list_any}
@@ -31,14 +31,15 @@ use Rattle.cg_line.specs.Splitting.{before, behind, colon, equals}
 use Rattle.cg_line.specs.Numbers.{is_number, value_of, is_generation, generation_in}
 use Rattle.cg_line.specs.Fields.{is_name, is_optional, optional_in, is_bytes, is_opaque, bytes_in}
 
--- what a reader answers is what reading gives: malformed where that is none, and want of memory only where there is a value
+-- a parsing function returns the value of its definition; it reports malformed exactly if there is no value, and out of
+-- memory only if there is one
 abbrev pub Reads : {A : Type 0} → Result A LineFault → Option A → Type 0
 Reads (Ok x) read = read ≡ Some x
 Reads (Err Memory) read = IsSome read
 Reads (Err Malformed) read = read ≡ None
 Reads (Err TooLong) read = ⊥
 
--- what stands before '=', and behind it
+-- the parts before and after '='
 abbrev pub key_of : List ℕ → List ℕ
 key_of word = before equals word
 
@@ -52,7 +53,7 @@ is_protocol word = is_name NAME_BYTES_MAX (key_of word) && is_opaque SUBSCRIPTIO
 unfoldable pub protocol_in : List ℕ → Protocol
 protocol_in word = record { name = key_of word; subscription = bytes_in (given_to word) }
 
--- protocols with different names, from one to as many as a member offers
+-- one to PROTOCOLS_MAX protocols with different names
 unfoldable pub are_protocols : List (List ℕ) → Bool
 are_protocols words = nat_le 1 (length words) && nat_le (length words) PROTOCOLS_MAX
     && list_all is_protocol words && are_distinct (map key_of words)
@@ -64,7 +65,7 @@ is_sync_entry word = is_name MEMBER_ID_BYTES_MAX (key_of word) && is_opaque ASSI
 unfoldable pub sync_entry_in : List ℕ → SyncEntry
 sync_entry_in word = record { member = key_of word; assignment = bytes_in (given_to word) }
 
--- at most one entry for each of as many members as a group has
+-- entries for different members, at most as many as a group has members
 unfoldable pub are_sync_entries : List (List ℕ) → Bool
 are_sync_entries words = nat_le (length words) MEMBERS_MAX && list_all is_sync_entry words && are_distinct (map key_of words)
 
@@ -81,7 +82,7 @@ offset_field word = before colon (behind colon (behind colon word))
 abbrev pub metadata_field : List ℕ → List ℕ
 metadata_field word = behind colon (behind colon (behind colon word))
 
--- topic:partition in front
+-- the word begins with topic:partition
 unfoldable pub is_place : List ℕ → Bool
 is_place word = is_name NAME_BYTES_MAX (topic_field word) && is_number PARTITION_MAX (partition_field word)
 
@@ -104,7 +105,7 @@ commit_in word = record {
   metadata = bytes_in (metadata_field word);
 }
 
--- both words are of one partition
+-- both words have the same partition
 unfoldable pub share_place : List ℕ → List ℕ → Bool
 share_place a b = bytes_eq (topic_field a) (topic_field b) && bytes_eq (partition_field a) (partition_field b)
 
@@ -113,19 +114,19 @@ unfoldable pub have_own_places : List (List ℕ) → Bool
 have_own_places [] = true
 have_own_places (w ∷ ws) = not (list_any (share_place w) ws) && have_own_places ws
 
--- commits to different partitions, from one to as many as a line may have
+-- commits to different partitions, from one to the limit of a line
 unfoldable pub are_commits : List (List ℕ) → Bool
 are_commits words = nat_le 1 (length words) && nat_le (length words) ENTRIES_MAX && list_all is_commit words && have_own_places words
 
--- different partitions, from one to as many as a line may have
+-- different partitions, from one to the limit of a line
 unfoldable pub are_partitions : List (List ℕ) → Bool
 are_partitions words = nat_le 1 (length words) && nat_le (length words) ENTRIES_MAX && list_all is_partition words && have_own_places words
 
--- who calls: a group, a member, an instance and a client
+-- a group, a member, an instance and a client
 abbrev pub is_caller : List ℕ → List ℕ → List ℕ → List ℕ → Bool
 is_caller g m i c = is_optional NAME_BYTES_MAX g && is_optional MEMBER_ID_BYTES_MAX m && is_optional NAME_BYTES_MAX i && is_name NAME_BYTES_MAX c
 
--- two time-outs and a protocol type
+-- two timeouts and a protocol type
 abbrev pub are_terms : List ℕ → List ℕ → List ℕ → Bool
 are_terms s r t = is_number SESSION_LINE_MS_MAX s && is_number REBALANCE_MS_MAX r && is_name NAME_BYTES_MAX t
 
@@ -145,7 +146,7 @@ join_of (g ∷ m ∷ i ∷ c ∷ s ∷ r ∷ t ∷ ps) =
     else None
 join_of _ = None
 
--- what BEAT has behind it, and SYNC and COMMIT in front
+-- a group, a generation, a member and an instance: all of BEAT, and the first words of SYNC and COMMIT
 abbrev pub is_call : List ℕ → List ℕ → List ℕ → List ℕ → Bool
 is_call g n m i = is_optional NAME_BYTES_MAX g && is_generation n && is_optional MEMBER_ID_BYTES_MAX m && is_optional NAME_BYTES_MAX i
 
@@ -196,17 +197,17 @@ fetch_of (g ∷ ps) =
     else None
 fetch_of _ = None
 
--- a group alone
+-- a single group
 unfoldable pub group_of : List (List ℕ) → Option (Option (List ℕ))
 group_of (g ∷ []) = if is_optional NAME_BYTES_MAX g then Some (optional_in g) else None
 group_of _ = None
 
--- nothing at all
+-- no words
 abbrev pub nothing_of : List (List ℕ) → Option Request
 nothing_of [] = Some request.List
 nothing_of _ = None
 
--- the calls of members
+-- the requests of members
 unfoldable pub member_call_of : List ℕ → List (List ℕ) → Option Request
 member_call_of kind words =
     if bytes_eq kind (codes "JOIN") then option_map request.Join (join_of words)
@@ -215,7 +216,7 @@ member_call_of kind words =
     else if bytes_eq kind (codes "LEAVE") then option_map request.Leave (leave_of words)
     else None
 
--- the calls about offsets and groups
+-- the requests about offsets and groups
 unfoldable pub group_call_of : List ℕ → List (List ℕ) → Option Request
 group_call_of kind words =
     if bytes_eq kind (codes "COMMIT") then option_map request.Commit (commit_of words)
@@ -225,11 +226,11 @@ group_call_of kind words =
     else if bytes_eq kind (codes "LIST") then nothing_of words
     else None
 
--- one of the four kinds that begin a call of a member
+-- the word is JOIN, SYNC, BEAT or LEAVE
 abbrev pub is_member_call : List ℕ → Bool
 is_member_call kind = bytes_eq kind (codes "JOIN") || bytes_eq kind (codes "SYNC") || bytes_eq kind (codes "BEAT") || bytes_eq kind (codes "LEAVE")
 
--- the request that the words spell
+-- the request of these words
 unfoldable pub request_of : List (List ℕ) → Option Request
 request_of [] = None
 request_of (kind ∷ words) = if is_member_call kind then member_call_of kind words else group_call_of kind words

@@ -1,4 +1,4 @@
--- The line that answers a request, without its line feed.
+-- The line of each reply, without its line feed.
 use Rattle.std.specs.Prelude.{ℕ, List, [], ◌∷◌, ◌++◌, map, codes, Option, None, Some}
 use Rattle.std.specs.Fmt.{decimal, signed_decimal}
 use Rattle.cg_names.specs.declared.code.Code.{Code}
@@ -16,7 +16,7 @@ use Rattle.cg_member.specs.declared.reply.Reply.{Reply}
 use Rattle.cg_member.specs.declared.reply.Reply.TheVariants as kinds
 use Rattle.cg_line.specs.Words.{bytes_word, name_word, spaced}
 
--- the state of a group that is held, as the protocol guide names it
+-- Kafka's name for the state of a loaded group
 abbrev pub state_word : Phase → List ℕ
 state_word Empty = codes "Empty"
 state_word Preparing = codes "PreparingRebalance"
@@ -27,7 +27,7 @@ state_word Stable = codes "Stable"
 unfoldable pub joined_word : JoinedMember → List ℕ
 joined_word m = m.id ++ codes ":" ++ name_word m.instance ++ codes ":" ++ bytes_word m.subscription
 
--- an offset and its metadata; -1 and no bytes where there is none
+-- an offset and its metadata; -1 and no bytes without an offset
 abbrev pub stored_word : Option StoredOffset → List ℕ
 stored_word None = codes "-1:x"
 stored_word (Some stored) = decimal stored.offset ++ codes ":" ++ bytes_word stored.metadata
@@ -44,7 +44,7 @@ described_word m = m.id ++ codes ":" ++ name_word m.instance ++ codes ":" ++ m.c
 unfoldable pub listing_word : Listing → List ℕ
 listing_word l = l.id ++ codes ":" ++ name_word l.kind ++ codes ":" ++ state_word l.phase
 
--- JOINED generation type protocol leader member, and a word for each member that the answer lists
+-- JOINED generation type protocol leader member, and a word for each member that is listed
 unfoldable pub joined_line : Joined → List ℕ
 joined_line j = spaced (codes "JOINED" ∷ decimal j.generation ∷ name_word j.kind ∷ name_word j.protocol ∷ name_word j.leader ∷ j.member ∷ map joined_word j.members)
 
@@ -52,7 +52,7 @@ joined_line j = spaced (codes "JOINED" ∷ decimal j.generation ∷ name_word j.
 unfoldable pub held_line : Described → List ℕ
 held_line d = spaced (codes "GROUP" ∷ state_word d.phase ∷ decimal d.generation ∷ name_word d.kind ∷ name_word d.protocol ∷ map described_word d.members)
 
--- a group that is not held is dead
+-- a group that is not loaded is Dead
 abbrev pub described_line : Option Described → List ℕ
 described_line None = codes "GROUP Dead 0 - -"
 described_line (Some d) = held_line d
@@ -61,7 +61,7 @@ described_line (Some d) = held_line d
 unfoldable pub refused_line : Code → List ℕ
 refused_line code = spaced (codes "ERR" ∷ signed_decimal (number_of code) ∷ name_of code ∷ [])
 
--- the line of an answer
+-- the line of a reply
 unfoldable pub reply_line : Reply → List ℕ
 reply_line (kinds.Joined j) = joined_line j
 reply_line (kinds.Synced assignment) = spaced (codes "SYNCED" ∷ bytes_word assignment ∷ [])

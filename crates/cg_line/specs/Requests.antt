@@ -1,4 +1,4 @@
--- The one spelling of each request as a line, and what a lawful request is.
+-- The only spelling of each request as a line, and what a lawful request is.
 use Rattle.std.specs.Prelude.{◌≡◌, ℕ, ℤ, pos, negsuc, ◌≤◌, ◌≤ℤ◌, List, [], ◌∷◌, map, length, codes, Option, IfSome}
 use Rattle.std.specs.List.{AllByRecursion}
 use Rattle.std.specs.Fmt.{decimal, signed_decimal}
@@ -82,7 +82,7 @@ request_words request.List = codes "LIST" ∷ []
 unfoldable pub request_line : Request → List ℕ
 request_line r = spaced (request_words r)
 
--- a name of at most `max` bytes, or none
+-- a name of at most `max` bytes, or no name
 abbrev pub IsOptional : ℕ → Option (List ℕ) → Type 0
 IsOptional max name = IfSome name (IsName max)
 
@@ -90,7 +90,7 @@ IsOptional max name = IfSome name (IsName max)
 abbrev pub IsOpaque : ℕ → List ℕ → Type 0
 IsOpaque max bytes = (length bytes ≤ max) × IsBytes bytes
 
--- a generation as a line can have it: any number of 32 bits, with a sign
+-- a generation on a line: any signed 32-bit number
 abbrev pub IsGeneration : ℤ → Type 0
 IsGeneration n = (negsuc 2147483647 ≤ℤ n) × (n ≤ℤ pos 2147483647)
 
@@ -167,6 +167,6 @@ IsRequest (request.Describe group) = IsOptional NAME_BYTES_MAX group
 IsRequest (request.Delete group) = IsOptional NAME_BYTES_MAX group
 IsRequest request.List = Unit {0}
 
--- the text is the spelling of a lawful request
+-- the text is the line of a lawful request
 abbrev pub Spells : List ℕ → Request → Type 0
 Spells line r = IsRequest r × (line ≡ request_line r)

@@ -1,4 +1,4 @@
--- What comes of a stream of request lines.
+-- What a run over a stream of request lines reads and writes.
 use Rattle.std.specs.Prelude.{◌≡◌, ◌⊎◌, ℕ, ◌<◌, ◌≤◌, ◌==◌, true, not, List, [], ◌∷◌, ◌++◌, length, codes, Option, None, Some, Result, Ok, Err}
 use Rattle.std.specs.List.{flat_map, list_all}
 use Rattle.cg_request.specs.declared.asking.Request.{Request}
@@ -18,29 +18,30 @@ line_feed = 10
 abbrev pub HasNoEnd : List ℕ → Type 0
 HasNoEnd bytes = list_all (λ b. not (b == line_feed)) bytes ≡ true
 
--- a line that is served, without its line feed, or what has come of one so far
+-- a line that is served, without its line feed, or the beginning of one
 abbrev pub IsLine : List ℕ → Type 0
 IsLine line = HasNoEnd line × (length line ≤ LINE_BYTES_MAX)
 
--- a line that is too long, before its line feed has come, and whatever comes behind
+-- bytes that begin with a line that is too long, before its line feed
 abbrev pub IsTooLong : List ℕ → Type 0
 IsTooLong bytes = (front : List ℕ) × (behind : List ℕ) × (bytes ≡ front ++ behind) × HasNoEnd front × (LINE_BYTES_MAX < length front)
 
--- the answer to a line that no request spells, and the answer for want of memory
+-- the reply to a malformed line, and the reply if an allocation fails
 abbrev pub malformed_line : List ℕ
 malformed_line = codes "ERR 42 INVALID_REQUEST"
 
 abbrev pub memory_line : List ℕ
 memory_line = codes "ERR -1 UNKNOWN_SERVER_ERROR"
 
--- what came of one line: the line, what the backend was asked and said, where it was asked, and the answer, both without line feeds
+-- what a line leads to: the line, the request to the backend and its reply if there was one, and the line that is
+-- written; both lines without line feeds
 pub record Served : Type 0 where
   pub line : List ℕ
   pub call : Option (Request × Reply)
   pub answer : List ℕ
 
--- the line spells the request that the backend was asked, and the answer spells what it said; a line that asks nothing is spelled by no request;
--- or memory was wanting
+-- the line is that of the request to the backend, and the line that is written that of its reply; or the backend was
+-- not asked, since the line is not that of any lawful request; or an allocation failed
 abbrev pub IsAnswer : List ℕ → Option (Request × Reply) → List ℕ → Type 0
 IsAnswer line (Some (request, reply)) answer = IsRequest request × (line ≡ request_line request) × ((answer ≡ reply_line reply) ⊎ (answer ≡ memory_line))
 IsAnswer line None answer = (((request : Request) → IsRequest request → line ≡ request_line request → ⊥) × (answer ≡ malformed_line)) ⊎ (answer ≡ memory_line)
@@ -48,12 +49,12 @@ IsAnswer line None answer = (((request : Request) → IsRequest request → line
 abbrev pub IsServed : Served → Type 0
 IsServed s = IsLine s.line × IsAnswer s.line s.call s.answer
 
--- where the backend was asked, it went on as it may with this answer; otherwise it is as it was
+-- a backend that was asked changed as `gives` allows; otherwise it is unchanged
 abbrev pub Turns : {S : Type 0} → (S → Request → Reply → S → Type 0) → S → Option (Request × Reply) → S → Type 0
 Turns gives before None after = after ≡ before
 Turns gives before (Some (request, reply)) after = gives before request reply after
 
--- these lines were served one after the other, and the backend went from one state to the other
+-- these lines were served in this order, and the backend went from the first state to the last
 abbrev pub Serves : {S : Type 0} → (S → Request → Reply → S → Type 0) → S → List Served → S → Type 0
 Serves gives before [] after = after ≡ before
 Serves {S = S} gives before (s ∷ served) after = (between : S) × IsServed s × Turns gives before s.call between × Serves gives between served after
@@ -65,11 +66,12 @@ ended line = line ++ line_feed ∷ []
 abbrev pub lines_text : List Served → List ℕ
 lines_text served = flat_map (λ s. ended s.line) served
 
--- the answers, as they are written
+-- the reply lines, as they are written
 abbrev pub answers_text : List Served → List ℕ
 answers_text served = flat_map (λ s. ended s.answer) served
 
--- what was written, and what was read behind the lines that were served. At a failed write all but the last answer was written.
+-- what was written, and what was read after the lines that were served; at a failed write all replies before the last
+-- were written, and a part of the last
 abbrev pub EndsAs : Result RunEnd RunFault → List ℕ → List Served → List ℕ → Type 0
 EndsAs (Ok End) text served rest = (text ≡ answers_text served) × IsLine rest
 EndsAs (Ok TooLong) text served rest = (text ≡ answers_text served ++ ended malformed_line) × IsTooLong rest
@@ -77,7 +79,7 @@ EndsAs (Err Memory) text served rest = (text ≡ answers_text served) × IsLine 
 EndsAs (Err Read) text served rest = (text ≡ answers_text served) × IsLine rest
 EndsAs (Err Write) text served rest = (told last : List Served) × (part : List ℕ) × (served ≡ told ++ last) × (length last ≤ 1) × (text ≡ answers_text told ++ part)
 
--- from the bytes that were read whole lines were served, one after the other, and this is said of them and of the rest
+-- the bytes that were read are lines, which were served in order, and a rest, of which `ends` holds
 pub record Ran {S : Type 0} (gives : S → Request → Reply → S → Type 0) (ends : List Served → List ℕ → Type 0) (read : List ℕ) (before after : S) : Type 0 where
   pub served : List Served
   pub rest : List ℕ

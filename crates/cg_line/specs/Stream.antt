@@ -1,4 +1,4 @@
--- How far a run has come.
+-- The progress of a run.
 use Rattle.std.specs.Prelude.{◌≡◌, ℕ, List, [], ◌++◌, take, Option, None, Some, Result, Ok, Err, OnOk}
 use Rattle.std.specs.Io.KnownBytes.{Appends, Consumes}
 use Rattle.cg_request.specs.declared.asking.Request.{Request}
@@ -13,23 +13,23 @@ use Rattle.cg_line.specs.declared.running.stop.Stop.TheVariants.{TooLong, Fault}
 use Rattle.cg_line.specs.Lines.{IsBegun}
 use Rattle.cg_line.specs.Running.{EndsAs, IsAnswer, IsLine, IsTooLong, Ran, Served, Serves, Turns, answers_text, ended, lines_text, malformed_line, memory_line}
 
--- a read took the bytes that now begin the buffer, or none
+-- a read took the bytes that are now the first of the buffer, or no bytes
 abbrev pub Reads : Option (List ℕ) → Option (List ℕ) → List ℕ → Result (Option ℕ) RunFault → Type 0
 Reads before after buffer (Ok (Some count)) = Consumes before after (take count buffer)
 Reads before after buffer (Ok None) = Consumes before after []
 Reads before after buffer (Err fault) = Consumes before after []
 
--- the line that stands in place of a reply
+-- the line of a refusal
 abbrev pub refusal_line : Refusal → List ℕ
 refusal_line refused.Malformed = malformed_line
 refusal_line refused.Memory = memory_line
 
--- the text is an answer that the line gets, with its line feed, or a refusal is
+-- the text is the reply line to the line, with its line feed; or a refusal is its reply line
 abbrev pub Answers : List ℕ → Option (Request × Reply) → Result (Unit {0}) Refusal → List ℕ → Type 0
 Answers line call (Ok _) text = (answer : List ℕ) × (text ≡ ended answer) × IsAnswer line call answer
 Answers line call (Err refusal) text = IsAnswer line call (refusal_line refusal)
 
--- the line was served, but of its answer perhaps a part alone was written
+-- the line was served; after an error a part of its reply line may have been written
 pub record Done {S : Type 0} (gives : S → Request → Reply → S → Type 0) (line : List ℕ) (before after : S) (old new : Option (List ℕ)) (result : Result (Unit {0}) RunFault) : Type 0 where
   pub call : Option (Request × Reply)
   pub answer : List ℕ
@@ -39,7 +39,8 @@ pub record Done {S : Type 0} (gives : S → Request → Reply → S → Type 0) 
   pub written : Appends old new part
   pub whole : OnOk result (part ≡ ended answer)
 
--- of the bytes that were read lines were served and answered, one more line has begun, and some bytes are left to be looked at
+-- of the bytes that were read, lines were served and answered, one more line has begun, and some bytes are still to be
+-- searched for line feeds
 pub record Far {S : Type 0} (gives : S → Request → Reply → S → Type 0) (read : List ℕ) (before after : S) (old new : Option (List ℕ)) (left : List ℕ) (begun : Begun) : Type 0 where
   pub served : List Served
   pub line : List ℕ
@@ -49,7 +50,7 @@ pub record Far {S : Type 0} (gives : S → Request → Reply → S → Type 0) (
   pub is_line : IsLine line
   pub begun_is : IsBegun begun line
 
--- what was written where the stream ended or was left; a line that is too long has no answer yet
+-- what was written when the stream ended or was left; a line that is too long has no reply yet
 abbrev pub StopsAs : Result (Unit {0}) Stop → List ℕ → List Served → List ℕ → Type 0
 StopsAs (Ok _) text served rest = EndsAs (Ok End) text served rest
 StopsAs (Err TooLong) text served rest = (text ≡ answers_text served) × IsTooLong rest

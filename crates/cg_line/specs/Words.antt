@@ -12,7 +12,7 @@ spaced (w ∷ v ∷ ws) = w ++ codes " " ++ spaced (v ∷ ws)
 abbrev pub bytes_word : List ℕ → List ℕ
 bytes_word bytes = codes "x" ++ encode_lower bytes
 
--- a name, or '-' where there is none
+-- a name, or '-' for no name
 abbrev pub name_word : Option (List ℕ) → List ℕ
 name_word None = codes "-"
 name_word (Some name) = name

@@ -1,15 +1,15 @@
-//! What answers requests.
+//! The backend of a stream: it returns a reply for each request.
 ghost use Rattle.cg_request.specs.declared.asking.Request.{Request};
 ghost use Rattle.cg_member.specs.declared.reply.Reply.{Reply};
 
 use cg_group::{Reply, Request};
 
-/// Whoever answers the requests of a stream of lines, as a coordinator does.
+/// Source of the replies to a stream of request lines, as a coordinator is.
 pub trait Backend {
-    /// What may come of a request: the backend before it, the request, the answer, and the backend after it.
+    /// Relation of the backend before a request, the request, its reply, and the backend after it.
     ghost gives: { Self → Request → Reply → Self → Type 0 };
 
-    /// Answers one request.
+    /// Returns the reply to one request.
     fn answer(&mut self, request: Request) -> Reply
         ensures { gives self.old request result self.new };
 }

@@ -1,5 +1,6 @@
-//! The line protocol: requests and replies as lines of text, and serving a stream of them.
-//! Stands on the requests and replies of `cg_group`.
+//! The line protocol (docs/PROTOCOL.md): parses request lines, prints reply lines, and serves a stream of lines over
+//! any
+//! reader, writer and backend. Requests and replies are those of `cg_group`.
 #![tactic(auto)]
 
 mod backend;

@@ -1,16 +1,17 @@
+//! Errors of parsing a line.
 ghost use Rattle.std.specs.Prelude.{◌≡◌};
 ghost use Rattle.cg_line.specs.declared.line_fault.LineFault.TheVariants.{Memory};
 
 use std::alloc::{AllocError, AllocFailed};
 use thiserror::Error;
 
-/// Why a line is answered by no request. A line with several faults is told `TooLong` first, then `Malformed`.
+/// Error of a line that is not parsed. `TooLong` is reported first, then `Malformed`.
 #[derive(Clone, Copy, Debug, PartialEq, Eq, Error)]
 pub enum LineFault {
-    /// The line spells a request, and there was no memory to keep it.
+    /// The line is a request, and an allocation for it failed.
     #[error("no memory for a request")]
     Memory,
-    /// The line is the spelling of no request.
+    /// The line is not a request.
     #[error("a line is malformed")]
     Malformed,
     /// The line has more than `LINE_BYTES_MAX` bytes.

@@ -1,4 +1,4 @@
-//! Reading a request from its line.
+//! Parsing a request line.
 ghost use Rattle.std.specs.Prelude.{◌≡◌, ◌↔◌, ◌<◌, ◌≤◌, ◌⊎◌, map, length, Ok, Err, IfOk};
 ghost use Rattle.cg_request.specs.declared.asking.Request.{Request};
 ghost use Rattle.cg_line.specs.Parsing.{Reads, group_call_of, is_member_call, member_call_of, request_of};
@@ -24,7 +24,7 @@ use crate::words::LINE_BYTES_MAX;
 use cg_group::Request;
 use std::alloc::Global;
 
-/// The greatest session time-out that a line spells, in milliseconds: the protocol writes it in an `INT32`.
+/// Greatest session timeout on a line, in milliseconds: Kafka's protocol has it as an `INT32`.
 pub const SESSION_LINE_MS_MAX: u32 = 2_147_483_647;
 
 fn is_member_call(kind: &[u8]) -> bool
@@ -36,7 +36,7 @@ fn is_member_call(kind: &[u8]) -> bool
         || kind == b"LEAVE".as_slice()
 }
 
-// The call of a member that the words spell.
+// Parses JOIN, SYNC, BEAT and LEAVE. `words` are those after the first, `kind`.
 #[tactic(auto, unfolding(crate::specs::Parsing::member_call_of))]
 fn member_call(alloc: Global, kind: &[u8], words: &[&[u8]]) -> Result<Request, LineFault>
     ensures { Reads result (member_call_of kind.now (map (λ w. w.now) words.now)) }
@@ -56,7 +56,7 @@ fn member_call(alloc: Global, kind: &[u8], words: &[&[u8]]) -> Result<Request, L
     Err(Malformed)
 }
 
-// The call about offsets or groups that the words spell.
+// Parses COMMIT, FETCH, DESCRIBE, DELETE and LIST. `words` are those after the first, `kind`.
 #[tactic(auto, unfolding(crate::specs::Parsing::group_call_of))]
 fn group_call(alloc: Global, kind: &[u8], words: &[&[u8]]) -> Result<Request, LineFault>
     ensures { Reads result (group_call_of kind.now (map (λ w. w.now) words.now)) }
@@ -79,7 +79,6 @@ fn group_call(alloc: Global, kind: &[u8], words: &[&[u8]]) -> Result<Request, Li
     Err(Malformed)
 }
 
-// The request that the words spell.
 #[tactic(auto, unfolding(crate::specs::Parsing::request_of))]
 fn request(alloc: Global, words: &[&[u8]]) -> Result<Request, LineFault>
     ensures { Reads result (request_of (map (λ w. w.now) words.now)) }
@@ -94,9 +93,9 @@ fn request(alloc: Global, words: &[&[u8]]) -> Result<Request, LineFault>
     }
 }
 
-/// The request that a line spells. The line comes without its line feed. A line that no request spells is told `Malformed`
-/// also where memory is wanting. Reads the line a few times, and compares each of at most 64 entries with each by what it is
-/// of; takes as much memory as the request.
+/// Parses a line without its line feed. All checks come before the first allocation, so a malformed line is reported as
+/// such even if memory is short. Linear in the line, plus a comparison of each pair of its at most 64 entries.
+/// Allocates what the request holds.
 pub fn parse(alloc: Global, line: &[u8]) -> Result<Request, LineFault>
     ensures ok { IfOk result (λ request. Spells line.now request) }
     ensures complete { (r : Request) → Spells line.now r → (length line.now ≤ LINE_BYTES_MAX) → (result ≡ Ok r) ⊎ (result ≡ Err LineFault.Memory) }

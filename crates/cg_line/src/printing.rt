@@ -14,7 +14,7 @@ mod word;
 use entry::{put_described_members, put_fetched, put_joined_members, put_listings};
 use word::{put_bytes, put_name, put_number, state_name};
 
-// What the group goes by: generation, type and protocol.
+// Appends the generation, type and protocol.
 #[tactic(auto, unfolding(crate::specs::Words::spaced))]
 fn put_round(out: &mut Vec<u8>, joined: &Joined) -> Result<(), AllocError>
     ensures { OnOk result (out.new.items ≡ out.old.items ++ spaced (decimal joined.now.generation ∷ name_word joined.now.kind ∷ name_word joined.now.protocol ∷ [])) }
@@ -27,7 +27,7 @@ fn put_round(out: &mut Vec<u8>, joined: &Joined) -> Result<(), AllocError>
     Ok(())
 }
 
-// All but the members that are listed.
+// Appends a JOINED reply up to its list of members.
 #[tactic(auto, unfolding(crate::specs::Words::spaced))]
 fn put_joined_head(out: &mut Vec<u8>, joined: &Joined) -> Result<(), AllocError>
     ensures { OnOk result (out.new.items ≡ out.old.items ++ spaced (codes "JOINED" ∷ decimal joined.now.generation ∷ name_word joined.now.kind
@@ -50,7 +50,7 @@ fn put_joined(out: &mut Vec<u8>, joined: &Joined) -> Result<(), AllocError>
     Ok(())
 }
 
-// All but the members.
+// Appends a GROUP reply up to its list of members.
 #[tactic(auto, unfolding(crate::specs::Words::spaced))]
 fn put_held_head(out: &mut Vec<u8>, described: &Described) -> Result<(), AllocError>
     ensures { OnOk result (out.new.items ≡ out.old.items ++ spaced (codes "GROUP" ∷ state_word described.now.phase ∷ decimal described.now.generation
@@ -116,8 +116,8 @@ fn put_groups_line(out: &mut Vec<u8>, groups: &Listed<Listing>) -> Result<(), Al
     Ok(())
 }
 
-/// Puts the line of a reply at the end of a text, without a line feed. Costs what the line is long. Where a growth is
-/// refused, a part of the line may stand there.
+/// Appends the line of a reply, without a line feed. Linear in the line. If an allocation fails, a part of the line may
+/// have been appended.
 #[tactic(auto, unfolding(crate::specs::Replies::reply_line, crate::specs::Words::spaced))]
 pub fn print_into(reply: &Reply, out: &mut Vec<u8>) -> Result<(), AllocError>
     ensures { OnOk result (out.new.items ≡ out.old.items ++ reply_line reply.now) }
@@ -137,7 +137,7 @@ pub fn print_into(reply: &Reply, out: &mut Vec<u8>) -> Result<(), AllocError>
     Ok(())
 }
 
-/// The line of a reply, without a line feed. Costs what the line is long.
+/// Returns the line of a reply, without a line feed. Linear in the line.
 pub fn print(alloc: Global, reply: &Reply) -> Result<Vec<u8>, AllocError>
     ensures { IfOk result (λ text. text.items ≡ reply_line reply.now) }
 {

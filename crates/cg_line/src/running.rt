@@ -23,13 +23,13 @@ use serving::{Refusal, serve_begun, serve_line};
 use stop::Stop;
 use writing::{flush, put};
 
-/// The greatest number of reads of a run, those that are interrupted among them.
+/// Greatest number of reads of a run, interrupted reads included.
 pub const READS_MAX: u64 = 4_294_967_296;
 
-/// How many bytes a read asks for.
+/// Bytes that a read asks for.
 const BUFFER_BYTES: usize = 8_192;
 
-// The bytes before the first line feed, and those behind it.
+// Returns the bytes before the first line feed and those after it, or `None` without a line feed.
 fn cut(bytes: &[u8]) -> Option<(&[u8], &[u8])>
     ensures { MatchOption result (HasNoEnd bytes.now)
         (λ parts. (bytes.now ≡ parts.0.now ++ (line_feed ∷ parts.1.now)) × HasNoEnd parts.0.now) }
@@ -38,7 +38,7 @@ fn cut(bytes: &[u8]) -> Option<(&[u8], &[u8])>
     Some((&bytes[..at], &bytes[at + 1..]))
 }
 
-// Serves the line that ends with these bytes. One that stands whole in the buffer is served where it stands.
+// Serves the line that ends with `front`. A line that lies whole in the buffer is parsed there, without a copy.
 fn end_line<W: Write, B: Backend>(
     alloc: Global,
     begun: &mut Begun,
@@ -61,7 +61,7 @@ fn end_line<W: Write, B: Backend>(
     Ok(())
 }
 
-// Serves the lines that end in these bytes, and begins the one behind them.
+// Serves the lines that end within `bytes`, and keeps the rest as the beginning of the next line.
 fn serve_bytes<W: Write, B: Backend>(
     alloc: Global,
     begun: &mut Begun,
@@ -83,7 +83,7 @@ fn serve_bytes<W: Write, B: Backend>(
     Ok(())
 }
 
-// Serves lines until the stream ends or is left.
+// Serves lines until the stream ends, a line is too long, or a fault occurs.
 fn serve_stream<R: Read, W: Write, B: Backend>(
     alloc: Global,
     reader: &mut R,
@@ -118,7 +118,6 @@ fn serve_stream<R: Read, W: Write, B: Backend>(
     Err(Stop::Fault(RunFault::Read))
 }
 
-// Refuses a line that is too long.
 fn refuse_too_long<W: Write>(writer: &mut W) -> Result<(), RunFault>
     ensures written { (part : List ℕ) × Appends (W.contents writer.old) (W.contents writer.new) part × OnOk result (part ≡ ended malformed_line) }
     ensures fault { IfErr result (λ fault. fault ≡ RunFault.Write) }
@@ -128,10 +127,12 @@ fn refuse_too_long<W: Write>(writer: &mut W) -> Result<(), RunFault>
     Ok(())
 }
 
-/// Serves a stream of request lines: each line is answered by one line, in order, and the writer is flushed before each read. A line that no request spells
-/// is answered `ERR 42 INVALID_REQUEST`, one for which memory was wanting `ERR -1 UNKNOWN_SERVER_ERROR`. A line of more than `LINE_BYTES_MAX` bytes, whole or
-/// not, is answered `ERR 42 INVALID_REQUEST` and ends the run; a shorter last line without its line feed is dropped. At most `LINE_BYTES_MAX` bytes of a line
-/// are held, at most `READS_MAX` reads are made, and what a line costs is linear in it but for what the backend does.
+/// Serves a stream of request lines. Each line gets one reply line, in order, and the writer is flushed before each
+/// read. A malformed line gets `ERR 42 INVALID_REQUEST`, and a line for which an allocation fails `ERR -1
+/// UNKNOWN_SERVER_ERROR`. A line of more than `LINE_BYTES_MAX` bytes, with or without its line feed, gets `ERR 42
+/// INVALID_REQUEST` and ends the run. A shorter last line without its line feed is dropped. Keeps at most
+/// `LINE_BYTES_MAX` bytes of a line, and makes at most `READS_MAX` reads. Besides the backend, each line costs time
+/// linear in its length.
 pub fn run<R: Read, W: Write, B: Backend>(
     alloc: Global,
     reader: &mut R,

@@ -1,4 +1,5 @@
-//! Lines that are no request, and streams of lines in pieces, with faults of the reader and the writer.
+//! Lines that are not requests, and streams that are read and written in pieces, with errors of the reader and the
+//! writer.
 use crate::{Backend, LineFault, RunEnd, RunFault, parse, print, run};
 use cg_group::{Listed, Reply, Request};
 use cg_names::Code;
@@ -103,7 +104,7 @@ fn lines_that_are_no_request(rt: HostRuntime) -> Result<(), Fail> {
     Ok(())
 }
 
-// Answers each kind of request with a reply of its own, and counts them.
+// Replies to each kind of request in a different way, and counts the requests.
 #[derive(Drop)]
 struct Counting {
     alloc: Global,
@@ -124,7 +125,7 @@ impl Backend for Counting {
     }
 }
 
-// Gives at most three bytes a read, is interrupted before each, and fails at the end where it is to.
+// Returns at most three bytes a read. Each read is interrupted once first; at the end a read may fail.
 #[derive(Drop)]
 struct InPieces {
     bytes: &'static [u8],
@@ -171,8 +172,8 @@ impl Write for TakesSome {
 
 const END: Result<RunEnd, RunFault> = Ok(RunEnd::End);
 
-// What a stream has, whether its reader fails at the end, and how many bytes its writer takes; how its run ends, what is
-// written, and how often the backend is asked.
+// One case a row: the stream, whether its reader fails at the end, how many bytes its writer takes; then how the run
+// ends, what is written, and how many requests the backend gets.
 const STREAMS: [(&str, bool, usize, Result<RunEnd, RunFault>, &str, u64); 16] = [
     ("", false, 1_000, END, "", 0),
     ("LIST\n", false, 1_000, END, "GROUPS\n", 1),
@@ -241,7 +242,7 @@ const STREAMS: [(&str, bool, usize, Result<RunEnd, RunFault>, &str, u64); 16] = 
     ),
 ];
 
-// How the run over a stream in pieces ends, what is written, and how often the backend is asked.
+// Returns how the run over a stream in pieces ends, what is written, and how many requests the backend gets.
 fn served_in_pieces(
     alloc: Global,
     bytes: &'static [u8],
@@ -271,7 +272,7 @@ fn each_line_is_answered_by_one_line(rt: HostRuntime) {
     }
 }
 
-// How the run over a slice ends, and what is written.
+// Returns how the run over a slice ends, and what is written.
 fn served(alloc: Global, bytes: &[u8]) -> (Result<RunEnd, RunFault>, Vec<u8>) {
     let mut reader = bytes;
     let mut written = Vec::new(alloc);
@@ -280,7 +281,7 @@ fn served(alloc: Global, bytes: &[u8]) -> (Result<RunEnd, RunFault>, Vec<u8>) {
     (result, written)
 }
 
-// A COMMIT line of this many bytes between two others, the last of them without its line feed where it is not ended.
+// Makes a COMMIT line of this many bytes between two others. The last line has a line feed only if it is ended.
 fn around(alloc: Global, length: usize, is_ended: bool) -> Result<Vec<u8>, AllocError> {
     let mut bytes = Vec::from_slice(alloc, b"LIST\nCOMMIT gg -1 - - t:0:0:x")?;
     let digits = vec![in alloc; b'0'; length.saturating_sub(24)]?;

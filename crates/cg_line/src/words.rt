@@ -1,4 +1,4 @@
-//! Words on a line.
+//! The limit of a line.
 
-/// The longest request line that is served, in bytes without its line feed.
+/// Greatest length of a request line that is served, in bytes without its line feed.
 pub const LINE_BYTES_MAX: usize = 1_048_576;

@@ -1,4 +1,4 @@
--- The desk, the batch on its way, and the store go on agreeing.
+-- The desk, the batch on its way and the store keep agreeing.
 use Rattle.std.proofs.Common.{◌≡◌, ℕ, Bool, true, false, List, [], ◌∷◌, sym, subst}
 use Rattle.std.specs.Prelude.{if◌then◌else◌, Result, Ok, Err, IfOk, OnErr}
 use Rattle.cg_request.specs.declared.event.Event.{Event}
@@ -48,7 +48,7 @@ module _ (t : Transit) (front : ℕ) (failed : Bool) where
   gone-agrees (Failed n m) session now h = h
   gone-agrees (Serving b) session now h = served-agrees b [] (Gone session) now h
 
-  -- a call of the desk is answered so, or was refused
+  -- a call of the desk returned this answer, or failed
   module _ {V E : Type 0} (items : V → List Outgoing) (a : Answer) (s after : State) where
     kept : (r : Result V E) → IfOk r (λ v. a ≡ record { after = after; out = items v }) → OnErr r (after ≡ s) → Agree a.after t front failed → Agree s t front failed → Agree after t front failed
     kept (Ok v) ok err h g = subst (λ (x : Answer). Agree x.after t front failed) ok h

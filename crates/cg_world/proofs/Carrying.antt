@@ -10,7 +10,7 @@ use Rattle.cg_store.specs.declared.store.Store.{Store}
 use Rattle.cg_store.proofs.Standing.{StandsAt-carry}
 use Rattle.cg_world.specs.Carrying.{CarriesFront, HasStored, HoldsAtLeast}
 
--- the pair itself is that of no commands
+-- the pair plus no commands is the pair
 pub carries-none : (n : ℕ) (state : State) (commands : List Command) (image : Image) → Carries image n state → CarriesFront n state commands image
 carries-none n state commands image carries = record {
   front = [];

@@ -91,7 +91,7 @@ pub nothing-yet : (w : Sight) → to_store [] w ≡ unstored w
 unfolding to_store made_by
 nothing-yet w = append-nil (unstored w)
 
--- fronts of fronts
+-- prefixes of prefixes
 
 pub pair-moves : (P : ℕ → Durable → Type 0) (n : ℕ) (state : Durable) (front more : List Command) → P (n + length front + length more) (after (after state front) more) → P (n + length (front ++ more)) (after state (front ++ more))
 pair-moves P n state front more p =

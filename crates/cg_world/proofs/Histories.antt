@@ -28,7 +28,7 @@ use Rattle.cg_world.specs.declared.step.StepNote.{StepNote}
 use Rattle.cg_world.specs.declared.step.StepNote.TheVariants.{Done, Nothing, InFlight, Full, Device}
 use Rattle.cg_world.proofs.Resting.{turn-stays-failed}
 
--- the desk serves on, with the machine of these events
+-- the desk still serves, with the machine after these events
 pub IsNext : State → Machine → Type 0
 IsNext Loading m = ⊥
 IsNext (Failed n s) m = ⊥
@@ -74,7 +74,7 @@ turn-next Settle InFlight b stored end = inl refl
 turn-next Settle Full b stored end = inl refl
 turn-next Settle Device b stored end = inl refl
 
--- a desk that does not serve brings nothing
+-- a desk that does not serve brings no event
 none-of : (s : Step) (d : State) → is_serving d ≡ false → (option_to_list (event_at s d) ≡ []) × (made_in s d ≡ [])
 none-of s Loading is = (refl, refl)
 none-of s (Failed n m) is = (refl, refl)

@@ -1,4 +1,4 @@
--- Replies leave in the first step after which their need is settled.
+-- Replies leave in the first step after which their sequence number is settled.
 use Rattle.std.proofs.Common.{◌≡◌, ℕ, ◌+◌, ◌≤◌, Bool, true, false, List, [], ◌∷◌, ◌++◌, append_assoc, append-nil, length, map, Option, None, Some, refl, sym, ap, ◌∙◌, subst, arith}
 use Rattle.std.specs.Prelude.{if◌then◌else◌, is_some}
 use Rattle.std.proofs.lemmas.Bool.{false≢true}
@@ -49,7 +49,7 @@ pub record Leaves (s after : State) (made : List HeldStep) (left : List Outgoing
   pub top : ℕ
   pub in_order : AreInOrder 0 top (held_in s ++ made)
 
--- a step that lets no reply go
+-- a step that releases no reply
 quiet-leaves : (b c : Books) → IsOrderlyDesk b → IsBalanced c → c.held ≡ b.held → c.numbered ≡ b.numbered → c.settled ≡ b.settled → Leaves (Serving b) (Serving c) [] []
 quiet-leaves b c h balanced held numbered settled = record {
   left_is = ap (λ (l : List HeldStep). map sent (replies_of l)) (sym (ap (λ (l : List HeldStep). due c.settled l) (append-nil b.held) ∙ none));
@@ -67,7 +67,7 @@ quiet-leaves b c h balanced held numbered settled = record {
     none : due c.settled b.held ≡ []
     none = ap (λ (n : ℕ). due n b.held) settled ∙ h.none_due
 
--- an event is met
+-- an event is handled
 served-leaves : (b : Books) (handed : List ReplyToken) (e : Event) (now : ℕ) → KeepsCalls b.machine handed e now → IsOrderlyDesk b
     → Leaves (Serving b) (Serving (served b handed e now).books) (replies_to (Some (e, now)) b) (served b handed e now).out
 unfolding served letting_go
@@ -197,7 +197,7 @@ serves-before ps w is = by-case (is_serving w.desk) refl
     by-case true e = e
     by-case false e = absurd (false≢true (sym (run-rests ps w e) ∙ is))
 
--- one step of a world that serves after it
+-- one step after which the world still serves
 step-leaves : (s : Step) (note : StepNote) (w : Sight) → IsOrderly w → is_serving (turn s note w).after.desk ≡ true → Leaves w.desk (turn s note w).after.desk (replies_in s w.desk) (turn s note w).left
 step-leaves s note w h serves = by-state w.desk refl
   where

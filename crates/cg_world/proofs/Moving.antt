@@ -26,9 +26,9 @@ use Rattle.cg_world.specs.declared.step.StepNote.TheVariants as note
 use Rattle.cg_world.specs.declared.transit.Transit.{Transit}
 use Rattle.cg_world.specs.declared.transit.Transit.TheVariants.{Empty, Taken, Appended}
 
--- What the way says of the desk.
+-- What the transit says of the desk.
 
--- a batch is in flight, of which the store has so many commands more than are settled
+-- a batch is in flight, and this many of the store's commands are not settled
 pub record Flies (s : State) (batch : Batch) (failed : Bool) : Type 0 where
   pub out : IsOut s batch
   pub is_out_of : is_out s ≡ true
@@ -76,7 +76,7 @@ home-empty (Failed n m) (Appended receipt) home way = absurd (cc)
 home-empty (Serving b) (Taken batch) home way = absurd (false≢true (sym home ∙ ap is_away (course-away b.course b.settled (seen batch) way).0))
 home-empty (Serving b) (Appended receipt) home way = absurd (false≢true (sym home ∙ ap is_away (course-away b.course b.settled (seen (batch_of receipt)) way).0))
 
--- a batch was taken from a desk that had none out
+-- a batch was taken from a desk that had no batch in flight
 pub record Took (s after : State) (t : Transit) (batch : Batch) (front : ℕ) (failed : Bool) : Type 0 where
   pub agree : Agree after (Taken batch) front failed
   pub taken : take_from s ≡ after
@@ -125,7 +125,7 @@ took s after t batch front failed o some home is h = from-some s after (subst (�
 
 -- Appending.
 
--- with this in flight a store refuses only where it has no room
+-- with this batch in flight a store refuses only if it has no room
 pub refuses : (failed : Bool) (end front first : ℕ) (commands : List Command) → failed ≡ false → first ≡ front + 1
     → refusal_of failed end front first commands ≡ (if has_room end front commands then None else Some store_fault.Full)
 unfolding refusal_of
@@ -147,7 +147,7 @@ refuses failed end front first commands serves next =
         decided true e = e
         decided false e = absurd (eqb-false n n e refl)
 
--- what such a refusal tells of the room
+-- what such a refusal says of the room
 pub Means : Bool → StoreFault → Type 0
 Means room store_fault.Memory = room ≡ true
 Means room store_fault.Device = room ≡ true
@@ -180,7 +180,7 @@ waiting-moves Empty batch is = absurd (cc is)
 waiting-moves (Taken b) batch is = (let same : b ≡ batch = cc in ap (λ (x : Batch). Some (seen x)) same, refl, refl)
 waiting-moves (Appended receipt) batch is = absurd (cc is)
 
--- none waits for the store
+-- no batch waits for the store
 pub none-waiting : (s : State) (t : Transit) (front : ℕ) (failed : Bool) → batch_in t ≡ None → Agree s t front failed → (if is_appended t then false else is_out s) ≡ false
 none-waiting s Empty front failed none h = stays s h.way
   where
@@ -196,7 +196,7 @@ none-waiting s Empty front failed none h = stays s h.way
 none-waiting s (Taken batch) front failed none h = absurd (cc none)
 none-waiting s (Appended receipt) front failed none h = refl
 
--- the batch that is to be appended, with what the store says of it
+-- the batch that is to be appended, with what the store returns for it
 pub record Goes (s : State) (t : Transit) (batch : Batch) (front : ℕ) (failed : Bool) : Type 0 where
   pub flight : Flies s batch failed
   pub waits : is_appended t ≡ false
@@ -217,7 +217,7 @@ goes s t batch front failed is h =
       taken = ap (λ (b : Bool). if b then false else is_out s) moved.2 ∙ f.is_out_of;
     }
 
--- it was appended
+-- the batch was appended
 pub appended-agrees : (s : State) (batch : Batch) (front later : ℕ) (failed failed_now : Bool) (receipt : Receipt) → Flies s batch failed → front ≡ settled_of s
     → batch_of receipt ≡ batch → later ≡ front + length batch.commands → failed_now ≡ failed → flying s ≡ Some (seen batch) → Agree s (Appended receipt) later failed_now
 appended-agrees s batch front later failed failed_now receipt f front_is same more now way = record {
@@ -227,13 +227,13 @@ appended-agrees s batch front later failed failed_now receipt f front_is same mo
   serves = λ _. now ∙ f.serves;
 }
 
--- it was given back
+-- the batch was given back
 pub returned-agrees : (s : State) (front : ℕ) (failed : Bool) → front ≡ settled_of s → failed ≡ false → Agree (return_to s) Empty front failed
 returned-agrees Loading front failed front_is serves = record { way = refl; stored = λ h. absurd (false≢true h); enough = omega (arith, front_is); serves = λ h. absurd (false≢true h) }
 returned-agrees (Failed n m) front failed front_is serves = record { way = refl; stored = λ h. absurd (false≢true h); enough = omega (arith, front_is); serves = λ h. absurd (false≢true h) }
 returned-agrees (Serving b) front failed front_is serves = record { way = refl; stored = λ h. omega (arith, front_is); enough = omega (arith, front_is); serves = λ h. serves }
 
--- the desk takes the batch in flight back, and settles it, unless memory is wanting
+-- the desk takes back the batch in flight, and settles it, unless an allocation fails
 not-why : (c : Course) (settled : ℕ) (batch : Batch) (fault : SettleFault) → IsFlying c settled batch → fault ≢ settle_fault.Memory → IsWhy c settled batch fault → ⊥
 not-why c settled batch settle_fault.Memory flying other why = other refl
 not-why c settled batch settle_fault.NotInFlight flying other why = false≢true (sym why ∙ ap is_away flying.0)
@@ -280,7 +280,7 @@ settled-agrees s after out t receipt front failed is h answers =
 pub receipt-flies : (s : State) (t : Transit) (receipt : Receipt) (front : ℕ) (failed : Bool) → receipt_in t ≡ Some receipt → Agree s t front failed → Flies s (batch_of receipt) failed
 receipt-flies s t receipt front failed is h = flies s t (batch_of receipt) front failed (receipt-moves t receipt is).0 h
 
--- what a store says of the batch that waits for it
+-- what a store returns for the batch that waits for it
 module _ (s : State) (t : Transit) (batch : Batch) (end front : ℕ) (failed : Bool) (waits : batch_in t ≡ Some batch) (h : Agree s t front failed) where
   goes-now : Goes s t batch front failed
   goes-now = goes s t batch front failed waits h
@@ -321,7 +321,7 @@ module _ (s : State) (t : Transit) (batch : Batch) (end front : ℕ) (failed : B
   unfolding Means
   room-for fault is told = (goes-now.taken, subst (λ (f : StoreFault). Means (has_room end (settled_of s) (in_flight s)) f) is (told-of fault told))
 
--- nothing is on its way once it was taken out
+-- the transit is empty after its batch was removed
 pub batch-out : (t t_now : Transit) (batch : Batch) → batch_in t ≡ Some batch → t_now ≡ without_batch t → t_now ≡ Empty
 batch-out Empty t_now batch is now = absurd (cc is)
 batch-out (Taken b) t_now batch is now = now
@@ -356,7 +356,7 @@ way-out (Serving b) (Appended receipt) way is = ap is_away (course-away b.course
 pub sound-world : {D : Type 0} {g : _} (w : World D g) → (sight w).appended ≡ true → is_out (sight w).desk ≡ true
 sound-world w is = way-out (sight w).desk w.transit w.agree.way is
 
--- nothing is on its way where the desk does not serve
+-- the transit is empty if the desk does not serve
 pub failed-rests : {D : Type 0} {g : _} (w : World D g) → is_serving (sight w).desk ≡ false → (if (sight w).appended then false else is_out (sight w).desk) ≡ false
 failed-rests w is = rests (is_appended w.transit) (sight w).desk is
   where

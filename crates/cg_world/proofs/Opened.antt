@@ -1,4 +1,4 @@
--- A world that was opened.
+-- A world after its opening.
 use Rattle.std.proofs.Common.{◌≡◌, ℕ, Bool, subst}
 use Rattle.cg_disk.specs.Disk.{History}
 use Rattle.cg_fold.specs.Durable.{State}

@@ -1,4 +1,4 @@
--- Held replies in the order of their needs.
+-- Held replies in the order of their sequence numbers.
 use Rattle.std.proofs.Common.{◌≡◌, ℕ, ◌+◌, ◌≤◌, Bool, true, false, cond, List, [], ◌∷◌, ◌++◌, map, take, drop, append_assoc, refl, sym, ap, ◌∙◌, arith}
 use Rattle.std.specs.Prelude.{not, nat_le}
 use Rattle.std.specs.List.{filter}
@@ -14,14 +14,14 @@ use Rattle.cg_desk.specs.Owed.{sent}
 use Rattle.cg_desk.specs.declared.held.HeldStep.{HeldStep}
 use Rattle.cg_world.specs.Replying.{AreInOrder, due, is_due}
 
--- those that are not due yet
+-- the replies that are not due yet
 abbrev pub later : ℕ → List HeldStep → List HeldStep
 later settled held = filter (λ h. not (is_due settled h)) held
 
 not-due-above : (s low need : ℕ) → nat_le low s ≡ false → low ≤ need → nat_le need s ≡ false
 not-due-above s low need misses above = lt-leb need s (omega (arith, leb-false low s misses, above))
 
--- behind one that is not due there is none
+-- after one that is not due, no reply is due
 none-behind : (s low top : ℕ) (hs : List HeldStep) → nat_le low s ≡ false → AreInOrder low top hs → due s hs ≡ []
 unfolding AreInOrder
 none-behind s low top [] misses order = refl
@@ -36,7 +36,7 @@ all-behind s low top (h ∷ hs) misses order =
     let there : nat_le h.need s ≡ false = not-due-above s low h.need misses order.0 in
     ap (λ (b : Bool). cond (not b) (h ∷ later s hs) (later s hs)) there ∙ ap (λ (l : List HeldStep). h ∷ l) (all-behind s h.need top hs there order.2)
 
--- those that are due stand in front
+-- the replies that are due come first
 front-cond : (b : Bool) (n : ℕ) (h : HeldStep) (hs : List HeldStep) → take (cond b (1 + n) 0) (h ∷ hs) ≡ cond b (h ∷ take n hs) []
 front-cond true n h hs = ap (λ (k : ℕ). take k (h ∷ hs)) (one-add n)
 front-cond false n h hs = refl
@@ -63,7 +63,7 @@ later-back s low top (h ∷ hs) order = back-cond (nat_le h.need s) (ready s hs)
     by-case rest true is = rest
     by-case rest false is = ap (λ (l : List HeldStep). h ∷ l) (sym (all-behind s h.need top hs is order.2))
 
--- what is due first, and then what is due of the rest, is what is due at last
+-- what is due first, then what is due of the rest, is what is due in the end
 pub due-twice : (first last low top : ℕ) (hs : List HeldStep) → first ≤ last → AreInOrder low top hs → due first hs ++ due last (later first hs) ≡ due last hs
 unfolding AreInOrder
 due-twice first last low top [] le order = refl
@@ -94,7 +94,7 @@ all-later s (h ∷ hs) none = by-case (all-later s hs) (nat_le h.need s) refl
     by-case rest true is = absurd (cc (is, none))
     by-case rest false is = ap (λ (l : List HeldStep). h ∷ l) (rest (ap (λ (b : Bool). cond b (h ∷ due s hs) (due s hs)) (sym is) ∙ none))
 
--- the order stays
+-- the order is kept
 order-lower : (low under top : ℕ) (hs : List HeldStep) → under ≤ low → AreInOrder low top hs → AreInOrder under top hs
 unfolding AreInOrder
 order-lower low under top [] le order = tt
@@ -119,7 +119,7 @@ order-holding low top n (h ∷ hs) replies le above order = (order.0, omega (ari
 pub sent-append : (a b : List HeldStep) → map sent (replies_of (a ++ b)) ≡ map sent (replies_of a) ++ map sent (replies_of b)
 sent-append a b = ap (map sent) (flat_map-append (λ (step : HeldStep). step.replies) a b) ∙ map-append sent (replies_of a) (replies_of b)
 
--- what leaves first, and what leaves of the rest and of what is made later
+-- what leaves first, then what leaves of the rest and of what is made later
 pub chain : (first last low top : ℕ) (hs made : List HeldStep) → first ≤ last → AreInOrder low top hs
     → map sent (replies_of (due first hs)) ++ map sent (replies_of (due last (later first hs ++ made))) ≡ map sent (replies_of (due last (hs ++ made)))
 chain first last low top hs made le order =

@@ -1,4 +1,4 @@
--- What lawful commands make are lawful records.
+-- Lawful commands make lawful records.
 use Rattle.std.proofs.Common.{◌≡◌, ℕ, Bool, true, false, ◌&&◌, cond, not, List, [], ◌∷◌, ◌++◌, map, Option, None, Some, IfSome, refl, sym, ap, subst}
 use Rattle.std.specs.List.{AllByRecursion, list_any}
 use Rattle.std.specs.Option.{option_map}
@@ -21,7 +21,7 @@ use Rattle.cg_record.specs.Rosters.{IsRoster, RosterParts, has_id_of_other, lead
 use Rattle.cg_record.proofs.Replacing.{seated_roster}
 use Rattle.cg_store.specs.Carried.{Carries, joined}
 
--- a member may take the place of another
+-- a member may replace another
 roster-at : (may : Bool) (new : Member) (roster : RosterParts) → may_replace new roster.members ≡ may → IsRoster roster
     → IsRoster (cond may (roster_of roster.protocol (leader_after new roster) (map (seated new) roster.members)) roster)
 roster-at true new roster is h = seated_roster new roster h (and-first (list_any (takes_place_of new) roster.members) (not (list_any (has_id_of_other new) roster.members)) is)
@@ -45,7 +45,7 @@ unfolding replaced_in
 replaced-roster new None h = tt
 replaced-roster new (Some roster) h = roster-at (may_replace new roster.members) new roster refl h
 
--- a record that is set
+-- a record is set
 set-lawful : (state : State) (group : List ℕ) (r : GroupRecord) → AreRecords state → IsRecord r → AreRecords (with_record state group r)
 set-lawful state group r h is q =
     subst (λ (o : Option GroupRecord). IfSome o IsRecord) (sym (finmap.get-insert name_total state.records group r q)) (either (eq_by_cmp name_cmp q group))

@@ -1,4 +1,4 @@
--- A desk that has failed stays so.
+-- A desk that has failed stays failed.
 use Rattle.std.proofs.Common.{◌≡◌, ℕ, Bool, true, false, length, refl, sym}
 use Rattle.std.proofs.lemmas.Bool.{false≢true}
 use Rattle.std.specs.Prelude.{is_some}

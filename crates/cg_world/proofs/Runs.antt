@@ -30,7 +30,7 @@ use Rattle.cg_world.proofs.Moving.{failed-rests}
 use Rattle.cg_world.proofs.Resting.{turn-stays-failed}
 
 module _ {D : Type 0} {g : _} (honest : D → Bool) (history : D → History) where
-  -- what stands after some steps, while the disk has not failed
+  -- what holds after some steps, while the disk has not failed
   pub record Going (steps rest : List Step) (notes : List StepNote) (outs : List (List Outgoing)) (old now : World D g) : Type 0 where
     pub rest_is : rest ≡ drop (length notes) steps
     pub few : length notes ≤ length steps
@@ -183,7 +183,7 @@ module _ {D : Type 0} {g : _} (honest : D → Bool) (history : D → History) wh
     failed = λ f. (going.failed f).0;
   })
 
-  -- memory was wanting for the next
+  -- an allocation failed for the next step
   pub run-wanting : (steps rest : List Step) (s : Step) (notes : List StepNote) (outs : List (List Outgoing)) (old now new : World D g) (last : Option Outgoing) (trace : Trace) → Going steps (s ∷ rest) notes outs old now
       → sight new ≡ sight now → IsUnchanged (store_of now) (store_of new) → last ≡ refusal_of_first (s ∷ rest)
       → trace ≡ record { out = outs; notes = notes; last = last; stopped = Some cause.Memory } → IsRun honest history steps old new trace
@@ -236,7 +236,7 @@ module _ {D : Type 0} {g : _} (honest : D → Bool) (history : D → History) wh
       device Full is = absurd (false≢true is)
       device Device is = refl
 
-  -- The same, as the loop of a run meets them.
+  -- The same, in the form of the loop of a run.
   pub begins : (steps rest : List Step) (notes : List StepNote) (outs : List (List Outgoing)) (old : World D g) → rest ≡ steps → notes ≡ [] → outs ≡ [] → Going steps rest notes outs old old
   begins steps rest notes outs old same none silent =
       subst (λ (r : List Step). Going steps r notes outs old old) (sym same)

@@ -28,7 +28,7 @@ use Rattle.cg_world.proofs.Unstored.{after-full, after-gone, after-nothing, afte
 use Rattle.cg_world.proofs.Moving.{sound-world}
 
 module _ {D : Type 0} {g : _} (honest : D → Bool) (history : D → History) (old new : World D g) where
-  -- a step that leaves the store as it is
+  -- a step that leaves the store unchanged
   at-rest : (step : Step) (note : StepNote) (out : List Outgoing) → IsNoteOf step (sight old) note → (turn step note (sight old)).after ≡ sight new → out_of (turn step note (sight old)) ≡ out
       → IsUnchanged (store_of old) (store_of new) → to_store ((step, note) ∷ []) (sight old) ≡ unstored (turn step note (sight old)).after → IsTaken honest history step note out old new
   at-rest step note out noted now left same rest = record {
@@ -51,7 +51,7 @@ module _ {D : Type 0} {g : _} (honest : D → Bool) (history : D → History) (o
       ∙ ap (λ (f : Bool). let w : Sight = record { desk = (sight new).desk; appended = f; end = (sight old).end } in w) (sym b)
       ∙ ap (λ (e : ℕ). let w : Sight = record { desk = (sight new).desk; appended = (sight new).appended; end = e } in w) (sym c)
 
-  -- the desk was asked, and its world is as it was but for that
+  -- a call of the desk changes nothing else of its world
   answered-after : (met : Bool) (a : Answer) (out : List Outgoing) → a ≡ record { after = (sight new).desk; out = out } → (sight new).appended ≡ (sight old).appended → store_of new ≡ store_of old
       → ((answered met (sight old) a).after ≡ sight new) × (out_of (answered met (sight old) a) ≡ out)
   answered-after true a out is same store = (same-sight a.after (ap (λ (x : Answer). x.after) is) same (ap (λ s. s.end) store), ap (λ (x : Answer). x.out) is)

@@ -28,11 +28,11 @@ use Rattle.cg_world.specs.declared.step.Step.TheVariants.{Request, Gone, Tick, T
 use Rattle.cg_world.specs.declared.step.StepNote.{StepNote}
 use Rattle.cg_world.specs.declared.step.StepNote.TheVariants.{Done, Nothing, InFlight, Full, Device}
 
--- a batch that was appended is in flight still
+-- a batch that was appended is still in flight
 abbrev pub IsSound : Sight → Type 0
 IsSound w = w.appended ≡ true → is_out w.desk ≡ true
 
--- the commands of an event that is met come behind those that wait
+-- the commands of an event come after those that wait
 met-behind : (stored : Bool) (b : Books) (handed : List ReplyToken) (e : Event) (now : ℕ)
     → unstored_in stored b ++ commands_of ((e, now) ∷ []) b.machine ≡ unstored_in stored (served b handed e now).books
 unfolding served letting_go commands_of
@@ -49,7 +49,7 @@ answered-after : (met : Bool) (w : Sight) (a : Answer) → unstored (answered me
 answered-after true w a = refl
 answered-after false w a = refl
 
--- what a request, a Tick and a closed session leave unstored: what was, and the commands of the event
+-- what a request, a Tick and a closed session leave unstored: what was unstored before, and the commands of the event
 request-at : (short stored : Bool) (b : Books) (token : ReplyToken) (e : Event) (now : ℕ)
     → let a : Answer = if short then record { after = Serving b; out = answer (call_of token) (Refused CoordinatorNotAvailable) ∷ [] } else serving (served b (token ∷ []) e now) in
     unstored_in stored b ++ commands_of (option_to_list (if short then None else Some (e, now))) b.machine ≡ unstored_at stored a.after
@@ -95,7 +95,7 @@ pub after-gone : (w : Sight) (note : StepNote) (session now : ℕ) → to_store 
 unfolding to_store made_by turn
 after-gone w note session now = ap (λ (l : List Command). unstored w ++ l) (append-nil (made_in (Gone session now) w.desk)) ∙ gone-desk w.desk w.appended session now
 
--- a step that is no event: nothing is made
+-- a step that is no event makes no command
 none-at-take : (s : State) (l : List Command) → l ++ (made_in Take s ++ []) ≡ l
 unfolding commands_of
 none-at-take Loading l = append-nil l
@@ -159,7 +159,7 @@ pub to-append : (w : Sight) (note : StepNote) → to_store ((Append, note) ∷ [
 unfolding to_store made_by
 to-append w note = none-at-append w.desk (unstored w)
 
--- the batch that was taken is in front of it
+-- the batch that was taken is a prefix of it
 taken-false : (stored out : Bool) → (if stored then false else out) ≡ true → stored ≡ false
 taken-false true out is = absurd (false≢true is)
 taken-false false out is = refl
@@ -172,7 +172,7 @@ flight-front (Serving b) = refl
 pub flight-first : (w : Sight) → is_taken w ≡ true → unstored w ≡ in_flight w.desk ++ unstored_at true w.desk
 flight-first w taken = ap (λ (b : Bool). unstored_at b w.desk) (taken-false w.appended (is_out w.desk) taken) ∙ flight-front w.desk
 
--- it stays where it is given back
+-- giving a batch back leaves the same commands unstored
 returned-desk : (s : State) (stored : Bool) → unstored_at stored s ≡ unstored_at stored (return_to s)
 returned-desk Loading stored = refl
 returned-desk (Failed n m) stored = refl

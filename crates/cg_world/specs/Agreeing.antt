@@ -1,4 +1,4 @@
--- What holds between the desk, the batch on its way, and the store.
+-- The invariant of the desk, the batch on its way, and the store.
 use Rattle.std.specs.Prelude.{◌≡◌, ◌+◌, ◌≤◌, ℕ, Bool, true, false, List, [], length, Option, None, Some}
 use Rattle.cg_record.specs.declared.command.Command.{Command}
 use Rattle.cg_store.specs.declared.batch.Batch.{Batch}
@@ -8,7 +8,7 @@ use Rattle.cg_desk.specs.Flights.{Course, Idle, Away, Returned}
 use Rattle.cg_world.specs.declared.transit.Transit.{Transit}
 use Rattle.cg_world.specs.declared.transit.Transit.TheVariants.{Empty, Taken, Appended}
 
--- the desk has loaded, and its disk did not fail
+-- the desk has loaded, and its disk has not failed
 abbrev pub is_serving : State → Bool
 is_serving Loading = false
 is_serving (Failed n s) = false
@@ -40,11 +40,11 @@ stored_in Empty = []
 stored_in (Taken batch) = []
 stored_in (Appended receipt) = (batch_of receipt).commands
 
--- a desk, the batch on its way, how many commands the store has, and whether its disk failed
+-- a desk, the batch on its way, how many commands the store has, and whether its disk has failed
 pub record Agree (desk : State) (transit : Transit) (front : ℕ) (failed : Bool) : Type 0 where
-  -- what is on its way is the batch in flight
+  -- the batch on its way is the one in flight
   pub way : moving transit ≡ flying desk
-  -- the store has what is settled, and the batch that was appended
+  -- the store has the settled commands, and the batch that was appended
   pub stored : is_serving desk ≡ true → front ≡ settled_of desk + length (stored_in transit)
   pub enough : settled_of desk ≤ front
   pub serves : is_serving desk ≡ true → failed ≡ false

@@ -7,26 +7,26 @@ use Rattle.cg_store.specs.Carried.{Carries}
 use Rattle.cg_store.specs.Store.{StandsAt}
 use Rattle.cg_store.specs.declared.store.Store.{Store}
 
--- an image carries the pair with a front of these commands
+-- an image carries the pair plus a prefix of these commands
 pub record CarriesFront (n : ℕ) (state : State) (commands : List Command) (image : Image) : Type 0 where
   pub front : List Command
   pub rest : List Command
   pub whole : commands ≡ front ++ rest
   pub carried : Carries image (n + length front) (after state front)
 
--- a store stands at the pair with a front of these commands, and the rest is not in it
+-- a store has the pair plus a prefix of these commands, and not the rest
 pub record HasStored {D : Type 0} {g : _} (honest : D → Bool) (history : D → History) (store : Store D g) (n : ℕ) (state : State) (commands rest : List Command) : Type 0 where
   pub front : List Command
   pub whole : commands ≡ front ++ rest
   pub stands : StandsAt honest history store (n + length front) (after state front)
 
--- an image carries so many commands at least
+-- an image carries at least this many commands
 pub record CarriesAtLeast (count : ℕ) (image : Image) : Type 0 where
   pub number : ℕ
   pub state : State
   pub enough : count ≤ number
   pub carried : Carries image number state
 
--- whatever a crash leaves now does
+-- every image that a crash may leave now carries at least this many commands
 abbrev pub HoldsAtLeast : ℕ → History → Type 0
 HoldsAtLeast count history = (image : Image) → IsImage (present history) image → CarriesAtLeast count image

@@ -1,4 +1,4 @@
--- When a step or a run says that the disk failed.
+-- When a step or a run reports that the disk failed.
 use Rattle.std.specs.Prelude.{Bool, true, false, Result, Ok, Err, Option, Some, None}
 use Rattle.cg_world.specs.declared.step.StepNote.{StepNote}
 use Rattle.cg_world.specs.declared.step.StepNote.TheVariants as note
@@ -32,7 +32,7 @@ stopped_by_device None = false
 stopped_by_device (Some cause.Memory) = false
 stopped_by_device (Some cause.Device) = true
 
--- the refusal of a step for want of memory: a request is refused by -1
+-- the refusal of a step for which an allocation fails: a request is refused with -1
 abbrev pub refusal_of : Step → Option Outgoing
 refusal_of (Request ticket r now fresh) = Some (answer ticket (Refused UnknownServerError))
 refusal_of (Gone session now) = None

@@ -1,4 +1,4 @@
--- What the opening of a world gives.
+-- The world after an opening.
 use Rattle.std.specs.Prelude.{◌≡◌, ℕ, Bool, true, false, Result, Ok, Err}
 use Rattle.cg_disk.specs.Disk.{History, Image}
 use Rattle.cg_fold.specs.Durable.{State, counts_of}
@@ -11,7 +11,8 @@ use Rattle.cg_desk.specs.Desks.{Serving, opened}
 use Rattle.cg_world.specs.Sights.{opening_of, sight, store_of}
 use Rattle.cg_world.specs.declared.world.World.{World}
 
--- a world that was opened at this moment has found n commands, which make the state: its desk serves what that state revives
+-- a world that was opened at this moment found n commands, which make the state: its desk serves the groups that this
+-- state recovers
 pub record IsOpened {D : Type 0} {g : _} (honest : D → Bool) (history : D → History) (now : ℕ) (world : World D g) (n : ℕ) (state : State) : Type 0 where
   pub desk : (sight world).desk ≡ Serving (opened n (revive state now))
   pub fresh : (sight world).appended ≡ false
@@ -23,6 +24,6 @@ abbrev pub disk_after : {D : Type 0} {g : _} → Result (World D g) (OpenFault �
 disk_after (Ok world) = disk_of (store_of world)
 disk_after (Err refused) = refused.1
 
--- the records of what an image carries are such as commands make
+-- the records of what an image carries are lawful, as commands make them
 abbrev pub LoadingsAreLawful : Type 0
 LoadingsAreLawful = (image : Image) (n : ℕ) (state : State) → Carries image n state → AreRecords state

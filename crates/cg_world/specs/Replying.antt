@@ -23,7 +23,7 @@ use Rattle.cg_world.specs.Turns.{event_of, turn}
 use Rattle.cg_world.specs.declared.step.Step.{Step}
 use Rattle.cg_world.specs.declared.step.StepNote.{StepNote}
 
--- the replies that an event makes, with the number of all commands that are numbered then: their need
+-- the replies of an event, with the number of the last command numbered then: their sequence number
 abbrev pub replies_to : Option (Event × ℕ) → Books → List HeldStep
 replies_to None b = []
 replies_to (Some e) b = let o : Outcome = step b.machine e.0 e.1 in holding (b.numbered + length o.effects.commands) o.effects.replies
@@ -33,35 +33,35 @@ replies_in s Loading = []
 replies_in s (Failed n m) = []
 replies_in s (Serving b) = replies_to (event_of s b) b
 
--- those that a run makes
+-- the replies that a run makes
 unfoldable pub replies_by : List (Step × StepNote) → Sight → List HeldStep
 replies_by [] w = []
 replies_by (p ∷ ps) w = replies_in p.0 w.desk ++ replies_by ps (turn p.0 p.1 w).after
 
--- those that are held when it begins
+-- the replies that are held
 abbrev pub held_in : State → List HeldStep
 held_in Loading = []
 held_in (Failed n m) = []
 held_in (Serving b) = b.held
 
--- their commands are settled
+-- the sequence number of the replies is settled
 abbrev pub is_due : ℕ → HeldStep → Bool
 is_due settled h = nat_le h.need settled
 
 abbrev pub due : ℕ → List HeldStep → List HeldStep
 due settled held = filter (is_due settled) held
 
--- what leaves in a run, but for what the desk refuses by itself
+-- what leaves in a run, except what the desk refuses at once
 unfoldable pub left_by : List (Step × StepNote) → Sight → List Outgoing
 left_by [] w = []
 left_by (p ∷ ps) w = (turn p.0 p.1 w).left ++ left_by ps (turn p.0 p.1 w).after
 
--- the needs of held replies do not fall, and none is more than what is numbered
+-- the sequence numbers of held replies are in ascending order, and none is above the number of the last command
 unfoldable pub AreInOrder : ℕ → ℕ → List HeldStep → Type 0
 AreInOrder low top [] = Unit {0}
 AreInOrder low top (h ∷ hs) = (low ≤ h.need) × (h.need ≤ top) × AreInOrder h.need top hs
 
--- a desk that serves, as it is between two steps: no reply that is held could leave
+-- a desk that serves, between two steps: no held reply may leave yet
 pub record IsOrderlyDesk (b : Books) : Type 0 where
   pub balanced : IsBalanced b
   pub in_order : AreInOrder 0 b.numbered b.held
@@ -75,9 +75,9 @@ IsOrderlyAt (Serving b) = IsOrderlyDesk b
 abbrev pub IsOrderly : Sight → Type 0
 IsOrderly w = IsOrderlyAt w.desk
 
--- Up to a failure of the disk, what has left in a run are the replies, held at its beginning or made in it, whose need is settled at
--- its end, in the order in which they were made. As each front of a run is a run, each leaves in the first step after which its need
--- is settled.
+-- Up to a failure of the disk, what has left in a run are the replies, held at its beginning or made in it, whose
+-- sequence number is settled at its end, in the order in which they were made. Each prefix of a run is a run, so each
+-- reply leaves in the first step after which its sequence number is settled.
 pub record RepliesLeaveWhenSettled : Type 0 where
   pub opened : (image : Image) (n : ℕ) (state : Durable) (now : ℕ) → Carries image n state → IsOrderlyAt (Serving (opened n (revive state now)))
   pub stays : (ps : List (Step × StepNote)) (w : Sight) → IsOrderly w → AreNotes ps w → IsOrderly (after_run ps w)

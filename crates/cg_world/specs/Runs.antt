@@ -1,4 +1,4 @@
--- Runs: steps one after the other, each with what is noted of it.
+-- Runs: steps in their order, each with its note.
 use Rattle.std.specs.Prelude.{ℕ, Bool, true, false, ◌++◌, List, [], ◌∷◌}
 use Rattle.std.specs.Option.{option_to_list}
 use Rattle.cg_request.specs.declared.event.Event.{Event}
@@ -13,22 +13,22 @@ use Rattle.cg_world.specs.Turns.{IsNoteOf, event_at, out_of, turn}
 use Rattle.cg_world.specs.declared.step.Step.{Step}
 use Rattle.cg_world.specs.declared.step.StepNote.{StepNote}
 
--- the world after steps
+-- the world after the steps
 unfoldable pub after_run : List (Step × StepNote) → Sight → Sight
 after_run [] w = w
 after_run (p ∷ ps) w = after_run ps (turn p.0 p.1 w).after
 
--- what leaves in each of them
+-- what leaves in each of the steps
 unfoldable pub outs_of : List (Step × StepNote) → Sight → List (List Outgoing)
 outs_of [] w = []
 outs_of (p ∷ ps) w = out_of (turn p.0 p.1 w) ∷ outs_of ps (turn p.0 p.1 w).after
 
--- each note is one that its step may have
+-- each note is possible for its step
 unfoldable pub AreNotes : List (Step × StepNote) → Sight → Type 0
 AreNotes [] w = Unit {0}
 AreNotes (p ∷ ps) w = IsNoteOf p.0 w p.1 × AreNotes ps (turn p.0 p.1 w).after
 
--- the events of the machine among them
+-- the events of the machine among the steps
 unfoldable pub events_of : List (Step × StepNote) → Sight → List (Event × ℕ)
 events_of [] w = []
 events_of (p ∷ ps) w = option_to_list (event_at p.0 w.desk) ++ events_of ps (turn p.0 p.1 w).after
@@ -52,7 +52,7 @@ made_at events Loading = []
 made_at events (Failed n s) = []
 made_at events (Serving b) = commands_of events b.machine
 
--- those that a step makes, and a run
+-- the commands that a step makes, and those that a run makes
 abbrev pub made_in : Step → State → List Command
 made_in step s = made_at (option_to_list (event_at step s)) s
 
@@ -60,6 +60,7 @@ unfoldable pub made_by : List (Step × StepNote) → Sight → List Command
 made_by [] w = []
 made_by (p ∷ ps) w = made_in p.0 w.desk ++ made_by ps (turn p.0 p.1 w).after
 
--- the commands that a run may store: those that are not in the store when it begins, and those that it makes
+-- the commands that a run may store: those that are numbered and not in the store when it begins, and those that it
+-- makes
 unfoldable pub to_store : List (Step × StepNote) → Sight → List Command
 to_store ps w = unstored w ++ made_by ps w

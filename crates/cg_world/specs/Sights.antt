@@ -6,7 +6,7 @@ use Rattle.cg_desk.specs.Desks.{State, state_of}
 use Rattle.cg_world.specs.Transits.{is_appended}
 use Rattle.cg_world.specs.declared.world.World.{World}
 
--- the desk; whether the batch in flight was appended; and where the next frame goes
+-- the desk; whether the batch in flight was appended; and the position of the store's next gate
 pub record Sight : Type 0 where
   pub desk : State
   pub appended : Bool
@@ -18,6 +18,6 @@ store_of world = world.store
 abbrev pub sight : {D : Type 0} {g : _} → World D g → Sight
 sight world = record { desk = state_of world.desk; appended = is_appended world.transit; end = end_of world.store }
 
--- the numbers of commands, of group records and of offsets that its opening found
+-- the numbers of commands, group records and offsets that its opening found
 abbrev pub opening_of : {D : Type 0} {g : _} → World D g → ℕ × ℕ × ℕ
 opening_of world = world.opening

@@ -1,4 +1,4 @@
--- One step of a world, with what the disk has of it.
+-- One step of a world, and what the disk holds after it.
 use Rattle.std.specs.Prelude.{◌≡◌, ◌≢◌, ℕ, Bool, List, [], ◌∷◌}
 use Rattle.cg_disk.specs.Disk.{History, LeavesOnly}
 use Rattle.cg_fold.specs.Durable.{State}
@@ -14,13 +14,13 @@ use Rattle.cg_world.specs.declared.step.StepNote.{StepNote}
 use Rattle.cg_world.specs.declared.step.StepNote.TheVariants.{Device}
 use Rattle.cg_world.specs.declared.world.World.{World}
 
--- this was noted of a step, and these replies left in it
+-- a step was taken with this note, and these replies left in it
 pub record IsTaken {D : Type 0} {g : _} (honest : D → Bool) (history : D → History) (step : Step) (note : StepNote) (out : List Outgoing) (old new : World D g) : Type 0 where
   pub noted : IsNoteOf step (sight old) note
   pub after : (turn step note (sight old)).after ≡ sight new
   pub left : out_of (turn step note (sight old)) ≡ out
-  -- each image carries the pair with a front of what may be stored; so does the store, unless its disk failed; and whatever a crash
-  -- leaves now has all commands that are settled
+  -- each image carries the pair plus a prefix of what may be stored; so does the store, unless its disk failed; and
+  -- every image that a crash may leave now has all settled commands
   pub images : (n : ℕ) (state : State) → StandsAt honest history (store_of old) n state
       → LeavesOnly (history (disk_of (store_of old))) (history (disk_of (store_of new))) (CarriesFront n state (to_store ((step, note) ∷ []) (sight old)))
   pub stored : (n : ℕ) (state : State) → StandsAt honest history (store_of old) n state → note ≢ Device

@@ -5,13 +5,13 @@ use Rattle.cg_store.specs.declared.receipt.Receipt.{Receipt}
 use Rattle.cg_world.specs.declared.transit.Transit.{Transit}
 use Rattle.cg_world.specs.declared.transit.Transit.TheVariants.{Empty, Taken, Appended}
 
--- it stands in the store
+-- the store appended it
 abbrev pub is_appended : Transit → Bool
 is_appended Empty = false
 is_appended (Taken batch) = false
 is_appended (Appended receipt) = true
 
--- the batch that waits for the store, and what is left without it
+-- the batch that waits for the store, and the transit without it
 abbrev pub batch_in : Transit → Option Batch
 batch_in Empty = None
 batch_in (Taken batch) = Some batch
@@ -22,7 +22,7 @@ without_batch Empty = Empty
 without_batch (Taken batch) = Empty
 without_batch (Appended receipt) = Appended receipt
 
--- the receipt that waits for the desk, and what is left without it
+-- the receipt that waits for the desk, and the transit without it
 abbrev pub receipt_in : Transit → Option Receipt
 receipt_in Empty = None
 receipt_in (Taken batch) = None

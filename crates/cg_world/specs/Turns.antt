@@ -17,9 +17,9 @@ use Rattle.cg_world.specs.declared.step.Step.TheVariants.{Request, Gone, Tick, T
 use Rattle.cg_world.specs.declared.step.StepNote.{StepNote}
 use Rattle.cg_world.specs.declared.step.StepNote.TheVariants.{Done, Nothing, InFlight, Full, Device}
 
--- Which steps are events of the machine.
+-- Events: the steps that reach the machine.
 
--- the event that a step brings to a desk that serves: a Request and a Tick are none where command numbers are short
+-- the event that a step brings to a desk that serves; a Request or a Tick brings no event if command numbers are short
 abbrev pub event_of : Step → Books → Option (Event × ℕ)
 event_of (Request ticket r now fresh) b = if is_short b then None else Some (asked r ticket fresh, now)
 event_of (Gone session now) b = Some (event.Gone session, now)
@@ -36,25 +36,25 @@ event_at step (Serving b) = event_of step b
 
 -- The batch in flight.
 
--- its commands
+-- the commands of the batch in flight
 abbrev pub in_flight : State → List Command
 in_flight Loading = []
 in_flight (Failed n s) = []
 in_flight (Serving b) = unsettled b.course
 
--- it was taken, and not appended yet
+-- the batch in flight was taken and is not appended yet
 abbrev pub is_taken : Sight → Bool
 is_taken w = if w.appended then false else is_out w.desk
 
--- the next batch is taken
+-- takes the next batch
 abbrev pub take_from : State → State
 take_from Loading = Loading
 take_from (Failed n s) = Failed n s
 take_from (Serving b) = Serving (taking b)
 
--- What a step does.
+-- Effects of a step.
 
--- the world after a step; the refusals that the desk gives by itself; and the replies whose commands are settled
+-- the world after a step; the refusals that the desk gives at once; and the replies whose commands are settled
 pub record Turn : Type 0 where
   pub after : Sight
   pub at_once : List Outgoing
@@ -64,17 +64,17 @@ pub record Turn : Type 0 where
 abbrev pub quiet : Sight → Turn
 quiet w = record { after = w; at_once = []; left = [] }
 
--- the desk met an event, or refused what was none
+-- the desk handled an event, or refused a request that was no event
 abbrev pub answered : Bool → Sight → Answer → Turn
 answered true w a = record { after = record w { desk = a.after }; at_once = []; left = a.out }
 answered false w a = record { after = record w { desk = a.after }; at_once = a.out; left = [] }
 
--- a batch is taken
+-- takes a batch
 abbrev pub taken : StepNote → Sight → Turn
 taken Done w = quiet (record w { desk = take_from w.desk })
 taken note w = quiet w
 
--- the batch is appended; it is given back; or the disk fails
+-- appends the batch; or gives it back; or the disk fails
 abbrev pub appended : StepNote → Sight → Turn
 appended Done w = quiet (record w { appended = true; end = next_gate w.end (length (spelling (in_flight w.desk))) })
 appended Nothing w = quiet w
@@ -82,12 +82,12 @@ appended InFlight w = quiet w
 appended Full w = quiet (record w { desk = return_to w.desk })
 appended Device w = record { after = record w { desk = Failed (numbered_of w.desk) (settled_of w.desk) }; at_once = failing_on w.desk; left = [] }
 
--- the batch is settled
+-- settles the batch
 abbrev pub settled : StepNote → Sight → Turn
 settled Done w = answered true (record w { appended = false }) (settle_on w.desk (length (in_flight w.desk)))
 settled note w = quiet w
 
--- what a step does where this is noted of it
+-- what a step does, given its note
 unfoldable pub turn : Step → StepNote → Sight → Turn
 turn (Request ticket r now fresh) note w = answered (is_some (event_at (Request ticket r now fresh) w.desk)) w (request_on w.desk (record { ticket = ticket }) (asked r ticket fresh) now)
 turn (Gone session now) note w = answered true w (gone_on w.desk session now)
@@ -100,7 +100,7 @@ turn Settle note w = settled note w
 abbrev pub out_of : Turn → List Outgoing
 out_of t = t.at_once ++ t.left
 
--- What is noted of a step.
+-- Notes of a step.
 
 -- no command waits for a batch
 abbrev pub IsIdle : State → Type 0
@@ -133,7 +133,7 @@ IsSettleNote w InFlight = ⊥
 IsSettleNote w Full = ⊥
 IsSettleNote w Device = ⊥
 
--- when this is noted of a step; whether an append that fits is Done or fails is the disk's alone
+-- when a step has this note; whether an append that fits succeeds or fails depends on the disk alone
 unfoldable pub IsNoteOf : Step → Sight → StepNote → Type 0
 IsNoteOf (Request ticket r now fresh) w note = note ≡ Done
 IsNoteOf (Gone session now) w note = note ≡ Done

@@ -1,4 +1,4 @@
-//! Worlds on disks that can be made to fail.
+//! Fault injection in a world under test.
 ghost use Rattle.std.specs.Prelude.{◌≡◌, ℕ};
 ghost use Rattle.cg_disk.specs.Fuse.{blown_calls, calls_left, inner_of};
 ghost use Rattle.cg_fold.specs.Durable.{State};
@@ -10,7 +10,8 @@ use cg_disk::{FuseDisk, SectorDisk};
 impl<D: SectorDisk> World<FuseDisk<D>> {
     ghost use Rattle.cg_world.specs.Sights.{opening_of, sight, store_of};
 
-    /// From now on the disk passes that many calls and then fails each; `None`: it passes every call. Nothing else changes.
+    /// Sets how many more calls of read, write and sync the disk passes before it fails each. `None` lifts the limit.
+    /// Nothing else changes.
     pub fn set_fuse(&mut self, calls: Option<u64>)
         ensures fuse { calls_left (disk_of (store_of self.new)) ≡ calls }
         ensures disk { inner_of (disk_of (store_of self.new)) ≡ inner_of (disk_of (store_of self.old)) }

@@ -1,6 +1,6 @@
-//! The world: a desk before a store, as a schedule of steps drives them.
-//! Whatever the steps are and in whatever order they come, each image that a crash leaves has a front of the commands that the desk
-//! numbered, and that front holds every command on which a reply that left rests. Stands on `cg_desk` and `cg_store`.
+//! The world: a desk (`cg_desk`) and its store (`cg_store`), driven by a list of steps. For every list of steps, each
+//! crash image has a prefix of the commands that the desk numbered, and that prefix has every command on which a
+//! reply that left depends.
 #![tactic(auto)]
 
 mod fusing;

@@ -1,4 +1,4 @@
-//! A trace while it is made.
+//! A trace during its run.
 ghost use Rattle.std.specs.Prelude.{◌≡◌, ◌≤◌, ◌<◌, ◌+◌, ◌++◌, ◌∷◌, [], IfOk, vec_len, vec_capacity};
 ghost use Rattle.cg_world.specs.Faults.{is_failure};
 
@@ -9,7 +9,7 @@ use cg_desk::Outgoing;
 use cg_group::Listed;
 use std::alloc::{AllocError, Global};
 
-/// The lists of a trace, with room for every step of a run.
+/// Lists of a trace, with room for every step of a run.
 #[derive(Debug, Drop)]
 pub struct Recording {
     pub out: Vec<Listed<Outgoing>>,
@@ -17,7 +17,7 @@ pub struct Recording {
 }
 
 impl Recording {
-    /// Of a run of so many steps.
+    /// Reserves room for the trace of a run of this many steps.
     pub fn with_room(alloc: Global, steps: usize) -> Result<Self, AllocError>
         ensures out { IfOk result (λ r. (r.out.items ≡ []) × (vec_len r.out + steps ≤ vec_capacity r.out)) }
         ensures notes { IfOk result (λ r. (r.notes.items ≡ []) × (vec_len r.notes + steps ≤ vec_capacity r.notes)) }
@@ -27,7 +27,7 @@ impl Recording {
         Ok(Recording { out, notes })
     }
 
-    /// Puts a step last, and tells whether the disk failed in it.
+    /// Appends a step. Returns whether the disk failed in it.
     pub fn put(&mut self, taken: Taken) -> bool
         requires out { vec_len self.old.out < vec_capacity self.old.out }
         requires notes { vec_len self.old.notes < vec_capacity self.old.notes }
@@ -44,7 +44,7 @@ impl Recording {
         failed
     }
 
-    /// The trace of a run that ended so.
+    /// Returns the trace of a run that ended with this refusal and cause.
     pub fn ended(self, last: Option<Outgoing>, stopped: Option<StopCause>) -> Trace
         ensures { result ≡ record { out = self.out.items; notes = self.notes.items; last = last; stopped = stopped } }
     {

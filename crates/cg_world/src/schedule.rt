@@ -1,4 +1,4 @@
-//! Running a schedule.
+//! Running a list of steps.
 ghost use Rattle.std.specs.Prelude.{◌≡◌};
 ghost use Rattle.cg_disk.specs.Disk.{Counts};
 ghost use Rattle.cg_store.specs.Store.{disk_of};
@@ -15,7 +15,7 @@ use cg_disk::SectorDisk;
 use cg_names::Code;
 use std::alloc::Global;
 
-// The refusal of the first step for want of memory, where it is a request.
+// Returns the refusal of the first step, if it is a request that runs out of memory.
 fn refused_first(steps: &[Step]) -> Option<Outgoing>
     ensures { result ≡ refusal_of_first steps.now }
 {
@@ -27,9 +27,9 @@ fn refused_first(steps: &[Step]) -> Option<Outgoing>
     }
 }
 
-/// Takes the steps one after the other, up to the first for which memory is wanting or in which the disk fails. A step for which
-/// memory is wanting changes nothing, and a batch or a receipt waits for the next step of its kind; the room for the trace is
-/// kept before the first step. Costs what the calls of the desk and of the store cost.
+/// Takes the steps in their order, and ends at the first for which an allocation fails or in which the disk fails. A
+/// step for which an allocation fails changes nothing: a batch or a receipt waits for the next step of its kind. Room
+/// for the trace is reserved before the first step. Costs the calls of the desk and of the store.
 pub fn run<D: SectorDisk>(alloc: Global, world: World<D>, steps: Vec<Step>) -> (World<D>, Trace)
     ensures run { IsRun D.is_honest D.history steps.items world result.0 result.1 }
     ensures device { Counts (D.failures (disk_of (store_of world))) (D.failures (disk_of (store_of result.0))) (stopped_by_device result.1.stopped) }

@@ -1,4 +1,4 @@
-//! The steps of the desk's clients.
+//! The steps of clients: requests, closed sessions, ticks.
 ghost use Rattle.std.specs.Prelude.{◌≡◌, OnErr, IfOk, IfErr};
 ghost use Rattle.cg_desk.specs.Desks.{gone_on, request_on, tick_on};
 ghost use Rattle.cg_desk.specs.Outgoings.{answer};
@@ -17,7 +17,7 @@ use uuid::Uuid;
 impl<D: SectorDisk> World<D> {
     ghost use Rattle.cg_world.specs.Sights.{opening_of, sight, store_of};
 
-    /// A request of the call of this ticket; where memory is wanting, it is refused by -1.
+    /// Passes a request to the desk. If an allocation fails, returns its refusal with -1.
     pub(crate) fn ask(
         &mut self,
         ticket: Ticket,
@@ -40,7 +40,6 @@ impl<D: SectorDisk> World<D> {
         }
     }
 
-    /// A session is closed.
     pub(crate) fn hang_up(&mut self, session: u64, now: Moment) -> Result<Vec<Outgoing>, AllocError>
         ensures ok { IfOk result
             (λ out. gone_on (sight self.old).desk session now ≡ record { after = (sight self.new).desk; out = out.items }) }
@@ -53,7 +52,6 @@ impl<D: SectorDisk> World<D> {
         Ok(out)
     }
 
-    /// Time has gone by.
     pub(crate) fn tick(&mut self, now: Moment) -> Result<Vec<Outgoing>, AllocError>
         ensures ok { IfOk result
             (λ out. tick_on (sight self.old).desk now ≡ record { after = (sight self.new).desk; out = out.items }) }

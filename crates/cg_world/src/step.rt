@@ -1,4 +1,4 @@
-//! Steps of a schedule.
+//! Steps of a run, and what is noted of each.
 ghost use Rattle.std.specs.Prelude.{◌≡◌};
 ghost use Rattle.cg_world.specs.Faults.{is_failure};
 
@@ -9,36 +9,36 @@ use uuid::Uuid;
 /// One call of the desk or of the store.
 #[derive(Debug, Drop)]
 pub enum Step {
-    /// The call of this ticket asks, at this moment; a JOIN that names no member draws its id from the UUID.
+    /// A request with its ticket and moment. A JOIN without a member id draws its id from the UUID.
     Request(Ticket, Request, Moment, Uuid),
-    /// The session of this number is closed.
+    /// The session with this number is closed, at this moment.
     Gone(u64, Moment),
-    /// Time has gone by.
+    /// Time-dependent rules run for this moment.
     Tick(Moment),
-    /// The desk hands the next batch out.
+    /// The desk hands out the next batch.
     Take,
-    /// The store appends it.
+    /// The store appends the batch that was taken.
     Append,
-    /// The desk settles it.
+    /// The desk settles the batch that was appended.
     Settle,
 }
 
-/// What is noted of a step that was taken.
+/// Outcome of a step that was taken.
 #[derive(Clone, Copy, Debug, Drop, PartialEq, Eq)]
 pub enum StepNote {
     Done,
     /// There was nothing to take, to append or to settle.
     Nothing,
-    /// The last batch that was taken is not settled yet, so that none is taken.
+    /// No batch is taken, since the last one is not settled.
     InFlight,
-    /// The store has no room for the batch, which was given back.
+    /// The store has no room for the batch, and the desk took it back.
     Full,
-    /// The disk failed, and with it the desk.
+    /// The disk failed, and the desk failed with it.
     Device,
 }
 
 impl StepNote {
-    /// Whether it says that the disk failed.
+    /// Returns whether the disk failed in the step.
     pub fn is_failure(self) -> bool
         ensures { result ≡ is_failure self }
     {
@@ -49,10 +49,10 @@ impl StepNote {
     }
 }
 
-/// Why a run ended before its last step.
+/// Reason why a run ended before its last step.
 #[derive(Clone, Copy, Debug, Drop, PartialEq, Eq)]
 pub enum StopCause {
-    /// Memory was wanting for a step, which was not taken.
+    /// An allocation failed for a step, which was not taken.
     Memory,
     /// The disk failed in a step.
     Device,

@@ -1,4 +1,4 @@
-//! One step of a schedule.
+//! One step of a run.
 ghost use Rattle.std.specs.Prelude.{◌≡◌, false, OnErr, IfOk, IfErr};
 ghost use Rattle.cg_disk.specs.Disk.{Counts};
 ghost use Rattle.cg_store.specs.Store.{IsUnchanged, disk_of};
@@ -13,7 +13,7 @@ use cg_desk::Outgoing;
 use cg_disk::SectorDisk;
 use cg_group::Listed;
 
-/// A step that was taken: what is noted of it, and the replies that left.
+/// Outcome of a step that was taken, with the replies that left.
 #[derive(Debug, Drop)]
 pub struct Taken {
     pub note: StepNote,
@@ -23,7 +23,7 @@ pub struct Taken {
 impl<D: SectorDisk> World<D> {
     ghost use Rattle.cg_world.specs.Sights.{opening_of, sight, store_of};
 
-    /// Takes a step. Where memory is wanting for it nothing has changed, and a request is refused.
+    /// Takes a step. If an allocation fails, nothing has changed, and a request is refused with -1.
     pub(crate) fn take_step(&mut self, step: Step) -> Result<Taken, Wanting>
         ensures ok { IfOk result (λ taken. IsTaken D.is_honest D.history step taken.note taken.out self.old self.new) }
         ensures err { OnErr result (sight self.new ≡ sight self.old) }

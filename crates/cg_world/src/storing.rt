@@ -1,4 +1,4 @@
-//! The steps between the desk and the store.
+//! The steps between the desk and the store: take, append, settle.
 ghost use Rattle.std.specs.Prelude.{◌≡◌, ◌≢◌, ◌+◌, ℕ, [], false, length, None, OnErr, IfOk, IfErr};
 ghost use Rattle.cg_disk.specs.Disk.{Counts, LeavesOnly};
 ghost use Rattle.cg_fold.specs.Durable.{State, after};
@@ -18,7 +18,7 @@ use cg_store::StoreFault;
 impl<D: SectorDisk> World<D> {
     ghost use Rattle.cg_world.specs.Sights.{opening_of, sight, store_of};
 
-    /// The desk hands the next batch out, where it has one.
+    /// Takes the next batch from the desk, if there is one.
     pub(crate) fn take(&mut self) -> Result<StepNote, Wanting>
         ensures note { IfOk result (λ note. IsTakeNote (sight self.old) note) }
         ensures after { IfOk result (λ note. taken note (sight self.old) ≡ quiet (sight self.new)) }
@@ -37,13 +37,13 @@ impl<D: SectorDisk> World<D> {
         }
     }
 
-    /// The store appends the batch that was taken. Where it is full the desk takes the batch back; where its disk fails the desk
-    /// fails too.
+    /// Appends the batch that was taken to the store. If the store is full, the desk takes the batch back; if the disk
+    /// fails, the desk fails too.
     pub(crate) fn append(&mut self) -> Result<(StepNote, Vec<Outgoing>), Wanting>
         ensures note { IfOk result (λ told. IsAppendNote (sight self.old) told.0) }
         ensures after { IfOk result (λ told. appended told.0 (sight self.old) ≡ record { after = sight self.new; at_once = told.1.items; left = [] }) }
         ensures err { IfErr result (λ wanting. (sight self.new ≡ sight self.old) × (wanting.last ≡ None)) }
-        // What the disk has.
+        // Below: what the disk holds.
         ensures images { (n : ℕ) (state : State) → StandsAt D.is_honest D.history (store_of self.old) n state
             → LeavesOnly (D.history (disk_of (store_of self.old))) (D.history (disk_of (store_of self.new))) (CarriesBeforeOrAfter n state (in_flight (sight self.old).desk)) }
         ensures stored { (n : ℕ) (state : State) → StandsAt D.is_honest D.history (store_of self.old) n state
@@ -78,7 +78,7 @@ impl<D: SectorDisk> World<D> {
         }
     }
 
-    /// The desk settles the batch that was appended.
+    /// Settles the batch that was appended.
     pub(crate) fn settle(&mut self) -> Result<(StepNote, Vec<Outgoing>), Wanting>
         ensures note { IfOk result (λ told. IsSettleNote (sight self.old) told.0) }
         ensures after { IfOk result (λ told. settled told.0 (sight self.old) ≡ record { after = sight self.new; at_once = []; left = told.1.items }) }

@@ -1,4 +1,4 @@
-//! What a run leaves behind.
+//! The trace of a run.
 ghost use Rattle.std.specs.Prelude.{◌≡◌, []};
 
 use crate::step::{StepNote, StopCause};
@@ -6,20 +6,20 @@ use cg_desk::Outgoing;
 use cg_group::Listed;
 use std::alloc::Global;
 
-/// What is told of a run: the replies that left in each step that was taken and what is noted of it, in their order.
+/// Replies that left in each step that was taken, and the outcome of each, in their order.
 #[derive(Debug, Drop)]
 pub struct Trace {
-    /// The replies that left, by steps.
+    /// Replies that left, step by step.
     pub out: Listed<Listed<Outgoing>>,
     pub notes: Listed<StepNote>,
-    /// The refusal of the request for which memory was wanting, by -1, where one was.
+    /// Refusal with -1 of the request for which an allocation failed, if there is one.
     pub last: Option<Outgoing>,
-    /// Why the run ended before its last step; None: it did not.
+    /// Reason why the run ended before its last step, or `None` if it took every step.
     pub stopped: Option<StopCause>,
 }
 
 impl Trace {
-    /// Of a run that took no step. Takes no memory.
+    /// Creates the trace of a run that took no step. Does not allocate.
     pub(crate) fn of_none(alloc: Global, last: Option<Outgoing>, stopped: Option<StopCause>) -> Self
         ensures { result ≡ record { out = []; notes = []; last = last; stopped = stopped } }
     {

@@ -1,13 +1,13 @@
-//! Want of memory.
+//! The error of a step for which an allocation fails.
 ghost use Rattle.std.specs.Prelude.{◌≡◌, None, Some};
 
 use cg_desk::Outgoing;
 use std::alloc::AllocError;
 
-/// Memory was wanting for a step, which was not taken.
+/// An allocation failed for a step, which was not taken.
 #[derive(Debug, Drop)]
 pub struct Wanting {
-    /// The refusal of the request, where the step was one.
+    /// Refusal of the request, if the step is one.
     pub last: Option<Outgoing>,
 }
 

@@ -1,4 +1,4 @@
-//! The world.
+//! A world: opening it on a disk, and closing it.
 ghost use Rattle.std.specs.Prelude.{◌≡◌, ◌⊎◌, ◌+◌, ◌≤◌, ℕ, true, false, IfOk, IfErr, MatchResult};
 ghost use Rattle.cg_disk.specs.Disk.{Counts, Stays, present};
 ghost use Rattle.cg_fold.specs.Durable.{State};
@@ -20,7 +20,7 @@ use cg_names::Moment;
 use cg_store::{OpenFault, Store};
 use std::alloc::{AllocError, Global};
 
-/// A desk, the store of its commands, and the batch that is on its way between them.
+/// A desk, the store of its commands, and the batch on its way between them.
 pub struct World<D: SectorDisk> {
     pub(crate) alloc: Global,
     pub(crate) desk: Desk,
@@ -30,7 +30,7 @@ pub struct World<D: SectorDisk> {
     ghost agree: { Agree (state_of desk) transit (front_of store) (has_failed store) },
 }
 
-// A desk that serves what was loaded.
+// Makes a desk that serves what was loaded.
 fn serve(alloc: Global, number: u64, durable: Durable, now: Moment) -> Result<Desk, AllocError>
     ensures { IfOk result (λ desk. state_of desk ≡ state.Serving (opened number (revive durable now))) }
 {
@@ -48,12 +48,13 @@ impl<D: SectorDisk> World<D> {
     ghost use Rattle.cg_world.specs.Opening.{IsOpened, disk_after};
     ghost use Rattle.cg_world.specs.Sights.{opening_of, sight, store_of};
 
-    /// Opens the store of a disk and serves what it has: from this moment on, with every member heard just now (KIP-62). It writes
-    /// nothing. A refusal gives the disk back.
+    /// Opens the store of a disk and serves its groups from the moment `now`, which counts as the last heartbeat of
+    /// every member (KIP-62). Changes no content of the disk, and reads each frame of the log once. After an error,
+    /// returns the disk.
     pub fn open(alloc: Global, disk: D, now: Moment) -> Result<Self, (OpenFault, D)>
         requires { FIRST_SEGMENT_SECTOR + SEGMENT_SECTORS ≤ D.size disk }
         ensures opened { IfOk result (λ world. (n : ℕ) × (state : State) × IsOpened D.is_honest D.history now world n state) }
-        // What the content carries is what is opened; want of memory and failures of the disk aside.
+        // If the content carries a pair, the world serves that pair, unless an allocation or the disk fails.
         ensures carried { D.is_honest disk ≡ true → (n : ℕ) (state : State) → Carries (present (D.history disk)).content n state
             → MatchResult result
             (λ world. IsOpened D.is_honest D.history now world n state)
@@ -81,14 +82,14 @@ impl<D: SectorDisk> World<D> {
         })
     }
 
-    /// How many commands, group records and offsets the opening found. Takes no memory.
+    /// Returns the numbers of commands, group records and offsets that the opening found. Does not allocate.
     pub fn opening(&self) -> (u64, u64, u64)
         ensures { result ≡ opening_of self.now }
     {
         self.opening
     }
 
-    /// Ends the world: its desk refuses every call without an answer, and the disk is as it is. Takes no memory.
+    /// Ends the world: refuses every pending request, and returns the disk unchanged. Does not allocate.
     pub fn close(self) -> (Vec<Outgoing>, D)
         ensures out { result.0.items ≡ failing_on (sight self).desk }
         ensures disk { result.1 ≡ disk_of (store_of self) }

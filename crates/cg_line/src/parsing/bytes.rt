@@ -1,4 +1,4 @@
-//! Bytes on a line. Whether a word spells bytes takes no memory; the bytes take half of what their digits take.
+//! Bytes on a line. Checking a word does not allocate; decoding it allocates one byte for two digits.
 ghost use Rattle.std.specs.Prelude.{◌≡◌, ◌≤◌, ◌/◌, drop, length, true, false, IsTrue, IfOk, MatchOption};
 ghost use Rattle.std.specs.List.{list_all};
 ghost use Rattle.cg_line.specs.Fields.{are_pairs, begins_with_x, bytes_in, decoded, is_bytes, is_lower_hex_digit, is_opaque};
@@ -24,7 +24,7 @@ fn are_pairs(digits: &[u8]) -> bool
     are_hex(digits) && digits.len() % 2 == 0
 }
 
-// The digits behind an `x`; None where no `x` stands first.
+// Returns the digits after an `x`, or `None` if the word does not begin with `x`.
 fn digits(word: &[u8]) -> Option<&[u8]>
     ensures { MatchOption result
         (begins_with_x word.now ≡ false)
@@ -36,7 +36,7 @@ fn digits(word: &[u8]) -> Option<&[u8]>
     }
 }
 
-/// Whether the word spells bytes: `x` and lower-case hexadecimal digits, two for each byte.
+/// Returns whether the word is `x` and lower-case hexadecimal digits, two for each byte.
 #[tactic(auto, unfolding(crate::specs::Fields::is_bytes))]
 pub fn is_bytes(word: &[u8]) -> bool
     ensures { result ≡ is_bytes word.now }
@@ -47,7 +47,7 @@ pub fn is_bytes(word: &[u8]) -> bool
     }
 }
 
-/// Whether the word spells at most `max` bytes.
+/// Returns whether the word has at most `max` bytes in this form.
 #[tactic(auto, unfolding(crate::specs::Fields::is_bytes, crate::specs::Fields::is_opaque))]
 pub fn is_opaque(word: &[u8], max: usize) -> bool
     ensures { result ≡ is_opaque max word.now }
@@ -58,7 +58,7 @@ pub fn is_opaque(word: &[u8], max: usize) -> bool
     }
 }
 
-// The bytes that the digits spell.
+// Decodes lower-case digits, two for each byte.
 fn decoded(alloc: Global, digits: &[u8]) -> Result<Vec<u8>, AllocError>
     requires { IsTrue (are_pairs digits.now) }
     ensures { IfOk result (λ bytes. bytes.items ≡ decoded digits.now) }
@@ -69,7 +69,7 @@ fn decoded(alloc: Global, digits: &[u8]) -> Result<Vec<u8>, AllocError>
     }
 }
 
-// Digits of a line can be refused for memory alone.
+// Maps the only error that is left: the digits were checked, so decoding them fails only if an allocation fails.
 fn want_of_memory(fault: FromHexError) -> AllocError
     requires { fault ≡ FromHexError.OutOfMemory }
 {
@@ -77,7 +77,7 @@ fn want_of_memory(fault: FromHexError) -> AllocError
     AllocError
 }
 
-/// The bytes that the word spells.
+/// Decodes the bytes of a checked word.
 #[tactic(auto, unfolding(crate::specs::Fields::is_bytes, crate::specs::Fields::bytes_in))]
 pub fn bytes_in(alloc: Global, word: &[u8]) -> Result<Vec<u8>, AllocError>
     requires { IsTrue (is_bytes word.now) }

@@ -1,4 +1,4 @@
-//! SYNC, BEAT, LEAVE and COMMIT, behind their first words.
+//! SYNC, BEAT, LEAVE and COMMIT, from the words after the first.
 ghost use Rattle.std.specs.Prelude.{◌≡◌, map, IsTrue, IfOk};
 ghost use Rattle.cg_line.specs.Parsing.{Reads, beat_of, commit_of, is_call, leave_of, sync_of};
 
@@ -11,7 +11,7 @@ use cg_group::{BeatRequest, CommitRequest, LeaveRequest, SyncRequest};
 use cg_names::{MEMBER_ID_BYTES_MAX, NAME_BYTES_MAX};
 use std::alloc::Global;
 
-// Whether the words are a group, a generation, a member and an instance.
+// Returns whether the words are a group, a generation, a member and an instance.
 fn is_call(group: &[u8], generation: &[u8], member: &[u8], instance: &[u8]) -> bool
     ensures { result ≡ is_call group.now generation.now member.now instance.now }
 {
@@ -21,7 +21,7 @@ fn is_call(group: &[u8], generation: &[u8], member: &[u8], instance: &[u8]) -> b
         && is_optional::<NAME_BYTES_MAX>(instance)
 }
 
-/// The SYNC that the words spell.
+/// Parses a SYNC.
 #[tactic(auto, unfolding(crate::specs::Parsing::sync_of))]
 pub fn sync(alloc: Global, words: &[&[u8]]) -> Result<SyncRequest, LineFault>
     ensures { Reads result (sync_of (map (λ w. w.now) words.now)) }
@@ -46,7 +46,7 @@ pub fn sync(alloc: Global, words: &[&[u8]]) -> Result<SyncRequest, LineFault>
     })
 }
 
-/// The BEAT that the words spell.
+/// Parses a BEAT.
 #[tactic(auto, unfolding(crate::specs::Parsing::beat_of))]
 pub fn beat(alloc: Global, words: &[&[u8]]) -> Result<BeatRequest, LineFault>
     ensures { Reads result (beat_of (map (λ w. w.now) words.now)) }
@@ -69,7 +69,7 @@ pub fn beat(alloc: Global, words: &[&[u8]]) -> Result<BeatRequest, LineFault>
     })
 }
 
-/// The LEAVE that the words spell.
+/// Parses a LEAVE.
 #[tactic(auto, unfolding(crate::specs::Parsing::leave_of))]
 pub fn leave(alloc: Global, words: &[&[u8]]) -> Result<LeaveRequest, LineFault>
     ensures { Reads result (leave_of (map (λ w. w.now) words.now)) }
@@ -93,7 +93,7 @@ pub fn leave(alloc: Global, words: &[&[u8]]) -> Result<LeaveRequest, LineFault>
     })
 }
 
-/// The COMMIT that the words spell.
+/// Parses a COMMIT.
 #[tactic(auto, unfolding(crate::specs::Parsing::commit_of))]
 pub fn commit(alloc: Global, words: &[&[u8]]) -> Result<CommitRequest, LineFault>
     ensures { Reads result (commit_of (map (λ w. w.now) words.now)) }

@@ -1,4 +1,4 @@
-//! What a COMMIT says of partitions: `topic:partition:offset:bytes` words.
+//! Entries of a COMMIT: `topic:partition:offset:bytes` words.
 ghost use Rattle.std.specs.Prelude.{◌≡◌, map, IsTrue, IfOk};
 ghost use Rattle.std.specs.List.{list_all};
 ghost use Rattle.cg_line.specs.Numbers.{is_number, value_of};
@@ -16,7 +16,7 @@ use cg_group::{CommitEntry, Commits, Listed};
 use cg_record::{ENTRIES_MAX, OFFSET_MAX, Offset, PARTITION_MAX, Partition};
 use std::alloc::{AllocError, Global};
 
-// What stands behind the second colon.
+// Returns the part after the second colon.
 fn behind_place(word: &[u8]) -> &[u8]
     ensures { result.now ≡ behind colon (behind colon word.now) }
 {
@@ -48,14 +48,14 @@ fn pass_each(words: &[&[u8]]) -> bool
     words.iter().all(|word| is_commit(word))
 }
 
-// Whether each word is one.
+// Returns whether each word is an entry.
 fn are_each(words: &[&[u8]]) -> bool
     ensures { result ≡ list_all is_commit (map (λ w. w.now) words.now) }
 {
     pass_each(words)
 }
 
-/// Whether the words are what one COMMIT can say. Takes no memory.
+/// Returns whether the words are the entries of one COMMIT. Does not allocate.
 #[tactic(auto, unfolding(crate::specs::Parsing::are_commits))]
 pub fn are_commits(words: &[&[u8]]) -> bool
     ensures { result ≡ are_commits (map (λ w. w.now) words.now) }
@@ -63,7 +63,7 @@ pub fn are_commits(words: &[&[u8]]) -> bool
     1 <= words.len() && words.len() <= ENTRIES_MAX && are_each(words) && have_own_places(words)
 }
 
-/// The partition whose number the word spells.
+/// Returns the partition of a checked word.
 pub fn partition_number_in(word: &[u8]) -> Partition
     requires { IsTrue (is_number PARTITION_MAX word.now) }
     ensures { result ≡ value_of word.now }
@@ -112,7 +112,7 @@ fn each_in(alloc: Global, words: &[&[u8]]) -> Result<Vec<CommitEntry>, AllocErro
     Ok(entries)
 }
 
-/// What the words say of their partitions.
+/// Returns the entries of checked words.
 pub fn commits_in(alloc: Global, words: &[&[u8]]) -> Result<Commits, AllocError>
     requires { IsTrue (are_commits (map (λ w. w.now) words.now)) }
     ensures { IfOk result (λ commits. commits ≡ map commit_in (map (λ w. w.now) words.now)) }

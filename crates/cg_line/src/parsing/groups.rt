@@ -1,4 +1,4 @@
-//! FETCH, DESCRIBE, DELETE and LIST, behind their first words.
+//! FETCH, DESCRIBE, DELETE and LIST, from the words after the first.
 ghost use Rattle.std.specs.Prelude.{map};
 ghost use Rattle.cg_line.specs.Parsing.{Reads, fetch_of, group_of, nothing_of};
 
@@ -9,7 +9,7 @@ use cg_group::{FetchRequest, Request};
 use cg_names::{GroupId, NAME_BYTES_MAX};
 use std::alloc::Global;
 
-/// The FETCH that the words spell.
+/// Parses a FETCH.
 #[tactic(auto, unfolding(crate::specs::Parsing::fetch_of))]
 pub fn fetch(alloc: Global, words: &[&[u8]]) -> Result<FetchRequest, LineFault>
     ensures { Reads result (fetch_of (map (λ w. w.now) words.now)) }
@@ -25,7 +25,7 @@ pub fn fetch(alloc: Global, words: &[&[u8]]) -> Result<FetchRequest, LineFault>
     Ok(FetchRequest { group, partitions })
 }
 
-/// The one group that the words spell.
+/// Parses the only word of a DESCRIBE or DELETE, its group.
 #[tactic(auto, unfolding(crate::specs::Parsing::group_of))]
 pub fn group(alloc: Global, words: &[&[u8]]) -> Result<Option<GroupId>, LineFault>
     ensures { Reads result (group_of (map (λ w. w.now) words.now)) }
@@ -40,7 +40,7 @@ pub fn group(alloc: Global, words: &[&[u8]]) -> Result<Option<GroupId>, LineFaul
     Ok(group)
 }
 
-/// LIST, which has nothing behind it.
+/// Parses a LIST, which has no further words.
 pub fn list(words: &[&[u8]]) -> Result<Request, LineFault>
     ensures { Reads result (nothing_of (map (λ w. w.now) words.now)) }
 {

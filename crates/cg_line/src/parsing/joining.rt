@@ -1,4 +1,4 @@
-//! JOIN, behind its first word.
+//! JOIN, from the words after the first.
 ghost use Rattle.std.specs.Prelude.{◌≡◌, map, IsTrue};
 ghost use Rattle.cg_line.specs.Numbers.{is_number, value_of};
 ghost use Rattle.cg_line.specs.Parsing.{Reads, are_terms, is_caller, join_of};
@@ -14,7 +14,7 @@ use cg_names::{MEMBER_ID_BYTES_MAX, NAME_BYTES_MAX};
 use cg_record::{REBALANCE_MS_MAX, RebalanceTimeout};
 use std::alloc::Global;
 
-// Whether the words are a group, a member, an instance and a client.
+// Returns whether the words are a group, a member, an instance and a client.
 fn is_caller(group: &[u8], member: &[u8], instance: &[u8], client: &[u8]) -> bool
     ensures { result ≡ is_caller group.now member.now instance.now client.now }
 {
@@ -24,7 +24,7 @@ fn is_caller(group: &[u8], member: &[u8], instance: &[u8], client: &[u8]) -> boo
         && is_name::<NAME_BYTES_MAX>(client)
 }
 
-// Whether the words are two time-outs and a protocol type.
+// Returns whether the words are two timeouts and a protocol type.
 fn are_terms(session: &[u8], rebalance: &[u8], kind: &[u8]) -> bool
     ensures { result ≡ are_terms session.now rebalance.now kind.now }
 {
@@ -50,7 +50,7 @@ fn rebalance_in(word: &[u8]) -> RebalanceTimeout
     }
 }
 
-/// The JOIN that the words spell.
+/// Parses a JOIN.
 #[tactic(auto, unfolding(crate::specs::Parsing::join_of))]
 pub fn join(alloc: Global, words: &[&[u8]]) -> Result<JoinRequest, LineFault>
     ensures { Reads result (join_of (map (λ w. w.now) words.now)) }

@@ -1,4 +1,4 @@
-//! Words with a name before `=` and bytes behind it. Nothing here takes memory.
+//! Words of a key, `=` and bytes. No function here allocates.
 ghost use Rattle.std.specs.Prelude.{◌≡◌, ◌∷◌, map};
 ghost use Rattle.std.specs.List.{list_any};
 ghost use Rattle.cg_request.specs.Names.{are_distinct, is_same};
@@ -6,14 +6,14 @@ ghost use Rattle.cg_line.specs.Parsing.{given_to, key_of};
 
 use crate::parsing::splitting::{before, behind};
 
-/// What stands before `=`.
+/// Returns the part before `=`.
 pub fn key_of(word: &[u8]) -> &[u8]
     ensures { result.now ≡ key_of word.now }
 {
     before(word, b'=')
 }
 
-/// What stands behind `=`.
+/// Returns the part after `=`.
 pub fn given_to(word: &[u8]) -> &[u8]
     ensures { result.now ≡ given_to word.now }
 {
@@ -32,14 +32,14 @@ fn is_key_of_one(key: &[u8], words: &[&[u8]]) -> bool
     words.iter().any(|word| has_key(word, key))
 }
 
-// Whether one of these has the key.
+// Returns whether one of the words has the key.
 fn is_key_among(key: &[u8], words: &[&[u8]]) -> bool
     ensures { result ≡ list_any (is_same key.now) (map key_of (map (λ w. w.now) words.now)) }
 {
     is_key_of_one(key, words)
 }
 
-/// Whether no key comes twice. Compares each with each.
+/// Returns whether no key comes twice. Quadratic in the words, of which there are at most 64.
 #[tactic(auto, unfolding(cg_request::specs::Names::are_distinct))]
 pub fn have_own_keys(words: &[&[u8]]) -> bool
     ensures { result ≡ are_distinct (map key_of (map (λ w. w.now) words.now)) }

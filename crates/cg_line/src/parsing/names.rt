@@ -1,4 +1,4 @@
-//! Names on a line. Whether a word is one takes no memory; the name takes what it is long.
+//! Names on a line. Checking a word does not allocate; the name is a copy of the word.
 ghost use Rattle.std.specs.Prelude.{◌≡◌, ℕ, List, Option, IsTrue, IfOk};
 ghost use Rattle.cg_names.specs.Grammar.{is_dash};
 ghost use Rattle.cg_line.specs.Fields.{is_name, is_optional, optional_in};
@@ -6,14 +6,14 @@ ghost use Rattle.cg_line.specs.Fields.{is_name, is_optional, optional_in};
 use cg_names::Name;
 use std::alloc::{AllocError, Global};
 
-/// Whether the word is a name of at most `MAX` bytes.
+/// Returns whether the word is a name of at most `MAX` bytes.
 pub fn is_name<const MAX: usize>(word: &[u8]) -> bool
     ensures { result ≡ is_name MAX word.now }
 {
     Name::<MAX, 0>::fault(word).is_none()
 }
 
-// Whether the word stands for none.
+// Returns whether the word is `-`, which means no value.
 fn is_dash(word: &[u8]) -> bool
     ensures { result ≡ is_dash word.now }
 {
@@ -23,7 +23,7 @@ fn is_dash(word: &[u8]) -> bool
     }
 }
 
-/// Whether the word is a name of at most `MAX` bytes or stands for none.
+/// Returns whether the word is a name of at most `MAX` bytes or `-`.
 #[tactic(auto, unfolding(crate::specs::Fields::is_optional))]
 pub fn is_optional<const MAX: usize>(word: &[u8]) -> bool
     ensures { result ≡ is_optional MAX word.now }
@@ -31,7 +31,7 @@ pub fn is_optional<const MAX: usize>(word: &[u8]) -> bool
     is_dash(word) || is_name::<MAX>(word)
 }
 
-/// The name that the word is. Copies it once.
+/// Copies a checked word into a name.
 pub fn name_in<const MAX: usize, const SORT: u8>(
     alloc: Global,
     word: &[u8],
@@ -42,7 +42,7 @@ pub fn name_in<const MAX: usize, const SORT: u8>(
     Name::from_bytes(alloc, word).map_err(|_| AllocError)
 }
 
-/// The name that the word is, or none. Copies it once.
+/// Copies a checked word into a name. Returns `None` for `-`.
 #[tactic(auto, unfolding(crate::specs::Fields::is_optional, crate::specs::Fields::optional_in))]
 pub fn optional_in<const MAX: usize, const SORT: u8>(
     alloc: Global,

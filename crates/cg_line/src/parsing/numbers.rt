@@ -1,12 +1,12 @@
-//! Numbers on a line, read where they stand: nothing here takes memory.
+//! Numbers on a line. No function here allocates.
 ghost use Rattle.std.specs.Prelude.{◌≡◌, ◌+◌, ◌-◌, ◌*◌, ◌^◌, ◌≤◌, ◌<◌, ◌&&◌, true, false, negsuc, nat_le, drop, IsTrue, MatchOption};
 ghost use Rattle.std.specs.List.{list_all};
 ghost use Rattle.cg_line.specs.Numbers.{generation_in, is_digit, is_generation, is_negative, is_number, is_plain, value_of};
 
-/// The greatest generation that a line spells.
+/// Greatest generation on a line.
 pub const GENERATION_LINE_MAX: u64 = 2_147_483_647;
 
-/// The greatest number behind the minus of a generation.
+/// Greatest number after the minus of a generation.
 pub const GENERATION_LINE_BELOW_MAX: u64 = 2_147_483_648;
 
 fn is_digit(byte: u8) -> bool
@@ -15,7 +15,7 @@ fn is_digit(byte: u8) -> bool
     byte.is_ascii_digit()
 }
 
-// The number with one more digit behind it, where it fits.
+// Appends a digit to the number, or returns `None` if the result does not fit.
 fn with_digit(value: u64, digit: u8) -> Option<u64>
     requires { IsTrue (is_digit digit) }
     ensures { MatchOption result (2 ^ 64 ≤ 10 * value + (digit - 48)) (λ v. v ≡ 10 * value + (digit - 48)) }
@@ -23,7 +23,7 @@ fn with_digit(value: u64, digit: u8) -> Option<u64>
     value.checked_mul(10)?.checked_add(u64::from(digit - b'0'))
 }
 
-// The number that the digits spell, where it fits.
+// Returns the number of the digits, or `None` if it does not fit.
 fn value(digits: &[u8]) -> Option<u64>
     requires { IsTrue (list_all is_digit digits.now) }
     ensures { MatchOption result (2 ^ 64 ≤ value_of digits.now) (λ v. v ≡ value_of digits.now) }
@@ -51,7 +51,7 @@ fn is_plain(text: &[u8]) -> bool
     }
 }
 
-// The number that the word spells, where it spells one of at most `most`.
+// Returns the number of a word, or `None` if the word is not a number of at most `most`.
 #[tactic(auto, unfolding(crate::specs::Numbers::is_number))]
 fn number(word: &[u8], most: u64) -> Option<u64>
     ensures { MatchOption result
@@ -64,14 +64,14 @@ fn number(word: &[u8], most: u64) -> Option<u64>
     value(word).filter(|n| *n <= most)
 }
 
-/// Whether the word spells a number from 0 to `most`.
+/// Returns whether the word is a number from 0 to `most`.
 pub fn is_number(word: &[u8], most: u64) -> bool
     ensures { result ≡ is_number most word.now }
 {
     number(word, most).is_some()
 }
 
-/// The number that the word spells.
+/// Returns the number of a checked word.
 pub fn number_in(word: &[u8], most: u64) -> u64
     requires { IsTrue (is_number most word.now) }
     ensures value { result ≡ value_of word.now }
@@ -83,7 +83,7 @@ pub fn number_in(word: &[u8], most: u64) -> u64
     }
 }
 
-// The digits behind a minus; None where no minus stands first.
+// Returns the digits after a minus, or `None` if the word does not begin with one.
 fn behind_minus(word: &[u8]) -> Option<&[u8]>
     ensures { MatchOption result
         (is_negative word.now ≡ false)
@@ -95,7 +95,7 @@ fn behind_minus(word: &[u8]) -> Option<&[u8]>
     }
 }
 
-// Whether the digits spell a number that may stand behind a minus.
+// Returns whether the digits may follow a minus.
 fn is_below_zero(digits: &[u8]) -> bool
     ensures { result ≡ (is_number GENERATION_LINE_BELOW_MAX digits.now && nat_le 1 (value_of digits.now)) }
 {
@@ -105,7 +105,7 @@ fn is_below_zero(digits: &[u8]) -> bool
     }
 }
 
-/// Whether the word spells a generation: a number of 32 bits with a sign, where zero has no minus.
+/// Returns whether the word is a generation: a signed 32-bit number, where zero has no minus.
 #[tactic(auto, unfolding(crate::specs::Numbers::is_generation))]
 pub fn is_generation(word: &[u8]) -> bool
     ensures { result ≡ is_generation word.now }
@@ -116,7 +116,7 @@ pub fn is_generation(word: &[u8]) -> bool
     }
 }
 
-// The number below zero that the digits spell behind a minus.
+// Returns the negative number whose digits follow a minus.
 fn below_zero(digits: &[u8]) -> i32
     requires number { IsTrue (is_number GENERATION_LINE_BELOW_MAX digits.now) }
     requires some { 1 ≤ value_of digits.now }
@@ -126,7 +126,7 @@ fn below_zero(digits: &[u8]) -> i32
     -1 - further
 }
 
-/// The generation that the word spells.
+/// Returns the generation of a checked word.
 #[tactic(auto, unfolding(crate::specs::Numbers::is_generation, crate::specs::Numbers::generation_in))]
 pub fn generation_in(word: &[u8]) -> i32
     requires { IsTrue (is_generation word.now) }

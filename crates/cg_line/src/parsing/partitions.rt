@@ -1,4 +1,4 @@
-//! What a FETCH asks for: `topic:partition` words.
+//! Partitions of a FETCH: `topic:partition` words.
 ghost use Rattle.std.specs.Prelude.{◌≡◌, map, IsTrue, IfOk};
 ghost use Rattle.std.specs.List.{list_all};
 ghost use Rattle.cg_line.specs.Parsing.{are_partitions, is_partition, partition_in};
@@ -27,14 +27,14 @@ fn pass_each(words: &[&[u8]]) -> bool
     words.iter().all(|word| is_partition(word))
 }
 
-// Whether each word is one.
+// Returns whether each word is a partition.
 fn are_each(words: &[&[u8]]) -> bool
     ensures { result ≡ list_all is_partition (map (λ w. w.now) words.now) }
 {
     pass_each(words)
 }
 
-/// Whether the words are what one FETCH can ask for. Takes no memory.
+/// Returns whether the words are the partitions of one FETCH. Does not allocate.
 #[tactic(auto, unfolding(crate::specs::Parsing::are_partitions))]
 pub fn are_partitions(words: &[&[u8]]) -> bool
     ensures { result ≡ are_partitions (map (λ w. w.now) words.now) }
@@ -63,7 +63,7 @@ fn each_in(alloc: Global, words: &[&[u8]]) -> Result<Vec<TopicPartition>, AllocE
     Ok(partitions)
 }
 
-/// The partitions that the words spell.
+/// Returns the partitions of checked words.
 pub fn partitions_in(alloc: Global, words: &[&[u8]]) -> Result<Partitions, AllocError>
     requires { IsTrue (are_partitions (map (λ w. w.now) words.now)) }
     ensures { IfOk result (λ partitions. partitions ≡ map partition_in (map (λ w. w.now) words.now)) }

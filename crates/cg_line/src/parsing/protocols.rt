@@ -1,4 +1,4 @@
-//! What a JOIN offers: `name=bytes` words.
+//! Protocols of a JOIN: `name=bytes` words.
 ghost use Rattle.std.specs.Prelude.{◌≡◌, map, IsTrue, IfOk};
 ghost use Rattle.std.specs.List.{list_all};
 ghost use Rattle.cg_line.specs.Parsing.{are_protocols, is_protocol, protocol_in};
@@ -25,14 +25,14 @@ fn pass_each(words: &[&[u8]]) -> bool
     words.iter().all(|word| is_protocol(word))
 }
 
-// Whether each word is one.
+// Returns whether each word is a protocol.
 fn are_each(words: &[&[u8]]) -> bool
     ensures { result ≡ list_all is_protocol (map (λ w. w.now) words.now) }
 {
     pass_each(words)
 }
 
-/// Whether the words are protocols that one member can offer. Takes no memory.
+/// Returns whether the words are the protocols of one JOIN. Does not allocate.
 #[tactic(auto, unfolding(crate::specs::Parsing::are_protocols))]
 pub fn are_protocols(words: &[&[u8]]) -> bool
     ensures { result ≡ are_protocols (map (λ w. w.now) words.now) }
@@ -40,7 +40,7 @@ pub fn are_protocols(words: &[&[u8]]) -> bool
     1 <= words.len() && words.len() <= PROTOCOLS_MAX && are_each(words) && have_own_keys(words)
 }
 
-// The bytes that the word gives behind its name.
+// Decodes the bytes after the name of a checked word.
 fn subscription_in(alloc: Global, word: &[u8]) -> Result<Subscription, AllocError>
     requires { IsTrue (is_opaque SUBSCRIPTION_BYTES_MAX word.now) }
     ensures { IfOk result (λ bytes. bytes ≡ bytes_in word.now) }
@@ -72,7 +72,7 @@ fn each_in(alloc: Global, words: &[&[u8]]) -> Result<Vec<Protocol>, AllocError>
     Ok(protocols)
 }
 
-/// The protocols that the words spell.
+/// Returns the protocols of checked words.
 #[tactic(auto, unfolding(crate::specs::Parsing::are_protocols))]
 pub fn protocols_in(alloc: Global, words: &[&[u8]]) -> Result<Protocols, AllocError>
     requires { IsTrue (are_protocols (map (λ w. w.now) words.now)) }

@@ -1,14 +1,14 @@
-//! Texts cut at marks where they stand: nothing here takes memory.
+//! Splitting text at a mark. No function here allocates: the parts are slices of the text.
 ghost use Rattle.std.specs.Prelude.{◌≡◌, ◌+◌, ◌<◌, ◌≤◌, [], ◌∷◌, map, length, MatchOption, IfSome};
 ghost use Rattle.cg_line.specs.Splitting.{before, behind, words_of};
 
 use arrayvec::ArrayVec;
 use memchr::memchr;
 
-/// The greatest number of words of a request: a SYNC or a COMMIT with 64 entries behind its kind and four words.
+/// Greatest number of words of a request: a SYNC or a COMMIT has its kind, four words and 64 entries.
 pub const WORDS_MAX: usize = 69;
 
-// The text before the first mark and the text behind it, where there is one.
+// Returns the text before the first mark and the text after it, or `None` without a mark.
 fn cut(text: &[u8], mark: u8) -> Option<(&[u8], &[u8])>
     ensures { MatchOption result
         ((before mark text.now ≡ text.now) × (behind mark text.now ≡ []))
@@ -18,7 +18,7 @@ fn cut(text: &[u8], mark: u8) -> Option<(&[u8], &[u8])>
     Some((&text[..at], &text[at + 1..]))
 }
 
-/// The text before the first mark, or the whole where there is none.
+/// Returns the text before the first mark, or the whole text without a mark.
 pub fn before(text: &[u8], mark: u8) -> &[u8]
     ensures { result.now ≡ before mark text.now }
 {
@@ -28,7 +28,7 @@ pub fn before(text: &[u8], mark: u8) -> &[u8]
     }
 }
 
-/// The text behind the first mark, or nothing where there is none.
+/// Returns the text after the first mark, or the empty text without a mark.
 pub fn behind(text: &[u8], mark: u8) -> &[u8]
     ensures { result.now ≡ behind mark text.now }
 {
@@ -38,7 +38,7 @@ pub fn behind(text: &[u8], mark: u8) -> &[u8]
     }
 }
 
-// The first of several words and the text of the others; None where the text is one word.
+// Returns the first word and the text of the others, or `None` if the text is one word.
 fn first_word(text: &[u8]) -> Option<(&[u8], &[u8])>
     ensures words { MatchOption result
         (words_of text.now ≡ text.now ∷ [])
@@ -49,7 +49,7 @@ fn first_word(text: &[u8]) -> Option<(&[u8], &[u8])>
     Some((&text[..at], &text[at + 1..]))
 }
 
-/// The words between the spaces of a line, or None where they are more than `WORDS_MAX`.
+/// Returns the words between the spaces of a line, or `None` if there are more than `WORDS_MAX`.
 pub fn words(line: &[u8]) -> Option<ArrayVec<&[u8], WORDS_MAX>>
     ensures { MatchOption result
         (WORDS_MAX < length (words_of line.now))

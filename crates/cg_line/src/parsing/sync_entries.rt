@@ -1,4 +1,4 @@
-//! What a SYNC hands in: `member=bytes` words.
+//! Entries of a SYNC: `member=bytes` words.
 ghost use Rattle.std.specs.Prelude.{◌≡◌, map, IsTrue, IfOk};
 ghost use Rattle.std.specs.List.{list_all};
 ghost use Rattle.cg_line.specs.Parsing.{are_sync_entries, is_sync_entry, sync_entry_in};
@@ -25,14 +25,14 @@ fn pass_each(words: &[&[u8]]) -> bool
     words.iter().all(|word| is_sync_entry(word))
 }
 
-// Whether each word is one.
+// Returns whether each word is an entry.
 fn are_each(words: &[&[u8]]) -> bool
     ensures { result ≡ list_all is_sync_entry (map (λ w. w.now) words.now) }
 {
     pass_each(words)
 }
 
-/// Whether the words are entries that one SYNC can have. Takes no memory.
+/// Returns whether the words are the entries of one SYNC. Does not allocate.
 #[tactic(auto, unfolding(crate::specs::Parsing::are_sync_entries))]
 pub fn are_sync_entries(words: &[&[u8]]) -> bool
     ensures { result ≡ are_sync_entries (map (λ w. w.now) words.now) }
@@ -40,7 +40,7 @@ pub fn are_sync_entries(words: &[&[u8]]) -> bool
     words.len() <= MEMBERS_MAX && are_each(words) && have_own_keys(words)
 }
 
-// The bytes that the word gives behind its member.
+// Decodes the bytes after the member of a checked word.
 fn assignment_in(alloc: Global, word: &[u8]) -> Result<Assignment, AllocError>
     requires { IsTrue (is_opaque ASSIGNMENT_BYTES_MAX word.now) }
     ensures { IfOk result (λ bytes. bytes ≡ bytes_in word.now) }
@@ -72,7 +72,7 @@ fn each_in(alloc: Global, words: &[&[u8]]) -> Result<Vec<SyncEntry>, AllocError>
     Ok(entries)
 }
 
-/// The entries that the words spell.
+/// Returns the entries of checked words.
 #[tactic(auto, unfolding(crate::specs::Parsing::are_sync_entries))]
 pub fn sync_entries_in(alloc: Global, words: &[&[u8]]) -> Result<SyncEntries, AllocError>
     requires { IsTrue (are_sync_entries (map (λ w. w.now) words.now)) }

@@ -1,4 +1,4 @@
-//! The words of reply lines that have several parts, and lists of them: each word stands behind a space.
+//! Words of several parts, and lists of such words: each word follows a space.
 ghost use Rattle.std.specs.Prelude.{◌≡◌, ◌++◌, OnOk, codes};
 ghost use Rattle.std.specs.List.{flat_map};
 ghost use Rattle.cg_line.specs.Replies.{described_word, fetched_word, joined_word, listing_word, stored_word};
@@ -21,7 +21,7 @@ fn put_joined_member(out: &mut Vec<u8>, member: &JoinedMember) -> Result<(), All
     Ok(())
 }
 
-/// The members that a JOIN's answer lists.
+/// Appends the members of a JOINED reply.
 pub fn put_joined_members(out: &mut Vec<u8>, members: &[JoinedMember]) -> Result<(), AllocError>
     ensures { OnOk result (out.new.items ≡ out.old.items ++ flat_map (λ m. codes " " ++ joined_word m) members.now) }
 {
@@ -58,7 +58,7 @@ fn put_fetched_partition(out: &mut Vec<u8>, fetched: &FetchedPartition) -> Resul
     Ok(())
 }
 
-/// The partitions that a FETCH asked for.
+/// Appends the partitions of a FETCHED reply.
 pub fn put_fetched(out: &mut Vec<u8>, partitions: &[FetchedPartition]) -> Result<(), AllocError>
     ensures { OnOk result (out.new.items ≡ out.old.items ++ flat_map (λ p. codes " " ++ fetched_word p) partitions.now) }
 {
@@ -85,7 +85,7 @@ fn put_described_member(out: &mut Vec<u8>, member: &DescribedMember) -> Result<(
     Ok(())
 }
 
-/// The members of a group that is described.
+/// Appends the members of a GROUP reply.
 pub fn put_described_members(
     out: &mut Vec<u8>,
     members: &[DescribedMember],
@@ -111,7 +111,7 @@ fn put_listing(out: &mut Vec<u8>, listing: &Listing) -> Result<(), AllocError>
     Ok(())
 }
 
-/// The groups of a list.
+/// Appends the groups of a GROUPS reply.
 pub fn put_listings(out: &mut Vec<u8>, groups: &[Listing]) -> Result<(), AllocError>
     ensures { OnOk result (out.new.items ≡ out.old.items ++ flat_map (λ l. codes " " ++ listing_word l) groups.now) }
 {

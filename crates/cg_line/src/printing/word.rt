@@ -1,4 +1,4 @@
-//! Words of reply lines, put at the end of a text.
+//! Single words of reply lines.
 ghost use Rattle.std.specs.Prelude.{◌≡◌, [], ◌∷◌, ◌++◌, OnOk, decimal};
 ghost use Rattle.hex.specs.Hex.{encode_lower};
 ghost use Rattle.cg_line.specs.Replies.{state_word};
@@ -9,7 +9,7 @@ use cg_names::Name;
 use itoa::Buffer;
 use std::alloc::AllocError;
 
-/// A number in decimal.
+/// Appends a number in decimal.
 pub fn put_number(out: &mut Vec<u8>, number: u64) -> Result<(), AllocError>
     ensures { OnOk result (out.new.items ≡ out.old.items ++ decimal number) }
 {
@@ -18,7 +18,7 @@ pub fn put_number(out: &mut Vec<u8>, number: u64) -> Result<(), AllocError>
     Ok(())
 }
 
-/// A name, or `-` where there is none.
+/// Appends a name, or `-` for no name.
 pub fn put_name<const MAX: usize, const SORT: u8>(
     out: &mut Vec<u8>,
     name: &Option<Name<MAX, SORT>>,
@@ -32,7 +32,7 @@ pub fn put_name<const MAX: usize, const SORT: u8>(
     Ok(())
 }
 
-// The two lower-case digits of a byte.
+// Returns the two lower-case hexadecimal digits of a byte.
 fn digits(byte: u8) -> [u8; 2]
     ensures { result ≡ encode_lower (byte ∷ []) }
 {
@@ -43,7 +43,7 @@ fn digits(byte: u8) -> [u8; 2]
     }
 }
 
-/// Bytes: `x` and two lower-case hexadecimal digits for each.
+/// Appends bytes as `x` and two lower-case hexadecimal digits for each.
 #[tactic(auto, using(crate::proofs::Spaced::lower_each))]
 pub fn put_bytes(out: &mut Vec<u8>, bytes: &[u8]) -> Result<(), AllocError>
     ensures { OnOk result (out.new.items ≡ out.old.items ++ bytes_word bytes.now) }
@@ -55,7 +55,7 @@ pub fn put_bytes(out: &mut Vec<u8>, bytes: &[u8]) -> Result<(), AllocError>
     Ok(())
 }
 
-/// The state of a group that is held, as the protocol guide names it ("DescribeGroups", group states).
+/// Returns Kafka's name for the state of a loaded group (DescribeGroups, group states).
 pub fn state_name(phase: Phase) -> &'static [u8]
     ensures { result.now ≡ state_word phase }
 {

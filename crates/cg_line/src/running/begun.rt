@@ -1,16 +1,16 @@
-//! A line that has not ended yet.
+//! A line whose line feed has not been read yet.
 ghost use Rattle.std.specs.Prelude.{◌≡◌, ◌+◌, ◌<◌, ◌≤◌, [], length, IsTrue, OnOk, OnErr};
 ghost use Rattle.cg_line.specs.Lines.{Adds, IsBegun, begun_len};
 
 use crate::words::LINE_BYTES_MAX;
 use std::alloc::Global;
 
-/// What was read of a line whose line feed was not read yet.
+/// Bytes of a line whose line feed has not been read yet.
 #[derive(Drop)]
 pub enum Begun {
-    /// Its bytes.
+    /// The bytes themselves.
     Kept(Vec<u8>),
-    /// How many bytes they are: there was no memory to keep them.
+    /// Only their number, because an allocation for them failed.
     Lost(usize),
 }
 
@@ -19,14 +19,13 @@ pub enum Begun {
 pub struct TooLong;
 
 impl Begun {
-    /// Nothing of a line. Takes no memory.
+    /// Begins a line, with no bytes. Does not allocate.
     pub fn new(alloc: Global) -> Self
         ensures { IsBegun result [] }
     {
         Begun::Kept(Vec::new(alloc))
     }
 
-    /// How many bytes were read.
     fn len(&self) -> usize
         ensures { result ≡ begun_len self.now }
     {
@@ -36,14 +35,13 @@ impl Begun {
         }
     }
 
-    /// Whether no byte was read.
     pub fn is_empty(&self) -> bool
         ensures { IsTrue result → IsBegun self.now [] }
     {
         self.len() == 0
     }
 
-    // Puts bytes last, or only counts them from the first growth on that is refused.
+    // Appends bytes. If an allocation fails, keeps only the number of bytes from then on.
     fn put(&mut self, part: &[u8])
         requires { begun_len self.old + length part.now ≤ LINE_BYTES_MAX }
         ensures { Adds self.old part.now self.new }
@@ -59,7 +57,7 @@ impl Begun {
         }
     }
 
-    /// More bytes of the line, unless it is too long with them.
+    /// Appends bytes of the line, unless they make it too long.
     pub fn add(&mut self, part: &[u8]) -> Result<(), TooLong>
         ensures ok { OnOk result (Adds self.old part.now self.new) }
         ensures within { OnOk result (begun_len self.old + length part.now ≤ LINE_BYTES_MAX) }

@@ -6,7 +6,7 @@ ghost use Rattle.cg_line.specs.Stream.{Reads};
 use crate::ending::RunFault;
 use std::io::{ErrorKind, Read};
 
-/// Reads some bytes into the buffer, and tells how many: 0 at the end of the stream, None where the read was interrupted.
+/// Reads bytes into the buffer. Returns how many: 0 at the end of the stream, and `None` if the read was interrupted.
 pub fn read<R: Read>(reader: &mut R, buffer: &mut [u8]) -> Result<Option<usize>, RunFault>
     requires { 0 < length buffer.old }
     ensures bytes { Reads (R.remaining reader.old) (R.remaining reader.new) buffer.new result }

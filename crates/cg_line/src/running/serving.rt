@@ -16,17 +16,17 @@ use cg_group::{Reply, Request};
 use std::alloc::{AllocError, Global};
 use std::io::Write;
 
-/// What a line is answered in place of a reply.
+/// Refusal of a line without a reply of the backend.
 #[derive(Clone, Copy)]
 pub enum Refusal {
-    /// No request spells the line.
+    /// The line is malformed.
     Malformed,
-    /// Memory was wanting for it.
+    /// An allocation for the line failed.
     Memory,
 }
 
 impl Refusal {
-    /// The line, with its line feed. It takes no memory.
+    /// Returns the reply line, with its line feed. Does not allocate.
     pub fn line(self) -> &'static [u8]
         ensures { result.now ≡ ended (refusal_line self) }
     {
@@ -37,7 +37,7 @@ impl Refusal {
     }
 }
 
-// The line of a reply, with its line feed, in place of a text.
+// Replaces the text with the line of a reply and its line feed.
 fn print_ended(reply: &Reply, text: &mut Vec<u8>) -> Result<(), AllocError>
     ensures { OnOk result (text.new.items ≡ ended (reply_line reply.now)) }
 {
@@ -47,7 +47,7 @@ fn print_ended(reply: &Reply, text: &mut Vec<u8>) -> Result<(), AllocError>
     Ok(())
 }
 
-// Asks the backend, and prints what it says.
+// Asks the backend, and prints its reply.
 fn ask<B: Backend>(request: Request, text: &mut Vec<u8>, backend: &mut B) -> Result<(), Refusal>
     ensures { (reply : Reply) × B.gives backend.old request reply backend.new
         × MatchResult result (λ _. text.new.items ≡ ended (reply_line reply)) (λ refusal. refusal ≡ Refusal.Memory) }
@@ -59,7 +59,7 @@ fn ask<B: Backend>(request: Request, text: &mut Vec<u8>, backend: &mut B) -> Res
     }
 }
 
-// Answers a line into a text, unless it is refused.
+// Replaces the text with the reply to a line, or returns its refusal.
 fn answer<B: Backend>(
     alloc: Global,
     line: &[u8],
@@ -75,7 +75,7 @@ fn answer<B: Backend>(
     }
 }
 
-/// Serves a line.
+/// Serves a line: writes its reply or its refusal.
 pub fn serve_line<W: Write, B: Backend>(
     alloc: Global,
     line: &[u8],
@@ -92,7 +92,7 @@ pub fn serve_line<W: Write, B: Backend>(
     }
 }
 
-/// Serves a line that was read in parts. One that could not be kept for want of memory is refused.
+/// Serves a line that was read in parts. If an allocation failed for its bytes, refuses it with -1.
 pub fn serve_begun<W: Write, B: Backend>(
     alloc: Global,
     begun: &Begun,

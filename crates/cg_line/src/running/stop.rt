@@ -5,12 +5,12 @@ use crate::ending::RunFault;
 use crate::running::begun::TooLong;
 use std::alloc::AllocError;
 
-/// Why lines are served no further.
+/// Reason why no further lines are served.
 #[derive(Clone, Copy)]
 pub enum Stop {
-    /// A line is too long. It has no answer yet.
+    /// A line is too long. Its refusal is not written yet.
     TooLong,
-    /// The run ends with this fault.
+    /// The run ends with this error.
     Fault(RunFault),
 }
 

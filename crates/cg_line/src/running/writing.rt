@@ -1,14 +1,14 @@
-//! Writing answers.
+//! Writing replies.
 ghost use Rattle.std.specs.Prelude.{◌≡◌, ◌≤◌, ℕ, List, [], length, take, IfOk, OnOk, IfErr, OnErr};
 ghost use Rattle.std.specs.Io.KnownBytes.{Appends};
 
 use crate::ending::RunFault;
 use std::io::{ErrorKind, Write};
 
-/// The greatest number of writes that one answer takes, those that are interrupted among them.
+/// Greatest number of writes for one reply, interrupted writes included.
 pub const WRITES_MAX: u64 = 4_294_967_296;
 
-// One write, and how many bytes it took: none where it was interrupted.
+// Writes once. Returns how many bytes were written: 0 if the write was interrupted.
 fn write_some<W: Write>(writer: &mut W, bytes: &[u8]) -> Result<usize, RunFault>
     ensures within { IfOk result (λ n. n ≤ length bytes.now) }
     ensures ok { IfOk result (λ n. Appends (W.contents writer.old) (W.contents writer.new) (take n bytes.now)) }
@@ -25,7 +25,7 @@ fn write_some<W: Write>(writer: &mut W, bytes: &[u8]) -> Result<usize, RunFault>
     }
 }
 
-/// Writes bytes. Where that fails, some of them may have been written, from the first on.
+/// Writes all bytes. After an error, a prefix of them may have been written.
 pub fn put<W: Write>(writer: &mut W, bytes: &[u8]) -> Result<(), RunFault>
     ensures written { (part : List ℕ) × Appends (W.contents writer.old) (W.contents writer.new) part × OnOk result (part ≡ bytes.now) }
     ensures fault { IfErr result (λ fault. fault ≡ RunFault.Write) }
@@ -41,7 +41,6 @@ pub fn put<W: Write>(writer: &mut W, bytes: &[u8]) -> Result<(), RunFault>
     Err(RunFault::Write)
 }
 
-/// Lets nothing wait that was written.
 pub fn flush<W: Write>(writer: &mut W) -> Result<(), RunFault>
     ensures same { Appends (W.contents writer.old) (W.contents writer.new) [] }
     ensures fault { IfErr result (λ fault. fault ≡ RunFault.Write) }

@@ -8,7 +8,7 @@ use Rattle.cg_desk.specs.Queues.{commands_of}
 use Rattle.cg_desk.proofs.FullTexts.{is_front, none_fits}
 use Rattle.cg_desk.proofs.queue.Queue.take.Goals as goal
 
--- the commands behind the text
+-- the commands after the payload
 abbrev behind : (c : goal.In-Some-replace) → List Command
 behind c = c.fill.new.self.front.items ++ flat_map (λ (commands : List Command). commands) c.fill.new.self.lists.items
 
@@ -23,7 +23,7 @@ front c =
 pub invariant_of-self : goal.invariant_of-self
 invariant_of-self c = record { fits = subst FitsFrame (sym c.replace.ensures.after) none_fits }
 
--- what goes is the text
+-- the commands that are taken are those of the payload
 goes : (c : goal.In-Some-replace) → c.in-Some-replace.leaving ≡ spelled c.fill.new.self.text
 goes c = sym (ap spelled (sym c.replace.ensures.value ∙ c.in-Some-replace.is))
 
