@@ -1,8 +1,8 @@
 use Rattle.std.proofs.Common.{arith, rules}
 use Rattle.std.proofs.lemmas.Bool.Decides.{nat_tests}
 use Rattle.cg_disk.specs.Disk.{present}
-use Rattle.cg_frame.proofs.Gates.{first_byte}
-use Rattle.cg_frame.proofs.reading.is_open.Goals as goal
+use Rattle.cg_gate.proofs.Gates.{first_byte}
+use Rattle.cg_gate.proofs.gate.is_open.Goals as goal
 
 pub returns-clause-opened : goal.returns-clause-opened
 returns-clause-opened g c honest =
