@@ -1,12 +1,12 @@
 -- The body of a root, and the root of a body.
-use Rattle.std.proofs.Common.{◌≡◌, ℕ, zero, suc, ◌+◌, ◌-◌, ◌*◌, ◌^◌, ◌<◌, ◌≤◌, List, [], ◌∷◌, ◌++◌, length, take, drop, get_or, refl, sym, ◌∙◌, ap, subst, inl, inr, arith, append_assoc}
-use Rattle.std.specs.Int.{from_be_bytes, w16, w32, w64}
+use Rattle.std.proofs.Common.{◌≡◌, ℕ, ◌+◌, ◌*◌, ◌^◌, ◌<◌, ◌≤◌, List, ◌++◌, length, take, drop, get_or, refl, sym, ◌∙◌, ap, subst, arith}
+use Rattle.std.specs.Int.{w16, w32, w64}
 use Rattle.std.specs.List.{flat_map}
 use Rattle.std.proofs.lemmas.Grind.{flat_map-append}
 use Rattle.std.proofs.lemmas.List.{length-take, length-drop, length-append, take-take, drop-take, drop-drop, take-append-drop, take_at, drop_at}
 use Rattle.cg_gate.specs.Layout.{segment_count}
 use Rattle.cg_root.specs.Roots.{two_bytes, four_bytes, eight_bytes, root_ids, root_head, root_body, AreSegments, HasBody, IsLawful}
-use Rattle.cg_root.specs.Decoding.{number_at, head_in, ids_in, root_in, IsLawfulHead, IsRootBody}
+use Rattle.cg_root.specs.Decoding.{number_at, ids_in, root_in, IsRootBody}
 use Rattle.cg_root.specs.declared.root.Root.{Root}
 use Rattle.cg_root.specs.declared.slot.Slot.{Slot}
 use Rattle.cg_root.proofs.Words.{front_fits, back_fits, AreBytes, AreBytes-part, length-flat_map_two, length-ids_in, ids_in-append, ids_in-flat_map_two, flat_map_two-ids_in, two_bytes-number_at, four_bytes-number_at, eight_bytes-number_at, number_at-two, number_at-four, number_at-eight}

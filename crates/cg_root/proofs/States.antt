@@ -1,14 +1,13 @@
 -- What the slots of a disk hold, and which root counts.
-use Rattle.std.proofs.Common.{◌≡◌, ◌≢◌, ◌⊎◌, ℕ, ◌+◌, ◌*◌, ◌<◌, ◌≤◌, Bool, true, false, cond, List, length, take, drop, get_or, Ok, Err, refl, sym, ◌∙◌, ap, subst, inl, inr, arith, add-zero}
-use Rattle.std.specs.Prelude.{Result, ◌==◌, nat_lt}
+use Rattle.std.proofs.Common.{◌≡◌, ◌≢◌, ◌⊎◌, ℕ, ◌+◌, ◌*◌, ◌<◌, ◌≤◌, Bool, true, false, List, length, drop, get_or, Ok, Err, refl, sym, ◌∙◌, ap, subst, inl, inr, arith, add-zero}
+use Rattle.std.specs.Prelude.{◌==◌, nat_lt}
 use Rattle.std.proofs.lemmas.Bool.Decides.{nat_tests}
 use Rattle.std.proofs.lemmas.List.{length-take, length-drop, get_or-take, get_or-drop}
 use Rattle.cg_disk.specs.Disk.{Image, sector}
-use Rattle.cg_gate.specs.Gates.{IsOpen, IsClosed}
-use Rattle.cg_root.specs.Slots.{gate_of, other_slot}
-use Rattle.cg_root.specs.Roots.{HasBody, HasOlder, IsNewest, RootAt, CountingRoot, HasNoRoot, IsBroken, HaveOneEpoch, HasBadRoot}
+use Rattle.cg_gate.specs.Gates.{IsClosed}
+use Rattle.cg_root.specs.Slots.{gate_of}
+use Rattle.cg_root.specs.Roots.{CountingRoot, HasNoRoot, IsBroken, HasBadRoot}
 use Rattle.cg_root.specs.Decoding.{head_in, root_in, IsRootBody, IsState, greater_epoch, counting_slot}
-use Rattle.cg_root.specs.declared.fault.RootFault.{RootFault}
 use Rattle.cg_root.specs.declared.fault.RootFault.TheVariants.{NoRoot, BadRoot}
 use Rattle.cg_root.specs.declared.root.Root.{Root}
 use Rattle.cg_root.specs.declared.slot.Slot.{Slot}

@@ -1,9 +1,8 @@
 -- Roots in images that agree, and what a closed gate and a published root leave: for the crates above.
-use Rattle.std.proofs.Common.{◌≡◌, ◌≢◌, ◌⊎◌, ℕ, ◌+◌, ◌<◌, ◌≤◌, List, length, take, drop, get_or, refl, sym, ◌∙◌, ap, subst, inl, inr, arith, add-zero}
+use Rattle.std.proofs.Common.{◌≡◌, ◌⊎◌, ℕ, ◌+◌, ◌≤◌, List, length, take, get_or, refl, sym, ◌∙◌, ap, subst, inl, inr, arith, add-zero}
 use Rattle.std.proofs.lemmas.Bool.{cases_eq}
 use Rattle.std.proofs.lemmas.List.{take_all}
-use Rattle.cg_disk.specs.Disk.{Image, Moment, History, AllBut, LeavesOnly, Holds, IsImage, present, sector}
-use Rattle.cg_disk.proofs.Moments.{AllBut-image, LeavesOnly-goes_on, LeavesOnly-starts, LeavesOnly-weaker}
+use Rattle.cg_disk.specs.Disk.{Image, Moment, AllBut, Holds, IsImage, sector}
 use Rattle.cg_gate.specs.Gates.{IsOpen, IsClosed, IsGuarded, GuardedWrite}
 use Rattle.cg_root.specs.Slots.{gate_of, other_slot}
 use Rattle.cg_root.specs.Roots.{root_body, HasBody, HasOlder, IsLawful, IsNewest, RootAt, CountingRoot, HasNoRoot, IsBroken, HaveOneEpoch, HasBadRoot, KeepsRoot, Published, IsOldOrNew}

@@ -1,9 +1,9 @@
 -- A disk has one counting root at most, and then neither no root nor a bad one: for the crates above.
-use Rattle.std.proofs.Common.{◌≡◌, ◌⊎◌, ℕ, ◌+◌, ◌<◌, List, sym, ◌∙◌, ap, subst, inl, inr, arith}
+use Rattle.std.proofs.Common.{◌≡◌, ℕ, ◌+◌, ◌<◌, sym, ◌∙◌, ap, subst, inl, inr, arith}
 use Rattle.cg_disk.specs.Disk.{Image}
 use Rattle.cg_gate.specs.Gates.{IsOpen, IsClosed}
 use Rattle.cg_root.specs.Slots.{gate_of, other_slot}
-use Rattle.cg_root.specs.Roots.{HasBody, HasOlder, IsNewest, RootAt, CountingRoot, HasNoRoot, IsBroken, HaveOneEpoch, HasBadRoot}
+use Rattle.cg_root.specs.Roots.{RootAt, CountingRoot, HasNoRoot, IsBroken, HaveOneEpoch, HasBadRoot}
 use Rattle.cg_root.specs.Decoding.{root_in}
 use Rattle.cg_root.specs.declared.root.Root.{Root}
 use Rattle.cg_root.specs.declared.slot.Slot.{Slot}

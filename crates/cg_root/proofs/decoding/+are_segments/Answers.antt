@@ -1,4 +1,4 @@
-use Rattle.std.proofs.Common.{refl, arith}
+use Rattle.std.proofs.Common.{refl}
 use Rattle.cg_root.proofs.Segments.{AreSegments-short, AreSegments-bytes, AreSegments-bytes_first}
 use Rattle.cg_root.proofs.decoding.+are_segments.Goals as goal
 

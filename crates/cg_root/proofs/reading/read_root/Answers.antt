@@ -1,7 +1,7 @@
-use Rattle.std.proofs.Common.{◌≡◌, length, rules, arith, subst, ap, sym}
-use Rattle.cg_disk.specs.Disk.{present, sector, sector_count, Holds}
+use Rattle.std.proofs.Common.{rules, subst}
+use Rattle.cg_disk.specs.Disk.{present, sector, Holds}
 use Rattle.cg_root.specs.Roots.{CountingRoot}
-use Rattle.cg_root.proofs.Stored.{SameSlot-read, CountingRoot-same, HasNoRoot-same, HasBadRoot-same}
+use Rattle.cg_root.proofs.Stored.{SameSlot-read, CountingRoot-same}
 use Rattle.cg_root.proofs.reading.read_root.Goals as goal
 
 pub returns-in_err-root-clause-memory : goal.returns-in_err-root-clause-memory

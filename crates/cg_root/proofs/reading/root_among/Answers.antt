@@ -3,7 +3,6 @@ use Rattle.cg_disk.specs.Disk.{sector}
 use Rattle.cg_root.specs.Slots.{gate_of}
 use Rattle.cg_root.specs.Roots.{CountingRoot}
 use Rattle.cg_root.specs.Decoding.{IsLawfulHead, head_in, root_in}
-use Rattle.cg_root.specs.declared.root.Root.{Root}
 use Rattle.cg_root.proofs.States.{counting-counts}
 use Rattle.cg_root.proofs.reading.root_among.Goals as goal
 

@@ -1,4 +1,4 @@
-use Rattle.std.proofs.Common.{◌≡◌, ◌≢◌, ℕ, ◌+◌, ◌*◌, List, true, false, get_or, sym, ◌∙◌, ap, subst, arith}
+use Rattle.std.proofs.Common.{◌≡◌, ℕ, ◌+◌, ◌*◌, List, true, false, get_or, sym, ◌∙◌, ap, subst, arith}
 use Rattle.cg_disk.specs.Disk.{sector}
 use Rattle.cg_root.specs.Slots.{gate_of}
 use Rattle.cg_root.specs.Decoding.{IsRootBody, head_in}

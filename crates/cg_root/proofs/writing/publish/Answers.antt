@@ -1,10 +1,9 @@
-use Rattle.std.proofs.Common.{◌≡◌, ℕ, ◌+◌, List, length, get_or, sym, ap, ◌∙◌, arith}
+use Rattle.std.proofs.Common.{◌≡◌, ℕ, ◌+◌, List, get_or, ap, ◌∙◌, arith}
 use Rattle.cg_disk.specs.Disk.{present, sector_count}
 use Rattle.cg_disk.proofs.Moments.{LeavesOnly-weaker, LeavesOnly-present, IsImage-content}
 use Rattle.cg_gate.proofs.Gates.{one_sector}
-use Rattle.cg_gate.specs.Gates.{GuardedWrite}
 use Rattle.cg_root.specs.Slots.{gate_of}
-use Rattle.cg_root.specs.Roots.{Published, IsOldOrNew}
+use Rattle.cg_root.specs.Roots.{Published}
 use Rattle.cg_root.proofs.Bodies.{length-lawful}
 use Rattle.cg_root.proofs.Stored.{Published-guarded, RootAt-guarded, CountingRoot-published, IsOldOrNew-published}
 use Rattle.cg_root.proofs.writing.publish.Goals as goal
