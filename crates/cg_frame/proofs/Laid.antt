@@ -4,7 +4,8 @@ use Rattle.std.proofs.lemmas.List.{get_or-take, get_or-drop, take-take}
 use Rattle.cg_disk.specs.Disk.{Image, Moment, History, LeavesOnly, IsImage, present, sector, sector_count, span}
 use Rattle.cg_disk.proofs.Moments.{AllBut-wider, AllBut-image, span-holds_front, LeavesOnly-starts, LeavesOnly-weaker}
 use Rattle.cg_frame.specs.Frames.{IsClosed, body, body_sectors, next_gate}
-use Rattle.cg_frame.specs.Outcomes.{IsLaid, Lays, StandsLast, Appended, KeepsFramesTo, IsBeforeOrAfter}
+use Rattle.cg_gate.specs.Gates.{IsGuarded, GuardedWrite}
+use Rattle.cg_frame.specs.Outcomes.{StandsLast, Appended, KeepsFramesTo, IsBeforeOrAfter}
 use Rattle.cg_frame.specs.declared.segment.Segment.{Segment}
 use Rattle.cg_frame.proofs.Standing.{IsBeforeOrAfter-appended}
 
@@ -30,7 +31,7 @@ module _ (segment : Segment) (pos count : ℕ) (payload sectors : List ℕ) (sta
   counts : sector_count sectors ≡ b + 1
   counts = omega (arith, staged.long)
 
-  pub StandsLast-laid : (image : Image) → IsLaid image (segment.first + pos) (sector_count sectors) sectors → StandsLast image segment pos count payload
+  pub StandsLast-laid : (image : Image) → IsGuarded image (segment.first + pos) (sector_count sectors) sectors → StandsLast image segment pos count payload
   StandsLast-laid image laid =
       let gate = segment.first + pos in
       let front : span image (gate + 1) b ≡ take (512 * b) sectors = span-holds_front image (gate + 1) (sector_count sectors) b sectors (omega (arith, staged.long)) (omega (arith, counts)) laid.holds in
@@ -48,13 +49,13 @@ module _ (segment : Segment) (pos count : ℕ) (payload sectors : List ℕ) (sta
         closed = λ opened. absurd (omega (arith, byte, opened));
       }
 
-  pub Appended-lays : (m : Moment) (image : Image) → Lays m (segment.first + pos) (sector_count sectors) sectors image → Appended m segment pos count payload image
+  pub Appended-lays : (m : Moment) (image : Image) → GuardedWrite m (segment.first + pos) (sector_count sectors) sectors image → Appended m segment pos count payload image
   Appended-lays m image lays = record {
     elsewhere = AllBut-wider (segment.first + pos) (sector_count sectors + 1) (segment.first + pos) (b + 2) m image (omega arith) (omega (arith, counts)) lays.elsewhere;
     outcome = elim lays.outcome [ inl closed ↦ inl closed | inr laid ↦ inr (StandsLast-laid image laid) ];
   }
 
-  module _ (old new : History) (run : LeavesOnly old new (Lays (present old) (segment.first + pos) (sector_count sectors) sectors)) where
+  module _ (old new : History) (run : LeavesOnly old new (GuardedWrite (present old) (segment.first + pos) (sector_count sectors) sectors)) where
     pub Appended-run : LeavesOnly old new (Appended (present old) segment pos count payload)
     Appended-run = LeavesOnly-weaker old new _ _ (Appended-lays (present old)) run
 

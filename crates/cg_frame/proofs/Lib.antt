@@ -1,4 +1,3 @@
-mod Gates
 mod Laid
 pub mod Loading
 mod Parts

@@ -4,7 +4,7 @@ use Rattle.std.proofs.lemmas.List.{length-drop, length-append, take-append-drop,
 use Rattle.cg_disk.specs.Disk.{Image, Holds, span, sector}
 use Rattle.cg_frame.specs.Frames.{IsOpen, IsClosed, IsFront, FrameAt, HeadAt, body_sectors, next_gate, word}
 use Rattle.cg_frame.specs.declared.segment.Segment.{Segment}
-use Rattle.cg_frame.proofs.Gates.{first_byte}
+use Rattle.cg_gate.proofs.Gates.{first_byte}
 use Rattle.cg_frame.proofs.Words.{length-word}
 use Rattle.cg_frame.proofs.Standing.{head_is}
 

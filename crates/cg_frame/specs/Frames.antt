@@ -1,15 +1,9 @@
 -- Frames: bodies behind gates, one behind the other, in the sectors of a segment.
-use Rattle.std.specs.Prelude.{◌≡◌, ◌≢◌, ℕ, ◌+◌, ◌/◌, ◌^◌, ◌<◌, ◌≤◌, List, [], ◌∷◌, ◌++◌, length, take, drop, slice_index}
+use Rattle.std.specs.Prelude.{◌≡◌, ℕ, ◌+◌, ◌/◌, ◌^◌, ◌<◌, ◌≤◌, List, [], ◌∷◌, ◌++◌, length, take, drop, slice_index}
 use Rattle.std.specs.Int.{to_be_bytes, w64}
 use Rattle.cg_disk.specs.Disk.{Image, span}
+pub use Rattle.cg_gate.specs.Gates.{IsOpen, IsClosed}
 use Rattle.cg_frame.specs.declared.segment.Segment.{Segment}
-
--- a gate is open where its first byte is 1
-abbrev pub IsOpen : Image → ℕ → Type 0
-IsOpen image s = slice_index (image s) 0 ≡ 1
-
-abbrev pub IsClosed : Image → ℕ → Type 0
-IsClosed image s = slice_index (image s) 0 ≢ 1
 
 -- how many sectors the body of a payload of n bytes takes: 16 bytes stand before the payload
 abbrev pub body_sectors : ℕ → ℕ

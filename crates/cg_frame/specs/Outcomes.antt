@@ -1,22 +1,12 @@
 -- What an append and a scan leave and tell.
 use Rattle.std.specs.Prelude.{◌⊎◌, ℕ, ◌+◌, List, [], ◌∷◌, ◌++◌, length, Bool, true, false, Result, Ok, Err}
-use Rattle.cg_disk.specs.Disk.{Image, Moment, AllBut, IsImage, Holds}
-use Rattle.cg_frame.specs.Frames.{IsOpen, IsClosed, FrameAt, HasFrames, HasFramesTo, body_sectors, next_gate}
+use Rattle.cg_disk.specs.Disk.{Image, Moment, AllBut, IsImage}
+use Rattle.cg_frame.specs.Frames.{IsClosed, FrameAt, HasFrames, HasFramesTo, body_sectors, next_gate}
 use Rattle.cg_frame.specs.declared.segment.Segment.{Segment}
 use Rattle.cg_frame.specs.declared.fault.FrameFault.{FrameFault}
 use Rattle.cg_frame.specs.declared.fault.FrameFault.TheVariants.{Memory, Device, NoRoom}
 use Rattle.cg_frame.specs.declared.fault.ScanFault.{ScanFault}
 use Rattle.cg_frame.specs.declared.fault.ScanFault.TheVariants.{Memory as scan_memory, Device as scan_device, BadLength as scan_bad_length}
-
--- these n sectors stand behind an open gate
-pub record IsLaid (image : Image) (gate n : ℕ) (sectors : List ℕ) : Type 0 where
-  pub is_open : IsOpen image gate
-  pub holds : Holds image (gate + 1) n sectors
-
--- what a crash may leave of a disk at m while they are laid there: all else as it was, and a closed gate or the sectors
-pub record Lays (m : Moment) (gate n : ℕ) (sectors : List ℕ) (image : Image) : Type 0 where
-  pub elsewhere : AllBut gate (n + 1) m image
-  pub outcome : IsClosed image gate ⊎ IsLaid image gate n sectors
 
 -- a frame stands, and the gate behind it is closed
 pub record StandsLast (image : Image) (segment : Segment) (pos count : ℕ) (payload : List ℕ) : Type 0 where

@@ -5,27 +5,6 @@ use crate::segment::sectors_of;
 use cg_disk::SECTOR_BYTES;
 use std::alloc::{AllocError, Global};
 
-/// The first byte of an open gate.
-pub(crate) const OPEN: u8 = 1;
-
-/// The sector of an open gate: a 1 and zeros.
-pub(crate) fn open_gate() -> [u8; 512]
-    ensures length { length result ≡ 512 }
-    ensures open { slice_index result 0 ≡ 1 }
-{
-    let mut gate = [0; 512];
-    gate[0] = OPEN;
-    gate
-}
-
-/// The sector of a closed gate: zeros.
-pub(crate) fn closed_gate() -> [u8; 512]
-    ensures length { length result ≡ 512 }
-    ensures closed { slice_index result 0 ≡ 0 }
-{
-    [0; 512]
-}
-
 /// A number in 8 bytes.
 #[tactic(auto, unfolding(crate::specs::Frames::word))]
 fn bytes_of(number: u64) -> [u8; 8]

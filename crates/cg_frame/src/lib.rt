@@ -1,6 +1,6 @@
 //! Frames in segments of sectors: a frame is a payload behind a gate, and it counts once its gate stands open.
 //! An append or a crash during it leaves the frames before it, with the new one or without.
-//! It stands on `cg_disk`.
+//! It stands on `cg_disk`, and on `cg_gate` for the order of its writes.
 #![tactic(auto)]
 
 mod buffer;
@@ -13,5 +13,5 @@ mod writing;
 
 pub use fault::{FrameFault, ScanFault};
 pub use reading::scan;
-pub use segment::{Frame, LARGEST_PAYLOAD_BYTES, SEGMENT_SECTORS, Segment, fits};
+pub use segment::{Frame, LARGEST_PAYLOAD_BYTES, SEGMENT_SECTORS, Segment, fits, frame_numbers};
 pub use writing::{append, close_gate};

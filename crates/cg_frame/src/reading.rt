@@ -3,10 +3,11 @@ ghost use Rattle.cg_disk.specs.Disk.{present, span, Holds, Stays, Counts};
 ghost use Rattle.cg_frame.specs.Frames.{IsOpen, IsClosed, FrameAt, HeadAt, IsFront, word, body_sectors, next_gate};
 ghost use Rattle.cg_frame.specs.Outcomes.{is_scan_device_failure};
 
-use crate::buffer::{OPEN, number};
+use crate::buffer::number;
 use crate::segment::sectors_of;
 use crate::{Frame, ScanFault, Segment, fits};
 use cg_disk::{DiskFault, SECTOR_BYTES, SectorDisk};
+use cg_gate::{OPEN, is_open};
 use std::alloc::{AllocError, Global};
 
 /// Bytes of a gate and of the first sector of a body, which are read together.
@@ -50,21 +51,6 @@ fn head_of(front: &[u8], segment: Segment, pos: u64) -> Result<Option<Head>, Sca
         return Err(ScanFault::BadLength);
     }
     Ok(Some(head))
-}
-
-/// Whether a gate is open.
-fn is_open<D: SectorDisk>(disk: &mut D, gate: u64) -> Result<bool, DiskFault>
-    requires { gate < D.size disk.old }
-    ensures same_size { D.size disk.new ≡ D.size disk.old }
-    ensures same_honesty { D.is_honest disk.new ≡ D.is_honest disk.old }
-    ensures opened { D.is_honest disk.old ≡ true → IfOk result (λ opened.
-        IsTrue opened ↔ IsOpen (present (D.history disk.old)).content gate) }
-    ensures time { D.is_honest disk.old ≡ true → Stays (D.history disk.old) (D.history disk.new) }
-    ensures cause { Counts (D.failures disk.old) (D.failures disk.new) (is_err result) }
-{
-    let mut sector = [0; SECTOR_BYTES];
-    disk.read(gate, &mut sector)?;
-    Ok(sector[0] == OPEN)
 }
 
 /// Reads what a buffer holds behind the start of a payload.

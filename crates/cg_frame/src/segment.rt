@@ -4,7 +4,7 @@ ghost use Rattle.cg_frame.specs.Frames.{body_sectors, next_gate};
 use cg_disk::SECTOR_BYTES;
 
 /// Sectors of a whole segment.
-pub const SEGMENT_SECTORS: u64 = 2048;
+pub const SEGMENT_SECTORS: u64 = cg_gate::SEGMENT_SECTORS;
 
 /// Bytes of the largest payload, whose frame fills a whole segment but for the last gate.
 pub const LARGEST_PAYLOAD_BYTES: u64 = 1_047_536;
@@ -46,3 +46,11 @@ pub fn fits(segment: Segment, pos: u64, payload_bytes: u64) -> bool
 {
     pos < segment.sectors && sectors_of(payload_bytes) + 1 < segment.sectors - pos
 }
+
+/// States the numbers of the format, on which the disks that exist depend. It does nothing.
+pub fn frame_numbers()
+    ensures sector { SECTOR ≡ 512 }
+    ensures segment { SEGMENT_SECTORS ≡ 2048 }
+    ensures head { HEAD_BYTES ≡ 16 }
+    ensures payload { LARGEST_PAYLOAD_BYTES ≡ 1047536 }
+{}

@@ -1,32 +1,14 @@
 ghost use Rattle.std.specs.Prelude.{◌≡◌, ◌↔◌, ℕ, ◌+◌, ◌^◌, ◌<◌, ◌≤◌, [], ◌∷◌, ◌++◌, true, length, OnOk, IfOk, IsErrOf, is_err, List};
-ghost use Rattle.cg_disk.specs.Disk.{Image, present, sector_count, IsWhole, Holds, IsImage, IsSynced, AllBut, Changes, LeavesOnly, Counts};
+ghost use Rattle.cg_disk.specs.Disk.{Image, present, IsImage, IsSynced, AllBut, Changes, LeavesOnly, Counts};
 ghost use Rattle.cg_frame.specs.Frames.{IsClosed, body_sectors, next_gate};
-ghost use Rattle.cg_frame.specs.Outcomes.{IsLaid, Lays, StandsLast, Appended, KeepsFramesTo, IsBeforeOrAfter, is_device_failure};
+ghost use Rattle.cg_frame.specs.Outcomes.{StandsLast, Appended, KeepsFramesTo, IsBeforeOrAfter, is_device_failure};
 
-use crate::buffer::{closed_gate, open_gate, staged};
+use crate::buffer::staged;
 use crate::segment::sectors_of;
 use crate::{FrameFault, Segment, fits};
 use cg_disk::{DiskFault, SectorDisk};
+use cg_gate::write_guarded;
 use std::alloc::Global;
-
-/// Writes sectors and syncs them.
-fn put_down<D: SectorDisk>(disk: &mut D, at: u64, bytes: &[u8]) -> Result<(), DiskFault>
-    requires whole { IsWhole bytes.now }
-    requires in_range { at + sector_count bytes.now ≤ D.size disk.old }
-
-    ensures same_size { D.size disk.new ≡ D.size disk.old }
-    ensures same_honesty { D.is_honest disk.new ≡ D.is_honest disk.old }
-    ensures bytes { D.is_honest disk.old ≡ true → OnOk result
-        (Holds (present (D.history disk.new)).content at (sector_count bytes.now) bytes.now) }
-    ensures durable { D.is_honest disk.old ≡ true → OnOk result (IsSynced (present (D.history disk.new))) }
-    ensures time { D.is_honest disk.old ≡ true →
-        Changes at (sector_count bytes.now) (D.history disk.old) (D.history disk.new) }
-    ensures cause { Counts (D.failures disk.old) (D.failures disk.new) (is_err result) }
-{
-    disk.write(at, bytes)?;
-    disk.sync()?;
-    Ok(())
-}
 
 /// Writes a closed gate at `pos` and syncs it.
 pub fn close_gate<D: SectorDisk>(disk: &mut D, segment: Segment, pos: u64) -> Result<(), DiskFault>
@@ -48,33 +30,7 @@ pub fn close_gate<D: SectorDisk>(disk: &mut D, segment: Segment, pos: u64) -> Re
     ensures durable { D.is_honest disk.old ≡ true → OnOk result (IsSynced (present (D.history disk.new))) }
     ensures cause { Counts (D.failures disk.old) (D.failures disk.new) (is_err result) }
 {
-    put_down(disk, segment.first + pos, &closed_gate())?;
-    Ok(())
-}
-
-/// Lays sectors behind a closed gate and opens it, in four calls of the device.
-fn lay<D: SectorDisk>(disk: &mut D, gate: u64, sectors: &[u8]) -> Result<(), DiskFault>
-    requires whole { IsWhole sectors.now }
-    requires in_range { gate + 1 + sector_count sectors.now ≤ D.size disk.old }
-    requires small { gate + 1 + sector_count sectors.now < 2 ^ 54 }
-    requires closed { D.is_honest disk.old ≡ true →
-        (image : Image) → IsImage (present (D.history disk.old)) image → IsClosed image gate }
-
-    ensures same_size { D.size disk.new ≡ D.size disk.old }
-    ensures same_honesty { D.is_honest disk.new ≡ D.is_honest disk.old }
-    ensures time { D.is_honest disk.old ≡ true →
-        Changes gate (sector_count sectors.now + 1) (D.history disk.old) (D.history disk.new) }
-    ensures any_moment { D.is_honest disk.old ≡ true →
-        LeavesOnly (D.history disk.old) (D.history disk.new)
-        (Lays (present (D.history disk.old)) gate (sector_count sectors.now) sectors.now) }
-    ensures laid { D.is_honest disk.old ≡ true → OnOk result
-        ((image : Image) → IsImage (present (D.history disk.new)) image →
-        IsLaid image gate (sector_count sectors.now) sectors.now) }
-    ensures durable { D.is_honest disk.old ≡ true → OnOk result (IsSynced (present (D.history disk.new))) }
-    ensures cause { Counts (D.failures disk.old) (D.failures disk.new) (is_err result) }
-{
-    put_down(disk, gate + 1, sectors)?;
-    put_down(disk, gate, &open_gate())?;
+    cg_gate::close_gate(disk, segment.first + pos)?;
     Ok(())
 }
 
@@ -132,6 +88,6 @@ pub fn append<D: SectorDisk>(
         return Err(FrameFault::NoRoom);
     }
     let sectors = staged(alloc, count, payload)?;
-    lay(disk, segment.first + pos, &sectors)?;
+    write_guarded(disk, segment.first + pos, &sectors)?;
     Ok(pos + sectors_of(bytes) + 1)
 }

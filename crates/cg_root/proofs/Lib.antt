@@ -1,0 +1,6 @@
+mod Words
+mod Segments
+mod Bodies
+pub mod Stored
+mod States
+pub mod Unique

@@ -1,0 +1,38 @@
+ghost use Rattle.std.specs.Prelude.{◌≡◌, length};
+
+use crate::SegmentId;
+use std::marker::Model;
+
+/// Segments in order. Contracts see a list of their numbers.
+#[derive(Debug, Drop)]
+pub struct SegmentIds {
+    ids: Vec<SegmentId>,
+}
+
+impl Model for SegmentIds {
+    ghost use Rattle.std.specs.Prelude.{ℕ, List};
+
+    ghost Value = { List ℕ };
+
+    ghost view = { λ s. s.ids.items };
+}
+
+impl SegmentIds {
+    pub fn from_vec(ids: Vec<SegmentId>) -> Self
+        ensures { result ≡ ids.items }
+    {
+        SegmentIds { ids }
+    }
+
+    pub fn as_slice(&self) -> &[SegmentId]
+        ensures { result.now ≡ self.now }
+    {
+        self.ids.as_slice()
+    }
+
+    pub fn len(&self) -> usize
+        ensures { result ≡ length self.now }
+    {
+        self.ids.len()
+    }
+}
