@@ -10,7 +10,7 @@ pub fn now() -> Moment {
     Moment::from_millis(0)
 }
 
-/// Returns the ticket of a request that no later one is told from.
+/// Returns a ticket whose number later requests may share.
 pub fn ticket() -> Ticket {
     Ticket {
         session: 1,

@@ -14,7 +14,7 @@ sector_first : (bytes : List ℕ) (i : ℕ) → get_or (sector bytes i) 0 0 ≡ 
 unfolding sector
 sector_first bytes i = get_or-take 512 (drop (512 * i) bytes) 0 0 (omega arith) ∙ get_or-drop (512 * i) bytes 0 0 ∙ ap (λ (k : ℕ). get_or bytes k 0) (add-zero (512 * i))
 
--- the sectors of a frame: its body, and a closed gate behind it
+-- the sectors of a frame: its body, then a closed gate
 pub record IsStaged (sectors : List ℕ) (count : ℕ) (payload : List ℕ) : Type 0 where
   pub long : length sectors ≡ 512 * (body_sectors (length payload) + 1)
   pub body_is : take (16 + length payload) sectors ≡ body count payload

@@ -39,7 +39,7 @@ module _ (content : Image) (segment : Segment) (pos : ℕ) (front : List ℕ) (l
   pub HeadAt-front : (count n : ℕ) → IsFront front segment pos count n → HeadAt content segment pos count n
   HeadAt-front count n is = record { is_open = gate_byte ∙ is.is_open; head_is = ap (take 16) behind ∙ is.head_is; counted = is.counted; fits_word = is.fits_word; fits = is.fits }
 
-  -- a frame that stands there is told by the front
+  -- the front shows a frame at that position
   pub IsFront-frame : (count : ℕ) (payload : List ℕ) → FrameAt content segment pos count payload → IsFront front segment pos count (length payload)
   IsFront-frame count payload frame =
       let b = body_sectors (length payload) in
@@ -55,7 +55,7 @@ module _ (content : Image) (segment : Segment) (pos : ℕ) (front : List ℕ) (l
         fits = frame.fits;
       }
 
-  -- what the front tells, and the payload behind it, make a frame
+  -- what the front shows, with the payload after it, makes a frame
   pub FrameAt-front : (count n : ℕ) (payload : List ℕ) → IsFront front segment pos count n → length payload ≡ n → payload ≡ take n (drop 528 front ++ span content (gate + 2) (body_sectors n - 1)) → FrameAt content segment pos count payload
   FrameAt-front count n payload is size cut =
       let b = body_sectors n in

@@ -9,7 +9,7 @@ use Rattle.cg_frame.specs.Outcomes.{Appended, StandsLast, KeepsFramesTo, IsBefor
 use Rattle.cg_frame.specs.declared.segment.Segment.{Segment}
 use Rattle.cg_frame.proofs.Words.{length-word, word_injective}
 
--- a frame stands in each image that has the same sectors there
+-- each image with the same sectors there has the frame
 pub FrameAt-same : (a b : Image) (segment : Segment) (pos count : ℕ) (payload : List ℕ) → ((s : ℕ) → segment.first + pos ≤ s → s < segment.first + next_gate pos (length payload) → b s ≡ a s) → FrameAt a segment pos count payload → FrameAt b segment pos count payload
 FrameAt-same a b segment pos count payload same frame = record {
   is_open = ap (λ (l : List ℕ). get_or l 0 0) (same (segment.first + pos) (omega arith) (omega arith)) ∙ frame.is_open;
@@ -39,7 +39,7 @@ Chain-push image segment pos (f ∷ frames) end count payload chain frame = (cha
 
 -- An append
 
--- the chain before it stands in what it leaves
+-- what it leaves has the chain before it
 pub Chain-appended : (m : Moment) (segment : Segment) (pos n : ℕ) (frames : List (ℕ × List ℕ)) (image : Image) → AllBut (segment.first + pos) n m image → KeepsFramesTo m segment frames pos → Chain image segment 0 frames pos
 Chain-appended m segment pos n frames image but keeps = Chain-same but.base image segment 0 frames pos (λ s ge lt. but.below s lt) (keeps but.base but.was).chain
 
@@ -87,7 +87,7 @@ words_equal a b c d same =
     let back : word b ≡ word d = sym (drop_at (word a) (word b) 8 (length-word a)) ∙ ap (drop 8) same ∙ drop_at (word c) (word d) 8 (length-word c) in
     (front, back)
 
--- at most one frame stands at a gate
+-- a gate has at most one frame
 pub FrameAt-unique : (image : Image) (segment : Segment) (pos count count' : ℕ) (payload payload' : List ℕ) → segment.sectors < 2 ^ 54 → FrameAt image segment pos count payload → FrameAt image segment pos count' payload' → (count ≡ count') × (payload ≡ payload')
 FrameAt-unique image segment pos count count' payload payload' small f f' =
     let at = segment.first + pos + 1 in
@@ -106,7 +106,7 @@ pub Chain-ends : (image : Image) (segment : Segment) (pos : ℕ) (frames : List 
 Chain-ends image segment pos [] end is closed = (refl, is)
 Chain-ends image segment pos (f ∷ frames) end chain closed = absurd (closed chain.0.is_open)
 
--- before the end of a chain a frame stands, and the chain goes on behind it
+-- before the end of a chain there is a frame, and the chain goes on after it
 pub Chain-goes_on : (image : Image) (segment : Segment) (pos : ℕ) (frames : List (ℕ × List ℕ)) (end count : ℕ) (payload : List ℕ) → segment.sectors < 2 ^ 54 → Chain image segment pos frames end → IsClosed image (segment.first + end) → FrameAt image segment pos count payload → (rest : List (ℕ × List ℕ)) × (frames ≡ (count, payload) ∷ rest) × Chain image segment (next_gate pos (length payload)) rest end
 Chain-goes_on image segment pos [] end count payload small is closed frame = absurd (closed (subst (λ (p : ℕ). IsOpen image (segment.first + p)) is frame.is_open))
 Chain-goes_on image segment pos (f ∷ frames) end count payload small chain closed frame =

@@ -1,4 +1,4 @@
--- Frames: bodies behind gates, one behind the other, in the sectors of a segment.
+-- Frames: bodies behind gates, in sequence, in the sectors of a segment.
 use Rattle.std.specs.Prelude.{◌≡◌, ℕ, ◌+◌, ◌/◌, ◌^◌, ◌<◌, ◌≤◌, List, [], ◌∷◌, ◌++◌, length, take, drop, slice_index}
 use Rattle.std.specs.Int.{to_be_bytes, w64}
 use Rattle.cg_disk.specs.Disk.{Image, span}
@@ -21,7 +21,7 @@ word n = to_be_bytes w64 n
 abbrev pub body : ℕ → List ℕ → List ℕ
 body count payload = word count ++ word (length payload) ++ payload
 
--- a frame, by its count and its payload, stands in a segment with its gate at pos
+-- a segment has a frame with this count and payload, its gate at pos
 pub record FrameAt (image : Image) (segment : Segment) (pos count : ℕ) (payload : List ℕ) : Type 0 where
   pub is_open : IsOpen image (segment.first + pos)
   pub body_is : take (16 + length payload) (span image (segment.first + pos + 1) (body_sectors (length payload))) ≡ body count payload
@@ -29,7 +29,7 @@ pub record FrameAt (image : Image) (segment : Segment) (pos count : ℕ) (payloa
   pub fits_word : count < 2 ^ 64
   pub fits : next_gate pos (length payload) < segment.sectors
 
--- a frame seems to stand there, as far as its gate and its first 16 bytes tell
+-- the gate and the first 16 bytes are those of a frame
 pub record HeadAt (image : Image) (segment : Segment) (pos count n : ℕ) : Type 0 where
   pub is_open : IsOpen image (segment.first + pos)
   pub head_is : take 16 (image (segment.first + pos + 1)) ≡ word count ++ word n
@@ -37,7 +37,7 @@ pub record HeadAt (image : Image) (segment : Segment) (pos count n : ℕ) : Type
   pub fits_word : count < 2 ^ 64
   pub fits : next_gate pos n < segment.sectors
 
--- a gate and the sector behind it, read into one buffer, tell so
+-- a gate and the sector after it, read into one buffer, are those of a frame
 pub record IsFront (front : List ℕ) (segment : Segment) (pos count n : ℕ) : Type 0 where
   pub is_open : slice_index front 0 ≡ 1
   pub head_is : take 16 (drop 512 front) ≡ word count ++ word n
@@ -45,13 +45,13 @@ pub record IsFront (front : List ℕ) (segment : Segment) (pos count n : ℕ) : 
   pub fits_word : count < 2 ^ 64
   pub fits : next_gate pos n < segment.sectors
 
--- these frames stand one behind the other, from pos to end
+-- these frames follow each other from pos to end
 abbrev pub Chain : Image → Segment → ℕ → List (ℕ × List ℕ) → ℕ → Type 0
 Chain image segment pos [] end = pos ≡ end
 Chain image segment pos (frame ∷ frames) end =
     FrameAt image segment pos frame.0 frame.1 × Chain image segment (next_gate pos (length frame.1)) frames end
 
--- a segment has these frames, and the first closed gate behind them stands at end
+-- a segment has these frames, and the first closed gate after them is at end
 pub record HasFramesTo (image : Image) (segment : Segment) (frames : List (ℕ × List ℕ)) (end : ℕ) : Type 0 where
   pub chain : Chain image segment 0 frames end
   pub closed : IsClosed image (segment.first + end)

@@ -8,7 +8,7 @@ use Rattle.cg_frame.specs.declared.fault.FrameFault.TheVariants.{Memory, Device,
 use Rattle.cg_frame.specs.declared.fault.ScanFault.{ScanFault}
 use Rattle.cg_frame.specs.declared.fault.ScanFault.TheVariants.{Memory as scan_memory, Device as scan_device, BadLength as scan_bad_length}
 
--- a frame stands, and the gate behind it is closed
+-- the frame is there, and the gate after it is closed
 pub record StandsLast (image : Image) (segment : Segment) (pos count : ℕ) (payload : List ℕ) : Type 0 where
   pub frame : FrameAt image segment pos count payload
   pub closed : IsClosed image (segment.first + next_gate pos (length payload))

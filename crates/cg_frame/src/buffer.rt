@@ -23,7 +23,7 @@ pub(crate) fn number(bytes: &[u8], at: usize) -> u64
     u64::from_be_bytes(eight)
 }
 
-/// The sectors of a body and of the closed gate behind it. The payload is copied once.
+/// Returns the sectors of a body and of the closed gate after it. Copies the payload once.
 pub(crate) fn staged(alloc: Global, count: u64, payload: &[u8]) -> Result<Vec<u8>, AllocError>
     requires { body_sectors (length payload.now) < 2 ^ 54 }
     ensures length { IfOk result (λ sectors.

@@ -15,7 +15,7 @@ pub enum FrameFault {
     /// The device failed. The frame may stand or not.
     #[error("the device failed")]
     Device,
-    /// The frame and the gate behind it do not fit the segment. It is told first.
+    /// The frame and the gate after it do not fit the segment. Reported first.
     #[error("no room for a frame")]
     NoRoom,
 }
@@ -45,7 +45,7 @@ pub enum ScanFault {
     /// The device failed.
     #[error("the device failed")]
     Device,
-    /// The gate is open, and no frame stands behind it: its count is 0, or its length does not fit the segment.
+    /// The gate is open before no frame: the count is 0, or the length does not fit the segment.
     #[error("no frame behind an open gate")]
     BadLength,
 }

@@ -113,7 +113,7 @@ fn read_payload<D: SectorDisk>(
     Ok(buffer)
 }
 
-/// Reads the frame whose gate stands at `pos`; `None` where the gate is closed. It reads the gate with the first
+/// Reads the frame whose gate is at `pos`; returns `None` if the gate is closed. It reads the gate with the first
 /// sector of the body, and then the rest of the body at once.
 pub fn scan<D: SectorDisk>(
     alloc: Global,
@@ -133,7 +133,7 @@ pub fn scan<D: SectorDisk>(
         IsOpen (present (D.history disk.old)).content (segment.first + pos)
         × ((count : ℕ) (payload : List ℕ) →
         ¬ FrameAt (present (D.history disk.old)).content segment pos count payload) }
-    // Want of memory is told of a frame that would be read on.
+    // Out of memory is reported only for a frame that would be read on.
     ensures memory { D.is_honest disk.old ≡ true → IsErrOf result ScanFault.Memory →
         (count : ℕ) × ((n : ℕ) × HeadAt (present (D.history disk.old)).content segment pos count n) }
 

@@ -29,7 +29,7 @@ pub struct Frame {
     /// How many commands the payload has, at least 1.
     pub count: u64,
     pub payload: Vec<u8>,
-    /// The position of the gate behind it.
+    /// Position of the gate after it, in sectors of the segment.
     pub next: u64,
 }
 
@@ -40,7 +40,7 @@ pub(crate) fn sectors_of(payload_bytes: u64) -> u64
     payload_bytes / SECTOR + (payload_bytes % SECTOR + HEAD_BYTES + SECTOR - 1) / SECTOR
 }
 
-/// Whether a frame with its gate at `pos`, of a payload of that many bytes, and the gate behind it fit a segment.
+/// Returns whether a frame with its gate at `pos` and a payload of this many bytes fits, with the gate after it.
 pub fn fits(segment: Segment, pos: u64, payload_bytes: u64) -> bool
     ensures { IsTrue result ↔ (next_gate pos payload_bytes < segment.sectors) }
 {

@@ -13,7 +13,7 @@ fn payload_of(alloc: Global, bytes: u64) -> Result<Vec<u8>, AllocError> {
     vec![in alloc; 7; bytes as usize]
 }
 
-// A payload of that many bytes fills the segment but for its last gate, which then stands at `last`.
+// A payload of this many bytes fills the segment up to its last gate, at position `last`.
 fn fills<D: SectorDisk>(
     rt: &impl Abort,
     alloc: Global,

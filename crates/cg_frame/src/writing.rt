@@ -34,8 +34,8 @@ pub fn close_gate<D: SectorDisk>(disk: &mut D, segment: Segment, pos: u64) -> Re
     Ok(())
 }
 
-/// Appends a frame: its body and the closed gate behind it in one write, then its gate, each synced, in four calls of
-/// the device. It answers the position of the gate behind it. The payload is copied once.
+/// Appends a frame: its body and the closed gate after it in one write, then its gate, each synced, in four calls of
+/// the device. Returns the position of the gate after it. Copies the payload once.
 pub fn append<D: SectorDisk>(
     alloc: Global,
     disk: &mut D,
@@ -52,7 +52,7 @@ pub fn append<D: SectorDisk>(
 
     ensures next { IfOk result (λ next. next ≡ next_gate pos (length payload.now)) }
 
-    // It tells want of room first and want of memory then, and leaves the disk alone.
+    // NoRoom is reported first, then Memory; both leave the disk alone.
     ensures no_room { IsErrOf result FrameFault.NoRoom
         ↔ (segment.sectors ≤ next_gate pos (length payload.now)) }
     ensures no_room_leaves { IsErrOf result FrameFault.NoRoom → disk.new ≡ disk.old }

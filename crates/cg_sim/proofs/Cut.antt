@@ -1,4 +1,4 @@
--- What a search for a byte says of the parts before and behind it.
+-- What a search for a byte says of the parts before and after it.
 use Rattle.std.proofs.Common.{◌≡◌, ℕ, zero, suc, ◌<◌, List, [], ◌∷◌, length, take, drop, Some, None, true, false, cond, refl, ap, arith, eqb, Option}
 use Rattle.memchr.specs.Find.{Passes, is_byte}
 use Rattle.std.specs.Option.{option_map}

@@ -5,7 +5,7 @@ use Rattle.std.specs.Io.BufRead.{take_through, drop_through}
 abbrev line_feed : ℕ
 line_feed = 10
 
--- what a read took of what was left, up to the first line feed, and what is left behind it; or nothing was left
+-- what a read took of what was left, up to the first line feed, and what is left after it; or nothing was left
 abbrev pub IsNext : List ℕ → Bool → List ℕ → Option (List ℕ) → Type 0
 IsNext left true taken behind = (left ≢ []) × (taken ≡ take_through line_feed left) × (behind ≡ Some (drop_through line_feed left))
 IsNext left false taken behind = (left ≡ []) × (behind ≡ Some [])

@@ -27,7 +27,7 @@ reply_text outgoing = codes "s" ++ decimal (ticket_of outgoing).session ++ codes
 abbrev pub replies_text : List Outgoing → List ℕ
 replies_text replies = flat_map reply_text replies
 
--- of the steps that are taken, those that are refused are told
+-- of the steps that are taken, the refused ones are printed
 unfoldable pub note_text : StepNote → List ℕ
 note_text note.Done = []
 note_text note.Nothing = []
@@ -35,12 +35,12 @@ note_text note.InFlight = fault_line (codes "InFlight")
 note_text note.Full = fault_line (codes "Full")
 note_text note.Device = fault_line (codes "Device")
 
--- the refusal of a request for which memory was wanting
+-- the refusal of a request that ran out of memory
 abbrev pub last_text : Option Outgoing → List ℕ
 last_text None = []
 last_text (Some refused) = reply_text refused
 
--- what is told of a run: why steps were refused, the replies that left, and that refusal
+-- what is printed of a run: why steps were refused, the replies that left, and that refusal
 abbrev pub trace_text : Trace → List ℕ
 trace_text trace = flat_map note_text trace.notes ++ flat_map replies_text trace.out ++ last_text trace.last
 
@@ -48,14 +48,14 @@ trace_text trace = flat_map note_text trace.notes ++ flat_map replies_text trace
 abbrev pub opening_text : ℕ × ℕ × ℕ → List ℕ
 opening_text found = codes "LOADED " ++ decimal found.0 ++ codes " " ++ decimal found.1 ++ codes " " ++ decimal found.2 ++ codes "\n"
 
--- why a disk is not loaded; want of memory has no line of its own
+-- why a disk is not loaded; out of memory has no line of its own
 abbrev pub open_fault_text : OpenFault → List ℕ
 open_fault_text fault.Memory = []
 open_fault_text fault.Device = fault_line (codes "Device")
 open_fault_text fault.BadFrame = fault_line (codes "BadFrame")
 open_fault_text fault.BadRecord = fault_line (codes "BadRecord")
 
--- what is told at the end of a script that ends before its end
+-- what is printed when a script stops before its end
 abbrev pub stop_text : Stop → List ℕ
 stop_text (stop.BadLine number) = bad_line number
 stop_text stop.Io = []

@@ -11,7 +11,7 @@ abbrev pub ◌>>=◌ : {A B : Type 0} → Option A → (A → Option B) → Opti
 None >>= f = None
 (Some x) >>= f = f x
 
--- the text before the first mark, and the text behind it
+-- the text before the first mark, and the text after it
 unfoldable pub cut_of : ℕ → List ℕ → Option (List ℕ × List ℕ)
 cut_of mark [] = None
 cut_of mark (b ∷ bs) = if b == mark then Some ([], bs) else option_map (λ parts. (b ∷ parts.0, parts.1)) (cut_of mark bs)
@@ -20,7 +20,7 @@ cut_of mark (b ∷ bs) = if b == mark then Some ([], bs) else option_map (λ par
 abbrev pub is_digit : ℕ → Bool
 is_digit b = nat_le 48 b && nat_le b 57
 
--- the number that digits spell in base ten, behind a number that stands in front
+-- the number of these digits in base ten, after the digits of n
 abbrev pub value_from : ℕ → List ℕ → ℕ
 value_from n digits = fold (λ n d. 10 * n + (d - 48)) n digits
 

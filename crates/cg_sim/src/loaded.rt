@@ -46,7 +46,7 @@ impl Loaded {
         }
     }
 
-    /// Answers a request, or refuses it where memory is wanting for it.
+    /// Serves a request, or refuses it if an allocation fails.
     pub fn ask(self, alloc: Global, call: Call, out: &mut Vec<u8>) -> (Self, Result<(), Stop>)
         ensures { IfErr result.1 (λ stop. stop ≡ Stop.Memory) }
     {

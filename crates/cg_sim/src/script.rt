@@ -28,7 +28,7 @@ pub const STATUS_BAD_LINE: u8 = 1;
 /// A read or a write failed.
 pub const STATUS_IO: u8 = 3;
 
-/// Memory was wanting outside of a request, or the disk could not be formatted.
+/// An allocation failed outside a request, or the disk could not be formatted.
 pub const STATUS_SHORT: u8 = 4;
 
 // Reads the next line, with its line feed where it has one; false at the end.
@@ -177,7 +177,7 @@ fn status_of(stop: Stop) -> u8
     }
 }
 
-/// Says that memory was wanting before a script began, and answers the exit status.
+/// Reports out of memory before a script began, and returns the exit status.
 pub fn refuse_script<W: Write>(writer: &mut W) -> u8
     ensures ends { Ends result (W.contents writer.old) (W.contents writer.new) }
     ensures short { (result ≡ STATUS_SHORT) ⊎ (result ≡ STATUS_IO) }

@@ -51,7 +51,7 @@ impl Stage {
         stage.take_step(alloc, Step::Settle, out)
     }
 
-    /// Answers a request, or refuses it where nothing is loaded or memory is wanting for it.
+    /// Serves a request, or refuses it if nothing is loaded or an allocation fails.
     pub fn ask(self, alloc: Global, call: Call, out: &mut Vec<u8>) -> (Self, Result<(), Stop>)
         ensures { IfErr result.1 (λ stop. stop ≡ Stop.Memory) }
     {

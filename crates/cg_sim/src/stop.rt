@@ -9,7 +9,7 @@ pub enum Stop {
     BadLine(u64),
     /// A read or a write failed.
     Io,
-    /// Memory was wanting outside of a request.
+    /// An allocation failed outside a request.
     Memory,
     /// The disk failed while it was formatted.
     Device,

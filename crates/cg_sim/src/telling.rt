@@ -1,4 +1,4 @@
-//! The lines that a script prints. Each is put whole, or not at all where memory is wanting.
+//! The lines that a script prints. Each is appended whole, or not at all if an allocation fails.
 ghost use Rattle.std.specs.Prelude.{◌≡◌, ◌++◌, Err, None, Some, IfErr, OnOk};
 ghost use Rattle.std.specs.List.{flat_map};
 ghost use Rattle.cg_desk.specs.Outgoings.{answer};
@@ -44,7 +44,7 @@ pub fn put_reply(outgoing: &Outgoing, out: &mut Vec<u8>) -> Result<(), Stop>
     }
 }
 
-/// Prints the refusal of a request for which memory was wanting.
+/// Prints the refusal of a request that ran out of memory.
 pub fn put_refusal(ticket: Ticket, out: &mut Vec<u8>) -> Result<(), Stop>
     ensures ok { OnOk result (out.new.items ≡ out.old.items ++ reply_text (answer ticket (Refused UnknownServerError))) }
     ensures err { IfErr result (λ stop. stop ≡ Stop.Memory) }
@@ -99,7 +99,7 @@ fn put_left(left: &[Listed<Outgoing>], out: &mut Vec<u8>) -> Result<(), Stop>
     Ok(())
 }
 
-/// Prints why steps were refused, and the replies that left in them. Want of memory for another step than a request ends the
+/// Prints why steps were refused, and the replies that left in them. Out of memory in another step than a request ends the
 /// script.
 pub fn put_trace(trace: &Trace, out: &mut Vec<u8>) -> Result<(), Stop>
     ensures ok { OnOk result (out.new.items ≡ out.old.items ++ trace_text trace.now) }
@@ -126,7 +126,7 @@ pub fn put_opening(alloc: Global, opening: (u64, u64, u64), out: &mut Vec<u8>) -
     Ok(())
 }
 
-/// Prints why a disk was not loaded; want of memory ends the script.
+/// Prints why a disk was not loaded; out of memory ends the script.
 pub fn put_open_fault(fault: OpenFault, out: &mut Vec<u8>) -> Result<(), Stop>
     ensures ok { OnOk result (out.new.items ≡ out.old.items ++ open_fault_text fault) }
     ensures wanting { fault ≡ OpenFault.Memory → result ≡ Err Stop.Memory }

@@ -12,7 +12,7 @@ pub const NUMBER_MAX: u64 = u64::MAX;
 /// The greatest number of digits of a session.
 pub const SESSION_DIGITS_MAX: usize = 6;
 
-/// The text before the first `mark`, and the text behind it.
+/// Returns the text before the first `mark`, and the text after it.
 pub fn cut(text: &[u8], mark: u8) -> Option<(&[u8], &[u8])>
     ensures { option_map (λ parts. (parts.0.now, parts.1.now)) result ≡ cut_of mark text.now }
 {
@@ -26,7 +26,7 @@ fn is_digit(byte: u8) -> bool
     byte.is_ascii_digit()
 }
 
-// The number with one more digit behind it, where it fits.
+// Returns the number with one more digit, if it fits.
 fn with_digit(value: u64, digit: u8) -> Option<u64>
     requires { IsTrue (is_digit digit) }
     ensures { MatchOption result (2 ^ 64 ≤ 10 * value + (digit - 48)) (λ v. v ≡ 10 * value + (digit - 48)) }

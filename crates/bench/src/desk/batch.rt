@@ -25,7 +25,7 @@ pub struct BatchSize {
     ghost in_frame: { bytes ≤ LARGEST_PAYLOAD_BYTES },
 }
 
-// A call is told from the others by its number.
+// The number distinguishes a call from the others.
 fn ask(desk: &mut Desk, number: u64, request: Request) -> Result<()> {
     let token = ReplyToken::new(Ticket { session: 1, number });
     match desk.request(token, request, now(), Uuid::from_u128(0)) {
