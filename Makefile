@@ -2,9 +2,10 @@
 # sim: proves the script program, builds it and runs it on standard input.
 # try: runs the script program on a script, without proof: make try < SCRIPT
 # check [CRATE ..]: proves crates and runs their tests, over kept work.
+# prose: looks for phrases that docs and comments do not use.
 # test: the whole gate.
 # mutants [CRATE ..]: tries every edit that the prover must refuse, over kept work.
-.PHONY: demo sim try check test mutants
+.PHONY: demo sim try check prose test mutants
 
 # The words after `check` and `mutants` are names of crates.
 ifneq (,$(filter check mutants,$(firstword $(MAKECMDGOALS))))
@@ -26,9 +27,11 @@ try:
 check:
 	@python3 scripts/gate check $(crates)
 
+prose:
+	@python3 scripts/gate prose
+
 test:
 	@python3 scripts/gate test
-
 
 mutants:
 	@python3 scripts/gate mutants $(crates)

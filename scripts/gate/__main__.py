@@ -4,6 +4,7 @@
   gate check [CRATE ..]   proves the crates (all by default), what they use and their tests, over kept work
   gate test               proves every crate from nothing, in a copy, with tests, edits, programs and example scripts;
                           the last line is 'N passed, M failed'
+  gate prose              looks for phrases that docs and comments do not use, and for files without a first line on them
   gate mutants [CRATE ..] tries every edit of the crates (all by default) over kept work; goes on where it was stopped;
                           the last line is 'N refused, M not refused'
 """
@@ -20,6 +21,7 @@ from edits import edits_of, key_of, try_edits
 from kit import crates_of, processors, rt, rtlib
 from lanes import Task
 from proofs import prove, prove_tests, run_program
+from prose import findings
 
 EDITS_A_TASK = 8
 BEGUN = time.time()
@@ -185,8 +187,8 @@ def test_copy(room):
         counted[crate.name] = edits
         tasks += edit_tasks(crate, edits, after)
     run_tasks(tasks)
-    failed = [it.name for it in tasks if not it.ended_well and it.words[0] != "edits"]
-    passed = sum(it.ended_well and it.words[0] != "edits" for it in tasks)
+    failed = [it.name for it in tasks if not it.ended_well and it.words[0] != "edits"] + findings(room)
+    passed = sum(it.ended_well and it.words[0] != "edits" for it in tasks) + (not findings(room))
     for crate in crates:
         known = outcomes(crate)
         failed += [os.path.relpath(it, room) for it in counted[crate.name] if not known.get(it)]
@@ -226,6 +228,10 @@ def main(words):
         return sim()
     if words == ["test"]:
         return test(os.getcwd())
+    if words == ["prose"]:
+        found = findings(os.getcwd())
+        print("\n".join([*found, f"{len(found)} places"]))
+        return 1 if found else 0
     if words[:1] == ["check"]:
         return check(words[1:])
     if words[:1] == ["mutants"]:

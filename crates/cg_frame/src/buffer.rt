@@ -1,3 +1,4 @@
+//! The sectors of a frame while it is encoded, and numbers of eight bytes.
 ghost use Rattle.std.specs.Prelude.{◌≡◌, ◌+◌, ◌*◌, ◌/◌, ◌^◌, ◌<◌, ◌≤◌, ◌++◌, IfOk, length, take, drop, slice_index};
 ghost use Rattle.cg_frame.specs.Frames.{word, body, body_sectors};
 

@@ -1,3 +1,4 @@
+//! Why a frame is not appended or not read.
 ghost use Rattle.std.specs.Prelude.{◌≡◌};
 ghost use Rattle.cg_frame.specs.declared.fault.FrameFault.TheVariants as frame_fault;
 ghost use Rattle.cg_frame.specs.declared.fault.ScanFault.TheVariants as scan_fault;

@@ -1,3 +1,4 @@
+//! Reading frames: the gate and the head first, then the payload.
 ghost use Rattle.std.specs.Prelude.{◌≡◌, ◌≢◌, ℕ, ◌+◌, ◌-◌, ◌*◌, ◌/◌, ◌%◌, ◌^◌, ◌<◌, ◌≤◌, ◌++◌, ◌↔◌, true, IsTrue, length, take, drop, slice_index, OnOk, IfOk, IfSome, IfErr, IsErr, IsErrOf, is_err, List};
 ghost use Rattle.cg_disk.specs.Disk.{present, span, Holds, Stays, Counts};
 ghost use Rattle.cg_frame.specs.Frames.{IsOpen, IsClosed, FrameAt, HeadAt, IsFront, word, body_sectors, next_gate};

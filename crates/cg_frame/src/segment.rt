@@ -1,3 +1,4 @@
+//! Segments, frames, and whether a frame fits.
 ghost use Rattle.std.specs.Prelude.{◌≡◌, ◌+◌, ◌/◌, ◌^◌, ◌<◌, ◌↔◌, IsTrue};
 ghost use Rattle.cg_frame.specs.Frames.{body_sectors, next_gate};
 

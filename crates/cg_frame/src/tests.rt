@@ -1,3 +1,4 @@
+//! The largest payload, damage after an open gate, and a read that fails.
 ghost use Rattle.std.specs.Prelude.{◌≡◌, ◌+◌, ◌^◌, ◌<◌, ◌≤◌, IfOk, OnOk, length};
 
 use crate::{

@@ -1,3 +1,4 @@
+//! Appending a frame to a segment.
 ghost use Rattle.std.specs.Prelude.{◌≡◌, ◌↔◌, ℕ, ◌+◌, ◌^◌, ◌<◌, ◌≤◌, [], ◌∷◌, ◌++◌, true, length, OnOk, IfOk, IsErrOf, is_err, List};
 ghost use Rattle.cg_disk.specs.Disk.{Image, present, IsImage, IsSynced, AllBut, Changes, LeavesOnly, Counts};
 ghost use Rattle.cg_frame.specs.Frames.{IsClosed, body_sectors, next_gate};

@@ -1,3 +1,4 @@
+//! Gates: the sectors that open and close one, and reading one.
 ghost use Rattle.std.specs.Prelude.{◌≡◌, ◌<◌, ◌↔◌, true, IsTrue, IfOk, is_err};
 ghost use Rattle.cg_disk.specs.Disk.{present, Stays, Counts};
 ghost use Rattle.cg_gate.specs.Gates.{IsOpen, IsOpenGate, IsClosedGate};

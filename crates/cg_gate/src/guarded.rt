@@ -1,3 +1,4 @@
+//! The guarded write: sectors after a closed gate, a sync, the open gate, a sync.
 ghost use Rattle.std.specs.Prelude.{◌≡◌, ◌+◌, ◌^◌, ◌<◌, ◌≤◌, true, OnOk, is_err};
 ghost use Rattle.cg_disk.specs.Disk.{Image, present, sector_count, IsWhole, Holds, IsImage, IsSynced, AllBut, Changes, LeavesOnly, Counts};
 ghost use Rattle.cg_gate.specs.Gates.{IsClosed, IsOpenGate, IsClosedGate, IsGuarded, GuardedWrite};

@@ -1,3 +1,4 @@
+//! The layout of the disk: root slots, then segments.
 ghost use Rattle.std.specs.Prelude.{◌≡◌};
 ghost use Rattle.cg_disk.specs.declared.disk.TheConstants.{SECTOR_BYTES};
 ghost use Rattle.cg_gate.specs.Layout.{segment_count};

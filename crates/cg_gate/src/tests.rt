@@ -1,3 +1,4 @@
+//! The number of segments at its limits.
 use crate::segment_count;
 
 #[test]

@@ -1,3 +1,4 @@
+//! Decoding and checking the body of a root.
 ghost use Rattle.std.specs.Prelude.{◌≡◌, ◌↔◌, ◌+◌, ◌*◌, ◌≤◌, ◌==◌, IfOk, IsTrue, length, take, drop};
 ghost use Rattle.std.specs.Int.{w16, w32, w64};
 ghost use Rattle.std.specs.List.{list_any};

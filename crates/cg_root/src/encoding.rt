@@ -1,3 +1,4 @@
+//! Encoding a root as the sector of its body.
 ghost use Rattle.std.specs.Prelude.{◌≡◌, ℕ, ◌+◌, ◌*◌, ◌^◌, ◌<◌, ◌≤◌, ◌++◌, length, take, slice_index};
 ghost use Rattle.std.specs.List.{flat_map};
 ghost use Rattle.cg_root.specs.Roots.{two_bytes, four_bytes, eight_bytes, root_ids, root_head, root_body};

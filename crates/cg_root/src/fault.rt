@@ -1,3 +1,4 @@
+//! Why no root is read.
 ghost use Rattle.std.specs.Prelude.{◌≡◌};
 ghost use Rattle.cg_root.specs.declared.fault.RootFault.TheVariants as root_fault;
 

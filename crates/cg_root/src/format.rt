@@ -1,3 +1,4 @@
+//! The numbers of a root's body: version, positions and limits.
 ghost use Rattle.std.specs.Prelude.{◌≡◌, ◌-◌, ◌^◌};
 ghost use Rattle.cg_root.specs.declared.format.TheConstants.{VERSION, EPOCH_MAX, BASE_NUMBER_MAX, EPOCH_AT, BASE_NUMBER_AT, BASE_COUNT_AT, TAIL_COUNT_AT, IDS_AT, ID_BYTES};
 

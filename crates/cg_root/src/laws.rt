@@ -1,3 +1,4 @@
+//! What holds of every root that counts.
 ghost use Rattle.std.specs.Prelude.{◌≡◌, ℕ};
 ghost use Rattle.cg_disk.specs.Disk.{Image};
 ghost use Rattle.cg_root.specs.Roots.{CountingRoot, HasNoRoot, HasBadRoot};

@@ -1,3 +1,4 @@
+//! Reading the root that counts.
 ghost use Rattle.std.specs.Prelude.{◌≡◌, ◌<◌, ◌≤◌, true, length, IfOk, IsErrOf};
 ghost use Rattle.cg_disk.specs.Disk.{present, sector, Stays, Counts};
 ghost use Rattle.cg_root.specs.Roots.{IsLawful, CountingRoot, HasNoRoot, HasBadRoot};

@@ -1,3 +1,4 @@
+//! A root: which segments the log has.
 use crate::{SegmentIds, Slot};
 
 /// What a disk holds: the segments of the base and of the tail, in order. Each new root has an epoch of one more than

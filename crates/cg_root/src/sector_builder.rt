@@ -1,3 +1,4 @@
+//! A sector that is filled from its front.
 ghost use Rattle.std.specs.Prelude.{◌≡◌, ℕ, ◌+◌, ◌≤◌, List, [], ◌++◌, length, take, slice_index};
 
 use cg_disk::SECTOR_BYTES;

@@ -1,3 +1,4 @@
+//! The id of a segment.
 ghost use Rattle.std.specs.Prelude.{◌≡◌, ℕ, ◌^◌, ◌<◌};
 
 use std::marker::Model;

@@ -1,3 +1,4 @@
+//! Lists of segment ids.
 ghost use Rattle.std.specs.Prelude.{◌≡◌, length};
 
 use crate::SegmentId;

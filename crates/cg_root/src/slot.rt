@@ -1,3 +1,4 @@
+//! The two root slots.
 ghost use Rattle.std.specs.Prelude.{◌≡◌};
 ghost use Rattle.cg_root.specs.Slots.{gate_of, other_slot};
 

@@ -1,3 +1,4 @@
+//! What a slot holds, as its two sectors show it.
 ghost use Rattle.std.specs.Prelude.{◌≡◌, ◌+◌, length};
 ghost use Rattle.cg_disk.specs.Disk.{sector};
 ghost use Rattle.cg_root.specs.Decoding.{IsState, counting_slot, greater_epoch};

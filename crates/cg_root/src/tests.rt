@@ -1,3 +1,4 @@
+//! Roots byte for byte, broken rules, and a publish that is stopped at each device call.
 ghost use Rattle.std.specs.Prelude.{◌≡◌, ◌+◌, ◌*◌, ◌≤◌, false, length, IfOk, IfSome};
 ghost use Rattle.cg_disk.specs.Disk.{unknown_history};
 ghost use Rattle.cg_root.specs.Roots.{IsLawful};

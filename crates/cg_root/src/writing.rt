@@ -1,3 +1,4 @@
+//! Closing the other slot, and publishing a root.
 ghost use Rattle.std.specs.Prelude.{◌≡◌, ℕ, ◌+◌, ◌≤◌, true, length, slice_index, OnOk, is_err};
 ghost use Rattle.cg_disk.specs.Disk.{Image, present, IsImage, IsSynced, Changes, LeavesOnly, Counts};
 ghost use Rattle.cg_gate.specs.Gates.{IsOpen, IsClosed};

@@ -1,3 +1,4 @@
+//! Readers and writers that fail, and a stop after each number of device calls.
 use super::*;
 use std::alloc::{AllocError, Global};
 use std::io::{BufReader, ErrorKind, Read, Write};
