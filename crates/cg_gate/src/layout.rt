@@ -1,7 +1,7 @@
 //! The layout of the disk: root slots, then segments.
-ghost use Rattle.std.specs.Prelude.{◌≡◌};
+ghost use Rattle.std.specs.Prelude.{◌≡◌, ℕ, ◌+◌, ◌<◌, ◌≤◌};
 ghost use Rattle.cg_disk.specs.declared.disk.TheConstants.{SECTOR_BYTES};
-ghost use Rattle.cg_gate.specs.Layout.{segment_count};
+ghost use Rattle.cg_gate.specs.Layout.{segment_count, first_sector};
 ghost use Rattle.cg_gate.specs.declared.gate.TheConstants.{OPEN};
 
 use std::cmp;
@@ -27,6 +27,16 @@ pub fn segment_count(sectors: u64) -> u64
         SEGMENTS_MAX,
         sectors.saturating_sub(FIRST_SEGMENT_SECTOR) / SEGMENT_SECTORS,
     )
+}
+
+/// Returns the first sector of a segment, by its id.
+#[tactic(auto, unfolding(crate::specs::Layout::segment_count))]
+pub fn first_sector(segment: u16) -> u64
+    ensures first { result ≡ first_sector segment }
+    // Where a disk has the segment, all of its sectors are on the disk.
+    ensures on_disk { (sectors : ℕ) → segment < segment_count sectors → result + SEGMENT_SECTORS ≤ sectors }
+{
+    FIRST_SEGMENT_SECTOR + SEGMENT_SECTORS * segment as u64
 }
 
 /// States the numbers of the format, on which the disks that exist depend. It does nothing.

@@ -12,6 +12,6 @@ mod tests;
 pub use gate::{OPEN, is_open};
 pub use guarded::{close_gate, write_guarded};
 pub use layout::{
-    FIRST_SEGMENT_SECTOR, ROOT_SLOT_SECTORS, SEGMENT_SECTORS, SEGMENTS_MAX, layout_numbers,
-    segment_count,
+    FIRST_SEGMENT_SECTOR, ROOT_SLOT_SECTORS, SEGMENT_SECTORS, SEGMENTS_MAX, first_sector,
+    layout_numbers, segment_count,
 };

@@ -1,5 +1,5 @@
 -- Roots in images that agree, and what a closed gate and a published root leave: for the crates above.
-use Rattle.std.proofs.Common.{◌≡◌, ◌⊎◌, ℕ, ◌+◌, ◌≤◌, List, length, take, get_or, refl, sym, ◌∙◌, ap, subst, inl, inr, arith, add-zero}
+use Rattle.std.proofs.Common.{◌≡◌, ◌<◌, ◌⊎◌, ℕ, ◌+◌, ◌≤◌, List, length, take, get_or, refl, sym, ◌∙◌, ap, subst, inl, inr, arith, add-zero}
 use Rattle.std.proofs.lemmas.Bool.{cases_eq}
 use Rattle.std.proofs.lemmas.List.{take_all}
 use Rattle.cg_disk.specs.Disk.{Image, Moment, AllBut, Holds, IsImage, sector}
@@ -72,6 +72,10 @@ CountingRoot-same a b sectors root same counts = record {
   stored = RootAt-same a b sectors root (same root.slot) counts.stored;
   newest = IsNewest-same a b sectors root (same (other_slot root.slot)) counts.newest;
 }
+
+-- the next root is newer than the one that counts
+pub IsNewest-next : (image : Image) (sectors : ℕ) (root next : Root) → CountingRoot image sectors root → next.slot ≡ other_slot root.slot → root.epoch < next.epoch → IsNewest image sectors next
+IsNewest-next image sectors root next counts slot less = inr record { older = root; slot = sym (other_other root.slot) ∙ ap other_slot (sym slot); stored = counts.stored; epoch = less }
 
 -- Closing the other gate
 

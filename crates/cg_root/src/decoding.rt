@@ -22,6 +22,7 @@ pub(crate) struct Head {
     pub(crate) tail: u16,
 }
 
+// The number in two bytes at an offset, and likewise in four and in eight.
 #[tactic(auto, unfolding(crate::specs::Decoding::number_at))]
 fn two_at(bytes: &[u8], at: usize) -> u16
     requires { at + 2 ≤ length bytes.now }

@@ -6,6 +6,7 @@ ghost use Rattle.cg_root.specs.Roots.{two_bytes, four_bytes, eight_bytes, root_i
 use crate::sector_builder::SectorBuilder;
 use crate::{Root, SegmentId, VERSION};
 
+// Puts a number at the end in two bytes, and likewise in four and in eight.
 #[tactic(auto, unfolding(crate::specs::Roots::two_bytes))]
 fn push_two(sector: &mut SectorBuilder, number: u16)
     requires { length sector.old + 2 ≤ 512 }

@@ -9,13 +9,13 @@ use thiserror::Error;
 /// Why no root was read.
 #[derive(Clone, Copy, Debug, PartialEq, Eq, Error)]
 pub enum RootFault {
-    /// There was no memory for the segment ids of the root that counts.
+    /// An allocation for the segment ids of the root that counts failed. It is reported last.
     #[error("no memory for a root")]
     Memory,
     /// The device failed.
     #[error("the device failed")]
     Device,
-    /// The disk has no room for the two slots, or both gates are closed.
+    /// The disk has fewer than four sectors, or both gates are closed.
     #[error("no root on the disk")]
     NoRoot,
     /// A gate is open and its body breaks a rule, or both gates are open and the epochs are equal.

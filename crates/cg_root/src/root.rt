@@ -5,12 +5,14 @@ use crate::{SegmentIds, Slot};
 /// the one before it, and takes the other slot.
 #[derive(Debug, Drop)]
 pub struct Root {
+    /// Where it is stored.
     pub slot: Slot,
     /// From 1 to `EPOCH_MAX`.
     pub epoch: u64,
     /// How many commands the base stands for, at most `BASE_NUMBER_MAX`.
     pub base_number: u64,
+    /// The segments that a compaction wrote.
     pub base: SegmentIds,
-    /// At least one segment.
+    /// The segments that came after the base, at least one.
     pub tail: SegmentIds,
 }

@@ -20,12 +20,14 @@ impl Model for SegmentId {
 }
 
 impl SegmentId {
+    /// Returns the id of the segment of that number.
     pub fn new(number: u16) -> Self
         ensures { result ≡ number }
     {
         SegmentId { number }
     }
 
+    /// Returns its number.
     pub fn get(self) -> u16
         ensures number { result ≡ self }
         ensures in_range { self < 2 ^ 16 }

@@ -19,18 +19,21 @@ impl Model for SegmentIds {
 }
 
 impl SegmentIds {
+    /// Takes ids in order, any ids: `publish` requires lawful ones.
     pub fn from_vec(ids: Vec<SegmentId>) -> Self
         ensures { result ≡ ids.items }
     {
         SegmentIds { ids }
     }
 
+    /// Returns the ids in order.
     pub fn as_slice(&self) -> &[SegmentId]
         ensures { result.now ≡ self.now }
     {
         self.ids.as_slice()
     }
 
+    /// Returns how many there are.
     pub fn len(&self) -> usize
         ensures { result ≡ length self.now }
     {

@@ -1,4 +1,5 @@
 use Rattle.cg_root.proofs.Unique.{CountingRoot-unique, CountingRoot-some, CountingRoot-good, HasNoRoot-good}
+use Rattle.cg_root.proofs.Stored.{IsNewest-next}
 use Rattle.cg_root.proofs.laws.root_laws.Goals as goal
 
 pub returns-clause-one_root : goal.returns-clause-one_root
@@ -12,3 +13,6 @@ returns-clause-counting_or_bad c = CountingRoot-good
 
 pub returns-clause-none_or_bad : goal.returns-clause-none_or_bad
 returns-clause-none_or_bad c = HasNoRoot-good
+
+pub returns-clause-next_is_newest : goal.returns-clause-next_is_newest
+returns-clause-next_is_newest c = IsNewest-next
