@@ -4,7 +4,7 @@ use crate::fold::part::{NAMES, Part, named};
 use clap::{Arg, ArgMatches, Command};
 use std::alloc::{AllocError, Global};
 
-/// What the command line asks for.
+/// Benchmark that the command line selects.
 #[derive(Clone, Copy)]
 pub enum Benchmark<'a> {
     /// Frames appended to a segment, in memory and in this file.
@@ -13,11 +13,11 @@ pub enum Benchmark<'a> {
     Groups,
     /// The durable state: each part in turn, for growing numbers of groups.
     Fold,
-    /// One part of the durable state, once.
+    /// One part of the durable state, run once.
     FoldPart(Part),
     /// The desk with its store.
     Desk(DeskPart<'a>),
-    /// Lines that are read and printed.
+    /// Lines that are parsed and printed.
     Lines,
 }
 
@@ -87,7 +87,7 @@ fn fold_part(matches: &ArgMatches<'_>) -> Option<Part> {
     named(matches.get_str("PART")?)
 }
 
-/// Returns the benchmark that was asked for. Words that `command` accepts ask for one.
+/// Returns the selected benchmark. A command line that `command` accepts always selects one.
 pub fn chosen<'a>(matches: &ArgMatches<'a>) -> Option<Benchmark<'a>> {
     match matches.subcommand()? {
         ("frames", frames) => frames.get_str("FILE").map(Benchmark::Frames),

@@ -1,5 +1,5 @@
-//! The desk with its store: commits per second beside the disk's own calls, the settling of a batch by the replies that leave and those
-//! that stay, and requests by the calls whose replies are held.
+//! The desk with its store: commits per second beside the disk's own calls, the settling of a batch by the replies that
+//! leave and those that stay, and requests by the number of held replies.
 mod batch;
 mod commits;
 mod requests;
@@ -11,14 +11,14 @@ use anyhow::{Context, Result};
 use std::alloc::Global;
 use std::rt::{Clock, Files};
 
-/// A part of the benchmark.
+/// Part of the benchmark.
 #[derive(Clone, Copy)]
 pub enum DeskPart<'a> {
     /// Commits, over a disk in memory and in this file.
     Commits(&'a str),
     /// The settling of batches.
     Settles,
-    /// Requests beside held replies.
+    /// Requests while replies are held.
     Requests,
 }
 

@@ -1,5 +1,5 @@
-//! How long the durable state takes, for few groups and many: to apply its commands, to take a snapshot, to load the groups, and to
-//! step them.
+//! How long the durable state takes, for few groups and many: to apply its commands, to take a snapshot, to recover the
+//! groups, and to step them.
 mod commands;
 mod commits;
 mod copy;
@@ -20,7 +20,7 @@ use std::alloc::Global;
 use std::rt::Clock;
 use std::time::Instant;
 
-/// The times of each part.
+/// Times of each part.
 #[derive(Drop)]
 struct Tallies {
     apply: Tally,
@@ -79,7 +79,7 @@ struct Times {
     drop: u64,
 }
 
-// The clock runs while the commands make a state.
+// Times how long the commands take to make a state.
 fn apply<R: Clock>(
     rt: &R,
     alloc: Global,
@@ -136,7 +136,7 @@ fn revive<R: Clock>(
     Ok(loaded)
 }
 
-// The clock runs while each group meets one COMMIT.
+// Times one COMMIT to each group.
 fn step_groups<R: Clock>(
     rt: &R,
     alloc: Global,
@@ -152,7 +152,7 @@ fn step_groups<R: Clock>(
     Ok(())
 }
 
-// Loading the groups frees the memory of the state too; this is that part of it alone.
+// Times dropping a state. Recovery of the groups includes that, so it is also measured alone.
 fn drop_state<R: Clock>(rt: &R, durable: Durable, groups: u64, tally: &mut Tally) -> Result<()> {
     let start = Instant::now(rt)?;
     drop(durable);

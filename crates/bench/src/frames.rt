@@ -1,5 +1,5 @@
-//! Frames appended per second, beside a plain program that writes the same bytes with the same two syncs, over disks in memory and in
-//! files.
+//! Frames appended per second, beside a plain program that writes the same bytes with the same two syncs, over disks in
+//! memory and in files.
 ghost use Rattle.std.specs.Prelude.{◌≡◌, ◌^◌, ◌<◌, ◌≤◌, length};
 ghost use Rattle.cg_disk.specs.Mem.{mem_size};
 
@@ -17,13 +17,13 @@ use std::io::{Seek, Write};
 use std::rt::{Clock, Files};
 use std::time::Instant;
 
-/// The segment that is filled.
+/// Segment that is filled.
 const SEGMENT: Segment = Segment {
     first: 0,
     sectors: SEGMENT_SECTORS,
 };
 
-/// The times of the appends and of the plain program.
+/// Times of the appends and of the plain program.
 #[derive(Drop)]
 struct Times {
     framed: Tally,
@@ -39,7 +39,7 @@ impl Times {
     }
 }
 
-// The clock runs while frames are appended, and not while the segment is emptied.
+// Times the appends, without the emptying of the segment.
 fn framed<R: Clock, D: SectorDisk>(
     rt: &R,
     alloc: Global,
@@ -82,7 +82,7 @@ fn plain_in_file<R: Clock, F: Write + Seek + OpenFile>(
     tally.add(rt, start, frames)
 }
 
-// After each round both disks crash, which empties their records of what was replaced.
+// Measures over disks in memory. After each round both disks crash, which empties their undo logs.
 fn in_memory<R: Clock>(rt: &R, alloc: Global, payload: &[u8]) -> Result<Times>
     requires { length payload.now < 2 ^ 40 }
 {
@@ -174,7 +174,8 @@ fn measure_payload<R: Clock + Files + Print>(
     )
 }
 
-/// Measures payloads of 100 bytes, of 4,096 and of the largest size, over disks in memory and in two files, which it makes and removes.
+/// Measures payloads of 100 bytes, of 4,096 and of the largest size, over disks in memory and in two files, which it
+/// creates and removes.
 pub fn measure<R: Clock + Files + Print + Alloc<A = Global>>(rt: &R, path: &str) -> Result<()> {
     let alloc = rt.alloc();
     let plain_path = format!(in alloc; "{path}.plain")?;

@@ -9,16 +9,16 @@ use std::alloc::Global;
 use std::rt::Clock;
 use std::time::Instant;
 
-/// Events of a run, where each names one group and leaves it as it is.
+/// Events of a run if each names one group and leaves it unchanged.
 const EVENTS: usize = 4_096;
 
-/// Events of a run, where none names a group.
+/// Events of a run if no event names a group.
 const EVENTS_EVERYWHERE: usize = 64;
 
-/// Events of a run, where each needs a group of its own.
+/// Events of a run if each needs its own group.
 const EVENTS_ONCE: usize = 32;
 
-// Returns the events per second of one sort. The clock does not run while they are made.
+// Returns the events of one kind per second. Making the events is not timed.
 fn rate<R: Clock>(
     rt: &R,
     alloc: Global,
@@ -36,8 +36,8 @@ fn rate<R: Clock>(
     Ok(tally.median().items_per_second())
 }
 
-// Returns the events per second of a sort whose events each need a group of their own, beside `groups` others, or as many of these as
-// leave room for them. Each run has a machine of its own.
+// Returns the events per second of a kind that needs its own group for each event, beside `groups` other groups, or as
+// many as leave room for these. Each run has a new machine.
 fn rate_once<R: Clock>(
     rt: &R,
     alloc: Global,
@@ -57,7 +57,7 @@ fn rate_once<R: Clock>(
     Ok(tally.median().items_per_second())
 }
 
-/// Events of each sort per second.
+/// Events of each kind per second.
 #[derive(Clone, Copy)]
 struct Rates {
     beat: u64,

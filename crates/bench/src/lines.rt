@@ -1,4 +1,4 @@
-//! Bytes of request lines read, and of reply lines printed, per second, beside a plain search through the same bytes.
+//! Bytes of request lines parsed, and of reply lines printed, per second, beside a plain search through the same bytes.
 mod samples;
 
 use crate::tally::{Tally, thousandths};
@@ -12,7 +12,7 @@ use std::time::Instant;
 /// Runs of each measurement.
 const LINE_RUNS: u32 = 101;
 
-/// Bytes that a run reads or prints at least; a short line is repeated.
+/// Least bytes that a run parses or prints; a short line is repeated.
 const RUN_BYTES_MIN: usize = 1_000_000;
 
 // Returns how often a run repeats a line of this many bytes.
@@ -24,7 +24,7 @@ fn run_bytes(bytes: usize) -> u64 {
     (bytes as u64).saturating_mul(repeats(bytes) as u64)
 }
 
-// Searches for a byte that is absent, each time for another one, so that no search can be left out.
+// Searches for an absent byte, a different one each time, so that no search can be optimised away.
 fn searched<R: Clock>(rt: &R, text: &[u8], tally: &mut Tally) -> Result<()> {
     let start = Instant::now(rt)?;
     let mut found = 0usize;
@@ -77,7 +77,7 @@ impl Rates {
     }
 }
 
-// Reads a line and searches through it, in turns.
+// Parses a line and searches through it, in turns.
 fn reading<R: Clock>(rt: &R, alloc: Global, line: &[u8]) -> Result<Rates> {
     let mut ours = Tally::new(alloc);
     let mut search = Tally::new(alloc);
@@ -88,7 +88,7 @@ fn reading<R: Clock>(rt: &R, alloc: Global, line: &[u8]) -> Result<Rates> {
     Ok(Rates::of(ours, search))
 }
 
-// Prints a reply and searches through its line, in turns. Returns the bytes of the line too.
+// Prints a reply and searches through its line, in turns. Also returns the bytes of the line.
 fn printing<R: Clock>(rt: &R, alloc: Global, reply: &Reply) -> Result<(usize, Rates)> {
     let text = cg_line::print(alloc, reply)?;
     let mut ours = Tally::new(alloc);

@@ -5,7 +5,7 @@ use cg_group::{Effects, Event, Groups, Ticket};
 use cg_names::Moment;
 use std::alloc::Global;
 
-/// Returns the moment of each event, but for those that follow a loading.
+/// Returns the moment of each event, except those that come after recovery.
 pub fn now() -> Moment {
     Moment::from_millis(0)
 }
@@ -18,7 +18,7 @@ pub fn ticket() -> Ticket {
     }
 }
 
-/// Loads the groups of a durable state.
+/// Recovers the groups of a durable state.
 pub fn revived(alloc: Global, durable: Durable) -> Result<Groups> {
     let groups = Groups::revive(alloc, durable, now()).map_err(|(refused, _)| refused)?;
     Ok(groups)

@@ -1,5 +1,6 @@
-//! Benchmarks: how long frames, events, commands, commits and lines take, each beside what it is compared with.
-//! Stands on the crates that it measures. Without arguments it prints how it is called, and measures nothing.
+//! Benchmarks: how long frames, events, commands, commits and lines take, each beside a comparison. Without arguments
+//! the
+//! program prints its usage, and measures nothing.
 #![tactic(auto)]
 
 mod command_line;

@@ -1,4 +1,4 @@
-//! Offsets: in the commands that store them, and in the COMMITs that ask for it.
+//! Offsets in stored commands and in COMMIT requests.
 use crate::values::{metadata, name, offset, partition};
 use anyhow::{Result, bail};
 use cg_group::{CommitEntry, CommitRequest, Commits, Listed};
@@ -6,7 +6,7 @@ use cg_names::{GroupId, MemberId};
 use cg_record::{Command, Committed, Entries, Entry};
 use std::alloc::Global;
 
-/// Bytes of metadata beside an offset.
+/// Bytes of metadata of an offset.
 pub const METADATA_BYTES: usize = 16;
 
 /// Returns the entry of a stored offset.
@@ -27,7 +27,7 @@ pub fn committed(alloc: Global, group: GroupId, entries: Vec<Entry>) -> Result<C
     Ok(Command::Committed(Committed { group, entries }))
 }
 
-/// Returns the entry of a COMMIT, of partition 0 of a topic.
+/// Returns the entry of a COMMIT to partition 0 of a topic.
 pub fn commit_entry(
     alloc: Global,
     topic: &str,
@@ -42,7 +42,7 @@ pub fn commit_entry(
     })
 }
 
-/// Returns a COMMIT of one entry. A simple consumer commits at generation -1, without a member.
+/// Returns a COMMIT with one entry. A simple consumer commits at generation -1, without a member.
 pub fn commit_request(
     alloc: Global,
     group: GroupId,

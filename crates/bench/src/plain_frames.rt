@@ -1,4 +1,4 @@
-//! The device calls of appended frames, and nothing else: the plain program that appends are compared with.
+//! The device calls of appended frames, without anything else: the program that appends are compared with.
 ghost use Rattle.std.specs.Prelude.{◌≡◌, ◌+◌, ◌*◌, ◌^◌, ◌<◌, ◌≤◌, length};
 ghost use Rattle.cg_frame.specs.Frames.{body_sectors};
 
@@ -8,17 +8,17 @@ use std::alloc::{AllocError, Global};
 use std::fs::OpenFile;
 use std::io::{self, Seek, SeekFrom, Write};
 
-/// Frames of one run over a file at most, where each waits for two syncs.
+/// Greatest number of frames in a run over a file; each frame waits for two syncs.
 pub const FILE_FRAMES_MAX: u64 = 50;
 
-/// The sectors of a frame with one payload, made once.
+/// Sectors of a frame with one payload, made once.
 #[derive(Drop)]
 pub struct PlainFrames {
     /// Bytes of the payload.
     bytes: u64,
-    /// The sector of the open gate.
+    /// Sector of the open gate.
     gate: Vec<u8>,
-    /// The body and the closed gate after it.
+    /// Body, and the closed gate after it.
     body: Vec<u8>,
     ghost one: { length gate.items ≡ 512 },
     ghost whole: { length body.items ≡ 512 * (body_sectors bytes + 1) },
@@ -58,8 +58,8 @@ impl PlainFrames {
             .unwrap_or(0)
     }
 
-    /// Writes the frame with this number as `cg_frame::append` does: the body and the next gate, a sync, the gate, a sync. Returns false
-    /// where it does not fit the segment; the disk is then not called.
+    /// Writes the frame with this number as `cg_frame::append` does: the body and the next gate, a sync, the gate, a
+    /// sync. Returns false, without calling the disk, if the frame does not fit the segment.
     pub fn put<D: SectorDisk>(
         &self,
         disk: &mut D,
@@ -82,7 +82,7 @@ impl PlainFrames {
         Ok(true)
     }
 
-    /// Writes the frame with this number by the calls of a file, as `put` does by those of a disk.
+    /// Writes the frame with this number to a file, with the same calls as `put`.
     pub fn put_in_file<F: Write + Seek + OpenFile>(
         &self,
         file: &mut F,
@@ -101,7 +101,7 @@ impl PlainFrames {
         Ok(true)
     }
 
-    /// Writes frames from the start of a segment: as many as fit, and `most` at most. Returns how many.
+    /// Writes frames from the start of a segment: as many as fit, at most `most`. Returns how many.
     pub fn fill_disk<D: SectorDisk>(
         &self,
         disk: &mut D,
@@ -120,7 +120,7 @@ impl PlainFrames {
         Ok(most)
     }
 
-    /// Writes frames as `fill_disk` does, by the calls of a file.
+    /// Writes frames to a file as `fill_disk` does.
     pub fn fill_file<F: Write + Seek + OpenFile>(
         &self,
         file: &mut F,

@@ -1,17 +1,17 @@
-//! The times of a measurement, and what their median says.
+//! The times of a measurement, and their median.
 use anyhow::Result;
 use std::alloc::Global;
 use std::rt::Clock;
 use std::time::Instant;
 
-/// Runs of a measurement whose median is reported.
+/// Runs of a measurement, of which the median is reported.
 pub const RUNS: u32 = 21;
 
-/// Rounds of a comparison over a disk; the first one warms up and is not counted. Each round is ours, plain, plain, ours, so that
-/// neither gains by its position in the order.
+/// Rounds of a comparison over a disk; the first one warms up and is not counted. Each round runs ours, plain, plain,
+/// ours, so that neither gains from its position.
 pub const ROUNDS: u32 = 51;
 
-/// The times of runs over equally many items each.
+/// Times of runs that have the same number of items.
 #[derive(Drop)]
 pub struct Tally {
     /// Items of a run: frames, events, groups, commits or bytes.
@@ -28,7 +28,7 @@ impl Tally {
         }
     }
 
-    /// Adds a run over `items` that began at `start` and ends now.
+    /// Adds a run over `items` items, from `start` until now.
     pub fn add<R: Clock>(&mut self, rt: &R, start: Instant, items: u64) -> Result<()> {
         let time = start.elapsed(rt)?;
         let nanoseconds = u64::try_from(time.as_nanos()).unwrap_or(u64::MAX);
@@ -52,7 +52,7 @@ impl Tally {
     }
 }
 
-/// The run that half of the runs were faster than.
+/// Median run.
 #[derive(Clone, Copy)]
 pub struct Median {
     items: u64,
@@ -68,7 +68,7 @@ impl Median {
         self.nanoseconds
     }
 
-    /// Returns how many items a second would have.
+    /// Returns the items per second.
     pub fn items_per_second(&self) -> u64 {
         self.items
             .saturating_mul(1_000_000_000)
@@ -88,12 +88,12 @@ impl Median {
     }
 }
 
-/// Returns a number in hundredths of another.
+/// Returns a number in hundredths of another, `of`.
 pub fn hundredths(number: u64, of: u64) -> u64 {
     number.saturating_mul(100).checked_div(of).unwrap_or(0)
 }
 
-/// Returns a number in thousandths of another.
+/// Returns a number in thousandths of another, `of`.
 pub fn thousandths(number: u64, of: u64) -> u64 {
     number.saturating_mul(1_000).checked_div(of).unwrap_or(0)
 }

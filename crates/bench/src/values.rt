@@ -1,4 +1,4 @@
-//! Names, ids, numbers and bytes of which commands, requests and replies are made.
+//! Names, ids, numbers and bytes for commands, requests and replies.
 use anyhow::{Context, Result, bail};
 use cg_names::{GroupId, MemberId, Name};
 use cg_record::{Assignment, Metadata, Offset, Partition, RebalanceTimeout};

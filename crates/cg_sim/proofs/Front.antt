@@ -1,4 +1,4 @@
--- What `strip_prefix` says of the text behind a front.
+-- What `strip_prefix` says of the text after a prefix.
 use Rattle.std.proofs.Common.{◌≡◌, ℕ, ◌+◌, List, length, take, drop, Some, None, true, false, sym, ap, ◌∙◌, Option, cond}
 use Rattle.std.specs.Option.{option_map, MatchOption}
 use Rattle.std.specs.Borrow.{Bor}

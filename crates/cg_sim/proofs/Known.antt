@@ -1,4 +1,4 @@
--- Bytes that are known grow by what is written.
+-- Known bytes grow by what is written.
 use Rattle.std.proofs.Common.{◌≡◌, ◌⊎◌, inl, inr, ℕ, List, [], ◌++◌, Option, None, Some, Result, Ok, Err, sym, ap, ◌∙◌, append_assoc}
 use Rattle.std.specs.Io.KnownBytes.{Appends}
 use Rattle.cg_sim.specs.declared.stop.Stop.{Stop}
@@ -17,7 +17,7 @@ appends_three a b c d xs ys zs p q r = appends_then a b d xs (ys ++ zs) p (appen
 pub more_written : (a b c : Option (List ℕ)) (xs : List ℕ) → ((said : List ℕ) × Appends a b said) → Appends b c xs → (said : List ℕ) × Appends a c said
 more_written a b c xs before more = (before.0 ++ xs, appends_then a b c before.0 xs before.1 more)
 
--- the same, where a write may have failed
+-- the same, if a write may have failed
 pub stop_written : (a b c : Option (List ℕ)) (xs : List ℕ) (stop : Stop) → ((said : List ℕ) × Appends a b said) → (stop ≡ Io) ⊎ Appends b c xs
     → ((let r : Result (Unit {0}) Stop = Err stop in r) ≡ Err Io) ⊎ ((said : List ℕ) × Appends a c said)
 stop_written a b c xs stop before (inl io) = inl (ap Err io)

@@ -1,4 +1,4 @@
--- The number that digits spell grows with each digit.
+-- The number of digits grows with each digit.
 use Rattle.std.proofs.Common.{◌≡◌, ℕ, ◌+◌, ◌-◌, ◌*◌, ◌^◌, ◌<◌, ◌≤◌, List, [], ◌∷◌, length, drop, get_or, ap, arith, Bool, true, false, refl, not, eqb}
 use Rattle.std.specs.Prelude.{IsTrue, ◌&&◌}
 use Rattle.std.proofs.lemmas.Bool.Decides.{nat_tests}
@@ -15,7 +15,7 @@ pub value_from-le : (n : ℕ) (digits : List ℕ) → n ≤ value_from n digits
 value_from-le n [] = omega arith
 value_from-le n (d ∷ ds) = omega (arith, value_from-le (10 * n + (d - 48)) ds)
 
--- one digit of those that are left
+-- one of the remaining digits
 pub value_from-drop : (n : ℕ) (digits : List ℕ) (i : ℕ) → i < length digits
     → value_from n (drop i digits) ≡ value_from (10 * n + (get_or digits i 0 - 48)) (drop (i + 1) digits)
 value_from-drop n digits i below = rw add-one (ap (value_from n) (drop-cons digits i 0 below))
@@ -23,12 +23,12 @@ value_from-drop n digits i below = rw add-one (ap (value_from n) (drop-cons digi
 digit-le : (d n : ℕ) → IsTrue (is_digit d) → 10 * n + (d - 48) ≤ 10 * n + 9
 digit-le d n is = grind (arith, nat_tests)
 
--- what two tests together say
+-- two tests that pass together
 pub both_of : (a b : Bool) → IsTrue (a && b) → IsTrue a × IsTrue b
 both_of true b are = (refl, are)
 both_of false b are = absurd (cc)
 
--- n digits spell a number below the n-th power of ten
+-- the number of n digits is below the n-th power of ten
 pub value_from-lt : (n : ℕ) (digits : List ℕ) → IsTrue (list_all is_digit digits) → value_from n digits < (n + 1) * 10 ^ length digits
 value_from-lt n [] are = omega arith
 value_from-lt n (d ∷ ds) are =
@@ -38,7 +38,7 @@ value_from-lt n (d ∷ ds) are =
     let wide = mul-le-mul_right {m = 10 * n + (d - 48) + 1} {n = (n + 1) * 10} (10 ^ length ds) (omega (arith, small)) in
     rw (pow-succ' 10 (length ds), ← mul_assoc) (omega (arith, later, wide))
 
--- the digits of a session spell a number that fits
+-- the number of a session's digits fits
 pub session-fits : (digits : List ℕ) → IsTrue (is_session digits) → 2 ^ 64 ≤ value_of digits → ⊥
 unfolding value_of
 session-fits digits are above =

@@ -6,14 +6,14 @@ use Rattle.cg_sim.specs.declared.stop.Stop.{Stop}
 use Rattle.cg_sim.specs.declared.stop.Stop.TheVariants.{BadLine, Device, Io, Memory}
 use Rattle.cg_sim.specs.Telling.{stop_text}
 
--- the status of a script that ends before its end
+-- the exit status of a script that ends early
 abbrev pub status_of : Stop → ℕ
 status_of (BadLine number) = STATUS_BAD_LINE
 status_of Io = STATUS_IO
 status_of Memory = STATUS_SHORT
 status_of Device = STATUS_SHORT
 
--- something was written, and then what tells why the script ended
+-- something was written, and then `last`, which says why the script ended
 abbrev pub WritesThen : Option (List ℕ) → Option (List ℕ) → List ℕ → Type 0
 WritesThen old new last = (said : List ℕ) × Appends old new (said ++ last)
 

@@ -1,4 +1,4 @@
--- What a line of a script says, or None where it is a bad one.
+-- The parsed form of a script line, or None for a bad line.
 use Rattle.std.specs.Prelude.{ℕ, List, Bool, Option, None, Some, if◌then◌else◌, codes}
 use Rattle.std.specs.Option.{option_map}
 use Rattle.std.specs.Str.{bytes_eq}
@@ -20,7 +20,7 @@ step_line_of text =
     else (if bytes_eq text (codes "flush") then Some Flush
     else None)))
 
--- a stop or a loading
+-- a stop, a load, a reload or a close
 unfoldable pub power_line_of : List ℕ → Option Line
 power_line_of text =
     if bytes_eq text (codes "stop keep") then Some (Stop Keep)
@@ -30,7 +30,7 @@ power_line_of text =
     else (if bytes_eq text (codes "close") then Some Close
     else None))))
 
--- a word, and what it is for
+-- a line by its first word: a moment, a closed session, a fuse or a request
 unfoldable pub word_line_of : List ℕ → List ℕ → Option Line
 word_line_of word rest =
     if bytes_eq word (codes "at") then option_map At (number_of NUMBER_MAX rest)
@@ -39,13 +39,13 @@ word_line_of word rest =
     else (if bytes_eq word (codes "fuse") then option_map Fuse (number_of NUMBER_MAX rest)
     else option_map (λ session. Ask session rest) (session_of word))))
 
--- a line whose first word says what it is
+-- a line with a first word and a rest
 unfoldable pub worded_line_of : List ℕ → Option Line
 worded_line_of text = do
   word ← cut_of space text
   word_line_of word.0 word.1
 
--- the first of two that is there
+-- the first of the two, or else the second
 abbrev pub first_of_two : Option Line → Option Line → Option Line
 first_of_two None second = second
 first_of_two (Some line) second = Some line

@@ -13,21 +13,21 @@ use Rattle.cg_world.specs.declared.trace.Trace.{Trace}
 use Rattle.cg_sim.specs.declared.stop.Stop.{Stop}
 use Rattle.cg_sim.specs.declared.stop.Stop.TheVariants as stop
 
--- a line that says what went wrong
+-- a line that reports a fault
 abbrev pub fault_line : List ℕ → List ℕ
 fault_line name = codes "FAULT " ++ name ++ codes "\n"
 
 abbrev pub bad_line : ℕ → List ℕ
 bad_line number = codes "BAD SCRIPT LINE " ++ decimal number ++ codes "\n"
 
--- a reply that leaves: the session that it goes to, and its line
+-- a reply: its session, and its line
 unfoldable pub reply_text : Outgoing → List ℕ
 reply_text outgoing = codes "s" ++ decimal (ticket_of outgoing).session ++ codes " " ++ reply_line (reply_of outgoing) ++ codes "\n"
 
 abbrev pub replies_text : List Outgoing → List ℕ
 replies_text replies = flat_map reply_text replies
 
--- of the steps that are taken, the refused ones are printed
+-- the line of a step: only refused steps have one
 unfoldable pub note_text : StepNote → List ℕ
 note_text note.Done = []
 note_text note.Nothing = []
@@ -40,22 +40,23 @@ abbrev pub last_text : Option Outgoing → List ℕ
 last_text None = []
 last_text (Some refused) = reply_text refused
 
--- what is printed of a run: why steps were refused, the replies that left, and that refusal
+-- what is printed of a run: why steps were refused, the replies that left, and the refusal of a request that ran out of
+-- memory
 abbrev pub trace_text : Trace → List ℕ
 trace_text trace = flat_map note_text trace.notes ++ flat_map replies_text trace.out ++ last_text trace.last
 
--- how many commands, group records and offsets a loading found
+-- how many commands, group records and offsets a load found
 abbrev pub opening_text : ℕ × ℕ × ℕ → List ℕ
 opening_text found = codes "LOADED " ++ decimal found.0 ++ codes " " ++ decimal found.1 ++ codes " " ++ decimal found.2 ++ codes "\n"
 
--- why a disk is not loaded; out of memory has no line of its own
+-- why a load failed; out of memory has no line of its own
 abbrev pub open_fault_text : OpenFault → List ℕ
 open_fault_text fault.Memory = []
 open_fault_text fault.Device = fault_line (codes "Device")
 open_fault_text fault.BadFrame = fault_line (codes "BadFrame")
 open_fault_text fault.BadRecord = fault_line (codes "BadRecord")
 
--- what is printed when a script stops before its end
+-- what is printed when a script ends early
 abbrev pub stop_text : Stop → List ℕ
 stop_text (stop.BadLine number) = bad_line number
 stop_text stop.Io = []

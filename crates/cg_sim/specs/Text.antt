@@ -5,7 +5,7 @@ use Rattle.std.specs.List.{list_all, fold}
 use Rattle.std.specs.Str.{bytes_eq}
 use Rattle.cg_sim.specs.declared.text.TheConstants.{SESSION_DIGITS_MAX}
 
--- each line of a `do` takes what the one above it gives, and nothing where that gives nothing
+-- each line of a `do` takes the value of the line above; without a value the whole has none
 infixl 10 ◌>>=◌
 abbrev pub ◌>>=◌ : {A B : Type 0} → Option A → (A → Option B) → Option B
 None >>= f = None
@@ -20,25 +20,25 @@ cut_of mark (b ∷ bs) = if b == mark then Some ([], bs) else option_map (λ par
 abbrev pub is_digit : ℕ → Bool
 is_digit b = nat_le 48 b && nat_le b 57
 
--- the number of these digits in base ten, after the digits of n
+-- the number in base ten of digits that follow a number
 abbrev pub value_from : ℕ → List ℕ → ℕ
 value_from n digits = fold (λ n d. 10 * n + (d - 48)) n digits
 
--- the number that digits spell in base ten
+-- the number of digits in base ten
 unfoldable pub value_of : List ℕ → ℕ
 value_of digits = value_from 0 digits
 
--- the one spelling of a number: at least one digit, and no zero in front of others
+-- the only spelling of a number: at least one digit, and no leading zero
 abbrev pub is_plain : List ℕ → Bool
 is_plain [] = false
 is_plain (d ∷ []) = is_digit d
 is_plain (d ∷ e ∷ ds) = not (d == 48) && list_all is_digit (d ∷ e ∷ ds)
 
--- a number in decimal, without zeros in front, of at most this
+-- a decimal number without leading zeros, of at most `most`
 unfoldable pub number_of : ℕ → List ℕ → Option ℕ
 number_of most text = if is_plain text && nat_le (value_of text) most then Some (value_of text) else None
 
--- the text behind this front, where the text begins with it
+-- the text after `front`, if the text begins with it
 unfoldable pub behind_of : List ℕ → List ℕ → Option (List ℕ)
 behind_of front text = if bytes_eq (take (length front) text) front then Some (drop (length front) text) else None
 
@@ -57,7 +57,7 @@ session_of word = do
   digits ← behind_of (codes "s") word
   if is_session digits then Some (value_of digits) else None
 
--- the word for the member in a JOIN
+-- the member word of a JOIN
 unfoldable pub joiner_of : List ℕ → Option (List ℕ)
 joiner_of request = do
   call ← behind_of (codes "JOIN ") request
@@ -65,11 +65,11 @@ joiner_of request = do
   member ← cut_of 32 group.1
   Some member.0
 
--- it names no member
+-- the word is `-`: no member
 abbrev pub is_none_word : Option (List ℕ) → Bool
 is_none_word None = false
 is_none_word (Some word) = bytes_eq word (codes "-")
 
--- a request line is a JOIN that names no member
+-- a request line is a JOIN without a member id
 unfoldable pub draws_uuid : List ℕ → Bool
 draws_uuid request = is_none_word (joiner_of request)

@@ -1,8 +1,8 @@
-//! What is wrong with a bad script line and what would be right, for a person to read on standard error.
+//! What is wrong with a bad script line, and what would be right: text for a person, on standard error.
 use crate::text::{self, NUMBER_MAX};
 use std::fmt;
 
-/// The requests, each with the form of its line.
+/// Requests, each with the form of its line.
 const REQUESTS: [(&[u8], &str); 9] = [
     (
         b"JOIN",
@@ -24,24 +24,24 @@ const REQUESTS: [(&[u8], &str); 9] = [
     (b"LIST", "LIST"),
 ];
 
-/// What is wrong with a script line.
+/// Problem of a bad script line.
 #[derive(Clone, Copy, Debug, PartialEq, Eq)]
 pub enum Problem {
-    /// The line ends in a carriage return.
+    /// The line ends with a carriage return.
     CarriageReturn,
-    /// There are two spaces in a row, or one at the beginning or the end.
+    /// The line begins or ends with a space, or has two in a row.
     Spaces,
     /// `load` while something is loaded.
     AlreadyLoaded,
-    /// A session is no `s` with 1 to 6 digits.
+    /// A session is not `s` and 1 to 6 digits.
     Session,
-    /// A number is out of range, or is not in plain decimal.
+    /// A number is out of range, or not in plain decimal.
     Number,
-    /// The word after the session names no request.
+    /// The word after the session is not the name of a request.
     UnknownRequest,
-    /// The request has this form, and the line does not.
+    /// The request has this form, and the line has another.
     Form(&'static str),
-    /// The first word begins no script line.
+    /// The line begins with an unknown word.
     UnknownLine,
 }
 
@@ -84,7 +84,7 @@ impl fmt::Display for Problem {
     }
 }
 
-/// Returns what is wrong with a line that is bad. Goes through the line a few times and allocates nothing.
+/// Returns what is wrong with a bad line. Linear in the line. Does not allocate.
 pub fn problem_of(line: &[u8]) -> Problem {
     if line.ends_with(b"\r") {
         return Problem::CarriageReturn;
@@ -98,7 +98,7 @@ pub fn problem_of(line: &[u8]) -> Problem {
     }
 }
 
-// The problem of a line with this first word.
+// Returns the problem of a line that begins with `word`.
 fn problem_after(word: &[u8], rest: &[u8]) -> Problem {
     if word == b"load".as_slice() && rest.is_empty() {
         return Problem::AlreadyLoaded;
@@ -121,7 +121,7 @@ fn problem_after(word: &[u8], rest: &[u8]) -> Problem {
     }
 }
 
-// The problem of a request line.
+// Returns the problem of a request line.
 fn request_problem(line: &[u8]) -> Problem {
     let word = match text::cut(line, b' ') {
         Some((word, _)) => word,
@@ -133,7 +133,7 @@ fn request_problem(line: &[u8]) -> Problem {
     }
 }
 
-// Whether a space is the first or last byte, or follows another.
+// Returns whether a space is the first or last byte, or follows another space.
 fn has_stray_space(line: &[u8]) -> bool {
     let mut was_space = true;
     for byte in line {

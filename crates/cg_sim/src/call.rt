@@ -3,7 +3,7 @@ use cg_group::{Request, Ticket};
 use cg_names::Moment;
 use uuid::Uuid;
 
-/// What a session asks at a moment; a JOIN that names no member draws its id from the UUID.
+/// Request of a session, with its moment. A JOIN without a member id draws its id from the UUID.
 #[derive(Drop)]
 pub struct Call {
     pub ticket: Ticket,

@@ -1,4 +1,4 @@
-//! The lines of a script, read where they stand: reading takes no memory.
+//! Parsing script lines. No function here allocates.
 ghost use Rattle.std.specs.Prelude.{◌≡◌};
 ghost use Rattle.std.specs.Option.{option_map};
 ghost use Rattle.cg_sim.specs.Text.{draws_uuid, is_skipped, joiner_of, number_of};
@@ -9,43 +9,43 @@ use crate::text::{self, NUMBER_MAX};
 use cg_disk::Crash;
 use cg_names::Moment;
 
-/// A line of a script.
+/// Line of a script.
 #[derive(Drop)]
 pub enum Line<'a> {
-    /// A blank line, or a comment.
+    /// A blank line or a comment.
     Skipped,
     /// `at M`: sets the moment, in milliseconds.
     At(Moment),
-    /// `tick M`: sets the moment; time has gone by.
+    /// `tick M`: sets the moment, in milliseconds, and runs the time-dependent rules.
     Tick(Moment),
-    /// `gone s<digits>`: the session of this number is closed.
+    /// `gone s<digits>`: the session with this number is closed.
     Gone(u64),
-    /// `take`: the desk hands the next batch out.
+    /// `take`: the desk hands out the next batch.
     Take,
-    /// `append`: the store appends it.
+    /// `append`: the store appends the batch that was taken.
     Append,
-    /// `settle`: the desk settles it.
+    /// `settle`: the desk settles the batch that was appended.
     Settle,
-    /// `flush`: these three steps.
+    /// `flush`: take, append and settle.
     Flush,
-    /// `fuse K`: the disk passes K more calls, and then fails each.
+    /// `fuse K`: the disk passes K more calls, and then fails each (fault injection).
     Fuse(u64),
-    /// `stop keep`, `stop lose`: power loss, which leaves what was not synced or loses it.
+    /// `stop keep` or `stop lose`: power loss, which keeps or loses unsynced writes.
     Stop(Crash),
-    /// `load`: serves what is on the disk.
+    /// `load`: opens the store and serves what it has.
     Load,
-    /// `reload`: as `stop keep` and `load`.
+    /// `reload`: `stop keep`, then `load`.
     Reload,
-    /// `close`: closes the desk, and then as `stop keep`.
+    /// `close`: refuses every pending request, then acts as `stop keep`.
     Close,
-    /// `s<digits> <request line>`: a session's number, and the line of its request, which is not read yet.
+    /// `s<digits> <request line>`: the number of a session, and its request line, which is not parsed yet.
     Ask(u64, RequestLine<'a>),
 }
 
 impl<'a> Line<'a> {
     ghost use Rattle.cg_sim.specs.Line.{line_of, power_line_of, step_line_of, word_line_of, worded_line_of};
 
-    /// The line that the text spells, or None where it spells none.
+    /// Parses a script line. Returns `None` if it is a bad one.
     #[tactic(auto, unfolding(crate::specs::Line::line_of))]
     pub fn read(text: &'a [u8]) -> Option<Self>
         ensures { result ≡ line_of text.now }
@@ -62,7 +62,7 @@ impl<'a> Line<'a> {
         Line::worded_line(text)
     }
 
-    // A line whose first word says what it is.
+    // Parses a line with a first word and a rest.
     #[tactic(auto, unfolding(crate::specs::Line::worded_line_of))]
     fn worded_line(text: &'a [u8]) -> Option<Self>
         ensures { result ≡ worded_line_of text.now }
@@ -71,7 +71,7 @@ impl<'a> Line<'a> {
         Line::word_line(word, rest)
     }
 
-    // A step of the desk or the store.
+    // Parses a step of the desk or the store.
     #[tactic(auto, unfolding(crate::specs::Line::step_line_of))]
     fn step_line(text: &[u8]) -> Option<Self>
         ensures { result ≡ step_line_of text.now }
@@ -91,7 +91,7 @@ impl<'a> Line<'a> {
         None
     }
 
-    // A stop or a loading.
+    // Parses a stop, a load, a reload or a close.
     #[tactic(auto, unfolding(crate::specs::Line::power_line_of))]
     fn power_line(text: &[u8]) -> Option<Self>
         ensures { result ≡ power_line_of text.now }
@@ -114,7 +114,7 @@ impl<'a> Line<'a> {
         None
     }
 
-    // A word that says what the rest of the line is.
+    // Parses a line by its first word: a moment, a closed session, a fuse or a request.
     #[tactic(auto, unfolding(crate::specs::Line::word_line_of))]
     fn word_line(word: &[u8], rest: &'a [u8]) -> Option<Self>
         ensures { result ≡ word_line_of word.now rest.now }
@@ -151,7 +151,7 @@ fn moment_in(text: &[u8]) -> Option<Moment>
     Some(Moment::from_millis(millis))
 }
 
-/// Whether a request line is a JOIN that names no member.
+/// Returns whether a request line is a JOIN without a member id, which draws a UUID.
 #[tactic(auto, unfolding(crate::specs::Text::draws_uuid))]
 pub fn draws_uuid(request: &[u8]) -> bool
     ensures { result ≡ draws_uuid request.now }
@@ -162,7 +162,7 @@ pub fn draws_uuid(request: &[u8]) -> bool
     }
 }
 
-// The word for the member in a JOIN.
+// Returns the member word of a JOIN.
 #[tactic(auto, unfolding(crate::specs::Text::joiner_of))]
 fn joiner(request: &[u8]) -> Option<&[u8]>
     ensures { option_map (λ member. member.now) result ≡ joiner_of request.now }

@@ -1,4 +1,4 @@
-//! What was loaded from a disk.
+//! A desk and its store, after a load.
 ghost use Rattle.std.specs.Prelude.{◌≡◌, ◌≤◌, IfErr};
 ghost use Rattle.cg_disk.specs.Mem.{mem_size};
 ghost use Rattle.cg_store.specs.Store.{disk_of};
@@ -14,7 +14,7 @@ use cg_disk::MemDisk;
 use cg_world::{Step, World};
 use std::alloc::Global;
 
-/// The desk and the store of what was loaded.
+/// A desk and its store, after a load.
 pub struct Loaded {
     world: World<Disk>,
     ghost roomy: { sectors_needed ≤ sectors_of (disk_of (store_of world)) },
@@ -27,7 +27,7 @@ impl Loaded {
         Loaded { world }
     }
 
-    // Takes the steps, and prints what comes of them.
+    // Takes the steps, and prints their trace.
     fn run(self, alloc: Global, steps: Vec<Step>, out: &mut Vec<u8>) -> (Self, Result<(), Stop>)
         ensures { IfErr result.1 (λ stop. stop ≡ Stop.Memory) }
     {
@@ -36,7 +36,7 @@ impl Loaded {
         (Loaded { world }, telling::put_trace(&trace, out))
     }
 
-    /// Takes a step that is no request, and prints what comes of it.
+    /// Takes a step that is not a request, and prints its trace.
     pub fn take_step(self, alloc: Global, step: Step, out: &mut Vec<u8>) -> (Self, Result<(), Stop>)
         ensures { IfErr result.1 (λ stop. stop ≡ Stop.Memory) }
     {
@@ -62,12 +62,12 @@ impl Loaded {
         }
     }
 
-    /// From now on the disk passes that many calls, and then fails each.
+    /// Sets how many more calls the disk passes before it fails each.
     pub fn set_fuse(&mut self, calls: u64) {
         self.world.set_fuse(Some(calls));
     }
 
-    /// Ends it: the replies to all calls without an answer, and the disk as it is, without its fuse.
+    /// Refuses every pending request. Returns the refusals, and the disk without its fuse.
     pub fn close(self) -> (Vec<Outgoing>, MemDisk)
         ensures { sectors_needed ≤ mem_size result.1 }
     {

@@ -1,4 +1,6 @@
-//! Runs a script of requests and steps against a coordinator over a disk in memory, and prints what it answers.
+//! Runs a script of requests and steps against a coordinator over a disk in memory (docs/PROTOCOL.md): reads script
+//! lines
+//! from standard input, and prints the replies to standard output.
 #![tactic(auto)]
 
 mod advice;

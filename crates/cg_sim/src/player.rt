@@ -1,4 +1,4 @@
-//! What each line of a script does.
+//! The effect of each script line.
 ghost use Rattle.std.specs.Prelude.{◌≡◌, ◌⊎◌, Ok, Err, None, IfErr};
 ghost use Rattle.cg_sim.specs.Line.{line_of};
 
@@ -15,7 +15,7 @@ use cg_world::Step;
 use std::alloc::Global;
 use uuid::Uuid;
 
-/// Plays lines: it knows the current moment, and how many UUIDs were drawn.
+/// Player of script lines, with the current moment and the number of UUIDs drawn so far.
 #[derive(Drop)]
 pub struct Player {
     alloc: Global,
@@ -24,7 +24,7 @@ pub struct Player {
 }
 
 impl Player {
-    /// At the first moment of all, before the first UUID.
+    /// Creates a player at moment 0, before the first UUID.
     pub fn new(alloc: Global) -> Self {
         Player {
             alloc,
@@ -33,7 +33,7 @@ impl Player {
         }
     }
 
-    /// Does what the line of this number says, and puts what is printed at the end of `out`.
+    /// Plays the line with this number, and appends what it prints to `out`.
     pub fn play(
         &mut self,
         stage: Stage,
@@ -103,7 +103,7 @@ impl Player {
         stage.take_step(self.alloc, Step::Tick(now), out)
     }
 
-    // Loads where nothing is loaded.
+    // Loads, unless something is loaded.
     fn load(&self, stage: Stage, number: u64, out: &mut Vec<u8>) -> (Stage, Result<(), Stop>)
         ensures { IfErr result.1 (λ stop. (stop ≡ Stop.Memory) ⊎ (stop ≡ Stop.BadLine number)) }
     {
@@ -113,10 +113,10 @@ impl Player {
         }
     }
 
-    // The UUID of a request: a JOIN that names no member draws the next one.
+    // Returns the UUID of a request. A JOIN without a member id draws the next one.
     fn fresh(&mut self, request: &[u8]) -> Uuid {
         if draws_uuid(request) {
-            // No script has as many lines as there are numbers.
+            // Saturates only after 2^64 - 1 lines.
             self.drawn = self.drawn.saturating_add(1);
         }
         Uuid::from_u128(u128::from(self.drawn))

@@ -3,7 +3,7 @@ ghost use Rattle.std.specs.Prelude.{◌≡◌, List, ℕ};
 
 use std::marker::Model;
 
-/// The request part of a script line, not parsed yet. Contracts see its bytes.
+/// Request part of a script line, not parsed yet. Contracts see its bytes.
 #[derive(Drop)]
 pub struct RequestLine<'a> {
     bytes: &'a [u8],

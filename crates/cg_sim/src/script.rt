@@ -1,4 +1,4 @@
-//! Running a script: one line after the other, until its end, a bad line, or trouble.
+//! Running a script, line by line, until its end, a bad line or a fault.
 ghost use Rattle.std.specs.Prelude.{◌≡◌, ◌⊎◌, ◌≤◌, ◌++◌, ℕ, Ok, Err, Some, [], IfOk, IfErr, OnOk, List};
 ghost use Rattle.std.specs.Io.KnownBytes.{Appends};
 ghost use Rattle.cg_disk.specs.Mem.{mem_size};
@@ -19,19 +19,19 @@ use itoa::Buffer;
 use std::alloc::Global;
 use std::io::{self, BufRead, Write};
 
-/// The script ended.
+/// Exit status of a script that came to its end.
 pub const STATUS_DONE: u8 = 0;
 
-/// A line was no line of a script, or out of place.
+/// Exit status after a bad script line, or a `load` while something is loaded.
 pub const STATUS_BAD_LINE: u8 = 1;
 
-/// A read or a write failed.
+/// Exit status after a failed read or write.
 pub const STATUS_IO: u8 = 3;
 
-/// An allocation failed outside a request, or the disk could not be formatted.
+/// Exit status if an allocation failed outside a request, or the disk failed while it was formatted.
 pub const STATUS_SHORT: u8 = 4;
 
-// Reads the next line, with its line feed where it has one; false at the end.
+// Reads the next line, with its line feed if it has one. Returns false at the end.
 fn read_line<R: BufRead>(reader: &mut R, line: &mut Vec<u8>) -> Result<bool, Stop>
     ensures { (left : List ℕ) → R.remaining reader.old ≡ Some left → IfOk result (λ more. IsNext left more line.new.items (R.remaining reader.new)) }
 {
@@ -40,7 +40,7 @@ fn read_line<R: BufRead>(reader: &mut R, line: &mut Vec<u8>) -> Result<bool, Sto
     Ok(taken > 0)
 }
 
-// The line without its line feed.
+// Returns the line without its line feed.
 fn without_end(line: &[u8]) -> &[u8]
     ensures { IsWithoutEnd line.now result.now }
 {
@@ -50,7 +50,7 @@ fn without_end(line: &[u8]) -> &[u8]
     if *last == b'\n' { front } else { line }
 }
 
-// Writes what is to be printed, so that nothing waits.
+// Writes and flushes what was printed.
 fn emit<W: Write>(writer: &mut W, out: &mut Vec<u8>) -> Result<(), Stop>
     ensures written { OnOk result (Appends (W.contents writer.old) (W.contents writer.new) out.old.items) }
     ensures empty { OnOk result (out.new.items ≡ []) }
@@ -63,7 +63,7 @@ fn emit<W: Write>(writer: &mut W, out: &mut Vec<u8>) -> Result<(), Stop>
     Ok(())
 }
 
-// A disk that was formatted.
+// Makes a formatted disk in memory.
 fn formatted(alloc: Global) -> Result<MemDisk, Stop>
     ensures { IfOk result (λ disk. sectors_needed ≤ mem_size disk) }
 {
@@ -74,7 +74,7 @@ fn formatted(alloc: Global) -> Result<MemDisk, Stop>
     }
 }
 
-// Writes what is to be printed, and ends for the cause that is there already.
+// Writes what was printed. Ends with the cause `played` if there is one and the write succeeded.
 fn emit_before<W: Write>(
     writer: &mut W,
     out: &mut Vec<u8>,
@@ -88,7 +88,7 @@ fn emit_before<W: Write>(
     Ok(())
 }
 
-// The number of the line at which a script stopped and what is wrong with it, if it was a bad one.
+// Returns the number of a bad line and its problem, if the script stopped there.
 fn problem_at(stop: Stop, line: &[u8]) -> Option<(u64, Problem)> {
     match stop {
         Stop::BadLine(number) => Some((number, problem_of(line))),
@@ -96,7 +96,7 @@ fn problem_at(stop: Stop, line: &[u8]) -> Option<(u64, Problem)> {
     }
 }
 
-// Plays the lines that are left, after what came before them.
+// Plays the remaining lines, after what was printed so far.
 fn serve_lines<R: BufRead, W: Write>(
     alloc: Global,
     mut stage: Stage,
@@ -154,7 +154,7 @@ fn tell_bad_line<W: Write>(writer: &mut W, number: u64) -> io::Result<()>
     Ok(())
 }
 
-// Says why a script ends before its end; of a read or a write that failed nothing can be said.
+// Prints why a script ends early. Nothing is printed for a failed read or write.
 fn tell_stop<W: Write>(writer: &mut W, stop: Stop) -> io::Result<()>
     ensures { OnOk result (Appends (W.contents writer.old) (W.contents writer.new) (stop_text stop)) }
 {
@@ -188,8 +188,8 @@ pub fn refuse_script<W: Write>(writer: &mut W) -> u8
     }
 }
 
-/// Runs a script over a disk in memory and returns the exit status: `STATUS_DONE` at its end; `STATUS_BAD_LINE` after a line
-/// `BAD SCRIPT LINE`, `STATUS_SHORT` after a last line `FAULT`, and `STATUS_IO` if a read or a write failed.
+/// Runs a script over a disk in memory, and returns the exit status: `STATUS_DONE` at its end, `STATUS_BAD_LINE` after
+/// a line `BAD SCRIPT LINE`, `STATUS_SHORT` after a last line `FAULT`, and `STATUS_IO` if a read or a write failed.
 pub fn script<R: BufRead, W: Write>(alloc: Global, reader: &mut R, writer: &mut W) -> u8
     ensures ends { Ends result (W.contents writer.old) (W.contents writer.new) }
     ensures end { (input : List ℕ) → R.remaining reader.old ≡ Some input → result ≡ STATUS_DONE → R.remaining reader.new ≡ Some [] }
@@ -198,7 +198,7 @@ pub fn script<R: BufRead, W: Write>(alloc: Global, reader: &mut R, writer: &mut 
     explained_script(alloc, reader, writer, &mut problem)
 }
 
-/// Runs a script as `script` does, and sets `problem` to the number of a bad line and what is wrong with it.
+/// Runs a script as `script` does. Sets `problem` to the number of a bad line and what is wrong with it.
 pub fn explained_script<R: BufRead, W: Write>(
     alloc: Global,
     reader: &mut R,

@@ -1,4 +1,4 @@
-//! How a script stands.
+//! The state of a script: its disk, with or without something loaded.
 ghost use Rattle.std.specs.Prelude.{◌≡◌, ◌≤◌, IfErr};
 ghost use Rattle.cg_disk.specs.Mem.{mem_size};
 ghost use Rattle.cg_sim.specs.Disk.{sectors_needed};
@@ -13,17 +13,17 @@ use cg_disk::{Crash, FuseDisk, MemDisk};
 use cg_world::Step;
 use std::alloc::Global;
 
-/// A disk in memory that a script can make fail.
+/// Disk in memory with fault injection.
 pub type Disk = FuseDisk<MemDisk>;
 
-/// A disk, and what is loaded from it.
+/// Disk of a script, and what is loaded from it.
 pub enum Stage {
     Unloaded(Unloaded),
     Loaded(Loaded),
 }
 
 impl Stage {
-    /// Takes a step that is no request, where something is loaded, and prints what comes of it.
+    /// Takes a step that is not a request, if something is loaded, and prints its trace.
     pub fn take_step(self, alloc: Global, step: Step, out: &mut Vec<u8>) -> (Self, Result<(), Stop>)
         ensures { IfErr result.1 (λ stop. stop ≡ Stop.Memory) }
     {
@@ -36,7 +36,8 @@ impl Stage {
         }
     }
 
-    /// Takes the steps that bring what waits to the disk: a take, an append and a settle, each also after one that was refused.
+    /// Takes the steps that make queued commands durable: take, append and settle. A refused step does not stop the
+    /// next one.
     pub fn flush(self, alloc: Global, out: &mut Vec<u8>) -> (Self, Result<(), Stop>)
         ensures { IfErr result.1 (λ stop. stop ≡ Stop.Memory) }
     {
@@ -67,7 +68,7 @@ impl Stage {
         }
     }
 
-    /// From now on the disk passes that many calls, and then fails each.
+    /// Sets how many more calls the disk passes before it fails each.
     pub fn set_fuse(&mut self, calls: u64) {
         match self {
             Stage::Unloaded(unloaded) => unloaded.set_fuse(calls),
@@ -75,7 +76,7 @@ impl Stage {
         }
     }
 
-    /// Ends what was loaded: the replies to all calls without an answer, and the disk as it is, without its fuse.
+    /// Refuses every pending request of what was loaded. Returns the refusals, and the disk without its fuse.
     pub fn end(self, alloc: Global) -> (Vec<Outgoing>, MemDisk)
         ensures { sectors_needed ≤ mem_size result.1 }
     {
@@ -85,13 +86,13 @@ impl Stage {
         }
     }
 
-    /// Power loss: the disk crashes, the fuse is lifted, and replies that had not left are lost.
+    /// Simulates power loss: the disk crashes, the fuse is lifted, and replies that had not left are lost.
     pub fn stop(self, alloc: Global, crash: Crash) -> Unloaded {
         let (_, disk) = self.end(alloc);
         Unloaded::new(alloc, disk.crash(crash))
     }
 
-    /// Prints what the desk refuses as it is closed; then as after a power loss that keeps what was written.
+    /// Prints the refusals of a closing desk, then acts as a power loss that keeps what was written.
     pub fn close(self, alloc: Global, out: &mut Vec<u8>) -> (Self, Result<(), Stop>)
         ensures { IfErr result.1 (λ stop. stop ≡ Stop.Memory) }
     {

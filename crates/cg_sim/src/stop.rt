@@ -1,11 +1,11 @@
-//! Why a script does not come to its end.
+//! Why a script ends early.
 use std::alloc::AllocError;
 use std::io::{self, ErrorKind};
 
-/// What ends a script before its end.
+/// Cause that ends a script early.
 #[derive(Clone, Copy, Debug, Drop, PartialEq, Eq)]
 pub enum Stop {
-    /// The line of this number is no line of a script, or out of place.
+    /// The line with this number is bad, or a `load` while something is loaded.
     BadLine(u64),
     /// A read or a write failed.
     Io,

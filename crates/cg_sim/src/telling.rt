@@ -15,7 +15,7 @@ use cg_world::{StepNote, StopCause, Trace};
 use itoa::Buffer;
 use std::alloc::{AllocError, Global};
 
-// The line of a reply, behind the session that it goes to.
+// Appends a session and the line of its reply.
 #[tactic(auto, unfolding(crate::specs::Telling::reply_text))]
 fn put_line(outgoing: &Outgoing, out: &mut Vec<u8>) -> Result<(), AllocError>
     ensures { OnOk result (out.new.items ≡ out.old.items ++ reply_text outgoing.now) }
@@ -29,7 +29,7 @@ fn put_line(outgoing: &Outgoing, out: &mut Vec<u8>) -> Result<(), AllocError>
     Ok(())
 }
 
-/// Prints a reply that leaves.
+/// Prints a reply.
 pub fn put_reply(outgoing: &Outgoing, out: &mut Vec<u8>) -> Result<(), Stop>
     ensures ok { OnOk result (out.new.items ≡ out.old.items ++ reply_text outgoing.now) }
     ensures err { IfErr result (λ stop. stop ≡ Stop.Memory) }
@@ -55,7 +55,7 @@ pub fn put_refusal(ticket: Ticket, out: &mut Vec<u8>) -> Result<(), Stop>
     )
 }
 
-/// Prints replies that leave, in their order.
+/// Prints replies in their order.
 pub fn put_all(replies: &[Outgoing], out: &mut Vec<u8>) -> Result<(), Stop>
     ensures ok { OnOk result (out.new.items ≡ out.old.items ++ replies_text replies.now) }
     ensures err { IfErr result (λ stop. stop ≡ Stop.Memory) }
@@ -66,7 +66,7 @@ pub fn put_all(replies: &[Outgoing], out: &mut Vec<u8>) -> Result<(), Stop>
     Ok(())
 }
 
-// The line of a step that is refused; no other step has one.
+// Returns the line of a refused step; any other step has an empty one.
 #[tactic(auto, unfolding(crate::specs::Telling::note_text))]
 fn note_line(note: StepNote) -> &'static [u8]
     ensures { result.now ≡ note_text note }
@@ -99,8 +99,8 @@ fn put_left(left: &[Listed<Outgoing>], out: &mut Vec<u8>) -> Result<(), Stop>
     Ok(())
 }
 
-/// Prints why steps were refused, and the replies that left in them. Out of memory in another step than a request ends the
-/// script.
+/// Prints why steps were refused, then the replies that left in them. If a step other than a request runs out of
+/// memory, ends the script.
 pub fn put_trace(trace: &Trace, out: &mut Vec<u8>) -> Result<(), Stop>
     ensures ok { OnOk result (out.new.items ≡ out.old.items ++ trace_text trace.now) }
     ensures wanting { trace.now.last ≡ None → trace.now.stopped ≡ Some StopCause.Memory → result ≡ Err Stop.Memory }
@@ -115,7 +115,7 @@ pub fn put_trace(trace: &Trace, out: &mut Vec<u8>) -> Result<(), Stop>
     }
 }
 
-/// Prints how many commands, group records and offsets a loading found.
+/// Prints how many commands, group records and offsets a load found.
 pub fn put_opening(alloc: Global, opening: (u64, u64, u64), out: &mut Vec<u8>) -> Result<(), Stop>
     ensures ok { OnOk result (out.new.items ≡ out.old.items ++ opening_text opening) }
     ensures err { IfErr result (λ stop. stop ≡ Stop.Memory) }
@@ -126,7 +126,7 @@ pub fn put_opening(alloc: Global, opening: (u64, u64, u64), out: &mut Vec<u8>) -
     Ok(())
 }
 
-/// Prints why a disk was not loaded; out of memory ends the script.
+/// Prints why a load failed. Out of memory ends the script.
 pub fn put_open_fault(fault: OpenFault, out: &mut Vec<u8>) -> Result<(), Stop>
     ensures ok { OnOk result (out.new.items ≡ out.old.items ++ open_fault_text fault) }
     ensures wanting { fault ≡ OpenFault.Memory → result ≡ Err Stop.Memory }

@@ -4,7 +4,7 @@ use std::alloc::{AllocError, Global};
 use std::io::{BufReader, ErrorKind, Read, Write};
 use std::test::*;
 
-// Gives its bytes, and then fails.
+// Returns its bytes, and then fails.
 #[derive(Drop)]
 struct BreaksOff {
     bytes: &'static [u8],
@@ -19,7 +19,7 @@ impl Read for BreaksOff {
     }
 }
 
-// Takes nothing.
+// Fails each write.
 #[derive(Drop)]
 struct TakesNothing;
 
@@ -52,7 +52,7 @@ fn a_write_that_fails(rt: HostRuntime) {
     assert_eq!(rt; script(rt.alloc(), &mut reader, &mut TakesNothing), 3);
 }
 
-// What a script writes that ends with status 0; nothing for another status.
+// Returns what a script writes if it ends with status 0, and otherwise the empty string.
 fn output(alloc: Global, text: &str) -> Result<String, AllocError> {
     let mut written = Vec::new(alloc);
     let mut reader = text.as_bytes();
@@ -65,7 +65,7 @@ fn output(alloc: Global, text: &str) -> Result<String, AllocError> {
     }
 }
 
-// Whether the offset that was fetched last is at least the last that was acknowledged: the n-th `OK` is for offset 41 + n.
+// Returns whether the last fetched offset is at least the last acknowledged one: the n-th `OK` is for offset 41 + n.
 fn has_all_acknowledged(alloc: Global, output: &str) -> Result<bool, AllocError> {
     let acknowledged = output.matches(" OK\n").count();
     for offset in acknowledged.saturating_add(41)..46 {
@@ -77,8 +77,8 @@ fn has_all_acknowledged(alloc: Global, output: &str) -> Result<bool, AllocError>
     Ok(acknowledged == 0 && output.ends_with("s1 FETCHED t:0:-1:x\n"))
 }
 
-// Runs commits of offset 42 and on around a fuse of k calls, a flush, a stop, a loading and a fetch, for each k until a
-// run meets no failure; whether that came, and no run misses an acknowledged offset.
+// Runs commits of offsets from 42 on, with a fuse of k calls before the second part, then a flush, a stop, a load and a
+// FETCH, for each k until a run has no fault. Returns whether that run came, and no run lost an acknowledged offset.
 fn no_offset_is_missing(
     alloc: Global,
     before: &str,

@@ -1,4 +1,4 @@
-//! Words and numbers on a line, read where they stand: nothing here takes memory.
+//! Words and numbers on a line. No function here allocates.
 ghost use Rattle.std.specs.Prelude.{◌≡◌, ◌+◌, ◌-◌, ◌*◌, ◌^◌, ◌≤◌, ◌<◌, IsTrue, MatchOption, IfSome};
 ghost use Rattle.std.specs.Option.{option_map};
 ghost use Rattle.std.specs.List.{list_all};
@@ -6,13 +6,13 @@ ghost use Rattle.cg_sim.specs.Text.{behind_of, cut_of, is_digit, is_plain, is_se
 
 use memchr::memchr;
 
-/// The greatest number on a line.
+/// Greatest number on a line.
 pub const NUMBER_MAX: u64 = u64::MAX;
 
-/// The greatest number of digits of a session.
+/// Greatest number of digits of a session.
 pub const SESSION_DIGITS_MAX: usize = 6;
 
-/// Returns the text before the first `mark`, and the text after it.
+/// Returns the text before the first `mark` and the text after it, or `None` without a mark.
 pub fn cut(text: &[u8], mark: u8) -> Option<(&[u8], &[u8])>
     ensures { option_map (λ parts. (parts.0.now, parts.1.now)) result ≡ cut_of mark text.now }
 {
@@ -26,7 +26,7 @@ fn is_digit(byte: u8) -> bool
     byte.is_ascii_digit()
 }
 
-// Returns the number with one more digit, if it fits.
+// Appends a digit to the number, or returns `None` if the result does not fit.
 fn with_digit(value: u64, digit: u8) -> Option<u64>
     requires { IsTrue (is_digit digit) }
     ensures { MatchOption result (2 ^ 64 ≤ 10 * value + (digit - 48)) (λ v. v ≡ 10 * value + (digit - 48)) }
@@ -34,7 +34,7 @@ fn with_digit(value: u64, digit: u8) -> Option<u64>
     value.checked_mul(10)?.checked_add(u64::from(digit - b'0'))
 }
 
-// The number that the digits spell, where it fits.
+// Returns the number of the digits, or `None` if it does not fit.
 fn value(digits: &[u8]) -> Option<u64>
     requires { IsTrue (list_all is_digit digits.now) }
     ensures { MatchOption result (2 ^ 64 ≤ value_of digits.now) (λ v. v ≡ value_of digits.now) }
@@ -63,7 +63,7 @@ fn is_plain(text: &[u8]) -> bool
 }
 
 #[tactic(auto, unfolding(crate::specs::Text::number_of))]
-/// A number in decimal, without zeros in front, of at most `most`.
+/// Parses a decimal number without leading zeros, of at most `most`.
 pub fn number(text: &[u8], most: u64) -> Option<u64>
     ensures value { result ≡ number_of most text.now }
     ensures within { IfSome result (λ n. n ≤ most) }
@@ -74,14 +74,14 @@ pub fn number(text: &[u8], most: u64) -> Option<u64>
     value(text).filter(|n| *n <= most)
 }
 
-/// The text behind `front`, where the text begins with it.
+/// Returns the text after `front`, or `None` if the text does not begin with it.
 pub fn behind<'a>(text: &'a [u8], front: &[u8]) -> Option<&'a [u8]>
     ensures { option_map (λ rest. rest.now) result ≡ behind_of front.now text.now }
 {
     text.strip_prefix(front)
 }
 
-/// A session: `s` and one to six digits, zeros in front allowed.
+/// Parses a session: `s` and one to six digits, with leading zeros allowed.
 #[tactic(auto, unfolding(crate::specs::Text::session_of))]
 pub fn session_number(word: &[u8]) -> Option<u64>
     ensures { result ≡ session_of word.now }

@@ -1,4 +1,4 @@
-//! A disk before its loading.
+//! A disk from which nothing is loaded.
 ghost use Rattle.std.specs.Prelude.{◌≡◌, ◌≤◌, IfErr};
 ghost use Rattle.cg_disk.specs.Mem.{mem_size};
 ghost use Rattle.cg_sim.specs.Disk.{sectors_needed, sectors_of};
@@ -14,7 +14,7 @@ use cg_names::{Code, Moment};
 use cg_world::World;
 use std::alloc::Global;
 
-/// A disk from which nothing is loaded, and the desk that refuses requests meanwhile.
+/// Disk from which nothing is loaded, and a loading desk, which refuses requests with 14.
 pub struct Unloaded {
     desk: Desk,
     disk: Disk,
@@ -22,7 +22,7 @@ pub struct Unloaded {
 }
 
 impl Unloaded {
-    /// Nothing is loaded from the disk yet, and it has no fuse.
+    /// Creates a disk without a fuse, from which nothing is loaded.
     pub fn new(alloc: Global, disk: MemDisk) -> Self
         requires { sectors_needed ≤ mem_size disk }
     {
@@ -34,7 +34,7 @@ impl Unloaded {
         }
     }
 
-    /// Loads what stands on the disk, and prints what was found. After a refusal it may be tried again.
+    /// Loads what the disk has, and prints what was found or why the load failed. A failed load may be tried again.
     pub fn load(self, alloc: Global, now: Moment, out: &mut Vec<u8>) -> (Stage, Result<(), Stop>)
         ensures { IfErr result.1 (λ stop. stop ≡ Stop.Memory) }
     {
@@ -52,7 +52,7 @@ impl Unloaded {
         }
     }
 
-    /// Refuses a request, since nothing is loaded.
+    /// Refuses a request with 14, since nothing is loaded.
     pub fn ask(&mut self, call: Call, out: &mut Vec<u8>) -> Result<(), Stop>
         ensures { IfErr result (λ stop. stop ≡ Stop.Memory) }
     {
@@ -70,12 +70,12 @@ impl Unloaded {
         Ok(())
     }
 
-    /// From now on the disk passes that many calls, and then fails each.
+    /// Sets how many more calls the disk passes before it fails each.
     pub fn set_fuse(&mut self, calls: u64) {
         self.disk.set(Some(calls));
     }
 
-    /// The disk as it is, without its fuse.
+    /// Returns the disk without its fuse.
     pub fn into_disk(self) -> MemDisk
         ensures { sectors_needed ≤ mem_size result }
     {

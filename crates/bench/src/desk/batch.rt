@@ -25,7 +25,7 @@ pub struct BatchSize {
     ghost in_frame: { bytes ≤ LARGEST_PAYLOAD_BYTES },
 }
 
-// The number distinguishes a call from the others.
+// Sends a request whose ticket has this number, which distinguishes it from the others.
 fn ask(desk: &mut Desk, number: u64, request: Request) -> Result<()> {
     let token = ReplyToken::new(Ticket { session: 1, number });
     match desk.request(token, request, now(), Uuid::from_u128(0)) {
@@ -40,7 +40,7 @@ fn ask(desk: &mut Desk, number: u64, request: Request) -> Result<()> {
     }
 }
 
-/// Requests all of them, the first by a call with the number `first`. Their replies are held.
+/// Sends all of the requests, with numbers from `first` on. Their replies are held.
 pub fn ask_all(desk: &mut Desk, first: u64, requests: &mut VecDeque<Request>) -> Result<()> {
     let mut number = first;
     while let Some(request) = requests.pop_front() {
@@ -91,7 +91,8 @@ fn first_size(alloc: Global, desk: &mut Desk, most: usize) -> Result<BatchSize> 
     })
 }
 
-/// Returns the size of the batch that a desk makes of `most` commits; it has fewer where they do not all fit a frame.
+/// Returns the size of the batch that a desk makes of `most` commits. The batch has fewer if they do not all fit a
+/// frame.
 pub fn batch_size(alloc: Global, most: usize) -> Result<BatchSize> {
     let mut desk = desk(alloc)?;
     let size = first_size(alloc, &mut desk, most);

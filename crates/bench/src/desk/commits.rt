@@ -1,4 +1,4 @@
-//! Commits per second, and beside them the calls that the disk gets for them.
+//! Commits per second, beside the calls that the disk gets for them.
 ghost use Rattle.std.specs.Prelude.{◌≡◌, ◌≤◌, ◌+◌, IfOk, OnOk};
 ghost use Rattle.std.specs.VecDeque.{deque_len};
 ghost use Rattle.cg_disk.specs.Mem.{mem_size};
@@ -38,7 +38,7 @@ struct Batches {
     count: u64,
 }
 
-/// The times of a batch: through the desk and the store, of the machine alone, and of the disk alone.
+/// Times of a batch: through the desk and the store, in the machine alone, and on the disk alone.
 #[derive(Drop)]
 struct Times {
     desk: Tally,
@@ -56,7 +56,7 @@ impl Times {
     }
 }
 
-// Times one batch. The clock runs from its first request, which was made before, until its replies have left.
+// Times one batch, from its first request until its replies have left. The requests are made before.
 fn timed<R: Clock, D: SectorDisk>(
     rt: &R,
     alloc: Global,
@@ -89,7 +89,7 @@ fn timed_all<R: Clock, D: SectorDisk>(
     Ok(())
 }
 
-// Commits to a new desk over a formatted store. Returns the disk.
+// Sends commits to a new desk over a formatted store. Returns the disk.
 fn through<R: Clock, D: SectorDisk + Drop>(
     rt: &R,
     alloc: Global,
@@ -108,7 +108,8 @@ fn through<R: Clock, D: SectorDisk + Drop>(
     Ok(store.into_disk())
 }
 
-// Steps the machine without a desk, and after each batch calls the disk alone, so that both follow a sync as they do in a desk.
+// Steps the machine without a desk, and after each batch calls the disk alone, so that both follow a sync as they do in
+// a desk.
 fn apart<R: Clock, D: SectorDisk>(
     rt: &R,
     alloc: Global,
@@ -153,7 +154,7 @@ fn round<R: Clock, D: SectorDisk + Drop>(
     through(rt, alloc, disk, batches, &mut times.desk)
 }
 
-// After each round the disk crashes, which empties its record of what was replaced.
+// Measures over a disk in memory. After each round the disk crashes, which empties its undo log.
 fn in_memory<R: Clock>(
     rt: &R,
     alloc: Global,
@@ -252,8 +253,9 @@ fn measure_size<R: Clock + Files + Print>(
     )
 }
 
-/// Measures batches of as many commits as fit a frame, and of 256, 16 and 1, over a disk in memory and in a file, which it makes and
-/// removes. The largest come first, so that later runs reuse memory that the process already has.
+/// Measures batches of as many commits as fit a frame, and of 256, 16 and 1, over a disk in memory and in a file, which
+/// it creates and removes. The largest batches come first, so that later runs reuse memory that the process already
+/// has.
 pub fn measure<R: Clock + Files + Print + Alloc<A = Global>>(rt: &R, path: &str) -> Result<()> {
     let alloc = rt.alloc();
     for commits in [MORE_THAN_FIT, 256, 16, 1] {

@@ -1,4 +1,4 @@
-//! Requests per second, by the calls whose replies are held.
+//! Requests per second, by the number of held replies.
 use crate::desk::batch::ask_all;
 use crate::desk::scene::{commits, desk};
 use crate::tally::{RUNS, Tally, hundredths};
@@ -11,10 +11,10 @@ use std::time::Instant;
 /// Requests of a run.
 const REQUESTS: usize = 64;
 
-/// Calls whose replies are held in the first measurement.
+/// Held replies in the first measurement.
 const FEW: usize = 20;
 
-// The clock runs while the requests are made, after `held` others.
+// Times the requests alone, after `held` others.
 fn timed<R: Clock>(
     rt: &R,
     alloc: Global,
@@ -29,7 +29,7 @@ fn timed<R: Clock>(
     tally.add(rt, start, REQUESTS as u64)
 }
 
-// Each run has a desk of its own.
+// Runs once, with a new desk.
 fn run<R: Clock>(rt: &R, alloc: Global, held: usize, tally: &mut Tally) -> Result<()> {
     let mut desk = desk(alloc)?;
     let outcome = timed(rt, alloc, &mut desk, held, tally);
@@ -51,8 +51,8 @@ fn report<R: Print>(rt: &R, held: usize, rate: u64, base: u64) -> Result<()> {
     Ok(())
 }
 
-/// Measures commits after 20 calls with held replies, and then after 300, 5,000 and 20,000: none of these is just below a power of two,
-/// where the desk's lists grow.
+/// Measures commits while 20 replies are held, and then 300, 5,000 and 20,000. None of these is just below a power of
+/// two, where the desk's lists grow.
 pub fn measure<R: Clock + Print + Alloc<A = Global>>(rt: &R) -> Result<()> {
     let alloc = rt.alloc();
     let base = rate(rt, alloc, FEW)?;

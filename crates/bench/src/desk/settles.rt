@@ -11,7 +11,7 @@ use std::alloc::Global;
 use std::rt::Clock;
 use std::time::Instant;
 
-/// The factor of the replies that stay, where they are many.
+/// Factor of the replies that stay in the measurements with many of them.
 const MANY: usize = 16;
 
 /// How many replies leave, and how many stay.
@@ -21,7 +21,7 @@ struct Replies {
     staying: usize,
 }
 
-// The clock runs while the batch is settled.
+// Times the settling alone.
 fn timed<R: Clock>(
     rt: &R,
     alloc: Global,
@@ -42,7 +42,7 @@ fn timed<R: Clock>(
     Ok(())
 }
 
-// Each run has a desk of its own.
+// Runs once, with a new desk.
 fn run<R: Clock>(rt: &R, alloc: Global, replies: Replies, tally: &mut Tally) -> Result<()> {
     let mut store = opened(alloc, MemDisk::new(alloc, DISK_SECTORS)?)?;
     let mut desk = desk(alloc)?;
@@ -72,7 +72,7 @@ fn compare<R: Clock + Print>(rt: &R, alloc: Global, leaving: usize) -> Result<()
     Ok(())
 }
 
-/// Measures settlings at which 16, 256, 1,024 and 4,096 replies leave, where as many stay, and 16 times as many.
+/// Measures settling with 16, 256, 1,024 and 4,096 replies that leave, and as many that stay or 16 times as many.
 pub fn measure<R: Clock + Print + Alloc<A = Global>>(rt: &R) -> Result<()> {
     let alloc = rt.alloc();
     for leaving in [16, 256, 1_024, 4_096] {

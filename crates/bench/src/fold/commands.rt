@@ -25,15 +25,15 @@ const SUBSCRIPTION_BYTES: usize = 32;
 /// Bytes of a member's assignment.
 const ASSIGNMENT_BYTES: usize = 64;
 
-/// The factor of the groups' numbers in a scattered order: odd, so that among a power of two each comes once.
+/// Factor of the groups' numbers in a scattered order. It is odd, so each number below a power of two comes once.
 const STRIDE: u64 = 1_597;
 
-/// The order in which the groups come.
+/// Order of the groups.
 #[derive(Clone, Copy)]
 pub enum Order {
-    /// That of their ids, as in a snapshot.
+    /// Order of their ids, as in a snapshot.
     Ascending,
-    /// One in which each id is far from the one before it; the number of groups is a power of two.
+    /// Order in which each id is far from the one before it. The number of groups is a power of two.
     Scattered,
 }
 
@@ -53,7 +53,7 @@ fn member(alloc: Global, number: u32) -> Result<Member> {
     })
 }
 
-// Makes the members of a group, of which the first leads.
+// Makes the members of a group. The first one leads.
 fn roster(alloc: Global) -> Result<Roster> {
     let mut members = Vec::new(alloc);
     for number in 0..MEMBERS {
@@ -65,7 +65,7 @@ fn roster(alloc: Global) -> Result<Roster> {
     Ok(roster)
 }
 
-// Makes the command of the group's members.
+// Makes the command that stores the group's members.
 fn assigned(alloc: Global, group: GroupId) -> Result<Command> {
     Ok(Command::Assigned(Assigned {
         group,
@@ -84,7 +84,7 @@ fn entries(alloc: Global) -> Result<Vec<Entry>> {
     Ok(entries)
 }
 
-/// Adds the two commands of the group with this number: of its members, and of its offsets.
+/// Appends the two commands of the group with this number: its members, and its offsets.
 pub fn push_group(alloc: Global, commands: &mut Vec<Command>, number: u64) -> Result<()>
     ensures { OnOk result (vec_len commands.new ≡ vec_len commands.old + 2) }
 {

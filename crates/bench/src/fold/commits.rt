@@ -30,7 +30,7 @@ pub fn commit_events(alloc: Global, groups: u64) -> Result<Vec<Event>>
     Ok(events)
 }
 
-// Steps the machine by one event, after the moment of the loading. Returns whether it is replied to with OK.
+// Steps the machine by one event, after the moment of recovery. Returns whether the reply is OK.
 fn is_done(groups: &mut Groups, event: Event) -> Result<bool> {
     let effects = step(groups, event, Moment::from_millis(1))?;
     let done = effects
@@ -41,7 +41,7 @@ fn is_done(groups: &mut Groups, event: Event) -> Result<bool> {
     Ok(done)
 }
 
-/// Steps the machine by each event. Returns how many are replied to with OK.
+/// Steps the machine by each event. Returns how many replies are OK.
 pub fn count_done(groups: &mut Groups, events: Vec<Event>) -> Result<u64> {
     let mut done = 0_u64;
     for event in events {

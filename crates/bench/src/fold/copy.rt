@@ -1,4 +1,4 @@
-//! A plain copy of a snapshot: the same allocations, and no look-up.
+//! A plain copy of a snapshot: the same allocations, without look-ups.
 ghost use Rattle.std.specs.Prelude.{◌≡◌, IfOk};
 
 use anyhow::{Result, bail};
@@ -53,7 +53,7 @@ fn copied_assigned(assigned: &Assigned) -> Result<Assigned, AllocError>
     })
 }
 
-// The states here have no command of the other kinds.
+// Copies a command. The states here have no other kinds of command.
 fn copied_command(alloc: Global, command: &Command) -> Result<Command>
     ensures { IfOk result (λ copy. copy ≡ command.now) }
 {
@@ -66,7 +66,7 @@ fn copied_command(alloc: Global, command: &Command) -> Result<Command>
     }
 }
 
-/// Copies commands, of members with their assignments and of offsets.
+/// Copies the commands that store members and offsets.
 pub fn copied(alloc: Global, commands: &[Command]) -> Result<Vec<Command>>
     ensures { IfOk result (λ copies. copies.items ≡ commands.now) }
 {

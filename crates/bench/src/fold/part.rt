@@ -1,4 +1,4 @@
-//! One part alone, so that the process's peak of memory is that part's.
+//! One part alone, so that the peak memory of the process is that of the part.
 use crate::fold::commands::push_group;
 use crate::fold::commits::{commit_events, count_done};
 use crate::fold::state::apply_all;
@@ -8,20 +8,20 @@ use cg_fold::Durable;
 use cg_group::{GROUPS_MAX, Groups};
 use std::alloc::Global;
 
-/// A part, run once over `GROUPS_MAX` groups.
+/// Part that runs once over `GROUPS_MAX` groups.
 #[derive(Clone, Copy)]
 pub enum Part {
     /// Makes the state, from the commands of one group at a time.
     State,
     /// Makes the state and takes a snapshot of it.
     Snapshot,
-    /// Makes the state and loads the groups from it.
+    /// Makes the state and recovers the groups from it.
     Revive,
-    /// Makes the state, loads the groups, and commits to each once.
+    /// Makes the state, recovers the groups, and commits to each once.
     Step,
 }
 
-/// The names of the parts on the command line.
+/// Names of the parts on the command line.
 pub static NAMES: [&str; 4] = ["state", "snapshot", "revive", "step"];
 
 /// Returns the part with this name.
@@ -64,7 +64,7 @@ fn step(alloc: Global, groups: &mut Groups) -> Result<()> {
     Ok(())
 }
 
-/// Runs a part, and prints how much the state has.
+/// Runs a part, and prints the size of the state.
 pub fn run<R: Print + Alloc<A = Global>>(rt: &R, part: Part) -> Result<()> {
     let alloc = rt.alloc();
     let durable = state(alloc)?;

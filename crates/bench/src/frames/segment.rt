@@ -1,4 +1,4 @@
-//! The segment that frames are appended to.
+//! The segment to which frames are appended.
 ghost use Rattle.std.specs.Prelude.{◌≡◌, ◌+◌, ◌^◌, ◌<◌, ◌≤◌, [], true, IfOk, OnOk};
 ghost use Rattle.cg_disk.specs.Disk.{present};
 ghost use Rattle.cg_frame.specs.Outcomes.{KeepsFramesTo};
@@ -8,7 +8,7 @@ use cg_disk::{DiskFault, SectorDisk};
 use cg_frame::{FrameFault, Segment, append, close_gate, fits};
 use std::alloc::Global;
 
-/// Appends frames of one payload to an empty segment: as many as fit, and `most` at most. Returns how many.
+/// Appends frames of one payload to an empty segment: as many as fit, at most `most`. Returns how many.
 pub fn fill<D: SectorDisk>(
     alloc: Global,
     disk: &mut D,

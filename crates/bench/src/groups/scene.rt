@@ -1,4 +1,4 @@
-//! Stable groups of equally many members, and events for them.
+//! Stable groups with the same number of members, and events for them.
 ghost use Rattle.std.specs.Prelude.{◌≡◌, IfOk, vec_len};
 
 use crate::machine::{now, revived, step, ticket};
@@ -14,21 +14,21 @@ use cg_record::{Assignment, Subscription};
 use std::alloc::Global;
 use uuid::Uuid;
 
-/// The generation of each group: the first member joins alone, and then all join together.
+/// Generation of each group: the first member joins alone, and then all join together.
 const GENERATION: i32 = 2;
 
 /// A session without a parked request.
 const IDLE_SESSION: u64 = 2;
 
-/// The first of the sessions with a parked request.
+/// First of the sessions with a parked request.
 const WAITING_SESSION: u64 = 3;
 
-/// The sort of an event that leaves the groups stable, so that many can share a group.
+/// Kind of event that leaves the groups stable, so that many can share a group.
 #[derive(Clone, Copy)]
 pub enum SharedEvent {
     Beat,
     Sync,
-    /// A JOIN with the list of protocols that the member has.
+    /// A JOIN with the same list of protocols as before.
     Join,
     /// A session without a parked request is closed.
     Gone,
@@ -36,14 +36,14 @@ pub enum SharedEvent {
     Tick,
 }
 
-/// The sort of an event that needs a group of its own.
+/// Kind of event that needs its own group.
 #[derive(Clone, Copy)]
 pub enum GroupEvent {
-    /// A JOIN that makes a group.
+    /// A JOIN that creates a group.
     Join,
     /// The SYNC of a leader, with an assignment for each member.
     LeaderSync,
-    /// The session on which the SYNC of a member is parked is closed.
+    /// The session of a parked SYNC is closed.
     Gone,
 }
 
@@ -110,7 +110,7 @@ fn assignments(alloc: Global, joined: &Effects) -> Result<SyncEntries> {
 }
 
 impl Scene {
-    /// Makes `count` stable groups of `members` each, which are two at least.
+    /// Makes `count` stable groups of `members` members each, at least two.
     pub fn new(alloc: Global, count: u64, members: u64) -> Result<Scene> {
         let mut scene = Scene {
             alloc,
@@ -139,8 +139,8 @@ impl Scene {
         )
     }
 
-    // Has the first member join, then the others, then the first one again. Returns the leader and the last effects; the group then
-    // waits for the leader's SYNC.
+    // Has the first member join, then the others, then the first one again. Returns the leader and the last effects;
+    // the group then waits for the leader's SYNC.
     fn gather(&mut self, id: &str) -> Result<(MemberId, Effects)> {
         let leader = last_joined(&self.join(id, None, 0)?)?;
         for client in 1..self.members {
@@ -218,7 +218,7 @@ impl Scene {
         }
     }
 
-    /// Makes `count` events of a sort, from group to group.
+    /// Makes `count` events of a kind, for one group after another.
     pub fn events(&self, sort: SharedEvent, count: usize) -> Result<Vec<Event>>
         ensures { IfOk result (λ events. vec_len events ≡ count) }
     {
@@ -233,7 +233,7 @@ impl Scene {
         Ok(events)
     }
 
-    // Makes the n-th of `count` events of a sort that need groups of their own.
+    // Makes the n-th of `count` events of a kind that needs its own group.
     fn event_once(&mut self, sort: GroupEvent, n: usize, count: usize) -> Result<Event> {
         let number = n
             .saturating_mul(self.followers.len())
@@ -257,8 +257,8 @@ impl Scene {
         }
     }
 
-    /// Makes `count` events of a sort that need groups of their own. The ids of these groups are spread evenly among those of the loaded
-    /// ones.
+    /// Makes `count` events of a kind that needs its own groups. The ids of these groups are spread evenly among those
+    /// of the loaded ones.
     pub fn events_once(&mut self, sort: GroupEvent, count: usize) -> Result<Vec<Event>>
         ensures { IfOk result (λ events. vec_len events ≡ count) }
     {

@@ -7,7 +7,7 @@ use cg_line::LINE_BYTES_MAX;
 use cg_names::Topic;
 use std::alloc::{AllocError, Global};
 
-/// Entries of a line: as many as it may have.
+/// Entries of a line, the most that it may have.
 const ENTRIES: u32 = 64;
 
 /// Bytes that the names of a line have in common.
@@ -16,7 +16,7 @@ const COMMON: usize = 98;
 /// Bytes of metadata of an entry of the longest commit: 64 of them fill a line of 1 MiB.
 const LONG_METADATA: usize = 8_170;
 
-/// Bytes of an assignment, and of the metadata of a stored offset: as many as may be.
+/// Bytes of an assignment, and of the metadata of a stored offset, the most that they may have.
 const LONGEST_BYTES: usize = 4_096;
 
 // Writes bytes as a word: 'x' and two digits for each.
@@ -28,7 +28,7 @@ fn put_bytes(line: &mut Vec<u8>, bytes: usize) -> Result<(), AllocError> {
     Ok(())
 }
 
-// Writes a name of 100 bytes that differs from those of other numbers in its last two.
+// Writes a name of 100 bytes, of which the last two depend on the number.
 fn put_name(line: &mut Vec<u8>, number: u32) -> Result<(), AllocError> {
     for _ in 0..COMMON {
         line.push(b'n')?;
@@ -44,7 +44,7 @@ fn topic(alloc: Global, number: u32) -> Result<Topic> {
     Ok(Topic::from_bytes(alloc, &text)?)
 }
 
-/// Writes a COMMIT of 64 partitions that is as long as a line may be, but for a few bytes.
+/// Writes a COMMIT of 64 partitions, a few bytes shorter than the longest line.
 pub fn commit(alloc: Global) -> Result<Vec<u8>> {
     let mut line = Vec::from_slice(alloc, b"COMMIT g -1 - -")?;
     for partition in 0..ENTRIES {
