@@ -5,7 +5,7 @@ use thiserror::Error;
 #[derive(Clone, Copy, Debug, Drop, PartialEq, Eq, Error)]
 pub enum TakeFault {
     /// An allocation failed; nothing has changed.
-    #[error("memory is wanting")]
+    #[error("out of memory")]
     Memory,
     /// The last batch is neither settled nor given back.
     #[error("a batch is in flight")]
@@ -16,7 +16,7 @@ pub enum TakeFault {
 #[derive(Clone, Copy, Debug, Drop, PartialEq, Eq, Error)]
 pub enum SettleFault {
     /// An allocation failed; nothing has changed.
-    #[error("memory is wanting")]
+    #[error("out of memory")]
     Memory,
     /// No batch is in flight.
     #[error("no batch is in flight")]

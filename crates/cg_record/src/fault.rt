@@ -15,11 +15,11 @@ pub enum RecordFault {
     #[error("the bytes end inside a field")]
     Short,
     /// The first byte is not a known version, or the first byte of a command is not a known kind.
-    #[error("a version or a kind is none that is known")]
+    #[error("the version or the kind of a command is unknown")]
     BadKind,
     /// A name is empty, too long (reported before `Short`), or outside the grammar of names; the member of a `Replaced`
     /// has no instance; or, reported at the end of the command, the leader is not a member.
-    #[error("a name is none")]
+    #[error("a name is missing, too long or outside its grammar")]
     BadName,
     /// A number, a count or a length is outside its range; a length is reported before `Short`.
     #[error("a number or a length is out of its range")]

@@ -2,3 +2,4 @@ pub mod Cut
 pub mod Value
 pub mod Front
 pub mod Known
+mod Lines

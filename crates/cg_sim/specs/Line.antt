@@ -1,10 +1,11 @@
 -- The parsed form of a script line, or None for a bad line.
-use Rattle.std.specs.Prelude.{ℕ, List, Bool, Option, None, Some, if◌then◌else◌, codes}
+use Rattle.std.specs.Prelude.{ℕ, List, length, nat_lt, Bool, Option, None, Some, if◌then◌else◌, codes}
 use Rattle.std.specs.Option.{option_map}
 use Rattle.std.specs.Str.{bytes_eq}
 use Rattle.cg_disk.specs.declared.mem.Crash.TheVariants.{Keep, Lose}
 use Rattle.cg_sim.specs.Text.{◌>>=◌, cut_of, is_skipped, number_of, session_of}
 use Rattle.cg_sim.specs.declared.text.TheConstants.{NUMBER_MAX}
+use Rattle.cg_sim.specs.declared.line.TheConstants.{SCRIPT_LINE_BYTES_MAX}
 use Rattle.cg_sim.specs.declared.line.Line.{Line}
 use Rattle.cg_sim.specs.declared.line.Line.TheVariants.{Skipped, At, Tick, Gone, Take, Append, Settle, Flush, Fuse, Stop, Load, Reload, Close, Ask}
 
@@ -50,5 +51,8 @@ abbrev pub first_of_two : Option Line → Option Line → Option Line
 first_of_two None second = second
 first_of_two (Some line) second = Some line
 
+-- a line that is not too long
 unfoldable pub line_of : List ℕ → Option Line
-line_of text = if is_skipped text then Some Skipped else first_of_two (step_line_of text) (first_of_two (power_line_of text) (worded_line_of text))
+line_of text =
+    if nat_lt SCRIPT_LINE_BYTES_MAX (length text) then None
+    else (if is_skipped text then Some Skipped else first_of_two (step_line_of text) (first_of_two (power_line_of text) (worded_line_of text)))

@@ -1,4 +1,5 @@
 //! What is wrong with a bad script line, and what would be right: text for a person, on standard error.
+use crate::line::SCRIPT_LINE_BYTES_MAX;
 use crate::text::{self, NUMBER_MAX};
 use std::fmt;
 
@@ -27,6 +28,8 @@ const REQUESTS: [(&[u8], &str); 9] = [
 /// Problem of a bad script line.
 #[derive(Clone, Copy, Debug, PartialEq, Eq)]
 pub enum Problem {
+    /// The line is longer than any may be.
+    TooLong,
     /// The line ends with a carriage return.
     CarriageReturn,
     /// The line begins or ends with a space, or has two in a row.
@@ -48,6 +51,7 @@ pub enum Problem {
 impl fmt::Display for Problem {
     fn fmt<W: fmt::Write>(&self, f: &mut fmt::Formatter<W>) -> fmt::Result {
         match self {
+            Problem::TooLong => write!(f, "a line has at most {SCRIPT_LINE_BYTES_MAX} bytes"),
             Problem::CarriageReturn => {
                 write!(
                     f,
@@ -86,6 +90,9 @@ impl fmt::Display for Problem {
 
 /// Returns what is wrong with a bad line. Linear in the line. Does not allocate.
 pub fn problem_of(line: &[u8]) -> Problem {
+    if line.len() > SCRIPT_LINE_BYTES_MAX {
+        return Problem::TooLong;
+    }
     if line.ends_with(b"\r") {
         return Problem::CarriageReturn;
     }

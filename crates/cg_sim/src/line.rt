@@ -9,6 +9,9 @@ use crate::text::{self, NUMBER_MAX};
 use cg_disk::Crash;
 use cg_names::Moment;
 
+/// Longest script line, in bytes without its line feed: the longest request line, and room for the session before it.
+pub const SCRIPT_LINE_BYTES_MAX: usize = 1_048_640;
+
 /// Line of a script.
 #[derive(Drop)]
 pub enum Line<'a> {
@@ -50,6 +53,9 @@ impl<'a> Line<'a> {
     pub fn read(text: &'a [u8]) -> Option<Self>
         ensures { result ≡ line_of text.now }
     {
+        if text.len() > SCRIPT_LINE_BYTES_MAX {
+            return None;
+        }
         if is_skipped(text) {
             return Some(Line::Skipped);
         }

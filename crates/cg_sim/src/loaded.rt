@@ -46,6 +46,17 @@ impl Loaded {
         }
     }
 
+    /// Takes a batch, appends it and settles it, and prints the trace of the three steps. A refused step does not stop
+    /// the next one.
+    pub fn flush(self, alloc: Global, out: &mut Vec<u8>) -> (Self, Result<(), Stop>)
+        ensures { IfErr result.1 (λ stop. stop ≡ Stop.Memory) }
+    {
+        let Ok(steps) = vec![in alloc; Step::Take, Step::Append, Step::Settle] else {
+            return (self, Err(Stop::Memory));
+        };
+        self.run(alloc, steps, out)
+    }
+
     /// Serves a request, or refuses it if an allocation fails.
     pub fn ask(self, alloc: Global, call: Call, out: &mut Vec<u8>) -> (Self, Result<(), Stop>)
         ensures { IfErr result.1 (λ stop. stop ≡ Stop.Memory) }

@@ -10,6 +10,7 @@ mod loaded;
 mod player;
 mod request_line;
 mod script;
+mod script_line;
 mod stage;
 mod stop;
 mod telling;

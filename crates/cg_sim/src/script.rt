@@ -4,11 +4,11 @@ ghost use Rattle.std.specs.Io.KnownBytes.{Appends};
 ghost use Rattle.cg_disk.specs.Mem.{mem_size};
 ghost use Rattle.cg_sim.specs.Disk.{sectors_needed};
 ghost use Rattle.cg_sim.specs.Ending.{Ends, WritesThen, status_of};
-ghost use Rattle.cg_sim.specs.Reading.{IsNext, IsWithoutEnd};
 ghost use Rattle.cg_sim.specs.Telling.{bad_line, stop_text};
 
 use crate::advice::{Problem, problem_of};
 use crate::player::Player;
+use crate::script_line::{read_line, without_end};
 use crate::stage::Stage;
 use crate::stop::Stop;
 use crate::unloaded::Unloaded;
@@ -30,25 +30,6 @@ pub const STATUS_IO: u8 = 3;
 
 /// Exit status if an allocation failed outside a request, or the disk failed while it was formatted.
 pub const STATUS_SHORT: u8 = 4;
-
-// Reads the next line, with its line feed if it has one. Returns false at the end.
-fn read_line<R: BufRead>(reader: &mut R, line: &mut Vec<u8>) -> Result<bool, Stop>
-    ensures { (left : List ℕ) → R.remaining reader.old ≡ Some left → IfOk result (λ more. IsNext left more line.new.items (R.remaining reader.new)) }
-{
-    line.clear();
-    let taken = reader.read_until(b'\n', line)?;
-    Ok(taken > 0)
-}
-
-// Returns the line without its line feed.
-fn without_end(line: &[u8]) -> &[u8]
-    ensures { IsWithoutEnd line.now result.now }
-{
-    let Some((last, front)) = line.split_last() else {
-        return line;
-    };
-    if *last == b'\n' { front } else { line }
-}
 
 // Writes and flushes what was printed.
 fn emit<W: Write>(writer: &mut W, out: &mut Vec<u8>) -> Result<(), Stop>

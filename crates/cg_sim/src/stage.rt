@@ -30,26 +30,23 @@ impl Stage {
         match self {
             Stage::Unloaded(unloaded) => (Stage::Unloaded(unloaded), Ok(())),
             Stage::Loaded(loaded) => {
-                let (loaded, told) = loaded.take_step(alloc, step, out);
-                (Stage::Loaded(loaded), told)
+                let (loaded, printed) = loaded.take_step(alloc, step, out);
+                (Stage::Loaded(loaded), printed)
             }
         }
     }
 
-    /// Takes the steps that make queued commands durable: take, append and settle. A refused step does not stop the
-    /// next one.
+    /// Takes the steps that make queued commands durable, if something is loaded, and prints their trace.
     pub fn flush(self, alloc: Global, out: &mut Vec<u8>) -> (Self, Result<(), Stop>)
         ensures { IfErr result.1 (λ stop. stop ≡ Stop.Memory) }
     {
-        let (stage, taken) = self.take_step(alloc, Step::Take, out);
-        if taken.is_err() {
-            return (stage, taken);
+        match self {
+            Stage::Unloaded(unloaded) => (Stage::Unloaded(unloaded), Ok(())),
+            Stage::Loaded(loaded) => {
+                let (loaded, printed) = loaded.flush(alloc, out);
+                (Stage::Loaded(loaded), printed)
+            }
         }
-        let (stage, appended) = stage.take_step(alloc, Step::Append, out);
-        if appended.is_err() {
-            return (stage, appended);
-        }
-        stage.take_step(alloc, Step::Settle, out)
     }
 
     /// Serves a request, or refuses it if nothing is loaded or an allocation fails.
@@ -58,12 +55,12 @@ impl Stage {
     {
         match self {
             Stage::Unloaded(mut unloaded) => {
-                let told = unloaded.ask(call, out);
-                (Stage::Unloaded(unloaded), told)
+                let printed = unloaded.ask(call, out);
+                (Stage::Unloaded(unloaded), printed)
             }
             Stage::Loaded(loaded) => {
-                let (loaded, told) = loaded.ask(alloc, call, out);
-                (Stage::Loaded(loaded), told)
+                let (loaded, printed) = loaded.ask(alloc, call, out);
+                (Stage::Loaded(loaded), printed)
             }
         }
     }
@@ -97,8 +94,8 @@ impl Stage {
         ensures { IfErr result.1 (λ stop. stop ≡ Stop.Memory) }
     {
         let (refused, disk) = self.end(alloc);
-        let told = telling::put_all(refused.as_slice(), out);
+        let printed = telling::put_all(refused.as_slice(), out);
         let unloaded = Unloaded::new(alloc, disk.crash(Crash::Keep));
-        (Stage::Unloaded(unloaded), told)
+        (Stage::Unloaded(unloaded), printed)
     }
 }

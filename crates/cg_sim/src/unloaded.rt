@@ -42,12 +42,12 @@ impl Unloaded {
         match World::open(alloc, disk, now) {
             Ok(world) => {
                 let _ = desk.close();
-                let told = telling::put_opening(alloc, world.opening(), out);
-                (Stage::Loaded(Loaded::new(world)), told)
+                let printed = telling::put_opening(alloc, world.opening(), out);
+                (Stage::Loaded(Loaded::new(world)), printed)
             }
             Err((fault, disk)) => {
-                let told = telling::put_open_fault(fault, out);
-                (Stage::Unloaded(Unloaded { desk, disk }), told)
+                let printed = telling::put_open_fault(fault, out);
+                (Stage::Unloaded(Unloaded { desk, disk }), printed)
             }
         }
     }
