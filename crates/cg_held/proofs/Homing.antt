@@ -1,6 +1,7 @@
 -- The session index keeps each parked call after an event.
 use Rattle.std.proofs.Common.{◌≡◌, ℕ, zero, suc, ◌+◌, ◌<◌, ◌≤◌, Bool, true, false, cond, List, [], ◌∷◌, length, get_or, is_some, inl, inr, Option, Some, None, refl, sym, ap, ◌∙◌, subst, arith}
-use Rattle.std.proofs.lemmas.Bool.{cases_lt, false≢true}
+use Rattle.std.proofs.lemmas.Bool.{cases_lt, false≢true, or_left, or_right}
+use Rattle.std.specs.List.{list_any}
 use Rattle.std.specs.Prelude.{◌⊎◌}
 use Rattle.std.specs.BTreeMap.{BTreeMap, get, is_at}
 use Rattle.std.specs.Cmp.Lexicographic.{slice_cmp}
@@ -55,6 +56,11 @@ each_to_place P (x ∷ xs) h (suc k) d lt = each_to_place P xs h.1 k d (omega ar
 pub each_from_place : {X : Type 0} (P : X → Type 0) (xs : List X) → ((k : ℕ) (d : X) → k < length xs → P (get_or xs k d)) → Each P xs
 each_from_place P [] h = tt
 each_from_place P (x ∷ xs) h = (h 0 x (omega arith), each_from_place P xs (λ k d lt. h (suc k) d (omega arith)))
+
+-- what two facts about each element give
+pub each_both : {X : Type 0} (P Q R : X → Type 0) → ((x : X) → P x → Q x → R x) → (xs : List X) → Each P xs → Each Q xs → Each R xs
+each_both P Q R both [] p q = tt
+each_both P Q R both (x ∷ xs) p q = (both x p.0 q.0, each_both P Q R both xs p.1 q.1)
 
 -- the group in which the event happened, and the others
 module _ (before after : ℕ → List ℕ → Bool) (id : List ℕ) (others : (q : ℕ) (x : List ℕ) → (x ≡ id → ⊥) → before q x ≡ true → after q x ≡ true) where
@@ -128,3 +134,17 @@ affirmed first before sure after ms i m below here kept certain own h k d lt kno
         let P : Member → Type 0 = λ x. is_known after x.waits ≡ true in
         let Q : Member → Type 0 = λ x. is_known first x.waits ≡ true in
         subst P same (own (known_more first before kept m.waits (subst Q (sym same) known)))
+
+-- a fact about each element before an index, and about the one at it
+pub each_more : {X : Type 0} (P : X → Type 0) (xs : List X) (i : ℕ) (x : X) → i < length xs → x ≡ get_or xs i x → P x → ((k : ℕ) (d : X) → k < i → P (get_or xs k d)) → (k : ℕ) (d : X) → k < i + 1 → P (get_or xs k d)
+each_more P xs i x below here own h k d lt = choose (cases_lt k i)
+  where
+    choose : (k < i) ⊎ (i ≤ k) → P (get_or xs k d)
+    choose (inl less) = h k d less
+    choose (inr more) = let at : i ≡ k = omega arith in subst P (here ∙ at_any xs i x d below ∙ ap (λ n. get_or xs n d) at) own
+
+-- the element at an index passes the test, and so one does
+pub any_at : {X : Type 0} (p : X → Bool) (xs : List X) (i : ℕ) (d : X) → i < length xs → p (get_or xs i d) ≡ true → list_any p xs ≡ true
+any_at p [] i d lt e = absurd (omega arith)
+any_at p (x ∷ xs) zero d lt e = or_left (p x) (list_any p xs) e
+any_at p (x ∷ xs) (suc i) d lt e = or_right (p x) (list_any p xs) (any_at p xs i d (omega arith) e)

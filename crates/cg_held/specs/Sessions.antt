@@ -14,7 +14,9 @@ use Rattle.cg_member.specs.declared.member.Waits.{Waits}
 use Rattle.cg_member.specs.declared.member.Waits.TheVariants.{Nothing, Join, Sync}
 use Rattle.cg_held.specs.declared.sessions.Home.{Home}
 use Rattle.cg_held.specs.declared.sessions.Home.TheVariants.{Certain, Doubtful}
+use Rattle.cg_held.specs.Held.{find_group}
 use Rattle.cg_held.specs.Kept.{Each}
+use Rattle.cg_turn.specs.Touching.{gone_touches}
 
 -- the member has no parked call, or one of these sessions
 abbrev pub is_known : (ℕ → Bool) → Waits → Bool
@@ -77,3 +79,20 @@ is_certain_in id (Some groups) = is_lived_in (map.get (slice_cmp nat_cmp) groups
 -- the index has the group for the session, as one in which a call is parked
 abbrev pub is_certain : BTreeMap ℕ (BTreeMap (List ℕ) Home) → ℕ → List ℕ → Bool
 is_certain homes session id = is_certain_in id (map.get nat_cmp homes session)
+
+-- the group is one of these only if a call is parked in it
+abbrev pub IsSettledIn : List ℕ → Option (BTreeMap (List ℕ) Home) → Type 0
+IsSettledIn id groups = is_noted id groups ≡ true → is_certain_in id groups ≡ true
+
+-- the index has the group for the session only if a call is parked in it
+abbrev pub IsSettled : BTreeMap ℕ (BTreeMap (List ℕ) Home) → ℕ → List ℕ → Type 0
+IsSettled homes session id = IsSettledIn id (map.get nat_cmp homes session)
+
+-- a call of the session is parked in the group
+abbrev pub is_parked : ℕ → Option Group → Bool
+is_parked session None = false
+is_parked session (Some g) = gone_touches session g
+
+-- the index has let go of the group for the session, unless a call of the session is parked there
+abbrev pub HasLetGo : BTreeMap ℕ (BTreeMap (List ℕ) Home) → List Group → List ℕ → ℕ → Type 0
+HasLetGo homes groups id session = is_home homes session id ≡ true → is_parked session (find_group id groups) ≡ true
