@@ -1,12 +1,13 @@
 -- The session index keeps each parked call after an event.
 use Rattle.std.proofs.Common.{◌≡◌, ℕ, zero, suc, ◌+◌, ◌<◌, ◌≤◌, Bool, true, false, cond, List, [], ◌∷◌, length, get_or, is_some, inl, inr, Option, Some, None, refl, sym, ap, ◌∙◌, subst, arith}
-use Rattle.std.proofs.lemmas.Bool.{cases_lt, false≢true, or_left, or_right}
+use Rattle.std.proofs.lemmas.Bool.{cases_lt, eqb-false, eqb-true, false≢true, or_left, or_right}
 use Rattle.std.specs.List.{list_any}
-use Rattle.std.specs.Prelude.{◌⊎◌}
+use Rattle.std.specs.Prelude.{◌⊎◌, ◌==◌}
 use Rattle.std.specs.BTreeMap.{BTreeMap, get, is_at}
 use Rattle.std.specs.Cmp.Lexicographic.{slice_cmp}
 use Rattle.std.proofs.lemmas.Map.Text.{is_eq-slice_cmp}
 use Rattle.std.specs.Ordering.{nat_cmp, is_eq}
+use Rattle.cg_member.specs.declared.calls.Calls.TheVariants.{OfSession}
 use Rattle.cg_member.specs.declared.group.Group.{Group}
 use Rattle.cg_member.specs.declared.member.Member.{Member}
 use Rattle.cg_member.specs.declared.member.Waits.{Waits}
@@ -14,8 +15,9 @@ use Rattle.cg_member.specs.declared.member.Waits.TheVariants.{Nothing, Join, Syn
 use Rattle.cg_held.specs.declared.sessions.Home.{Home}
 use Rattle.cg_held.specs.Kept.{Each}
 use Rattle.cg_held.specs.Held.{InOrder, find_group}
+use Rattle.cg_member.specs.Waiting.{is_waiting}
 use Rattle.cg_request.specs.Names.{is_same}
-use Rattle.cg_held.specs.Sessions.{AreKnown, Known, is_certain_in, is_known, is_lived_in, is_noted}
+use Rattle.cg_held.specs.Sessions.{AreKnown, HasLetGo, IsFilled, IsSettled, IsSettledIn, Known, is_certain, is_certain_in, is_parked, is_known, is_lived_in, is_noted}
 use Rattle.cg_held.proofs.InOrder.{found_alone, found_named, none_found}
 use Rattle.cg_held.proofs.KeptLists.{same_names, same_self}
 
@@ -148,3 +150,24 @@ pub any_at : {X : Type 0} (p : X → Bool) (xs : List X) (i : ℕ) (d : X) → i
 any_at p [] i d lt e = absurd (omega arith)
 any_at p (x ∷ xs) zero d lt e = or_left (p x) (list_any p xs) e
 any_at p (x ∷ xs) (suc i) d lt e = or_right (p x) (list_any p xs) (any_at p xs i d (omega arith) e)
+
+-- what was settled for a session stays so while another one is settled
+pub still_settled : (id : List ℕ) (old new : BTreeMap ℕ (BTreeMap (List ℕ) Home)) (session q : ℕ) → IsSettled new session id → ((Some session ≡ Some q → ⊥) → get nat_cmp new q ≡ get nat_cmp old q) → IsSettled old q id → IsSettled new q id
+still_settled id old new session q own apart h =
+    (elim (session == q) as (λ b. (session == q) ≡ b → IsSettled new q id) [
+      | true ↦ λ e. let P : ℕ → Type 0 = λ x. IsSettled new x id in subst P (eqb-true session q e) own
+      | false ↦ λ e.
+          let P : Option (BTreeMap (List ℕ) Home) → Type 0 = λ o. IsSettledIn id o × IsFilled o in
+          subst P (sym (apart (λ same. eqb-false session q e (cc)))) h
+    ]) refl
+
+-- after an update of the index for a loaded group
+pub let_go_held : (doubted sure final : BTreeMap ℕ (BTreeMap (List ℕ) Home)) (groups : List Group) (id : List ℕ) (g : Group) → find_group id groups ≡ Some g
+    → ((q : ℕ) → is_certain final q id ≡ true → is_certain sure q id ≡ true)
+    → ((q : ℕ) → is_certain sure q id ≡ true → (is_certain doubted q id ≡ true) ⊎ (list_any (is_waiting (OfSession q)) g.members ≡ true))
+    → (q : ℕ) → is_certain doubted q id ≡ false → IsSettled final q id → HasLetGo final groups id q
+let_go_held doubted sure final groups id g found stays waits q doubtful settled = record { parked = λ here. parked (waits q (stays q (settled.0 here))); filled = settled.1 }
+  where
+    parked : (is_certain doubted q id ≡ true) ⊎ (list_any (is_waiting (OfSession q)) g.members ≡ true) → is_parked q (find_group id groups) ≡ true
+    parked (inl before) = absurd (false≢true (sym doubtful ∙ before))
+    parked (inr w) = ap (is_parked q) found ∙ w

@@ -84,15 +84,22 @@ is_certain homes session id = is_certain_in id (map.get nat_cmp homes session)
 abbrev pub IsSettledIn : List ℕ → Option (BTreeMap (List ℕ) Home) → Type 0
 IsSettledIn id groups = is_noted id groups ≡ true → is_certain_in id groups ≡ true
 
--- the index has the group for the session only if a call is parked in it
+-- a session that the index has has a group
+abbrev pub IsFilled : Option (BTreeMap (List ℕ) Home) → Type 0
+IsFilled None = Unit {0}
+IsFilled (Some groups) = map.IsEmpty groups → ⊥
+
+-- the index has the group for the session only if a call is parked in it, and the session only with a group
 abbrev pub IsSettled : BTreeMap ℕ (BTreeMap (List ℕ) Home) → ℕ → List ℕ → Type 0
-IsSettled homes session id = IsSettledIn id (map.get nat_cmp homes session)
+IsSettled homes session id = IsSettledIn id (map.get nat_cmp homes session) × IsFilled (map.get nat_cmp homes session)
 
 -- a call of the session is parked in the group
 abbrev pub is_parked : ℕ → Option Group → Bool
 is_parked session None = false
 is_parked session (Some g) = gone_touches session g
 
--- the index has let go of the group for the session, unless a call of the session is parked there
-abbrev pub HasLetGo : BTreeMap ℕ (BTreeMap (List ℕ) Home) → List Group → List ℕ → ℕ → Type 0
-HasLetGo homes groups id session = is_home homes session id ≡ true → is_parked session (find_group id groups) ≡ true
+-- the index has the group for the session only if a call of the session is parked there, and the session only with a
+-- group
+pub record HasLetGo (homes : BTreeMap ℕ (BTreeMap (List ℕ) Home)) (groups : List Group) (id : List ℕ) (session : ℕ) : Type 0 where
+  pub parked : is_home homes session id ≡ true → is_parked session (find_group id groups) ≡ true
+  pub filled : IsFilled (map.get nat_cmp homes session)

@@ -4,7 +4,7 @@ ghost use Rattle.std.specs.Prelude.{◌≡◌, ◌⊎◌, ℕ, List, Some, None,
 ghost use Rattle.std.specs.BTreeMap.{get};
 ghost use Rattle.std.specs.Ordering.{nat_cmp};
 ghost use Rattle.std.specs.Cmp.Lexicographic.{slice_cmp};
-ghost use Rattle.cg_held.specs.Sessions.{IsSettled, IsSettledIn, is_certain, is_certain_in, is_home, is_noted};
+ghost use Rattle.cg_held.specs.Sessions.{IsFilled, IsSettled, IsSettledIn, is_certain, is_certain_in, is_home, is_noted};
 
 use cg_names::GroupId;
 use std::alloc::{AllocError, Global};
@@ -123,11 +123,12 @@ fn leave_in(groups: &mut BTreeMap<GroupId, Home>, id: &GroupId)
 fn leave_one(homes: &mut Homes, session: u64, id: &GroupId) -> bool
     ensures others { (q : ℕ) (x : List ℕ) → (x ≡ id.now → ⊥) → is_home homes.old q x ≡ true → is_home homes.new q x ≡ true }
     ensures certain { (q : ℕ) (x : List ℕ) → is_certain homes.old q x ≡ true → is_certain homes.new q x ≡ true }
-    ensures settled { IsSettled homes.new session id.now }
+    ensures settled { IsSettledIn id.now (get nat_cmp homes.new session) }
     ensures sure { (q : ℕ) → is_certain homes.new q id.now ≡ true → is_certain homes.old q id.now ≡ true }
-    ensures still { (q : ℕ) → IsSettled homes.old q id.now → IsSettled homes.new q id.now }
+    ensures apart { (q : ℕ) → (Some session ≡ Some q → ⊥) → get nat_cmp homes.new q ≡ get nat_cmp homes.old q }
     ensures bare { result ≡ true → (x : List ℕ) → is_home homes.new session x ≡ false }
     ensures calm { result ≡ true → (x : List ℕ) → is_certain homes.new session x ≡ false }
+    ensures filled { result ≡ false → IsFilled (get nat_cmp homes.new session) }
 {
     let Some(groups) = homes.get_mut(&session) else {
         return false;
@@ -142,7 +143,7 @@ pub fn leave(homes: &mut Homes, session: u64, id: &GroupId)
     ensures certain { (q : ℕ) (x : List ℕ) → is_certain homes.old q x ≡ true → is_certain homes.new q x ≡ true }
     ensures settled { IsSettled homes.new session id.now }
     ensures sure { (q : ℕ) → is_certain homes.new q id.now ≡ true → is_certain homes.old q id.now ≡ true }
-    ensures still { (q : ℕ) → IsSettled homes.old q id.now → IsSettled homes.new q id.now }
+    ensures apart { (q : ℕ) → (Some session ≡ Some q → ⊥) → get nat_cmp homes.new q ≡ get nat_cmp homes.old q }
 {
     if leave_one(homes, session, id) {
         let _left = homes.remove(&session);

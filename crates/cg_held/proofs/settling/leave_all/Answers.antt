@@ -1,6 +1,6 @@
-use Rattle.std.proofs.Common.{get_or, arith}
+use Rattle.std.proofs.Common.{ℕ, get_or, arith}
 use Rattle.cg_held.specs.Sessions.{IsSettled}
-use Rattle.cg_held.proofs.Homing.{each_from_place, each_more}
+use Rattle.cg_held.proofs.Homing.{each_from_place, each_more, still_settled}
 use Rattle.cg_held.proofs.settling.leave_all.Goals as goal
 
 pub loop-ticket-preserved : goal.loop-ticket-preserved
@@ -10,7 +10,9 @@ loop-ticket-preserved c =
       λ q x k. c.leave.ensures.certain q x (l.invariant.1 q x k),
       λ q k. l.invariant.2 q (c.leave.ensures.sure q k),
       each_more (λ r. IsSettled c.leave.new.homes r.0.session c.args.id.now) c.args.replies.now l.ticket-index c.loop-ticket-item.result (omega arith) c.loop-ticket-item.is c.leave.ensures.settled
-          (λ k d lt. c.leave.ensures.still (get_or c.args.replies.now k d).0.session (l.invariant.3 k d lt)),
+          (λ k d lt.
+          let q : ℕ = (get_or c.args.replies.now k d).0.session in
+          still_settled c.args.id.now l.homes c.leave.new.homes c.loop-ticket-item.result.0.session q c.leave.ensures.settled (c.leave.ensures.apart q) (l.invariant.3 k d lt)),
     )
 
 pub returns-clause-settled : goal.returns-clause-settled

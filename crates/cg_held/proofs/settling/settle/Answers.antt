@@ -1,16 +1,16 @@
-use Rattle.std.proofs.Common.{◌≡◌, ℕ, List, true, false, inl, inr, Some, ap, sym, subst, ◌∙◌}
+use Rattle.std.proofs.Common.{◌≡◌, ℕ, List, true, false, ap, sym, subst, ◌∙◌}
 use Rattle.std.proofs.lemmas.Bool.{false≢true}
+use Rattle.std.specs.Prelude.{◌⊎◌}
 use Rattle.std.specs.List.{list_any}
 use Rattle.cg_member.specs.declared.calls.Calls.TheVariants.{OfSession}
 use Rattle.cg_member.specs.Waiting.{is_waiting}
-use Rattle.cg_held.specs.Held.{find_group}
 use Rattle.std.specs.BTreeMap.{get}
 use Rattle.std.specs.Option.{option_copied}
 use Rattle.std.specs.Ordering.{nat_cmp}
 use Rattle.cg_member.specs.declared.member.Member.{Member}
 use Rattle.cg_held.specs.Kept.{Each}
-use Rattle.cg_held.specs.Sessions.{HasLetGo, IsSettled, is_certain, is_home, is_known, is_parked}
-use Rattle.cg_held.proofs.Homing.{certain_home, each_both, known_members, settled_held, settled_unheld}
+use Rattle.cg_held.specs.Sessions.{HasLetGo, IsSettled, is_certain, is_home, is_known}
+use Rattle.cg_held.proofs.Homing.{certain_home, each_both, known_members, let_go_held, settled_held, settled_unheld}
 use Rattle.cg_held.proofs.settling.settle.Goals as goal
 
 pub returns-in-None-clause-known : goal.returns-in-None-clause-known
@@ -38,19 +38,14 @@ pub returns-in-None-clause-let_go : goal.returns-in-None-clause-let_go
 returns-in-None-clause-let_go c =
     let id = c.args.id.now in
     each_both (λ r. is_certain c.doubt_all.new.homes r.0.session id ≡ false) (λ r. IsSettled c.leave_all.new.homes r.0.session id) (λ r. HasLetGo c.leave_all.new.homes c.args.held.now id r.0.session)
-    (λ r doubtful settled here. absurd (false≢true (sym doubtful ∙ c.leave_all.ensures.sure r.0.session (settled here)))) c.args.replies.now c.doubt_all.ensures.here c.leave_all.ensures.settled
+    (λ r doubtful settled. record { parked = λ here. absurd (false≢true (sym doubtful ∙ c.leave_all.ensures.sure r.0.session (settled.0 here))); filled = settled.1 }) c.args.replies.now c.doubt_all.ensures.here c.leave_all.ensures.settled
 
 pub returns-in-Some-clause-let_go : goal.returns-in-Some-clause-let_go
 returns-in-Some-clause-let_go c =
     let id = c.args.id.now in
+    let doubted = c.doubt_all.new.homes in
     let final = c.leave_all-in-Some.new.homes in
-    let found : find_group id c.args.held.now ≡ Some c.in-Some.group.now = sym c.find.ensures.found ∙ ap option_copied c.in-Some.is in
-    each_both (λ r. is_certain c.doubt_all.new.homes r.0.session id ≡ false) (λ r. IsSettled final r.0.session id) (λ r. HasLetGo final c.args.held.now id r.0.session)
-    (λ r doubtful settled here.
-    let q : ℕ = r.0.session in
-    let either = c.affirm_all.ensures.parked q (c.leave_all-in-Some.ensures.sure q (settled here)) in
-    let P : List Member → Type 0 = λ ms. list_any (is_waiting (OfSession q)) ms ≡ true in
-    elim either as (λ _. is_parked q (find_group id c.args.held.now) ≡ true) [
-      | inl before ↦ absurd (false≢true (sym doubtful ∙ before))
-      | inr waits ↦ ap (is_parked q) found ∙ subst P c.as_slice.ensures.value waits
-    ]) c.args.replies.now c.doubt_all.ensures.here c.leave_all-in-Some.ensures.settled
+    let P : List Member → Type 0 = λ ms. (q : ℕ) → is_certain c.affirm_all.new.homes q id ≡ true → (is_certain doubted q id ≡ true) ⊎ (list_any (is_waiting (OfSession q)) ms ≡ true) in
+    each_both (λ r. is_certain doubted r.0.session id ≡ false) (λ r. IsSettled final r.0.session id) (λ r. HasLetGo final c.args.held.now id r.0.session)
+    (λ r doubtful settled.
+    let_go_held doubted c.affirm_all.new.homes final c.args.held.now id c.in-Some.group.now (sym c.find.ensures.found ∙ ap option_copied c.in-Some.is) c.leave_all-in-Some.ensures.sure (subst P c.as_slice.ensures.value c.affirm_all.ensures.parked) r.0.session doubtful settled) c.args.replies.now c.doubt_all.ensures.here c.leave_all-in-Some.ensures.settled
