@@ -1,5 +1,7 @@
 //! The processing of each event on the loaded groups.
-ghost use Rattle.std.specs.Prelude.{◌≡◌, Ok, Err, None, true, is_ok, is_some, length, IfOk, OnErr, MatchResult};
+ghost use Rattle.std.specs.Prelude.{◌≡◌, Ok, Err, None, true, is_ok, is_some, length, IfOk, OnErr, OnOk, MatchResult};
+ghost use Rattle.std.specs.BTreeMap.{get};
+ghost use Rattle.std.specs.Ordering.{nat_cmp};
 ghost use Rattle.cg_member.specs.Leaving.{gone_in};
 ghost use Rattle.cg_turn.specs.Committing.{commit_unheld, keeping_entries};
 ghost use Rattle.cg_member.specs.Joining.{new_group};
@@ -236,6 +238,7 @@ fn meet_gone(
     ensures ok { IfOk result
         (λ e. everywhere (gone_in now session) (at_moment now held.old) ≡ outcome now held.new e) }
     ensures err { OnErr result (held.new ≡ held.old) }
+    ensures gone { OnOk result (get nat_cmp homes.new session ≡ None) }
 {
     let alloc = held.allocator();
     let going = Going { now, session };

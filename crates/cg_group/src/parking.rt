@@ -4,7 +4,7 @@ ghost use Rattle.cg_member.specs.Joining.{is_session_refused};
 ghost use Rattle.cg_group.specs.InPlace.{ParksKnown, group_of};
 ghost use Rattle.cg_group.specs.Machine.{concluded, join, leave, sync};
 ghost use Rattle.cg_held.specs.Held.{at_moment, outcome};
-ghost use Rattle.cg_held.specs.Sessions.{AreKnown, is_home};
+ghost use Rattle.cg_held.specs.Sessions.{AreKnown, HaveLetGo, is_home};
 
 use crate::concluding::conclude;
 use crate::in_place::{sync_in, syncing};
@@ -178,6 +178,7 @@ fn park(
     ensures ok { IfOk result (λ e. concluded (at_moment now held.old) ticket concluding ≡ outcome now held.new e) }
     ensures err { OnErr result (held.new ≡ held.old) }
     ensures taken { OnErr result (is_ok concluding ≡ true) }
+    ensures let_go { IfOk result (λ e. (id : List ℕ) → group_of concluding ≡ Some id → HaveLetGo homes.new held.new id e.replies) }
 {
     let alloc = held.allocator();
     let own = group_of(&concluding)?;
@@ -273,6 +274,7 @@ pub fn meet_leave(
         (λ e. concluded (at_moment now held.old) ticket (leave now r.now ticket held.old) ≡ outcome now held.new e) }
     ensures err { OnErr result (held.new ≡ held.old) }
     ensures taken { OnErr result (is_ok (leave now r.now ticket held.old) ≡ true) }
+    ensures let_go { IfOk result (λ e. (id : List ℕ) → r.now.group ≡ Some id → HaveLetGo homes.new held.new id e.replies) }
 {
     let alloc = held.allocator();
     let concluding = leave(alloc, now, r, ticket, held)?;

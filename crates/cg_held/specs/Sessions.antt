@@ -10,6 +10,8 @@ use Rattle.cg_request.specs.declared.event.Event.{Event}
 use Rattle.cg_request.specs.declared.event.Event.TheVariants as event
 use Rattle.cg_member.specs.declared.group.Group.{Group}
 use Rattle.cg_member.specs.declared.member.Member.{Member}
+use Rattle.cg_member.specs.declared.reply.Reply.{Reply}
+use Rattle.cg_request.specs.declared.ticket.Ticket.{Ticket}
 use Rattle.cg_member.specs.declared.member.Waits.{Waits}
 use Rattle.cg_member.specs.declared.member.Waits.TheVariants.{Nothing, Join, Sync}
 use Rattle.cg_held.specs.declared.sessions.Home.{Home}
@@ -103,3 +105,7 @@ is_parked session (Some g) = gone_touches session g
 pub record HasLetGo (homes : BTreeMap ℕ (BTreeMap (List ℕ) Home)) (groups : List Group) (id : List ℕ) (session : ℕ) : Type 0 where
   pub parked : is_home homes session id ≡ true → is_parked session (find_group id groups) ≡ true
   pub filled : IsFilled (map.get nat_cmp homes session)
+
+-- the same for each session that got one of these replies
+abbrev pub HaveLetGo : BTreeMap ℕ (BTreeMap (List ℕ) Home) → List Group → List ℕ → List (Ticket × Reply) → Type 0
+HaveLetGo homes groups id replies = Each (λ r. HasLetGo homes groups id r.0.session) replies

@@ -1,10 +1,10 @@
 //! After an event: drops from the session index the groups in which no call of a session is parked any more.
-ghost use Rattle.std.specs.Prelude.{◌≡◌, ◌⊎◌, ℕ, List, true, false};
+ghost use Rattle.std.specs.Prelude.{◌≡◌, ◌⊎◌, ℕ, List, Some, true, false};
 ghost use Rattle.std.specs.List.{list_any};
 ghost use Rattle.cg_member.specs.declared.calls.Calls.TheVariants.{OfSession};
 ghost use Rattle.cg_member.specs.declared.member.Member.{Member};
 ghost use Rattle.cg_held.specs.Kept.{Each};
-ghost use Rattle.cg_held.specs.Sessions.{AreKnown, HasLetGo, IsSettled, is_certain, is_home, is_known};
+ghost use Rattle.cg_held.specs.Sessions.{AreKnown, HaveLetGo, IsSettled, is_certain, is_home, is_known};
 ghost use Rattle.cg_member.specs.Waiting.{is_waiting};
 ghost use Rattle.cg_member.specs.declared.reply.Reply.{Reply};
 ghost use Rattle.cg_request.specs.declared.ticket.Ticket.{Ticket};
@@ -66,7 +66,7 @@ fn leave_all(homes: &mut Homes, id: &GroupId, replies: &[(Ticket, Reply)])
 /// that is still parked there, and one pass over the members. No allocation.
 pub fn settle(homes: &mut Homes, held: &Held, id: &GroupId, replies: &[(Ticket, Reply)])
     ensures known { AreKnown (is_home homes.old) held.now → AreKnown (is_home homes.new) held.now }
-    ensures let_go { Each (λ (r : Ticket × Reply). HasLetGo homes.new held.now id.now r.0.session) replies.now }
+    ensures let_go { HaveLetGo homes.new held.now id.now replies.now }
 {
     doubt_all(homes, id, replies);
     match held.find(id) {
@@ -85,7 +85,8 @@ pub fn settle_named(
     id: &Option<GroupId>,
     replies: &[(Ticket, Reply)],
 )
-    ensures { AreKnown (is_home homes.old) held.now → AreKnown (is_home homes.new) held.now }
+    ensures known { AreKnown (is_home homes.old) held.now → AreKnown (is_home homes.new) held.now }
+    ensures let_go { (x : List ℕ) → id.now ≡ Some x → HaveLetGo homes.new held.now x replies.now }
 {
     if let Some(id) = id {
         settle(homes, held, id, replies);
