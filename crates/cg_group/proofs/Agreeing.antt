@@ -24,9 +24,10 @@ use Rattle.cg_request.specs.declared.request.SyncEntry.{SyncEntry}
 use Rattle.cg_request.specs.declared.ticket.Ticket.{Ticket}
 use Rattle.cg_member.specs.declared.turn.Turn.{Turn}
 use Rattle.cg_member.specs.Joining.{in_join_phase, is_inconsistent, updated, waiting, waits_with}
-use Rattle.cg_held.specs.Kept.{Kept}
+use Rattle.cg_held.specs.Kept.{HasOffset, Kept}
 use Rattle.cg_held.proofs.Kept.{kept_after}
 use Rattle.cg_group.specs.Laws.{IsRecordedAs, TellsOf}
+use Rattle.cg_member.specs.Offsets.{OffsetMap}
 use Rattle.cg_member.specs.Leaving.{after_removal, has_joined}
 use Rattle.cg_member.specs.Membership.{has_id, has_instance, heard, hearing, is_empty, is_named, is_preparing, is_same, with_member}
 use Rattle.cg_member.specs.Rebalance.{completed, completed_generation, emptied, emptied_command, is_ready, next_round, prepared, told_to_joins, tried}
@@ -51,12 +52,17 @@ Holds Empty g o = TellsOf g o
 Holds Preparing g o = is_some g.kind ≡ true
 Holds Completing g o = (is_some g.kind ≡ true) × (is_some g.protocol ≡ true) × IsCompleted g
 
--- a group that agrees with its record, after the events so far
-pub record Whole (events : List (Event × ℕ)) (g : Group) (o : Option GroupRecord) : Type 0 where
+-- a group that agrees with its record, after the events so far; where it has no type it has an offset
+pub record Whole (events : List (Event × ℕ)) (offsets : OffsetMap) (g : Group) (o : Option GroupRecord) : Type 0 where
   pub common : HasCommon g.members
   pub holds : Holds g.phase g o
   pub named : AllWaits (is_named_wait events g.id g.generation) g.members
   pub quiet : is_preparing g.phase ≡ true → AllWaits no_sync g.members
+  pub typed : g.kind ≡ None → HasOffset offsets g.id
+
+-- a type is given
+pub has_kind : {A : Type 0} (o : Option (List ℕ)) → is_some o ≡ true → o ≡ None → A
+has_kind o e n = absurd (false≢true (sym (ap is_some n) ∙ e))
 
 -- a group with a rebalance under way
 pub record Joining (g : Group) : Type 0 where
@@ -186,10 +192,10 @@ nil_from_map f (m ∷ ms) ns e h = let bad : f m ∷ map f ms ≡ [] = e ∙ ap 
 
 recorded-members : (g : Group) (ms : List Member) (r : GroupRecord) (roster : Option RosterParts) → map (kept_member g.protocol) ms ≡ map (kept_member g.protocol) g.members → IsRecordedAs r roster g → IsRecordedAs r roster (record g { members = ms })
 recorded-members g ms r (Some roster) e h = record { phase = h.phase; generation = h.generation; kind = h.kind; protocol = h.protocol; leader = h.leader; members = h.members ∙ sym e }
-recorded-members g ms r None e h = record { phase = h.phase; generation = h.generation; kind = h.kind; members = nil_from_map (kept_member g.protocol) ms g.members e h.members }
+recorded-members g ms r None e h = record { phase = h.phase; generation = h.generation; kind = h.kind; protocol = h.protocol; leader = h.leader; members = nil_from_map (kept_member g.protocol) ms g.members e h.members }
 
 told-members : (g : Group) (ms : List Member) (o : Option GroupRecord) → map (kept_member g.protocol) ms ≡ map (kept_member g.protocol) g.members → TellsOf g o → TellsOf (record g { members = ms }) o
-told-members g ms None e h = record { phase = h.phase; generation = h.generation; members = nil_from_map (kept_member g.protocol) ms g.members e h.members }
+told-members g ms None e h = record { phase = h.phase; generation = h.generation; kind = h.kind; protocol = h.protocol; leader = h.leader; members = nil_from_map (kept_member g.protocol) ms g.members e h.members }
 told-members g ms (Some r) e h = recorded-members g ms r r.roster e h
 
 holds-members : (p : Phase) (g : Group) (ms : List Member) (o : Option GroupRecord) → map (kept_member g.protocol) ms ≡ map (kept_member g.protocol) g.members → Holds p g o → Holds p (record g { members = ms }) o
@@ -199,13 +205,14 @@ holds-members Preparing g ms o e h = h
 holds-members Completing g ms o e h = h
 
 -- the group with other moments last heard and other parked calls
-pub whole-members : (events : List (Event × ℕ)) (g : Group) (ms : List Member) (o : Option GroupRecord) → map (λ m. m.protocols) ms ≡ map (λ m. m.protocols) g.members → map (kept_member g.protocol) ms ≡ map (kept_member g.protocol) g.members
-    → AllWaits (is_named_wait events g.id g.generation) ms → (is_preparing g.phase ≡ true → AllWaits no_sync ms) → Whole events g o → Whole events (record g { members = ms }) o
-whole-members events g ms o protocols kept named quiet h = record {
+pub whole-members : (events : List (Event × ℕ)) (offsets : OffsetMap) (g : Group) (ms : List Member) (o : Option GroupRecord) → map (λ m. m.protocols) ms ≡ map (λ m. m.protocols) g.members → map (kept_member g.protocol) ms ≡ map (kept_member g.protocol) g.members
+    → AllWaits (is_named_wait events g.id g.generation) ms → (is_preparing g.phase ≡ true → AllWaits no_sync ms) → Whole events offsets g o → Whole events offsets (record g { members = ms }) o
+whole-members events offsets g ms o protocols kept named quiet h = record {
   common = common-map ms g.members protocols h.common;
   holds = holds-members g.phase g ms o kept h.holds;
   named = named;
   quiet = quiet;
+  typed = h.typed;
 }
 
 empty_recorded : (g : Group) (r : GroupRecord) (roster : Option RosterParts) → g.phase ≡ Empty → IsRecordedAs r roster g → g.members ≡ []
@@ -217,23 +224,24 @@ empty_told g None p h = h.members
 empty_told g (Some r) p h = empty_recorded g r r.roster p h
 
 -- a group in Empty has no members
-pub empty_members : (events : List (Event × ℕ)) (g : Group) (o : Option GroupRecord) → Whole events g o → g.phase ≡ Empty → g.members ≡ []
-empty_members events g o h p = let P : Phase → Type 0 = λ x. Holds x g o in empty_told g o p (subst P p h.holds)
+pub empty_members : (events : List (Event × ℕ)) (offsets : OffsetMap) (g : Group) (o : Option GroupRecord) → Whole events offsets g o → g.phase ≡ Empty → g.members ≡ []
+empty_members events offsets g o h p = let P : Phase → Type 0 = λ x. Holds x g o in empty_told g o p (subst P p h.holds)
 
-pub joining_from : (events : List (Event × ℕ)) (g : Group) (o : Option GroupRecord) → Whole events g o → g.phase ≡ Preparing → Joining g
-joining_from events g o h p = let P : Phase → Type 0 = λ x. Holds x g o in record { phase = p; kind = subst P p h.holds; common = h.common; quiet = h.quiet (is_preparing_from g.phase p) }
+pub joining_from : (events : List (Event × ℕ)) (offsets : OffsetMap) (g : Group) (o : Option GroupRecord) → Whole events offsets g o → g.phase ≡ Preparing → Joining g
+joining_from events offsets g o h p = let P : Phase → Type 0 = λ x. Holds x g o in record { phase = p; kind = subst P p h.holds; common = h.common; quiet = h.quiet (is_preparing_from g.phase p) }
 
-whole_joining : (events : List (Event × ℕ)) (g : Group) (o : Option GroupRecord) → Joining g → Whole events g o
-whole_joining events g o j = let P : Phase → Type 0 = λ x. Holds x g o in record {
+whole_joining : (events : List (Event × ℕ)) (offsets : OffsetMap) (g : Group) (o : Option GroupRecord) → Joining g → Whole events offsets g o
+whole_joining events offsets g o j = let P : Phase → Type 0 = λ x. Holds x g o in record {
   common = j.common;
   holds = subst P (sym j.phase) j.kind;
   named = all-named events g.id g.generation g.members j.quiet;
   quiet = λ _. j.quiet;
+  typed = has_kind g.kind j.kind;
 }
 
-emptied_tells : (g : Group) (kept : Kept) (id : List ℕ) → g.id ≡ id → g.phase ≡ Empty → g.members ≡ [] → is_some g.kind ≡ true → IsCompleted g → TellsOf g (kept_after kept (emptied_command g) id)
+emptied_tells : (g : Group) (kept : Kept) (id : List ℕ) → g.id ≡ id → g.phase ≡ Empty → g.protocol ≡ None → g.leader ≡ None → g.members ≡ [] → is_some g.kind ≡ true → IsCompleted g → TellsOf g (kept_after kept (emptied_command g) id)
 unfolding emptied_command
-emptied_tells g kept id named phase members kind completed =
+emptied_tells g kept id named phase protocol leader members kind completed =
     let P : Option ℕ → Type 0 = λ n. TellsOf g (kept_after kept (option_to_list (option_and_then (λ generation. option_map (λ kind. command.Emptied (record { group = g.id; generation = generation; kind = kind })) g.kind) n)) id) in
     subst P (sym completed) (go g.kind refl kind)
   where
@@ -241,7 +249,7 @@ emptied_tells g kept id named phase members kind completed =
     go None e h = absurd (false≢true h)
     go (Some k) e h =
         let P : Option GroupRecord → Type 0 = λ o. TellsOf g o in
-        subst P (sym (kept_after-one kept (command.Emptied (record { group = g.id; generation = g.generation; kind = k })) id named)) (record { phase = phase; generation = refl; kind = e; members = members })
+        subst P (sym (kept_after-one kept (command.Emptied (record { group = g.id; generation = g.generation; kind = k })) id named)) (record { phase = phase; generation = refl; kind = e; protocol = protocol; leader = leader; members = members })
 
 pub assigned_tells : (g : Group) (kept : Kept) (id : List ℕ) → g.id ≡ id → g.phase ≡ Stable → is_some g.kind ≡ true → is_some g.protocol ≡ true → is_some g.leader ≡ true → IsCompleted g → TellsOf g (kept_after kept (assigned_command g) id)
 unfolding assigned_command
@@ -270,10 +278,10 @@ empty_is (m ∷ ms) e = cc
 
 -- stages
 
-module _ (events : List (Event × ℕ)) (kept : Kept) (id : List ℕ) where
+module _ (events : List (Event × ℕ)) (offsets : OffsetMap) (kept : Kept) (id : List ℕ) where
   -- the fact after a step in the group with this id
   abbrev pub After : Turn → Type 0
-  After t = Whole events t.group (kept_after kept t.commands id)
+  After t = Whole events offsets t.group (kept_after kept t.commands id)
 
   after-emptied : (t : Turn) → t.group.id ≡ id → is_empty t.group.members ≡ true → Joining t.group → After (emptied t)
   unfolding emptied
@@ -282,9 +290,10 @@ module _ (events : List (Event × ℕ)) (kept : Kept) (id : List ℕ) where
       let P : Kept → Type 0 = λ k. TellsOf g (k id) in
       record {
         common = j.common;
-        holds = subst P (sym (kept_after-append kept t.commands (emptied_command g))) (emptied_tells g (kept_after kept t.commands) id named refl (empty_is t.group.members empty) j.kind (next_is_completed t.group.generation));
+        holds = subst P (sym (kept_after-append kept t.commands (emptied_command g))) (emptied_tells g (kept_after kept t.commands) id named refl refl refl (empty_is t.group.members empty) j.kind (next_is_completed t.group.generation));
         named = all-named events g.id g.generation t.group.members j.quiet;
         quiet = λ e. absurd (false≢true e);
+        typed = has_kind g.kind j.kind;
       }
 
   after-round : (now : ℕ) (t : Turn) → is_empty t.group.members ≡ false → Joining t.group → After (told_to_joins now (record t { group = next_round t.group }))
@@ -294,6 +303,7 @@ module _ (events : List (Event × ℕ)) (kept : Kept) (id : List ℕ) where
     holds = (j.kind, elected_is t.group.members j.common filled, next_is_completed t.group.generation);
     named = all-named events (next_round t.group).id (next_round t.group).generation (after_answers Joins now t.group.members) (waits-after_answers no_sync (λ _. refl) Joins now t.group.members j.quiet);
     quiet = λ e. absurd (false≢true e);
+    typed = has_kind t.group.kind j.kind;
   }
 
   pub after-completed : (now : ℕ) (t : Turn) → t.group.id ≡ id → Joining t.group → After (completed now t)
@@ -306,14 +316,14 @@ module _ (events : List (Event × ℕ)) (kept : Kept) (id : List ℕ) where
 
   pub after-tried : (now : ℕ) (t : Turn) → t.group.id ≡ id → Joining t.group → After (tried now t)
   unfolding tried
-  after-tried now t named j = elim (is_ready t.group) as (λ b. After (if b then completed now t else t)) [ true ↦ after-completed now t named j | false ↦ whole_joining events t.group (kept_after kept t.commands id) j ]
+  after-tried now t named j = elim (is_ready t.group) as (λ b. After (if b then completed now t else t)) [ true ↦ after-completed now t named j | false ↦ whole_joining events offsets t.group (kept_after kept t.commands id) j ]
 
   pub after-ended : (now : ℕ) (t : Turn) → t.group.id ≡ id → Joining t.group → After (ended now t)
   unfolding ended
   after-ended now t named j =
       elim (can_complete t.group.members) as (λ b. After (if b then completed now t else record t { group = record t.group { started = now } })) [
         | true ↦ after-completed now t named j
-        | false ↦ whole_joining events (record t.group { started = now }) (kept_after kept t.commands id) (record { phase = j.phase; kind = j.kind; common = j.common; quiet = j.quiet })
+        | false ↦ whole_joining events offsets (record t.group { started = now }) (kept_after kept t.commands id) (record { phase = j.phase; kind = j.kind; common = j.common; quiet = j.quiet })
       ]
 
   joining-prepared : (now : ℕ) (t : Turn) → is_some t.group.kind ≡ true → HasCommon t.group.members → Joining (prepared now t).group
@@ -341,10 +351,10 @@ module _ (events : List (Event × ℕ)) (kept : Kept) (id : List ℕ) where
     quiet = waits-with_member no_sync own (waits_with now (Join ticket)) (λ m _ _. refl) t.group.members j.quiet;
   }
 
-  pub after-hearing : (now : ℕ) (own : List ℕ) (g : Group) → Whole events g (kept id) → Whole events (hearing now own g) (kept id)
+  pub after-hearing : (now : ℕ) (own : List ℕ) (g : Group) → Whole events offsets g (kept id) → Whole events offsets (hearing now own g) (kept id)
   unfolding hearing
   after-hearing now own g h =
-      whole-members events g (with_member own (heard now) g.members) (kept id)
+      whole-members events offsets g (with_member own (heard now) g.members) (kept id)
       (map-with_member (λ m. m.protocols) own (heard now) (λ m. refl) g.members)
       (map-with_member (kept_member g.protocol) own (heard now) (λ m. refl) g.members)
       (waits-with_member (is_named_wait events g.id g.generation) own (heard now) (λ m _ e. e) g.members h.named)
@@ -353,7 +363,7 @@ module _ (events : List (Event × ℕ)) (kept : Kept) (id : List ℕ) where
   after-told_to_syncs : (now : ℕ) (t : Turn) → After t → After (told_to_syncs now t)
   unfolding told_to_syncs
   after-told_to_syncs now t h =
-      whole-members events t.group (after_answers Syncs now t.group.members) (kept_after kept t.commands id)
+      whole-members events offsets t.group (after_answers Syncs now t.group.members) (kept_after kept t.commands id)
       (keep-after_answers (λ m. m.protocols) lasting_protocols Syncs now t.group.members)
       (keep-after_answers (kept_member t.group.protocol) (lasting_kept t.group.protocol) Syncs now t.group.members)
       (waits-after_answers (is_named_wait events t.group.id t.group.generation) (λ _. refl) Syncs now t.group.members h.named)
@@ -369,6 +379,7 @@ module _ (events : List (Event × ℕ)) (kept : Kept) (id : List ℕ) where
         holds = subst P (sym (kept_after-append kept t.commands (assigned_command g))) (assigned_tells g (kept_after kept t.commands) id named refl kind protocol leader completed);
         named = waits-assigned (is_named_wait events t.group.id t.group.generation) entries t.group.members waits;
         quiet = λ e. absurd (false≢true e);
+        typed = has_kind t.group.kind kind;
       })
 
   id-prepared : (now : ℕ) (t : Turn) → (prepared now t).group.id ≡ t.group.id

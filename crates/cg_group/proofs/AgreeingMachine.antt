@@ -1,15 +1,17 @@
 -- Machine and commands agree after each event, and so after every list of events.
-use Rattle.std.proofs.Common.{◌≡◌, ℕ, Bool, true, false, ◌&&◌, ◌||◌, List, [], ◌∷◌, ◌++◌, append_assoc, append-nil, map, cond, is_some, refl, sym, ap, ◌∙◌, subst, max, nat_eq, Option, Some, None}
+use Rattle.std.proofs.Common.{◌≡◌, ◌≤◌, ℕ, arith, length, inl, inr, Result, Ok, Err, Bool, true, false, ◌&&◌, ◌||◌, List, [], ◌∷◌, ◌++◌, append_assoc, append-nil, map, cond, is_some, refl, sym, ap, ◌∙◌, subst, max, nat_eq, Option, Some, None}
 use Rattle.std.specs.List.{list_any}
 use Rattle.std.proofs.lemmas.Bool.{and_from, or_left, or_right, false≢true}
 use Rattle.std.proofs.lemmas.Cmp.{nat_eq_equiv}
 use Rattle.std.proofs.lemmas.List.Folds.{list_any-append}
-use Rattle.std.specs.Prelude.{pos, unwrap_or, option_map}
+use Rattle.std.specs.Prelude.{◌⊎◌, IfSome, pos, unwrap_or, option_map}
 use Rattle.cg_request.specs.declared.protocol.Protocol.{Protocol}
 use Rattle.std.specs.Ordering.{int_eq}
 use Rattle.std.specs.FinMap as finmap
 use Rattle.cg_record.specs.declared.member.Member.{Member as KeptMember}
+use Rattle.cg_names.specs.declared.code.Code.{Code}
 use Rattle.cg_record.specs.declared.command.Command.{Command}
+use Rattle.cg_record.specs.declared.command.Command.TheVariants as command
 use Rattle.cg_request.specs.declared.event.Event.{Event}
 use Rattle.cg_request.specs.declared.event.Event.TheVariants as event
 use Rattle.cg_fold.specs.declared.record.GroupRecord.{GroupRecord}
@@ -21,35 +23,47 @@ use Rattle.cg_member.specs.declared.member.Waits.TheVariants.{Nothing, Join, Syn
 use Rattle.cg_request.specs.declared.request.SyncRequest.{SyncRequest}
 use Rattle.cg_request.specs.declared.ticket.Ticket.{Ticket}
 use Rattle.cg_member.specs.Joining.{new_group}
-use Rattle.cg_held.specs.Kept.{Each, Kept, kept_in}
+use Rattle.cg_held.specs.Kept.{Each, HasOffset, Kept, kept_in}
 use Rattle.cg_held.proofs.Kept.{kept-after, kept_after}
-use Rattle.cg_group.specs.Laws.{AgreesIn, AreRequests, IsRecordedAs, MachineAndCommandsAgree, after_all, commands_of, has_named, is_request, is_same_ticket, is_sync_of, state_after}
+use Rattle.cg_group.specs.Laws.{AgreesIn, AreCompleted, AreRequests, IsFounded, IsFresh, IsRebalancing, IsRecordedAs, MachineAndCommandsAgree, TellsOf, after_all, commands_of, has_named, is_request, is_same_ticket, is_sync_of, state_after}
 use Rattle.cg_member.specs.Leaving.{gone_in}
-use Rattle.cg_group.specs.Machine.{beat, commit, deleting, join, leave, met, step, sync}
-use Rattle.cg_held.specs.Held.{Machine, find_group}
+use Rattle.cg_group.specs.Machine.{beat, commit, concluded, deleted, deleting, join, leave, met, step, sync}
+use Rattle.cg_held.specs.Held.{Machine, everywhere, find_group}
+use Rattle.cg_member.specs.declared.turn.Turn.{Turn}
+use Rattle.cg_member.specs.Offsets.{OffsetMap, offsets_after}
 use Rattle.cg_member.specs.Membership.{is_empty, is_named, is_same}
 use Rattle.cg_member.specs.Rebalance.{subscription_for}
 use Rattle.cg_held.specs.Reviving.{revive, revived, revived_from, revived_member, revived_with}
 use Rattle.cg_fold.specs.Durable.{State}
 use Rattle.cg_fold.specs.Snapshot.{groups_in, in_order}
 use Rattle.cg_record.specs.Rosters.{RosterParts}
-use Rattle.cg_held.proofs.Revived.{held_revived, id_revived, in_order-revived}
+use Rattle.cg_held.proofs.Removing.{each-without-over}
+use Rattle.cg_held.proofs.Revived.{held_revived, id_revived, in_order-revived, offsets_revived}
 use Rattle.cg_member.specs.Syncing.{kept_member}
 use Rattle.cg_member.specs.Ticking.{ticked}
 use Rattle.cg_member.specs.Vote.{is_common}
-use Rattle.cg_group.proofs.Agreeing.{Holds, Whole, kind_holds, suits_consistent, suits_empty}
+use Rattle.cg_group.proofs.Agreeing.{Holds, Whole, has_kind, kind_holds, suits_consistent, suits_empty}
 use Rattle.cg_group.proofs.AgreeingTurns.{after-beat_taken, after-committed, after-gone_in, after-join_known, after-join_new, after-join_replacing, after-leave_taken, after-sync_taken, after-ticked}
 use Rattle.cg_group.proofs.Calling.{AllWaits, is_named_wait, no_sync}
 use Rattle.cg_held.proofs.Framed.{framed-beat_taken, framed-committed, framed-gone_in, framed-join_known, framed-join_new, framed-join_replacing, framed-leave_taken, framed-sync_taken, framed-ticked}
 use Rattle.cg_held.proofs.KeptLists.{each-found, id-found, kept_after-append, kept_after-none, same_self}
-use Rattle.cg_group.proofs.Covering.{covered-after_all, covered-revive, offsets-after_all, offsets-revive}
-use Rattle.cg_group.proofs.KeptMachine.{Fits, Invariant, each-over, fits_framed, invariant-concluded, invariant-deleted, invariant-everywhere}
-use Rattle.cg_group.proofs.Requests.{fine-beat, fine-commit, fine-join, fine-leave, fine-sync}
+use Rattle.cg_group.proofs.Covering.{covered-after_all, covered-revive, offsets-after_all, offsets-revive, offsets-step}
+use Rattle.cg_group.proofs.Dated.{completed-after}
+use Rattle.cg_group.proofs.Founded.{Stores, has-deleted, others-concluded, own-concluded, stores-commit}
+use Rattle.cg_group.proofs.OffsetsKept.{AreQuiet, quiet-offsets}
+use Rattle.cg_group.proofs.Quiet.{quiet-all, quiet-beat, quiet-concluded, quiet-gone_in, quiet-join, quiet-leave, quiet-sync, quiet-ticked}
+use Rattle.cg_group.proofs.KeptMachine.{Fits, Invariant, each-over, fits_framed, invariant-concluded, invariant-deleted, invariant-everywhere, kept-undeleted}
+use Rattle.cg_group.proofs.Requests.{Fine, fine-beat, fine-commit, fine-join, fine-leave, fine-sync}
 use Rattle.std.proofs.lemmas.Cmp.{nat_list_eq_equiv}
 
 -- the machine agrees with the records, after these events
 abbrev pub WholeMachine : List (Event × ℕ) → Machine → Kept → Type 0
-WholeMachine events s kept = Invariant (Whole events) s.groups kept
+WholeMachine events s kept = Invariant (Whole events s.offsets) s.groups kept
+
+-- a list that is not empty
+pub some_listed : {X : Type 0} (xs : List X) → 1 ≤ length xs → list_any (λ x. true) xs ≡ true
+some_listed [] h = absurd (omega arith)
+some_listed (x ∷ xs) h = refl
 
 -- one more event
 
@@ -59,18 +73,29 @@ named_more events e group generation id (Join t) h = refl
 named_more events e group generation id (Sync t) h =
     list_any-append (λ x. is_sync_of group generation id t x.0) events (e ∷ []) ∙ or_left (has_named events group generation id t) (list_any (λ x. is_sync_of group generation id t x.0) (e ∷ [])) h
 
-whole_more : (events : List (Event × ℕ)) (e : Event × ℕ) (g : Group) (o : Option GroupRecord) → Whole events g o → Whole (events ++ e ∷ []) g o
-whole_more events e g o h = record {
+whole_more : (events : List (Event × ℕ)) (e : Event × ℕ) (offsets : OffsetMap) (g : Group) (o : Option GroupRecord) → Whole events offsets g o → Whole (events ++ e ∷ []) offsets g o
+whole_more events e offsets g o h = record {
   common = h.common;
   holds = h.holds;
   named = each-over (λ m. is_named_wait events g.id g.generation m.id m.waits ≡ true) (λ m. is_named_wait (events ++ e ∷ []) g.id g.generation m.id m.waits ≡ true) (λ m k. named_more events e g.id g.generation m.id m.waits k) g.members h.named;
   quiet = h.quiet;
+  typed = h.typed;
+}
+
+-- the group under other offsets, of which it has one if it had one before
+whole_under : (events : List (Event × ℕ)) (old new : OffsetMap) (g : Group) (o : Option GroupRecord) → (HasOffset old g.id → HasOffset new g.id) → Whole events old g o → Whole events new g o
+whole_under events old new g o over h = record {
+  common = h.common;
+  holds = h.holds;
+  named = h.named;
+  quiet = h.quiet;
+  typed = λ e. over (h.typed e);
 }
 
 pub machine_more : (events : List (Event × ℕ)) (e : Event × ℕ) (s : Machine) (kept : Kept) → WholeMachine events s kept → WholeMachine (events ++ e ∷ []) s kept
 machine_more events e s kept v = record {
   ascending = v.ascending;
-  each = each-over (λ g. Whole events g (kept g.id)) (λ g. Whole (events ++ e ∷ []) g (kept g.id)) (λ g h. whole_more events e g (kept g.id) h) s.groups v.each;
+  each = each-over (λ g. Whole events s.offsets g (kept g.id)) (λ g. Whole (events ++ e ∷ []) s.offsets g (kept g.id)) (λ g h. whole_more events e s.offsets g (kept g.id) h) s.groups v.each;
   held = v.held;
 }
 
@@ -116,68 +141,155 @@ id_new id = refl
 unkept : (kept : Kept) (groups : List Group) (id : List ℕ) → find_group id groups ≡ None → ((i : List ℕ) → is_some (kept i) ≡ true → is_some (find_group i groups) ≡ true) → kept (new_group id).id ≡ None
 unkept kept groups id none held = ap kept (id_new id) ∙ nothing (kept id) (λ e. false≢true (sym (ap is_some none) ∙ held id e))
 
-whole_new : (events : List (Event × ℕ)) (id : List ℕ) → Whole events (new_group id) None
+whole_new : (events : List (Event × ℕ)) (offsets : OffsetMap) (id : List ℕ) → HasOffset offsets id → Whole events offsets (new_group id) None
 unfolding new_group is_common
-whole_new events id = record { common = ([], refl); holds = record { phase = refl; generation = refl; members = refl }; named = tt; quiet = λ e. absurd (false≢true e) }
+whole_new events offsets id has = record {
+  common = ([], refl);
+  holds = record { phase = refl; generation = refl; kind = refl; protocol = refl; leader = refl; members = refl };
+  named = tt;
+  quiet = λ e. absurd (false≢true e);
+  typed = λ _. has;
+}
 
-module _ (events : List (Event × ℕ)) (kept : Kept) where
-  pub whole-met : (s : Machine) (e : Event) → is_request e ≡ true → WasMet events e → WholeMachine events s kept → WholeMachine events (met s e).after (kept_after kept (met s e).effects.commands)
+-- what a step gives under a premise that the step has
+fine-under : (P Q : Turn → Type 0) (o : Result Turn Code) → Fine P o → Fine (λ t. P t → Q t) o → Fine Q o
+fine-under P Q (Ok t) p h = h p
+fine-under P Q (Err code) p h = tt
+
+-- a commit that is taken leaves an offset of its group
+abbrev StoresIn : OffsetMap → Machine → Event → Type 0
+StoresIn offsets s (event.Commit ticket r) = Fine (λ t. HasOffset offsets t.group.id) (commit s.last r ticket s.groups)
+StoresIn offsets s (event.Join ticket r fresh) = Unit {0}
+StoresIn offsets s (event.Sync ticket r) = Unit {0}
+StoresIn offsets s (event.Beat ticket r) = Unit {0}
+StoresIn offsets s (event.Leave ticket r) = Unit {0}
+StoresIn offsets s (event.Fetch ticket r) = Unit {0}
+StoresIn offsets s (event.Delete ticket id) = Unit {0}
+StoresIn offsets s (event.Describe ticket id) = Unit {0}
+StoresIn offsets s (event.List ticket) = Unit {0}
+StoresIn offsets s (event.Gone session) = Unit {0}
+StoresIn offsets s event.Tick = Unit {0}
+
+module _ (events : List (Event × ℕ)) (offsets : OffsetMap) (kept : Kept) where
+  whole-met : (s : Machine) (e : Event) → is_request e ≡ true → WasMet events e → StoresIn offsets s e → Invariant (Whole events offsets) s.groups kept → Invariant (Whole events offsets) (met s e).after.groups (kept_after kept (met s e).effects.commands)
   unfolding met
-  whole-met s (event.Join ticket r fresh) asked seen v =
-      invariant-concluded (Whole events) s kept ticket (join s.last r fresh ticket s.groups)
-      (fine-join (Fits (Whole events) kept) s.last r fresh ticket s.groups
-      (λ id new _ _. fits_framed (Whole events) kept (new_group id).id _ (framed-join_new s.last r new ticket (new_group id))
-      (after-join_new events kept s.last r new ticket (new_group id) (suits_empty r (new_group id).members asked (none_in_new id)) (λ e. absurd (false≢true (sym e ∙ none_in_new id))) (λ _. quiet_in_new id)))
+  whole-met s (event.Join ticket r fresh) asked seen stored v =
+      invariant-concluded (Whole events offsets) s kept ticket (join s.last r fresh ticket s.groups)
+      (fine-join (Fits (Whole events offsets) kept) s.last r fresh ticket s.groups
+      (λ id new _ _. fits_framed (Whole events offsets) kept (new_group id).id _ (framed-join_new s.last r new ticket (new_group id))
+      (after-join_new events offsets kept s.last r new ticket (new_group id) (suits_empty r (new_group id).members asked (none_in_new id)) (λ e. absurd (false≢true (sym e ∙ none_in_new id))) (λ _. quiet_in_new id)))
       (λ id new g _ e _ _ fits.
-      let h : Whole events g (kept g.id) = each-found (λ k. Whole events k (kept k.id)) id s.groups g e v.each in
-      fits_framed (Whole events) kept g.id _ (framed-join_new s.last r new ticket g)
-      (after-join_new events kept s.last r new ticket g (suits_consistent r g asked fits) (λ filled. kind_holds g.phase g (kept g.id) filled h.holds) h.quiet))
+      let h : Whole events offsets g (kept g.id) = each-found (λ k. Whole events offsets k (kept k.id)) id s.groups g e v.each in
+      fits_framed (Whole events offsets) kept g.id _ (framed-join_new s.last r new ticket g)
+      (after-join_new events offsets kept s.last r new ticket g (suits_consistent r g asked fits) (λ filled. kind_holds g.phase g (kept g.id) filled h.holds) h.quiet))
       (λ id new g old _ e free found fits.
-      let h : Whole events g (kept g.id) = each-found (λ k. Whole events k (kept k.id)) id s.groups g e v.each in
-      fits_framed (Whole events) kept g.id _ (framed-join_replacing s.last r new ticket old g)
-      (after-join_replacing events kept s.last r new ticket old g free found (suits_consistent r g asked fits) h))
+      let h : Whole events offsets g (kept g.id) = each-found (λ k. Whole events offsets k (kept k.id)) id s.groups g e v.each in
+      fits_framed (Whole events offsets) kept g.id _ (framed-join_replacing s.last r new ticket old g)
+      (after-join_replacing events offsets kept s.last r new ticket old g free found (suits_consistent r g asked fits) h))
       (λ id own g m _ e found fits.
-      let h : Whole events g (kept g.id) = each-found (λ k. Whole events k (kept k.id)) id s.groups g e v.each in
-      fits_framed (Whole events) kept g.id _ (framed-join_known s.last r own ticket m g)
-      (after-join_known events kept s.last r own ticket m g found (suits_consistent r g asked fits) h))) v
-  whole-met s (event.Sync ticket r) asked seen v =
-      invariant-concluded (Whole events) s kept ticket (sync s.last r ticket s.groups)
-      (fine-sync (Fits (Whole events) kept) s.last r ticket s.groups
+      let h : Whole events offsets g (kept g.id) = each-found (λ k. Whole events offsets k (kept k.id)) id s.groups g e v.each in
+      fits_framed (Whole events offsets) kept g.id _ (framed-join_known s.last r own ticket m g)
+      (after-join_known events offsets kept s.last r own ticket m g found (suits_consistent r g asked fits) h))) v
+  whole-met s (event.Sync ticket r) asked seen stored v =
+      invariant-concluded (Whole events offsets) s kept ticket (sync s.last r ticket s.groups)
+      (fine-sync (Fits (Whole events offsets) kept) s.last r ticket s.groups
       (λ id own g m grouped e given _ dated _.
-      let h : Whole events g (kept g.id) = each-found (λ k. Whole events k (kept k.id)) id s.groups g e v.each in
-      fits_framed (Whole events) kept g.id _ (framed-sync_taken s.last r own ticket m g g.phase)
-      (after-sync_taken events kept s.last r own ticket m g g.phase refl (seen g.id g.generation own ticket (sync_named r ticket id own g grouped (id-found id s.groups g e) given dated)) h))) v
-  whole-met s (event.Beat ticket r) asked seen v =
-      invariant-concluded (Whole events) s kept ticket (beat s.last r ticket s.groups)
-      (fine-beat (Fits (Whole events) kept) s.last r ticket s.groups
-      (λ id own g e. fits_framed (Whole events) kept g.id _ (framed-beat_taken s.last own ticket g) (after-beat_taken events kept s.last own ticket g (each-found (λ k. Whole events k (kept k.id)) id s.groups g e v.each)))) v
-  whole-met s (event.Leave ticket r) asked seen v =
-      invariant-concluded (Whole events) s kept ticket (leave s.last r ticket s.groups)
-      (fine-leave (Fits (Whole events) kept) s.last r ticket s.groups
-      (λ id g m e filled. fits_framed (Whole events) kept g.id _ (framed-leave_taken s.last m.id ticket m g) (after-leave_taken events kept s.last m.id ticket m g filled (each-found (λ k. Whole events k (kept k.id)) id s.groups g e v.each)))) v
-  whole-met s (event.Commit ticket r) asked seen v =
-      invariant-concluded (Whole events) s kept ticket (commit s.last r ticket s.groups)
-      (fine-commit (Fits (Whole events) kept) s.last r ticket s.groups
-      (λ id none.
+      let h : Whole events offsets g (kept g.id) = each-found (λ k. Whole events offsets k (kept k.id)) id s.groups g e v.each in
+      fits_framed (Whole events offsets) kept g.id _ (framed-sync_taken s.last r own ticket m g g.phase)
+      (after-sync_taken events offsets kept s.last r own ticket m g g.phase refl (seen g.id g.generation own ticket (sync_named r ticket id own g grouped (id-found id s.groups g e) given dated)) h))) v
+  whole-met s (event.Beat ticket r) asked seen stored v =
+      invariant-concluded (Whole events offsets) s kept ticket (beat s.last r ticket s.groups)
+      (fine-beat (Fits (Whole events offsets) kept) s.last r ticket s.groups
+      (λ id own g e. fits_framed (Whole events offsets) kept g.id _ (framed-beat_taken s.last own ticket g) (after-beat_taken events offsets kept s.last own ticket g (each-found (λ k. Whole events offsets k (kept k.id)) id s.groups g e v.each)))) v
+  whole-met s (event.Leave ticket r) asked seen stored v =
+      invariant-concluded (Whole events offsets) s kept ticket (leave s.last r ticket s.groups)
+      (fine-leave (Fits (Whole events offsets) kept) s.last r ticket s.groups
+      (λ id g m e filled. fits_framed (Whole events offsets) kept g.id _ (framed-leave_taken s.last m.id ticket m g) (after-leave_taken events offsets kept s.last m.id ticket m g filled (each-found (λ k. Whole events offsets k (kept k.id)) id s.groups g e v.each)))) v
+  whole-met s (event.Commit ticket r) asked seen stored v =
+      invariant-concluded (Whole events offsets) s kept ticket (commit s.last r ticket s.groups)
+      (fine-under (λ t. HasOffset offsets t.group.id) (Fits (Whole events offsets) kept) (commit s.last r ticket s.groups) stored
+      (fine-commit (λ t. HasOffset offsets t.group.id → Fits (Whole events offsets) kept t) s.last r ticket s.groups
+      (λ id none has.
+      let framed = framed-committed s.last r.entries ticket None (new_group id) in
+      let H : List ℕ → Type 0 = λ i. HasOffset offsets i in
       let gone : kept (new_group id).id ≡ None = unkept kept s.groups id none v.held in
-      let P : Option GroupRecord → Type 0 = λ o. Whole events (new_group id) o in
-      fits_framed (Whole events) kept (new_group id).id _ (framed-committed s.last r.entries ticket None (new_group id))
-      (after-committed events kept s.last r.entries ticket None (new_group id) (subst P (sym gone) (whole_new events id))))
-      (λ id g who e _. fits_framed (Whole events) kept g.id _ (framed-committed s.last r.entries ticket who g)
-      (after-committed events kept s.last r.entries ticket who g (each-found (λ k. Whole events k (kept k.id)) id s.groups g e v.each)))) v
-  whole-met s (event.Fetch ticket r) asked seen v = let P : Kept → Type 0 = λ k. WholeMachine events s k in subst P (sym (kept_after-none kept)) v
-  whole-met s (event.Delete ticket id) asked seen v = invariant-deleted (Whole events) s kept ticket (deleting id s.groups) v
-  whole-met s (event.Describe ticket id) asked seen v = let P : Kept → Type 0 = λ k. WholeMachine events s k in subst P (sym (kept_after-none kept)) v
-  whole-met s (event.List ticket) asked seen v = let P : Kept → Type 0 = λ k. WholeMachine events s k in subst P (sym (kept_after-none kept)) v
-  whole-met s (event.Gone session) asked seen v =
-      invariant-everywhere (Whole events) (gone_in s.last session) (framed-gone_in s.last session) (λ g k h. after-gone_in events k s.last session g h) s kept v
-  whole-met s event.Tick asked seen v =
-      invariant-everywhere (Whole events) (ticked s.last) (framed-ticked s.last) (λ g k h. after-ticked events k s.last g h) s kept v
+      let P : Option GroupRecord → Type 0 = λ o. Whole events offsets (new_group id) o in
+      fits_framed (Whole events offsets) kept (new_group id).id _ framed
+      (after-committed events offsets kept s.last r.entries ticket None (new_group id) (subst P (sym gone) (whole_new events offsets id (subst H (framed.0 ∙ id_new id) has)))))
+      (λ id g who e _ _. fits_framed (Whole events offsets) kept g.id _ (framed-committed s.last r.entries ticket who g)
+      (after-committed events offsets kept s.last r.entries ticket who g (each-found (λ k. Whole events offsets k (kept k.id)) id s.groups g e v.each))))) v
+  whole-met s (event.Fetch ticket r) asked seen stored v = let P : Kept → Type 0 = λ k. Invariant (Whole events offsets) s.groups k in subst P (sym (kept_after-none kept)) v
+  whole-met s (event.Delete ticket id) asked seen stored v = invariant-deleted (Whole events offsets) s kept ticket (deleting id s.groups) v
+  whole-met s (event.Describe ticket id) asked seen stored v = let P : Kept → Type 0 = λ k. Invariant (Whole events offsets) s.groups k in subst P (sym (kept_after-none kept)) v
+  whole-met s (event.List ticket) asked seen stored v = let P : Kept → Type 0 = λ k. Invariant (Whole events offsets) s.groups k in subst P (sym (kept_after-none kept)) v
+  whole-met s (event.Gone session) asked seen stored v =
+      invariant-everywhere (Whole events offsets) (gone_in s.last session) (framed-gone_in s.last session) (λ g k h. after-gone_in events offsets k s.last session g h) s kept v
+  whole-met s event.Tick asked seen stored v =
+      invariant-everywhere (Whole events offsets) (ticked s.last) (framed-ticked s.last) (λ g k h. after-ticked events offsets k s.last g h) s kept v
+
+whole-deleted : (events : List (Event × ℕ)) (kept : Kept) (s : Machine) (ticket : Ticket) (o : Result (List ℕ) Code) → WholeMachine events s kept
+    → Invariant (Whole events (offsets_after s.offsets (deleted s ticket o).effects.commands)) (deleted s ticket o).after.groups (kept_after kept (deleted s ticket o).effects.commands)
+unfolding deleted
+whole-deleted events kept s ticket (Err code) v = let P : Kept → Type 0 = λ k. Invariant (Whole events s.offsets) s.groups k in subst P (sym (kept_after-none kept)) v
+whole-deleted events kept s ticket (Ok id) v =
+    let cs : List Command = command.Deleted (record { group = id }) ∷ [] in
+    let new : OffsetMap = offsets_after s.offsets cs in
+    let w = invariant-deleted (Whole events s.offsets) s kept ticket (Ok id) v in
+    record {
+      ascending = w.ascending;
+      each = each-without-over (λ g. Whole events s.offsets g (kept g.id)) (λ g. Whole events new g (kept_after kept cs g.id)) id s.groups
+          (λ g d h.
+          let P : Option GroupRecord → Type 0 = λ o. Whole events new g o in
+          subst P (sym (kept-undeleted (Whole events s.offsets) kept id g.id d)) (whole_under events s.offsets new g (kept g.id) (has-deleted s.offsets id g.id d) h)) v.ascending v.each;
+      held = w.held;
+    }
+
+-- the machine under the offsets after the event
+whole-quiet : (events : List (Event × ℕ)) (s : Machine) (e : Event) (kept : Kept) → AreQuiet (met s e).effects.commands → Invariant (Whole events s.offsets) (met s e).after.groups (kept_after kept (met s e).effects.commands)
+    → Invariant (Whole events (offsets_after s.offsets (met s e).effects.commands)) (met s e).after.groups (kept_after kept (met s e).effects.commands)
+whole-quiet events s e kept quiet v =
+    let P : OffsetMap → Type 0 = λ o. Invariant (Whole events o) (met s e).after.groups (kept_after kept (met s e).effects.commands) in
+    subst P (sym (quiet-offsets s.offsets (met s e).effects.commands quiet)) v
+
+whole-moved : (events : List (Event × ℕ)) (kept : Kept) (s : Machine) (e : Event) → is_request e ≡ true → WasMet events e → WholeMachine events s kept
+    → Invariant (Whole events (offsets_after s.offsets (met s e).effects.commands)) (met s e).after.groups (kept_after kept (met s e).effects.commands)
+unfolding met everywhere
+whole-moved events kept s (event.Join ticket r fresh) asked seen v =
+    whole-quiet events s (event.Join ticket r fresh) kept (quiet-concluded s ticket (join s.last r fresh ticket s.groups) (quiet-join s.last r fresh ticket s.groups)) (whole-met events s.offsets kept s (event.Join ticket r fresh) asked seen tt v)
+whole-moved events kept s (event.Sync ticket r) asked seen v =
+    whole-quiet events s (event.Sync ticket r) kept (quiet-concluded s ticket (sync s.last r ticket s.groups) (quiet-sync s.last r ticket s.groups)) (whole-met events s.offsets kept s (event.Sync ticket r) asked seen tt v)
+whole-moved events kept s (event.Beat ticket r) asked seen v =
+    whole-quiet events s (event.Beat ticket r) kept (quiet-concluded s ticket (beat s.last r ticket s.groups) (quiet-beat s.last r ticket s.groups)) (whole-met events s.offsets kept s (event.Beat ticket r) asked seen tt v)
+whole-moved events kept s (event.Leave ticket r) asked seen v =
+    whole-quiet events s (event.Leave ticket r) kept (quiet-concluded s ticket (leave s.last r ticket s.groups) (quiet-leave s.last r ticket s.groups)) (whole-met events s.offsets kept s (event.Leave ticket r) asked seen tt v)
+whole-moved events kept s (event.Commit ticket r) asked seen v =
+    let o : Result Turn Code = commit s.last r ticket s.groups in
+    let stores : Fine (Stores s.offsets) o = stores-commit s.last r ticket s asked in
+    let new : OffsetMap = offsets_after s.offsets (concluded s ticket o).effects.commands in
+    whole-met events new kept s (event.Commit ticket r) asked seen (own-concluded s ticket o stores) (record {
+      ascending = v.ascending;
+      each = each-over (λ g. Whole events s.offsets g (kept g.id)) (λ g. Whole events new g (kept g.id)) (λ g h. whole_under events s.offsets new g (kept g.id) (others-concluded s ticket o stores g.id) h) s.groups v.each;
+      held = v.held;
+    })
+whole-moved events kept s (event.Fetch ticket r) asked seen v = whole-met events s.offsets kept s (event.Fetch ticket r) asked seen tt v
+whole-moved events kept s (event.Delete ticket id) asked seen v = whole-deleted events kept s ticket (deleting id s.groups) v
+whole-moved events kept s (event.Describe ticket id) asked seen v = whole-met events s.offsets kept s (event.Describe ticket id) asked seen tt v
+whole-moved events kept s (event.List ticket) asked seen v = whole-met events s.offsets kept s (event.List ticket) asked seen tt v
+whole-moved events kept s (event.Gone session) asked seen v =
+    whole-quiet events s (event.Gone session) kept (quiet-all (gone_in s.last session) (quiet-gone_in s.last session) s.groups) (whole-met events s.offsets kept s (event.Gone session) asked seen tt v)
+whole-moved events kept s event.Tick asked seen v =
+    whole-quiet events s event.Tick kept (quiet-all (ticked s.last) (quiet-ticked s.last) s.groups) (whole-met events s.offsets kept s event.Tick asked seen tt v)
+
+whole-over_step : (events : List (Event × ℕ)) (kept : Kept) (s : Machine) (e : Event) (m : ℕ) → is_request e ≡ true → WholeMachine events s kept
+    → Invariant (Whole (events ++ (e, m) ∷ []) (offsets_after s.offsets (step s e m).effects.commands)) (step s e m).after.groups (kept_after kept (step s e m).effects.commands)
+unfolding step
+whole-over_step events kept s e m asked v =
+    whole-moved (events ++ (e, m) ∷ []) kept (record s { last = max s.last m }) e asked (was_met_last events e m) (machine_more events (e, m) s kept v)
 
 pub whole-step : (events : List (Event × ℕ)) (kept : Kept) (s : Machine) (e : Event) (m : ℕ) → is_request e ≡ true → WholeMachine events s kept → WholeMachine (events ++ (e, m) ∷ []) (step s e m).after (kept_after kept (step s e m).effects.commands)
-unfolding step
 whole-step events kept s e m asked v =
-    whole-met (events ++ (e, m) ∷ []) kept (record s { last = max s.last m }) e asked (was_met_last events e m) (machine_more events (e, m) s kept v)
+    let P : OffsetMap → Type 0 = λ o. Invariant (Whole (events ++ (e, m) ∷ []) o) (step s e m).after.groups (kept_after kept (step s e m).effects.commands) in
+    subst P (sym (offsets-step s e m)) (whole-over_step events kept s e m asked v)
 
 pub whole-after_all : (more events : List (Event × ℕ)) (kept : Kept) (s : Machine) → AreRequests more → WholeMachine events s kept → WholeMachine (events ++ more) (after_all more s) (kept_after kept (commands_of more s))
 unfolding after_all commands_of
@@ -223,42 +335,44 @@ quiet_revived q calm now protocol (m ∷ ms) = (calm m.id, quiet_revived q calm 
 recorded_revived : (now : ℕ) (id : List ℕ) (r : GroupRecord) (roster : Option RosterParts) → IsRecordedAs r roster (revived_with now id r roster)
 unfolding revived_with
 recorded_revived now id r (Some roster) = record { phase = refl; generation = refl; kind = refl; protocol = refl; leader = refl; members = kept_back now roster.protocol roster.members }
-recorded_revived now id r None = record { phase = refl; generation = refl; kind = refl; members = refl }
+recorded_revived now id r None = record { phase = refl; generation = refl; kind = refl; protocol = refl; leader = refl; members = refl }
 
-whole_with : (now : ℕ) (id : List ℕ) (r : GroupRecord) (roster : Option RosterParts) → roster ≡ r.roster → Whole [] (revived_with now id r roster) (Some r)
+whole_with : (now : ℕ) (offsets : OffsetMap) (id : List ℕ) (r : GroupRecord) (roster : Option RosterParts) → roster ≡ r.roster → Whole [] offsets (revived_with now id r roster) (Some r)
 unfolding revived_with is_common
-whole_with now id r (Some roster) e = let P : Option RosterParts → Type 0 = λ o. IsRecordedAs r o (revived_with now id r (Some roster)) in record {
+whole_with now offsets id r (Some roster) e = let P : Option RosterParts → Type 0 = λ o. IsRecordedAs r o (revived_with now id r (Some roster)) in record {
   common = (roster.protocol, common_revived now roster.protocol roster.members);
   holds = subst P e (recorded_revived now id r (Some roster));
   named = quiet_revived (is_named_wait [] id r.generation) (λ _. refl) now roster.protocol roster.members;
   quiet = λ e. absurd (false≢true e);
+  typed = has_kind (Some r.kind) refl;
 }
-whole_with now id r None e = let P : Option RosterParts → Type 0 = λ o. IsRecordedAs r o (revived_with now id r None) in record {
+whole_with now offsets id r None e = let P : Option RosterParts → Type 0 = λ o. IsRecordedAs r o (revived_with now id r None) in record {
   common = ([], refl);
   holds = subst P e (recorded_revived now id r None);
   named = tt;
   quiet = λ e. absurd (false≢true e);
+  typed = has_kind (Some r.kind) refl;
 }
 
-whole_from : (now : ℕ) (id : List ℕ) (o : Option GroupRecord) → Whole [] (revived_from now id o) o
-whole_from now id None = whole_new [] id
-whole_from now id (Some r) = whole_with now id r r.roster refl
+whole_from : (now : ℕ) (offsets : OffsetMap) (id : List ℕ) (o : Option GroupRecord) → (o ≡ None → HasOffset offsets id) → Whole [] offsets (revived_from now id o) o
+whole_from now offsets id None has = whole_new [] offsets id (has refl)
+whole_from now offsets id (Some r) has = whole_with now offsets id r r.roster refl
 
-whole_revived : (now : ℕ) (state : State) (id : List ℕ) → Whole [] (revived now state id) (kept_in state id)
+whole_revived : (now : ℕ) (state : State) (id : List ℕ) → (kept_in state id ≡ None → HasOffset state.offsets id) → Whole [] state.offsets (revived now state id) (kept_in state id)
 unfolding revived
-whole_revived now state id = whole_from now id (kept_in state id)
+whole_revived now state id has = whole_from now state.offsets id (kept_in state id) has
 
-each_revived : (now : ℕ) (state : State) (names : List (List ℕ)) → Each (λ g. Whole [] g (kept_in state g.id)) (map (revived now state) names)
-each_revived now state [] = tt
-each_revived now state (x ∷ xs) =
-    let P : List ℕ → Type 0 = λ i. Whole [] (revived now state x) (kept_in state i) in
-    (subst P (sym (id_revived now state x)) (whole_revived now state x), each_revived now state xs)
+each_revived : (now : ℕ) (state : State) (names : List (List ℕ)) → Each (λ q. kept_in state q ≡ None → HasOffset state.offsets q) names → Each (λ g. Whole [] state.offsets g (kept_in state g.id)) (map (revived now state) names)
+each_revived now state [] has = tt
+each_revived now state (x ∷ xs) has =
+    let P : List ℕ → Type 0 = λ i. Whole [] state.offsets (revived now state x) (kept_in state i) in
+    (subst P (sym (id_revived now state x)) (whole_revived now state x has.0), each_revived now state xs has.1)
 
 pub whole-revive : (state : State) (now : ℕ) → WholeMachine [] (revive state now) (kept_in state)
 unfolding revive
 whole-revive state now = record {
   ascending = in_order-revived now state;
-  each = each_revived now state (in_order (groups_in state));
+  each = each_revived now state (in_order (groups_in state)) (offsets_revived state);
   held = λ id e. held_revived now state id e;
 }
 
@@ -274,14 +388,50 @@ whole-all state now events asked =
     subst P (sym (kept-after state (commands_of events (revive state now))))
     (whole-after_all events [] (kept_in state) (revive state now) asked (whole-revive state now))
 
-pub machine_and_commands_agree : MachineAndCommandsAgree
-machine_and_commands_agree state now events asked =
-    let kept : Kept = kept_in (state_after state now events) in
+-- a group without a record has an offset, or a rebalance is under way in it
+founded_told : (offsets : OffsetMap) (g : Group) (o : Option GroupRecord) → o ≡ None → (g.kind ≡ None → HasOffset offsets g.id) → TellsOf g o → HasOffset offsets g.id
+founded_told offsets g None e typed h = typed h.kind
+founded_told offsets g (Some r) e typed h = cc
+
+founded_in : (offsets : OffsetMap) (p : Phase) (g : Group) (o : Option GroupRecord) → o ≡ None → (g.kind ≡ None → HasOffset offsets g.id) → Holds p g o → HasOffset offsets g.id ⊎ IsRebalancing p
+founded_in offsets Stable g o e typed h = inl (founded_told offsets g o e typed h)
+founded_in offsets Empty g o e typed h = inl (founded_told offsets g o e typed h)
+founded_in offsets Preparing g o e typed h = inr (inl refl)
+founded_in offsets Completing g o e typed h = inr (inr refl)
+
+-- an Empty group of generation 0 has no record
+fresh_recorded : {A : Type 0} (g : Group) (r : GroupRecord) (roster : Option RosterParts) → 1 ≤ r.generation → g.phase ≡ Empty → g.generation ≡ 0 → IsRecordedAs r roster g → A
+fresh_recorded g r (Some roster) dated p z h = let bad : Stable ≡ Empty = sym h.phase ∙ p in cc
+fresh_recorded g r None dated p z h = let e : r.generation ≡ 0 = h.generation ∙ z in absurd (omega arith)
+
+fresh_told : (offsets : OffsetMap) (g : Group) (o : Option GroupRecord) → IfSome o (λ r. 1 ≤ r.generation) → (g.kind ≡ None → HasOffset offsets g.id) → g.phase ≡ Empty → g.generation ≡ 0 → TellsOf g o → (o ≡ None) × HasOffset offsets g.id
+fresh_told offsets g None dated typed p z h = (refl, typed h.kind)
+fresh_told offsets g (Some r) dated typed p z h = fresh_recorded g r r.roster dated p z h
+
+fresh_in : (events : List (Event × ℕ)) (offsets : OffsetMap) (g : Group) (o : Option GroupRecord) → IfSome o (λ r. 1 ≤ r.generation) → Whole events offsets g o → g.phase ≡ Empty → g.generation ≡ 0 → (o ≡ None) × HasOffset offsets g.id
+fresh_in events offsets g o dated w p z = let P : Phase → Type 0 = λ x. Holds x g o in fresh_told offsets g o dated w.typed p z (subst P p w.holds)
+
+pub machine_and_commands_agree : (events : List (Event × ℕ)) → AreRequests events → MachineAndCommandsAgree events
+machine_and_commands_agree events asked state now =
+    let later : State = state_after state now events in
+    let kept : Kept = kept_in later in
     let v = whole-all state now events asked in
+    let s : Machine = after_all events (revive state now) in
     let same = offsets-after_all events (revive state now) state (offsets-revive state now) in
+    let Q : OffsetMap → Type 0 = λ o. Each (λ g. Whole events o g (kept g.id)) s.groups in
+    let each : Each (λ g. Whole events later.offsets g (kept g.id)) s.groups = subst Q same v.each in
     record {
-      offsets = same;
-      held = v.held;
-      read = λ key e. covered-after_all events (revive state now) (covered-revive state now) key (ap (λ o. is_some (finmap.get o key)) same ∙ e);
-      told = each-over (λ g. Whole events g (kept g.id)) (λ g. AgreesIn g.phase g (kept g.id)) (λ g w. agrees_in g.phase g (kept g.id) w.holds) (after_all events (revive state now)).groups v.each;
+      agrees = record {
+        offsets = same;
+        held = v.held;
+        read = λ key e. covered-after_all events (revive state now) (covered-revive state now) key (ap (λ o. is_some (finmap.get o key)) same ∙ e);
+        told = each-over (λ g. Whole events later.offsets g (kept g.id)) (λ g. AgreesIn g.phase g (kept g.id)) (λ g w. agrees_in g.phase g (kept g.id) w.holds) s.groups each;
+        founded = each-over (λ g. Whole events later.offsets g (kept g.id)) (IsFounded later.offsets kept) (λ g w e. founded_in later.offsets g.phase g (kept g.id) e w.typed w.holds) s.groups each;
+      };
+      dated = λ h.
+          let completed : AreCompleted later = completed-after state now events (revive state now) h in
+          record {
+            completed = completed;
+            fresh = each-over (λ g. Whole events later.offsets g (kept g.id)) (IsFresh later) (λ g w. fresh_in events later.offsets g (kept g.id) (completed g.id) w) s.groups each;
+          };
     }

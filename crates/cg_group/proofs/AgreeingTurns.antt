@@ -29,6 +29,7 @@ use Rattle.cg_member.specs.Joining.{admitted, in_join_phase, is_current, join_ag
 use Rattle.cg_held.specs.Kept.{Kept}
 use Rattle.cg_held.proofs.Kept.{kept_after}
 use Rattle.cg_group.specs.Laws.{has_named}
+use Rattle.cg_member.specs.Offsets.{OffsetMap}
 use Rattle.cg_member.specs.Leaving.{after_removal, gone_in, leave_taken, left}
 use Rattle.cg_member.specs.Membership.{find_instance, find_member, has_id, heard, hearing, is_empty, is_named, is_preparing, is_stable, keeping, leads, with_member}
 use Rattle.cg_member.specs.Rebalance.{completed, is_ready, tried, turn_of}
@@ -88,44 +89,45 @@ id-keeping stays g = refl
 is_preparing_due : (now : ℕ) (g : Group) → is_due now g ≡ true → is_preparing g.phase ≡ true
 is_preparing_due now g e = (and_parts (is_preparing g.phase) _ e).0
 
-module _ (events : List (Event × ℕ)) (kept : Kept) where
-  pub after-join_new : (now : ℕ) (r : JoinRequest) (new : List ℕ) (ticket : Ticket) (g : Group) → Suits r g.members → (is_empty g.members ≡ false → is_some g.kind ≡ true) → (is_preparing g.phase ≡ true → AllWaits no_sync g.members) → After events kept g.id (join_new now r new ticket g)
+module _ (events : List (Event × ℕ)) (offsets : OffsetMap) (kept : Kept) where
+  pub after-join_new : (now : ℕ) (r : JoinRequest) (new : List ℕ) (ticket : Ticket) (g : Group) → Suits r g.members → (is_empty g.members ≡ false → is_some g.kind ≡ true) → (is_preparing g.phase ≡ true → AllWaits no_sync g.members) → After events offsets kept g.id (join_new now r new ticket g)
   unfolding join_new admitted new_member
   after-join_new now r new ticket g suits kinds quiet =
       let m : Member = new_member now r new [] (Join ticket) in
       let t : Turn = turn_of (admitted m r.kind g) in
       let kind : is_some t.group.kind ≡ true = (elim (is_empty g.members) as (λ b. is_empty g.members ≡ b → is_some (if b then Some r.kind else g.kind) ≡ true) [ true ↦ λ _. refl | false ↦ kinds ]) refl in
-      after-tried events kept g.id now (in_join_phase now t) (framed-in_join_phase g.id now t (refl, tt)).0
-      (joining-in_join_phase events kept g.id now t kind (common-append suits.name g.members m suits.common suits.offers) (λ p. waits-append no_sync g.members m (quiet p) refl))
+      after-tried events offsets kept g.id now (in_join_phase now t) (framed-in_join_phase g.id now t (refl, tt)).0
+      (joining-in_join_phase events offsets kept g.id now t kind (common-append suits.name g.members m suits.common suits.offers) (λ p. waits-append no_sync g.members m (quiet p) refl))
 
-  after-rejoined : (id : List ℕ) (now : ℕ) (own : List ℕ) (ticket : Ticket) (t : Turn) → Framed id t → is_some t.group.kind ≡ true → HasCommon t.group.members → (is_preparing t.group.phase ≡ true → AllWaits no_sync t.group.members) → After events kept id (rejoined now own ticket t)
+  after-rejoined : (id : List ℕ) (now : ℕ) (own : List ℕ) (ticket : Ticket) (t : Turn) → Framed id t → is_some t.group.kind ≡ true → HasCommon t.group.members → (is_preparing t.group.phase ≡ true → AllWaits no_sync t.group.members) → After events offsets kept id (rejoined now own ticket t)
   unfolding rejoined
   after-rejoined id now own ticket t framed kind common quiet =
       let u : Turn = in_join_phase now t in
-      let j : Joining u.group = joining-in_join_phase events kept id now t kind common quiet in
-      after-tried events kept id now (waiting now own (Join ticket) u) (framed-waiting id now own (Join ticket) u (framed-in_join_phase id now t framed)).0 (joining-waiting events kept id now own ticket u j)
+      let j : Joining u.group = joining-in_join_phase events offsets kept id now t kind common quiet in
+      after-tried events offsets kept id now (waiting now own (Join ticket) u) (framed-waiting id now own (Join ticket) u (framed-in_join_phase id now t framed)).0 (joining-waiting events offsets kept id now own ticket u j)
 
-  after-join_again : (now : ℕ) (r : JoinRequest) (own : List ℕ) (ticket : Ticket) (g : Group) → is_empty g.members ≡ false → Suits r g.members → Whole events g (kept g.id) → After events kept g.id (join_again now r own ticket g)
+  after-join_again : (now : ℕ) (r : JoinRequest) (own : List ℕ) (ticket : Ticket) (g : Group) → is_empty g.members ≡ false → Suits r g.members → Whole events offsets g (kept g.id) → After events offsets kept g.id (join_again now r own ticket g)
   unfolding join_again updating
   after-join_again now r own ticket g filled suits h =
       after-rejoined g.id now own ticket (turn_of (updating r own g)) (refl, tt) (kind_holds g.phase g (kept g.id) filled h.holds) (suits.name, common-update suits.name own r g.members suits.common suits.offers) (λ p. waits-with_member no_sync own (updated r) (λ m _ e. e) g.members (h.quiet p))
 
-  after-replaced_in_place : (ticket : Ticket) (new : Member) (g : Group) (t : Turn) → t.commands ≡ [] → t.group ≡ replacing new g → new.waits ≡ Nothing → g.phase ≡ Stable → HasCommon (seating new g.members) → may_replace (kept_member g.protocol new) (map (kept_member g.protocol) g.members) ≡ true → Whole events g (kept g.id) → After events kept g.id (replaced_in_place ticket (kept_member g.protocol new) g t)
+  after-replaced_in_place : (ticket : Ticket) (new : Member) (g : Group) (t : Turn) → t.commands ≡ [] → t.group ≡ replacing new g → new.waits ≡ Nothing → g.phase ≡ Stable → HasCommon (seating new g.members) → may_replace (kept_member g.protocol new) (map (kept_member g.protocol) g.members) ≡ true → Whole events offsets g (kept g.id) → After events offsets kept g.id (replaced_in_place ticket (kept_member g.protocol new) g t)
   unfolding replaced_in_place replacing seating
   after-replaced_in_place ticket new g t bare group waits phase common may h =
       let c : Command = replaced_command (kept_member g.protocol new) g in
       let calm : is_named_wait events g.id g.generation new.id new.waits ≡ true = let Q : Waits → Type 0 = λ w. is_named_wait events g.id g.generation new.id w ≡ true in subst Q (sym waits) refl in
       let P : Phase → Type 0 = λ x. Holds x g (kept g.id) in
       let H : Phase → Type 0 = λ x. Holds x (replacing new g) (option_map (replaced_record (kept_member g.protocol new)) (kept g.id)) in
-      let whole : Whole events (replacing new g) (option_map (replaced_record (kept_member g.protocol new)) (kept g.id)) = record {
+      let whole : Whole events offsets (replacing new g) (option_map (replaced_record (kept_member g.protocol new)) (kept g.id)) = record {
         common = common;
         holds = subst H (sym phase) (told-replacing new g (kept g.id) phase may (subst P phase h.holds));
         named = waits-seated (is_named_wait events g.id g.generation) new g.members calm h.named;
         quiet = λ p. absurd (false≢true (sym (ap is_preparing phase) ∙ p));
+        typed = h.typed;
       } in
-      let Q : Option GroupRecord → Type 0 = λ o. Whole events (replacing new g) o in
-      let R : Group → Type 0 = λ k. Whole events k (kept_after kept (c ∷ []) g.id) in
-      let S : List Command → Type 0 = λ cs. Whole events t.group (kept_after kept (cs ++ c ∷ []) g.id) in
+      let Q : Option GroupRecord → Type 0 = λ o. Whole events offsets (replacing new g) o in
+      let R : Group → Type 0 = λ k. Whole events offsets k (kept_after kept (c ∷ []) g.id) in
+      let S : List Command → Type 0 = λ cs. Whole events offsets t.group (kept_after kept (cs ++ c ∷ []) g.id) in
       subst S (sym bare) (subst R (sym group) (subst Q (sym (kept_after-one kept c g.id refl)) whole))
 
   stable_phase : (p : Phase) (b : Bool) → (is_stable p && b) ≡ true → p ≡ Stable
@@ -138,30 +140,30 @@ module _ (events : List (Event × ℕ)) (kept : Kept) where
   unfolding keeps_generation
   kept_phase g e = stable_phase g.phase _ e
 
-  pub after-join_replacing : (now : ℕ) (r : JoinRequest) (id : List ℕ) (ticket : Ticket) (old : Member) (g : Group) → is_some (find_member id g.members) ≡ false → find_instance r.instance g.members ≡ Some old → Suits r g.members → Whole events g (kept g.id) → After events kept g.id (join_replacing now r id ticket old g)
+  pub after-join_replacing : (now : ℕ) (r : JoinRequest) (id : List ℕ) (ticket : Ticket) (old : Member) (g : Group) → is_some (find_member id g.members) ≡ false → find_instance r.instance g.members ≡ Some old → Suits r g.members → Whole events offsets g (kept g.id) → After events offsets kept g.id (join_replacing now r id ticket old g)
   unfolding join_replacing replaced replacing seating new_member
   after-join_replacing now r id ticket old g own found suits h =
       let new : Member = successor now r id old in
       let t : Turn = replaced new old g in
       let common : HasCommon (seating new g.members) = (suits.name, common-seated suits.name new g.members suits.common suits.offers) in
-      (elim (keeps_generation t.group) as (λ b. keeps_generation t.group ≡ b → After events kept g.id (if b then replaced_in_place ticket (kept_member g.protocol new) g t else rejoined now id ticket t)) [
+      (elim (keeps_generation t.group) as (λ b. keeps_generation t.group ≡ b → After events offsets kept g.id (if b then replaced_in_place ticket (kept_member g.protocol new) g t else rejoined now id ticket t)) [
         | true ↦ λ e. after-replaced_in_place ticket new g t refl refl refl (kept_phase t.group e) common (successor_may now r id old g own found) h
         | false ↦ λ e. after-rejoined g.id now id ticket t (refl, tt) (kind_holds g.phase g (kept g.id) (filled_by r.instance g.members old found) h.holds) common (λ p. waits-seated no_sync new g.members refl (h.quiet p))
       ]) refl
 
-  after-join_current : (now : ℕ) (own : List ℕ) (ticket : Ticket) (m : Member) (g : Group) → Whole events g (kept g.id) → After events kept g.id (join_current now own ticket m g)
+  after-join_current : (now : ℕ) (own : List ℕ) (ticket : Ticket) (m : Member) (g : Group) → Whole events offsets g (kept g.id) → After events offsets kept g.id (join_current now own ticket m g)
   unfolding join_current kept_after
-  after-join_current now own ticket m g h = after-hearing events kept g.id now own g h
+  after-join_current now own ticket m g h = after-hearing events offsets kept g.id now own g h
 
-  pub after-join_known : (now : ℕ) (r : JoinRequest) (own : List ℕ) (ticket : Ticket) (m : Member) (g : Group) → find_member own g.members ≡ Some m → Suits r g.members → Whole events g (kept g.id) → After events kept g.id (join_known now r own ticket m g)
+  pub after-join_known : (now : ℕ) (r : JoinRequest) (own : List ℕ) (ticket : Ticket) (m : Member) (g : Group) → find_member own g.members ≡ Some m → Suits r g.members → Whole events offsets g (kept g.id) → After events offsets kept g.id (join_known now r own ticket m g)
   unfolding join_known
   after-join_known now r own ticket m g found suits h =
-      elim (is_current r m g g.phase) as (λ b. After events kept g.id (if b then join_current now own ticket m g else join_again now r own ticket g)) [
+      elim (is_current r m g g.phase) as (λ b. After events offsets kept g.id (if b then join_current now own ticket m g else join_again now r own ticket g)) [
         | true ↦ after-join_current now own ticket m g h
         | false ↦ after-join_again now r own ticket g (filled_found own g.members m found) suits h
       ]
 
-  after-sync_waits : (now : ℕ) (r : SyncRequest) (own : List ℕ) (ticket : Ticket) (m : Member) (g : Group) → g.phase ≡ Completing → has_named events g.id g.generation own ticket ≡ true → Whole events g (kept g.id) → After events kept g.id (sync_waits now r own ticket m g)
+  after-sync_waits : (now : ℕ) (r : SyncRequest) (own : List ℕ) (ticket : Ticket) (m : Member) (g : Group) → g.phase ≡ Completing → has_named events g.id g.generation own ticket ≡ true → Whole events offsets g (kept g.id) → After events offsets kept g.id (sync_waits now r own ticket m g)
   unfolding sync_waits waiting hearing kept_after
   after-sync_waits now r own ticket m g phase here h =
       let t : Turn = waiting now own (Sync ticket) (turn_of (hearing now own g)) in
@@ -173,79 +175,79 @@ module _ (events : List (Event × ℕ)) (kept : Kept) where
       let named : AllWaits q t.group.members = waits-with_member q own (waits_with now (Sync ticket)) (λ x e _. at x e) first (waits-with_member q own (heard now) (λ x _ e. e) g.members h.named) in
       let protocols : map (λ x. x.protocols) t.group.members ≡ map (λ x. x.protocols) g.members = map-with_member (λ x. x.protocols) own (waits_with now (Sync ticket)) (λ x. refl) first ∙ map-with_member (λ x. x.protocols) own (heard now) (λ x. refl) g.members in
       let stored : map (kept_member g.protocol) t.group.members ≡ map (kept_member g.protocol) g.members = map-with_member (kept_member g.protocol) own (waits_with now (Sync ticket)) (λ x. refl) first ∙ map-with_member (kept_member g.protocol) own (heard now) (λ x. refl) g.members in
-      (elim (leads g m) as (λ b. leads g m ≡ b → After events kept g.id (if b then distributed now r.entries t else t)) [
-        | true ↦ λ e. after-distributed events kept g.id now r.entries t refl holds.0 holds.1 (some_named g.leader m.id e) holds.2 (common-map t.group.members g.members protocols h.common) named
-        | false ↦ λ e. whole-members events g t.group.members (kept g.id) protocols stored named (λ p. absurd (false≢true (sym (ap is_preparing phase) ∙ p))) h
+      (elim (leads g m) as (λ b. leads g m ≡ b → After events offsets kept g.id (if b then distributed now r.entries t else t)) [
+        | true ↦ λ e. after-distributed events offsets kept g.id now r.entries t refl holds.0 holds.1 (some_named g.leader m.id e) holds.2 (common-map t.group.members g.members protocols h.common) named
+        | false ↦ λ e. whole-members events offsets g t.group.members (kept g.id) protocols stored named (λ p. absurd (false≢true (sym (ap is_preparing phase) ∙ p))) h
       ]) refl
 
-  after-sync_current : (now : ℕ) (own : List ℕ) (ticket : Ticket) (m : Member) (g : Group) → Whole events g (kept g.id) → After events kept g.id (sync_current now own ticket m g)
+  after-sync_current : (now : ℕ) (own : List ℕ) (ticket : Ticket) (m : Member) (g : Group) → Whole events offsets g (kept g.id) → After events offsets kept g.id (sync_current now own ticket m g)
   unfolding sync_current kept_after
-  after-sync_current now own ticket m g h = after-hearing events kept g.id now own g h
+  after-sync_current now own ticket m g h = after-hearing events offsets kept g.id now own g h
 
-  pub after-sync_taken : (now : ℕ) (r : SyncRequest) (own : List ℕ) (ticket : Ticket) (m : Member) (g : Group) (phase : Phase) → g.phase ≡ phase → has_named events g.id g.generation own ticket ≡ true → Whole events g (kept g.id) → After events kept g.id (sync_taken now r own ticket m g phase)
+  pub after-sync_taken : (now : ℕ) (r : SyncRequest) (own : List ℕ) (ticket : Ticket) (m : Member) (g : Group) (phase : Phase) → g.phase ≡ phase → has_named events g.id g.generation own ticket ≡ true → Whole events offsets g (kept g.id) → After events offsets kept g.id (sync_taken now r own ticket m g phase)
   unfolding sync_taken
   after-sync_taken now r own ticket m g Completing e here h = after-sync_waits now r own ticket m g e here h
   after-sync_taken now r own ticket m g Stable e here h = after-sync_current now own ticket m g h
   after-sync_taken now r own ticket m g Empty e here h = after-sync_current now own ticket m g h
   after-sync_taken now r own ticket m g Preparing e here h = after-sync_current now own ticket m g h
 
-  pub after-beat_taken : (now : ℕ) (own : List ℕ) (ticket : Ticket) (g : Group) → Whole events g (kept g.id) → After events kept g.id (beat_taken now own ticket g)
+  pub after-beat_taken : (now : ℕ) (own : List ℕ) (ticket : Ticket) (g : Group) → Whole events offsets g (kept g.id) → After events offsets kept g.id (beat_taken now own ticket g)
   unfolding beat_taken kept_after
-  after-beat_taken now own ticket g h = after-hearing events kept g.id now own g h
+  after-beat_taken now own ticket g h = after-hearing events offsets kept g.id now own g h
 
-  pub after-committed : (now : ℕ) (entries : List CommitEntry) (ticket : Ticket) (who : Option (List ℕ)) (g : Group) → Whole events g (kept g.id) → After events kept g.id (committed entries ticket (hearing_committer now who g))
+  pub after-committed : (now : ℕ) (entries : List CommitEntry) (ticket : Ticket) (who : Option (List ℕ)) (g : Group) → Whole events offsets g (kept g.id) → After events offsets kept g.id (committed entries ticket (hearing_committer now who g))
   unfolding keeping_entries
   after-committed now entries ticket None g h =
-      let P : Option GroupRecord → Type 0 = λ o. Whole events g o in
+      let P : Option GroupRecord → Type 0 = λ o. Whole events offsets g o in
       subst P (sym (kept_after-one kept (command.Committed (record { group = g.id; entries = map kept_entry entries })) g.id refl)) h
   after-committed now entries ticket (Some own) g h =
-      let P : Option GroupRecord → Type 0 = λ o. Whole events (hearing now own g) o in
-      subst P (sym (kept_after-one kept (command.Committed (record { group = (hearing now own g).id; entries = map kept_entry entries })) g.id (id-hearing now own g))) (after-hearing events kept g.id now own g h)
+      let P : Option GroupRecord → Type 0 = λ o. Whole events offsets (hearing now own g) o in
+      subst P (sym (kept_after-one kept (command.Committed (record { group = (hearing now own g).id; entries = map kept_entry entries })) g.id (id-hearing now own g))) (after-hearing events offsets kept g.id now own g h)
 
-  pub after-leave_taken : (now : ℕ) (own : List ℕ) (ticket : Ticket) (m : Member) (g : Group) → is_empty g.members ≡ false → Whole events g (kept g.id) → After events kept g.id (leave_taken now own ticket m g)
+  pub after-leave_taken : (now : ℕ) (own : List ℕ) (ticket : Ticket) (m : Member) (g : Group) → is_empty g.members ≡ false → Whole events offsets g (kept g.id) → After events offsets kept g.id (leave_taken now own ticket m g)
   unfolding leave_taken left keeping
   after-leave_taken now own ticket m g filled h =
-      after-after_removal events kept g.id now (left own ticket m g) refl (kind_holds g.phase g (kept g.id) filled h.holds) (common-filter (λ x. not (has_id own x)) g.members h.common)
+      after-after_removal events offsets kept g.id now (left own ticket m g) refl (kind_holds g.phase g (kept g.id) filled h.holds) (common-filter (λ x. not (has_id own x)) g.members h.common)
       (λ p. each-filter (λ x. no_sync x.id x.waits ≡ true) (λ x. not (has_id own x)) g.members (h.quiet p))
-      (λ p. false≢true (sym filled ∙ ap is_empty (empty_members events g (kept g.id) h p)))
+      (λ p. false≢true (sym filled ∙ ap is_empty (empty_members events offsets g (kept g.id) h p)))
 
-  pub after-gone_in : (now session : ℕ) (g : Group) → Whole events g (kept g.id) → After events kept g.id (gone_in now session g)
+  pub after-gone_in : (now session : ℕ) (g : Group) → Whole events offsets g (kept g.id) → After events offsets kept g.id (gone_in now session g)
   unfolding gone_in kept_after
   after-gone_in now session g h =
-      whole-members events g (after_answers (OfSession session) now g.members) (kept g.id)
+      whole-members events offsets g (after_answers (OfSession session) now g.members) (kept g.id)
       (keep-after_answers (λ m. m.protocols) lasting_protocols (OfSession session) now g.members)
       (keep-after_answers (kept_member g.protocol) (lasting_kept g.protocol) (OfSession session) now g.members)
       (waits-after_answers (is_named_wait events g.id g.generation) (λ _. refl) (OfSession session) now g.members h.named)
       (λ p. waits-after_answers no_sync (λ _. refl) (OfSession session) now g.members (h.quiet p)) h
 
-  after-tried_any : (now : ℕ) (g : Group) → Whole events g (kept g.id) → After events kept g.id (tried now (turn_of g))
+  after-tried_any : (now : ℕ) (g : Group) → Whole events offsets g (kept g.id) → After events offsets kept g.id (tried now (turn_of g))
   unfolding tried is_ready kept_after
   after-tried_any now g h =
-      (elim (is_ready g) as (λ b. is_ready g ≡ b → After events kept g.id (if b then completed now (turn_of g) else turn_of g)) [
-        | true ↦ λ e. after-completed events kept g.id now (turn_of g) refl (joining_from events g (kept g.id) h (preparing_is g.phase (and_parts (is_preparing g.phase) (list_all (is_waiting Joins) g.members) e).0))
+      (elim (is_ready g) as (λ b. is_ready g ≡ b → After events offsets kept g.id (if b then completed now (turn_of g) else turn_of g)) [
+        | true ↦ λ e. after-completed events offsets kept g.id now (turn_of g) refl (joining_from events offsets g (kept g.id) h (preparing_is g.phase (and_parts (is_preparing g.phase) (list_all (is_waiting Joins) g.members) e).0))
         | false ↦ λ e. h
       ]) refl
 
-  after-expired : (now : ℕ) (g : Group) → Whole events g (kept g.id) → After events kept g.id (expired now (turn_of g))
+  after-expired : (now : ℕ) (g : Group) → Whole events offsets g (kept g.id) → After events offsets kept g.id (expired now (turn_of g))
   unfolding expired keeping
   after-expired now g h =
       let stays : Member → Bool = λ m. not (is_overdue now m) in
-      (elim (list_any (is_overdue now) g.members) as (λ b. list_any (is_overdue now) g.members ≡ b → After events kept g.id (if b then after_removal now (record (turn_of g) { group = keeping stays g }) else tried now (turn_of g))) [
-        | true ↦ λ e. after-after_removal events kept g.id now (record (turn_of g) { group = keeping stays g }) refl (kind_holds g.phase g (kept g.id) (filled_passes (is_overdue now) g.members e) h.holds) (common-filter stays g.members h.common)
+      (elim (list_any (is_overdue now) g.members) as (λ b. list_any (is_overdue now) g.members ≡ b → After events offsets kept g.id (if b then after_removal now (record (turn_of g) { group = keeping stays g }) else tried now (turn_of g))) [
+        | true ↦ λ e. after-after_removal events offsets kept g.id now (record (turn_of g) { group = keeping stays g }) refl (kind_holds g.phase g (kept g.id) (filled_passes (is_overdue now) g.members e) h.holds) (common-filter stays g.members h.common)
             (λ p. each-filter (λ x. no_sync x.id x.waits ≡ true) stays g.members (h.quiet p))
-            (λ p. nothing_passes (is_overdue now) g.members e (empty_members events g (kept g.id) h p))
+            (λ p. nothing_passes (is_overdue now) g.members e (empty_members events offsets g (kept g.id) h p))
         | false ↦ λ e. after-tried_any now g h
       ]) refl
 
-  after-at_deadline : (now : ℕ) (id : List ℕ) (t : Turn) → Framed id t → After events kept id t → After events kept id (at_deadline now t)
+  after-at_deadline : (now : ℕ) (id : List ℕ) (t : Turn) → Framed id t → After events offsets kept id t → After events offsets kept id (at_deadline now t)
   unfolding at_deadline
   after-at_deadline now id t f h =
-      (elim (is_due now t.group) as (λ b. is_due now t.group ≡ b → After events kept id (if b then ended now (record t { group = keeping outstays t.group }) else t)) [
-        | true ↦ λ e. after-ended events kept id now (record t { group = keeping outstays t.group }) (id-keeping outstays t.group ∙ f.0)
-            (joining-keeping outstays t.group (joining_from events t.group (kept_after kept t.commands id) h (preparing_is t.group.phase (is_preparing_due now t.group e))))
+      (elim (is_due now t.group) as (λ b. is_due now t.group ≡ b → After events offsets kept id (if b then ended now (record t { group = keeping outstays t.group }) else t)) [
+        | true ↦ λ e. after-ended events offsets kept id now (record t { group = keeping outstays t.group }) (id-keeping outstays t.group ∙ f.0)
+            (joining-keeping outstays t.group (joining_from events offsets t.group (kept_after kept t.commands id) h (preparing_is t.group.phase (is_preparing_due now t.group e))))
         | false ↦ λ e. h
       ]) refl
 
-  pub after-ticked : (now : ℕ) (g : Group) → Whole events g (kept g.id) → After events kept g.id (ticked now g)
+  pub after-ticked : (now : ℕ) (g : Group) → Whole events offsets g (kept g.id) → After events offsets kept g.id (ticked now g)
   unfolding ticked
   after-ticked now g h = after-at_deadline now g.id (expired now (turn_of g)) (framed-expired_of now g) (after-expired now g h)

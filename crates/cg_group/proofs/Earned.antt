@@ -46,6 +46,7 @@ use Rattle.cg_held.specs.Reviving.{revive}
 use Rattle.cg_member.specs.Syncing.{assigned_command, assigning, distributed, kept_member, sync_current, sync_taken, sync_waits, synced_reply, told_to_syncs}
 use Rattle.cg_member.specs.Ticking.{at_deadline, can_complete, ended, expired, is_due, outstays, ticked}
 use Rattle.cg_member.specs.Waiting.{after_answers, answers, called}
+use Rattle.cg_member.specs.Offsets.{OffsetMap}
 use Rattle.cg_group.proofs.Agreeing.{Holds, IsCompleted, Whole, assigned_tells, empty_members}
 use Rattle.cg_group.proofs.AgreeingMachine.{WholeMachine, machine_more, sync_named, was_met_last, whole-all}
 use Rattle.cg_group.proofs.AgreeingTurns.{nothing_found, some_named}
@@ -194,9 +195,9 @@ module _ (events : List (Event × ℕ)) (kept : Kept) where
   silent-waiting : (now : ℕ) (own : List ℕ) (ticket : Ticket) (g : Group) → Told Silent (waiting now own (Sync ticket) (turn_of (hearing now own g)))
   silent-waiting now own ticket g = told-waiting Silent (λ _. tt) now own (Sync ticket) (turn_of (hearing now own g)) tt
 
-  earned-sync_waits : (now : ℕ) (r : SyncRequest) (own : List ℕ) (ticket : Ticket) (m : Member) (g : Group) → g.phase ≡ Completing → has_named events g.id g.generation own ticket ≡ true → Whole events g (kept g.id) → EarnedBy g.id (sync_waits now r own ticket m g)
+  earned-sync_waits : (offsets : OffsetMap) (now : ℕ) (r : SyncRequest) (own : List ℕ) (ticket : Ticket) (m : Member) (g : Group) → g.phase ≡ Completing → has_named events g.id g.generation own ticket ≡ true → Whole events offsets g (kept g.id) → EarnedBy g.id (sync_waits now r own ticket m g)
   unfolding sync_waits waiting hearing
-  earned-sync_waits now r own ticket m g phase here h =
+  earned-sync_waits offsets now r own ticket m g phase here h =
       let t : Turn = waiting now own (Sync ticket) (turn_of (hearing now own g)) in
       let told : Told Silent t = silent-waiting now own ticket g in
       let first : List Member = with_member own (heard now) g.members in
@@ -210,21 +211,21 @@ module _ (events : List (Event × ℕ)) (kept : Kept) where
         | false ↦ λ e. each-over (λ x. Silent x.1) (λ x. is_earned_in events t.group (kept_after kept t.commands g.id) x ≡ true) (λ x s. silent_in events t.group (kept_after kept t.commands g.id) x.0 x.1 s) t.replies told
       ]) refl
 
-  earned-sync_current : (now : ℕ) (own : List ℕ) (ticket : Ticket) (m : Member) (g : Group) → g.phase ≡ Stable → find_member own g.members ≡ Some m → has_named events g.id g.generation own ticket ≡ true → Whole events g (kept g.id) → EarnedBy g.id (sync_current now own ticket m g)
+  earned-sync_current : (offsets : OffsetMap) (now : ℕ) (own : List ℕ) (ticket : Ticket) (m : Member) (g : Group) → g.phase ≡ Stable → find_member own g.members ≡ Some m → has_named events g.id g.generation own ticket ≡ true → Whole events offsets g (kept g.id) → EarnedBy g.id (sync_current now own ticket m g)
   unfolding sync_current hearing kept_after
-  earned-sync_current now own ticket m g phase found here h =
+  earned-sync_current offsets now own ticket m g phase found here h =
       let P : Phase → Type 0 = λ x. Holds x g (kept g.id) in
       let Q : List ℕ → Type 0 = λ i. has_named events g.id g.generation i ticket ≡ true in
       let stored : is_kept_for (kept g.id) m.id m.assignment ≡ true = found-member (λ x. is_kept_for (kept g.id) x.id x.assignment ≡ true) own g.members m found (kept_told g (kept g.id) phase (subst P phase h.holds)) in
       let in_it : list_any (λ i. is_same i m.id) (map (λ x. x.id) g.members) ≡ true = found-member (λ x. list_any (λ i. is_same i x.id) (map (λ y. y.id) g.members) ≡ true) own g.members m found (each-in (λ (x : Member). x.id) (λ i x. is_same i x.id) (λ x. same_self x.id) g.members) in
       (earned_among events g.id g.generation (kept g.id) g.members (with_member own (heard now) g.members) m.id ticket m.assignment (keep-hearing (λ x. x.id) (λ x h v. refl) now own g) in_it (subst Q (sym (id-member own g.members m found)) here) stored, tt)
 
-  earned-sync_taken : (now : ℕ) (r : SyncRequest) (own : List ℕ) (ticket : Ticket) (m : Member) (g : Group) (phase : Phase) → g.phase ≡ phase → is_preparing g.phase ≡ false → find_member own g.members ≡ Some m → has_named events g.id g.generation own ticket ≡ true → Whole events g (kept g.id) → EarnedBy g.id (sync_taken now r own ticket m g phase)
+  earned-sync_taken : (offsets : OffsetMap) (now : ℕ) (r : SyncRequest) (own : List ℕ) (ticket : Ticket) (m : Member) (g : Group) (phase : Phase) → g.phase ≡ phase → is_preparing g.phase ≡ false → find_member own g.members ≡ Some m → has_named events g.id g.generation own ticket ≡ true → Whole events offsets g (kept g.id) → EarnedBy g.id (sync_taken now r own ticket m g phase)
   unfolding sync_taken
-  earned-sync_taken now r own ticket m g Completing e p found here h = earned-sync_waits now r own ticket m g e here h
-  earned-sync_taken now r own ticket m g Stable e p found here h = earned-sync_current now own ticket m g e found here h
-  earned-sync_taken now r own ticket m g Empty e p found here h = absurd (nothing_found own g.members m found (empty_members events g (kept g.id) h e))
-  earned-sync_taken now r own ticket m g Preparing e p found here h = absurd (false≢true (sym p ∙ ap is_preparing e))
+  earned-sync_taken offsets now r own ticket m g Completing e p found here h = earned-sync_waits offsets now r own ticket m g e here h
+  earned-sync_taken offsets now r own ticket m g Stable e p found here h = earned-sync_current offsets now own ticket m g e found here h
+  earned-sync_taken offsets now r own ticket m g Empty e p found here h = absurd (nothing_found own g.members m found (empty_members events offsets g (kept g.id) h e))
+  earned-sync_taken offsets now r own ticket m g Preparing e p found here h = absurd (false≢true (sym p ∙ ap is_preparing e))
 
 -- the other events
 
@@ -362,11 +363,11 @@ earned-met before moment kept s (event.Sync ticket r) v =
     earned-concluded events kept s ticket (sync s.last r ticket s.groups)
     (fine-sync (EarnedTurn events kept) s.last r ticket s.groups
     (λ id own g m grouped e given found dated phase.
-    let h : Whole events g (kept g.id) = each-found (λ k. Whole events k (kept k.id)) id s.groups g e v.each in
+    let h : Whole events s.offsets g (kept g.id) = each-found (λ k. Whole events s.offsets k (kept k.id)) id s.groups g e v.each in
     let here : has_named events g.id g.generation own ticket ≡ true = was_met_last before (event.Sync ticket r) moment g.id g.generation own ticket (sync_named r ticket id own g grouped (id-found id s.groups g e) given dated) in
     let t : Turn = sync_taken s.last r own ticket m g g.phase in
     let P : List ℕ → Type 0 = λ i. Each (λ r. is_earned_in events t.group (kept_after kept t.commands i) r ≡ true) t.replies in
-    subst P (sym (framed-sync_taken s.last r own ticket m g g.phase).0) (earned-sync_taken events kept s.last r own ticket m g g.phase refl phase found here h)))
+    subst P (sym (framed-sync_taken s.last r own ticket m g g.phase).0) (earned-sync_taken events kept s.offsets s.last r own ticket m g g.phase refl phase found here h)))
 earned-met before moment kept s (event.Join ticket r fresh) v =
     silent-concluded (before ++ (event.Join ticket r fresh, moment) ∷ []) kept s ticket (join s.last r fresh ticket s.groups)
     (fine-join (Told Silent) s.last r fresh ticket s.groups

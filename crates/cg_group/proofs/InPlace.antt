@@ -1,5 +1,5 @@
 -- The outcome of a request that changes a member in place, or is refused.
-use Rattle.std.proofs.Common.{◌≡◌, ℕ, true, false, List, map, Option, Some, None, Result, Ok, Err, ok_or, refl, sym, ap, ◌∙◌}
+use Rattle.std.proofs.Common.{◌≡◌, ℕ, true, false, List, map, Option, Some, None, Result, Ok, Err, OnErr, ok_or, refl, sym, ap, ◌∙◌}
 use Rattle.cg_names.specs.declared.code.Code.{Code}
 use Rattle.cg_names.specs.declared.code.Code.TheVariants.{InvalidGroupId, OffsetMetadataTooLarge, UnknownMemberId}
 use Rattle.cg_record.specs.declared.entry.Entry.{Entry}
@@ -27,6 +27,11 @@ use Rattle.cg_held.proofs.InOrder.{found_named}
 id-hearing : (now : ℕ) (id : List ℕ) (g : Group) → (hearing now id g).id ≡ g.id
 unfolding hearing
 id-hearing now id g = refl
+
+-- a fact that holds in any case holds of an error
+pub on_err : {A E : Type 0} (r : Result A E) (P : Type 0) → P → OnErr r P
+on_err (Ok x) P h = tt
+on_err (Err e) P h = h
 
 pub beat_unnamed : (now : ℕ) (r : BeatRequest) (ticket : Ticket) (groups : List Group) (code : Code) → named_group r.group groups ≡ Err code → beat now r ticket groups ≡ Err code
 unfolding beat

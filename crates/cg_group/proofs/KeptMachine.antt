@@ -124,7 +124,7 @@ module _ (I : Group → Option GroupRecord → Type 0) where
   kept-deleted : (kept : Kept) (id : List ℕ) → kept_after kept (command.Deleted (record { group = id }) ∷ []) id ≡ None
   kept-deleted kept id = kept_after-one kept (command.Deleted (record { group = id })) id refl
 
-  kept-undeleted : (kept : Kept) (id other : List ℕ) → is_same id other ≡ false → kept_after kept (command.Deleted (record { group = id }) ∷ []) other ≡ kept other
+  pub kept-undeleted : (kept : Kept) (id other : List ℕ) → is_same id other ≡ false → kept_after kept (command.Deleted (record { group = id }) ∷ []) other ≡ kept other
   kept-undeleted kept id other d = kept_after-other id other kept (command.Deleted (record { group = id }) ∷ []) (refl, tt) d
 
   held-deleted : (s : Machine) (kept : Kept) (id x : List ℕ) → Invariant I s.groups kept → is_some (kept_after kept (command.Deleted (record { group = id }) ∷ []) x) ≡ true → is_some (find_group x (without_group id s.groups)) ≡ true

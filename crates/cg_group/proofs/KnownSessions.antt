@@ -24,6 +24,7 @@ use Rattle.cg_member.specs.Leaving.{after_removal, gone_in, has_joined, leave_ta
 use Rattle.cg_request.specs.declared.commit_entry.CommitEntry.{CommitEntry}
 use Rattle.cg_turn.specs.Committing.{committed, hearing_committer, keeping_entries}
 use Rattle.cg_member.specs.declared.effects.Effects.{Effects}
+use Rattle.cg_group.specs.InPlace.{ParksKnown}
 use Rattle.cg_group.specs.Machine.{beat, commit, concluded, deleted, deleting, join, leave, met, sync}
 use Rattle.cg_held.specs.Held.{Machine, Outcome, at_moment, everywhere, find_group, groups_after, outcome, with_group}
 use Rattle.cg_member.specs.Membership.{has_id, heard, hearing, is_empty, is_preparing, keeping, leads}
@@ -435,3 +436,44 @@ module _ (sessions : ℕ → Bool) (now : ℕ) where
 pub known-revived : (homes : ℕ → List ℕ → Bool) (now : ℕ) (state : State) (names : List (List ℕ)) → AreKnown homes (map (revived now state) names)
 known-revived homes now state [] = tt
 known-revived homes now state (x ∷ xs) = (known-revived_one (at homes (revived now state x).id) now state x, known-revived homes now state xs)
+
+-- the step of a request is one of the group that it names
+one_name : (o : Option (List ℕ)) (x y : List ℕ) → o ≡ Some x → o ≡ Some y → x ≡ y
+one_name o x y e f = let same : Some x ≡ Some y = sym e ∙ f in cc
+
+own_group : (id : List ℕ) → (new_group id).id ≡ id
+unfolding new_group
+own_group id = refl
+
+named-join : (now : ℕ) (r : JoinRequest) (fresh : List ℕ) (ticket : Ticket) (groups : List Group) → Fine (λ t. (x : List ℕ) → r.group ≡ Some x → t.group.id ≡ x) (join now r fresh ticket groups)
+named-join now r fresh ticket groups =
+    fine-join (λ t. (x : List ℕ) → r.group ≡ Some x → t.group.id ≡ x) now r fresh ticket groups
+    (λ id new named _ x k. (framed-join_new now r new ticket (new_group id)).0 ∙ own_group id ∙ one_name r.group id x named k)
+    (λ id new g named e _ _ _ x k. (framed-join_new now r new ticket g).0 ∙ found_named id groups g e ∙ one_name r.group id x named k)
+    (λ id new g old named e _ _ _ x k. (framed-join_replacing now r new ticket old g).0 ∙ found_named id groups g e ∙ one_name r.group id x named k)
+    (λ id own g m named e _ _ x k. (framed-join_known now r own ticket m g).0 ∙ found_named id groups g e ∙ one_name r.group id x named k)
+
+named-sync : (now : ℕ) (r : SyncRequest) (ticket : Ticket) (groups : List Group) → Fine (λ t. (x : List ℕ) → r.group ≡ Some x → t.group.id ≡ x) (sync now r ticket groups)
+named-sync now r ticket groups =
+    fine-sync (λ t. (x : List ℕ) → r.group ≡ Some x → t.group.id ≡ x) now r ticket groups
+    (λ id own g m named e _ _ _ _ x k. (framed-sync_taken now r own ticket m g g.phase).0 ∙ found_named id groups g e ∙ one_name r.group id x named k)
+
+-- a refusal leaves the groups as they were
+known-refused : (homes : ℕ → List ℕ → Bool) (now : ℕ) (groups after : List Group) (ticket : Ticket) (code : Code) (made : Effects) → concluded (at_moment now groups) ticket (Err code) ≡ outcome now after made → AreKnown homes groups → AreKnown homes after
+unfolding concluded
+known-refused homes now groups after ticket code made is h = let P : List Group → Type 0 = λ gs. AreKnown homes gs in subst P (ap (λ (o : Outcome). o.after.groups) is) h
+
+-- the session index after a request that may park a call, if the index has the group of the step
+module _ (now : ℕ) (groups : List Group) (ticket : Ticket) where
+  parks : (group : Option (List ℕ)) (o : Result Turn Code) → ((homes : ℕ → List ℕ → Bool) (after : List Group) (made : Effects) → ((x : List ℕ) → group ≡ Some x → homes ticket.session x ≡ true) → concluded (at_moment now groups) ticket o ≡ outcome now after made → AreKnown homes groups → AreKnown homes after)
+      → Fine (λ t. (x : List ℕ) → group ≡ Some x → t.group.id ≡ x) o → ParksKnown now groups ticket o
+  parks group (Ok t) known named homes after made noted is h = known homes after made (λ x k. let P : List ℕ → Type 0 = λ i. homes ticket.session i ≡ true in subst P (named x k) (noted t.group.id refl)) is h
+  parks group (Err code) known named homes after made noted is h = known-refused homes now groups after ticket code made is h
+
+  pub parks-join : (r : JoinRequest) (fresh : List ℕ) → ParksKnown now groups ticket (join now r fresh ticket groups)
+  unfolding met
+  parks-join r fresh = parks r.group (join now r fresh ticket groups) (λ homes after made own is h. known-after homes now groups after (event.Join ticket r fresh) made own is h) (named-join now r fresh ticket groups)
+
+  pub parks-sync : (r : SyncRequest) → ParksKnown now groups ticket (sync now r ticket groups)
+  unfolding met
+  parks-sync r = parks r.group (sync now r ticket groups) (λ homes after made own is h. known-after homes now groups after (event.Sync ticket r) made own is h) (named-sync now r ticket groups)

@@ -18,8 +18,10 @@ use Rattle.cg_turn.specs.Committing.{commit_held, commit_of_member, commit_of_no
 use Rattle.cg_member.specs.Fencing.{member_check}
 use Rattle.cg_member.specs.Joining.{new_group}
 use Rattle.cg_held.specs.Kept.{kept_in}
-use Rattle.cg_group.specs.Laws.{CommitsAreLawful, IsOfMember, IsOfNobody, after_all, state_after}
-use Rattle.cg_group.specs.Machine.{commit, commit_in, concluded, met, step}
+use Rattle.cg_request.specs.declared.event.Event.{Event}
+use Rattle.cg_request.specs.declared.event.Event.TheVariants as event
+use Rattle.cg_group.specs.Laws.{AreRequests, CommitsAreLawful, IsLawfulCommit, IsOfMember, IsOfNobody, IsRefused, after_all, state_after}
+use Rattle.cg_group.specs.Machine.{commit, commit_in, concluded, met, step, with_offsets}
 use Rattle.cg_held.specs.Held.{Machine, find_group}
 use Rattle.cg_member.specs.Membership.{find_member, is_empty}
 use Rattle.cg_member.specs.Refusing.{◌>>=◌, refused_if}
@@ -27,7 +29,7 @@ use Rattle.cg_held.specs.Reviving.{revive}
 use Rattle.cg_group.proofs.Agreeing.{Whole, empty_members}
 use Rattle.cg_group.proofs.AgreeingMachine.{whole-all}
 use Rattle.cg_held.proofs.KeptLists.{each-found}
-use Rattle.cg_group.proofs.Requests.{Fine, after_checked, after_test, check_parts, passed_by, tested, unfenced_by}
+use Rattle.cg_group.proofs.Requests.{Fine, after_checked, after_given, after_test, check_parts, passed_by, tested, unfenced_by}
 
 -- a group in Empty has no members
 abbrev IsSound : Group → Type 0
@@ -99,24 +101,32 @@ lawful_in now r ticket groups id (Some g) sound =
     after_checked P (committer r.generation r.instance r.member g) (λ who. refused_if (is_too_large r.entries) OffsetMetadataTooLarge >>= kept who)
     (λ who from. after_test P (is_too_large r.entries) OffsetMetadataTooLarge (kept who) (λ _. of_somebody r g who (sound g refl) from))
 
-lawful_commit : (now : ℕ) (r : CommitRequest) (ticket : Ticket) (groups : List Group) (id : List ℕ) → r.group ≡ Some id → ((g : Group) → find_group id groups ≡ Some g → IsSound g) → Fine (λ _. Lawful r (find_group id groups)) (commit now r ticket groups)
+lawful_over : (r : CommitRequest) (groups : List Group) (id : List ℕ) → r.group ≡ Some id → (o : Result Turn Code) → Fine (λ _. Lawful r (find_group id groups)) o → Fine (λ _. IsLawfulCommit r groups) o
+unfolding Lawful
+lawful_over r groups id named (Ok t) h = record { id = id; named = named; sender = h }
+lawful_over r groups id named (Err code) h = tt
+
+lawful_commit : (now : ℕ) (r : CommitRequest) (ticket : Ticket) (groups : List Group) → ((id : List ℕ) (g : Group) → find_group id groups ≡ Some g → IsSound g) → Fine (λ _. IsLawfulCommit r groups) (commit now r ticket groups)
 unfolding commit
-lawful_commit now r ticket groups id named sound =
-    let P : Option (List ℕ) → Type 0 = λ o. Fine (λ _. Lawful r (find_group id groups)) (ok_or o InvalidGroupId >>= λ i. commit_in now r ticket groups i (find_group i groups)) in
-    subst P (sym named) (lawful_in now r ticket groups id (find_group id groups) sound)
+lawful_commit now r ticket groups sound =
+    after_given (λ _. IsLawfulCommit r groups) r.group InvalidGroupId (λ id. commit_in now r ticket groups id (find_group id groups))
+    (λ id named. lawful_over r groups id named (commit_in now r ticket groups id (find_group id groups)) (lawful_in now r ticket groups id (find_group id groups) (sound id)))
 
-taken : (G : Type 0) (s : Machine) (ticket : Ticket) (o : Result Turn Code) → Fine (λ _. G) o → ((concluded s ticket o).effects.commands ≡ [] → ⊥) → G
+refused_or : (G : Type 0) (s : Machine) (ticket : Ticket) (o : Result Turn Code) → Fine (λ _. G) o → IsRefused ticket s (with_offsets (concluded s ticket o)) ⊎ G
 unfolding concluded
-taken G s ticket (Ok t) h made = h
-taken G s ticket (Err code) h made = absurd (made refl)
+refused_or G s ticket (Ok t) h = inr h
+refused_or G s ticket (Err code) h = inl (record { code = code; effects = refl; groups = refl; offsets = refl })
 
-pub commits_are_lawful : CommitsAreLawful
-unfolding step met Lawful
-commits_are_lawful state now events ticket r m group asked named made =
+pub commits_are_lawful : (events : List (Event × ℕ)) → AreRequests events → CommitsAreLawful events
+unfolding step met
+commits_are_lawful events asked state now ticket r m =
     let s : Machine = after_all events (revive state now) in
     let kept = kept_in (state_after state now events) in
     let v = whole-all state now events asked in
-    taken (IsOfNobody r (find_group group s.groups) ⊎ IsOfMember r (find_group group s.groups)) (record s { last = max s.last m }) ticket (commit (max s.last m) r ticket s.groups)
-    (lawful_commit (max s.last m) r ticket s.groups group named
-    (λ g e. empty_members events g (kept g.id) (each-found (λ k. Whole events k (kept k.id)) group s.groups g e v.each)))
-    made
+    let either = refused_or (IsLawfulCommit r s.groups) (record s { last = max s.last m }) ticket (commit (max s.last m) r ticket s.groups)
+    (lawful_commit (max s.last m) r ticket s.groups
+    (λ id g e. empty_members events s.offsets g (kept g.id) (each-found (λ k. Whole events s.offsets k (kept k.id)) id s.groups g e v.each))) in
+    elim either as (λ _. IsRefused ticket s (step s (event.Commit ticket r) m) ⊎ IsLawfulCommit r s.groups) [
+      | inl h ↦ inl (record { code = h.code; effects = h.effects; groups = h.groups; offsets = h.offsets })
+      | inr h ↦ inr h
+    ]

@@ -21,3 +21,5 @@ pub mod Requests
 pub mod Rounds
 pub mod Succeeding
 pub mod Telling
+pub mod Founded
+pub mod Dated

@@ -1,8 +1,9 @@
 -- Steps other than a commit's make only the commands Assigned and Emptied, and a replacement also Replaced.
-use Rattle.std.proofs.Common.{ℕ, true, false, not, List, [], ◌∷◌, Option, Some, None}
+use Rattle.std.proofs.Common.{◌≡◌, ◌≤◌, ℕ, true, false, not, nat_le, List, [], ◌∷◌, refl, subst, Option, Some, None}
 use Rattle.std.specs.Prelude.{if◌then◌else◌}
 use Rattle.std.specs.List.{list_any, flat_map}
 use Rattle.std.specs.Option.{option_to_list, option_map, option_and_then}
+use Rattle.std.proofs.lemmas.Bool.{leb-true}
 use Rattle.cg_record.specs.declared.assigned.Assigned.{Assigned}
 use Rattle.cg_record.specs.declared.command.Command.{Command}
 use Rattle.cg_record.specs.declared.command.Command.TheVariants as command
@@ -28,7 +29,15 @@ use Rattle.cg_member.specs.Syncing.{assigned_command, assigning, distributed, ke
 use Rattle.cg_member.specs.Ticking.{at_deadline, can_complete, ended, expired, is_due, is_overdue, outstays, ticked}
 use Rattle.cg_held.proofs.Framed.{each-append}
 
-module _ (P : Command → Type 0) (assigned_is : (a : Assigned) → P (command.Assigned a)) (emptied_is : (e : Emptied) → P (command.Emptied e)) where
+-- the generation in a command is a completed one
+completed_from : (g n : ℕ) → completed_generation g ≡ Some n → 1 ≤ n
+completed_from g n e =
+    (elim (nat_le 1 g) as (λ b. nat_le 1 g ≡ b → (if b then Some g else None) ≡ Some n → 1 ≤ n) [
+      | true ↦ λ h k. let same : g ≡ n = cc in subst (λ (x : ℕ). 1 ≤ x) same (leb-true 1 g h)
+      | false ↦ λ _ k. cc
+    ]) refl e
+
+module _ (P : Command → Type 0) (assigned_is : (a : Assigned) → 1 ≤ a.generation → P (command.Assigned a)) (emptied_is : (e : Emptied) → 1 ≤ e.generation → P (command.Emptied e)) where
   abbrev Makes : Turn → Type 0
   Makes t = Each P t.commands
 
@@ -49,12 +58,12 @@ module _ (P : Command → Type 0) (assigned_is : (a : Assigned) → P (command.A
 
   makes-one_emptied : (g : Group) → Each P (emptied_command g)
   unfolding emptied_command
-  makes-one_emptied g = go (completed_generation g.generation) g.kind
+  makes-one_emptied g = go (completed_generation g.generation) g.kind (completed_from g.generation)
     where
-      go : (n : Option ℕ) (k : Option (List ℕ)) → Each P (option_to_list (option_and_then (λ generation. option_map (λ kind. command.Emptied (record { group = g.id; generation = generation; kind = kind })) k) n))
-      go None k = tt
-      go (Some n) None = tt
-      go (Some n) (Some k) = (emptied_is (record { group = g.id; generation = n; kind = k }), tt)
+      go : (n : Option ℕ) (k : Option (List ℕ)) → ((x : ℕ) → n ≡ Some x → 1 ≤ x) → Each P (option_to_list (option_and_then (λ generation. option_map (λ kind. command.Emptied (record { group = g.id; generation = generation; kind = kind })) k) n))
+      go None k dated = tt
+      go (Some n) None dated = tt
+      go (Some n) (Some k) dated = (emptied_is (record { group = g.id; generation = n; kind = k }) (dated n refl), tt)
 
   makes-emptied : (t : Turn) → Makes t → Makes (emptied t)
   unfolding emptied
@@ -98,14 +107,14 @@ module _ (P : Command → Type 0) (assigned_is : (a : Assigned) → P (command.A
 
   makes-one_assigned : (g : Group) → Each P (assigned_command g)
   unfolding assigned_command
-  makes-one_assigned g = go (completed_generation g.generation) g.kind g.protocol g.leader
+  makes-one_assigned g = go (completed_generation g.generation) g.kind g.protocol g.leader (completed_from g.generation)
     where
-      go : (n : Option ℕ) (k p l : Option (List ℕ)) → Each P (option_to_list (option_and_then (λ generation. option_and_then (λ kind. option_and_then (λ protocol. option_map (λ leader. command.Assigned (record { group = g.id; generation = generation; kind = kind; roster = kept_roster protocol leader g })) l) p) k) n))
-      go None k p l = tt
-      go (Some n) None p l = tt
-      go (Some n) (Some k) None l = tt
-      go (Some n) (Some k) (Some p) None = tt
-      go (Some n) (Some k) (Some p) (Some l) = (assigned_is (record { group = g.id; generation = n; kind = k; roster = kept_roster p l g }), tt)
+      go : (n : Option ℕ) (k p l : Option (List ℕ)) → ((x : ℕ) → n ≡ Some x → 1 ≤ x) → Each P (option_to_list (option_and_then (λ generation. option_and_then (λ kind. option_and_then (λ protocol. option_map (λ leader. command.Assigned (record { group = g.id; generation = generation; kind = kind; roster = kept_roster protocol leader g })) l) p) k) n))
+      go None k p l dated = tt
+      go (Some n) None p l dated = tt
+      go (Some n) (Some k) None l dated = tt
+      go (Some n) (Some k) (Some p) None dated = tt
+      go (Some n) (Some k) (Some p) (Some l) dated = (assigned_is (record { group = g.id; generation = n; kind = k; roster = kept_roster p l g }) (dated n refl), tt)
 
   makes-distributed : (now : ℕ) (entries : List SyncEntry) (t : Turn) → Makes t → Makes (distributed now entries t)
   unfolding distributed told_to_syncs

@@ -17,7 +17,7 @@ use Rattle.cg_member.specs.declared.turn.Turn.{Turn}
 use Rattle.cg_turn.specs.Committing.{committed, hearing_committer, keeping_entries}
 use Rattle.cg_member.specs.Joining.{new_group, new_member, rejoined}
 use Rattle.cg_held.specs.Kept.{Each}
-use Rattle.cg_group.specs.Laws.{AssignmentsAreEarned, after_all, is_passed_on, passes_assignment}
+use Rattle.cg_group.specs.Laws.{AreRequests, AssignmentsAreEarned, after_all, is_passed_on, passes_assignment}
 use Rattle.cg_member.specs.Leaving.{gone_in}
 use Rattle.cg_group.specs.Machine.{beat, commit, concluded, deleted, deleting, join, leave, met, step, sync}
 use Rattle.cg_held.specs.Held.{Machine, everywhere, find_group}
@@ -99,7 +99,7 @@ module _ (groups : List Group) where
       (and_from (is_same g.id g.id) (list_any (passes_assignment (kept_member g.protocol m)) g.members) (same_self g.id) (passed_successor now r new old g found)) in
       elim (keeps_generation t.group) as (λ b. Passed (if b then replaced_in_place ticket (kept_member g.protocol m) g t else rejoined now new ticket t)) [
         | true ↦ (here, tt)
-        | false ↦ all_passed (rejoined now new ticket t).commands (makes-rejoined IsPlain (λ _. refl) (λ _. refl) now new ticket t tt)
+        | false ↦ all_passed (rejoined now new ticket t).commands (makes-rejoined IsPlain (λ _ _. refl) (λ _ _. refl) now new ticket t tt)
       ]
 
   passed_all : (turn : Group → Turn) → ((g : Group) → Plain (turn g)) → (gs : List Group) → ArePassed (flat_map (λ g. (turn g).commands) gs)
@@ -121,19 +121,19 @@ unfolding met everywhere
 passed-met s (event.Join ticket r fresh) =
     passed-concluded s ticket (join s.last r fresh ticket s.groups)
     (fine-join (Passed s.groups) s.last r fresh ticket s.groups
-    (λ id new _ _. all_passed s.groups _ (makes-join_new IsPlain (λ _. refl) (λ _. refl) s.last r new ticket (new_group id)))
-    (λ id new g _ _ _ _ _. all_passed s.groups _ (makes-join_new IsPlain (λ _. refl) (λ _. refl) s.last r new ticket g))
+    (λ id new _ _. all_passed s.groups _ (makes-join_new IsPlain (λ _ _. refl) (λ _ _. refl) s.last r new ticket (new_group id)))
+    (λ id new g _ _ _ _ _. all_passed s.groups _ (makes-join_new IsPlain (λ _ _. refl) (λ _ _. refl) s.last r new ticket g))
     (λ id new g old _ e _ found _. passed-join_replacing s.groups s.last r id new ticket old g e found)
-    (λ id own g m _ _ _ _. all_passed s.groups _ (makes-join_known IsPlain (λ _. refl) (λ _. refl) s.last r own ticket m g)))
+    (λ id own g m _ _ _ _. all_passed s.groups _ (makes-join_known IsPlain (λ _ _. refl) (λ _ _. refl) s.last r own ticket m g)))
 passed-met s (event.Sync ticket r) =
     passed-concluded s ticket (sync s.last r ticket s.groups)
-    (fine-sync (Passed s.groups) s.last r ticket s.groups (λ id own g m _ _ _ _ _ _. all_passed s.groups _ (makes-sync_taken IsPlain (λ _. refl) (λ _. refl) s.last r own ticket m g g.phase)))
+    (fine-sync (Passed s.groups) s.last r ticket s.groups (λ id own g m _ _ _ _ _ _. all_passed s.groups _ (makes-sync_taken IsPlain (λ _ _. refl) (λ _ _. refl) s.last r own ticket m g g.phase)))
 passed-met s (event.Beat ticket r) =
     passed-concluded s ticket (beat s.last r ticket s.groups)
-    (fine-beat (Passed s.groups) s.last r ticket s.groups (λ id own g _. all_passed s.groups _ (makes-beat_taken IsPlain (λ _. refl) (λ _. refl) s.last own ticket g)))
+    (fine-beat (Passed s.groups) s.last r ticket s.groups (λ id own g _. all_passed s.groups _ (makes-beat_taken IsPlain (λ _ _. refl) (λ _ _. refl) s.last own ticket g)))
 passed-met s (event.Leave ticket r) =
     passed-concluded s ticket (leave s.last r ticket s.groups)
-    (fine-leave (Passed s.groups) s.last r ticket s.groups (λ id g m _ _. all_passed s.groups _ (makes-leave_taken IsPlain (λ _. refl) (λ _. refl) s.last m.id ticket m g)))
+    (fine-leave (Passed s.groups) s.last r ticket s.groups (λ id g m _ _. all_passed s.groups _ (makes-leave_taken IsPlain (λ _ _. refl) (λ _ _. refl) s.last m.id ticket m g)))
 passed-met s (event.Commit ticket r) =
     passed-concluded s ticket (commit s.last r ticket s.groups)
     (fine-commit (Passed s.groups) s.last r ticket s.groups
@@ -143,15 +143,15 @@ passed-met s (event.Fetch ticket r) = tt
 passed-met s (event.Delete ticket id) = passed-deleted s ticket (deleting id s.groups)
 passed-met s (event.Describe ticket id) = tt
 passed-met s (event.List ticket) = tt
-passed-met s (event.Gone session) = passed_all s.groups (gone_in s.last session) (makes-gone_in IsPlain (λ _. refl) (λ _. refl) s.last session) s.groups
-passed-met s event.Tick = passed_all s.groups (ticked s.last) (makes-ticked IsPlain (λ _. refl) (λ _. refl) s.last) s.groups
+passed-met s (event.Gone session) = passed_all s.groups (gone_in s.last session) (makes-gone_in IsPlain (λ _ _. refl) (λ _ _. refl) s.last session) s.groups
+passed-met s event.Tick = passed_all s.groups (ticked s.last) (makes-ticked IsPlain (λ _ _. refl) (λ _ _. refl) s.last) s.groups
 
 passed-step : (s : Machine) (e : Event) (m : ℕ) → ArePassed s.groups (step s e m).effects.commands
 unfolding step
 passed-step s e m = passed-met (record s { last = max s.last m }) e
 
-pub assignments_are_earned : AssignmentsAreEarned
-assignments_are_earned state now events e m asked = record {
+pub assignments_are_earned : (events : List (Event × ℕ)) → AreRequests events → AssignmentsAreEarned events
+assignments_are_earned events asked state now e m = record {
   replies = replies_are_earned state now events e m asked;
   commands = passed-step (after_all events (revive state now)) e m;
 }

@@ -33,35 +33,35 @@ quiet-join_replacing now r id ticket old g =
     let t : Turn = replaced m old g in
     elim (keeps_generation t.group) as (λ b. Quiet (if b then replaced_in_place ticket (kept_member g.protocol m) g t else rejoined now id ticket t)) [
       | true ↦ (refl, tt)
-      | false ↦ makes-rejoined IsQuiet (λ _. refl) (λ _. refl) now id ticket t tt
+      | false ↦ makes-rejoined IsQuiet (λ _ _. refl) (λ _ _. refl) now id ticket t tt
     ]
 
 pub quiet-join : (now : ℕ) (r : JoinRequest) (fresh : List ℕ) (ticket : Ticket) (groups : List Group) → Fine Quiet (join now r fresh ticket groups)
 quiet-join now r fresh ticket groups =
     fine-join Quiet now r fresh ticket groups
-    (λ id new _ _. makes-join_new IsQuiet (λ _. refl) (λ _. refl) now r new ticket (new_group id))
-    (λ id new g _ _ _ _ _. makes-join_new IsQuiet (λ _. refl) (λ _. refl) now r new ticket g)
+    (λ id new _ _. makes-join_new IsQuiet (λ _ _. refl) (λ _ _. refl) now r new ticket (new_group id))
+    (λ id new g _ _ _ _ _. makes-join_new IsQuiet (λ _ _. refl) (λ _ _. refl) now r new ticket g)
     (λ id new g old _ _ _ _ _. quiet-join_replacing now r new ticket old g)
-    (λ id own g m _ _ _ _. makes-join_known IsQuiet (λ _. refl) (λ _. refl) now r own ticket m g)
+    (λ id own g m _ _ _ _. makes-join_known IsQuiet (λ _ _. refl) (λ _ _. refl) now r own ticket m g)
 
 pub quiet-sync : (now : ℕ) (r : SyncRequest) (ticket : Ticket) (groups : List Group) → Fine Quiet (sync now r ticket groups)
 quiet-sync now r ticket groups =
-    fine-sync Quiet now r ticket groups (λ id own g m _ _ _ _ _ _. makes-sync_taken IsQuiet (λ _. refl) (λ _. refl) now r own ticket m g g.phase)
+    fine-sync Quiet now r ticket groups (λ id own g m _ _ _ _ _ _. makes-sync_taken IsQuiet (λ _ _. refl) (λ _ _. refl) now r own ticket m g g.phase)
 
 pub quiet-beat : (now : ℕ) (r : BeatRequest) (ticket : Ticket) (groups : List Group) → Fine Quiet (beat now r ticket groups)
-quiet-beat now r ticket groups = fine-beat Quiet now r ticket groups (λ id own g _. makes-beat_taken IsQuiet (λ _. refl) (λ _. refl) now own ticket g)
+quiet-beat now r ticket groups = fine-beat Quiet now r ticket groups (λ id own g _. makes-beat_taken IsQuiet (λ _ _. refl) (λ _ _. refl) now own ticket g)
 
 pub quiet-leave : (now : ℕ) (r : LeaveRequest) (ticket : Ticket) (groups : List Group) → Fine Quiet (leave now r ticket groups)
-quiet-leave now r ticket groups = fine-leave Quiet now r ticket groups (λ id g m _ _. makes-leave_taken IsQuiet (λ _. refl) (λ _. refl) now m.id ticket m g)
+quiet-leave now r ticket groups = fine-leave Quiet now r ticket groups (λ id g m _ _. makes-leave_taken IsQuiet (λ _ _. refl) (λ _ _. refl) now m.id ticket m g)
 
 pub quiet-gone_in : (now session : ℕ) (g : Group) → Quiet (gone_in now session g)
-quiet-gone_in now session g = makes-gone_in IsQuiet (λ _. refl) (λ _. refl) now session g
+quiet-gone_in now session g = makes-gone_in IsQuiet (λ _ _. refl) (λ _ _. refl) now session g
 
 pub quiet-ticked : (now : ℕ) (g : Group) → Quiet (ticked now g)
-quiet-ticked now g = makes-ticked IsQuiet (λ _. refl) (λ _. refl) now g
+quiet-ticked now g = makes-ticked IsQuiet (λ _ _. refl) (λ _ _. refl) now g
 
 pub quiet-all : (turn : Group → Turn) → ((g : Group) → Quiet (turn g)) → (groups : List Group) → AreQuiet (flat_map (λ g. (turn g).commands) groups)
-quiet-all turn h groups = makes-all IsQuiet (λ _. refl) (λ _. refl) turn h groups
+quiet-all turn h groups = makes-all IsQuiet (λ _ _. refl) (λ _ _. refl) turn h groups
 
 pub quiet-concluded : (s : Machine) (ticket : Ticket) (o : Result Turn Code) → Fine Quiet o → AreQuiet (concluded s ticket o).effects.commands
 unfolding concluded

@@ -6,6 +6,7 @@ use Rattle.std.specs.List.{flat_map}
 use Rattle.std.proofs.lemmas.Bool.{and_parts, false≢true}
 use Rattle.cg_names.specs.declared.code.Code.{Code}
 use Rattle.cg_record.specs.declared.member.Member.{Member as KeptMember}
+use Rattle.cg_request.specs.declared.event.Event.{Event}
 use Rattle.cg_request.specs.declared.event.Event.TheVariants as event
 use Rattle.cg_member.specs.declared.group.Group.{Group}
 use Rattle.cg_member.specs.declared.group.Phase.{Phase}
@@ -22,14 +23,14 @@ use Rattle.cg_member.specs.declared.turn.Turn.{Turn}
 use Rattle.cg_turn.specs.Beating.{beat_taken}
 use Rattle.cg_member.specs.Joining.{admitted, is_current, join_again, join_current, join_known, join_new, new_group, new_member, rejoined, updating, waiting}
 use Rattle.cg_held.specs.Kept.{Each}
-use Rattle.cg_group.specs.Laws.{IsOneRound, Names, RoundsAreOne, replies_by_group}
+use Rattle.cg_group.specs.Laws.{IsInRounds, IsOneRound, Names, RoundsAreOne, replies_by_group}
 use Rattle.cg_request.specs.declared.topic_partition.TopicPartition.{TopicPartition}
 use Rattle.cg_member.specs.Fetching.{fetched}
 use Rattle.cg_member.specs.Offsets.{OffsetMap}
 use Rattle.cg_member.specs.Leaving.{after_removal, gone_in, leave_taken, left}
 use Rattle.cg_request.specs.declared.commit_entry.CommitEntry.{CommitEntry}
 use Rattle.cg_turn.specs.Committing.{committed, hearing_committer, keeping_entries}
-use Rattle.cg_group.specs.Machine.{beat, commit, concluded, deleted, deleting, describe, join, leave, met, sync}
+use Rattle.cg_group.specs.Machine.{at_event, beat, commit, concluded, deleted, deleting, describe, join, leave, met, step, sync}
 use Rattle.cg_held.specs.Held.{Machine, everywhere}
 use Rattle.cg_member.specs.Membership.{hearing, is_empty, is_preparing, keeping, leads}
 use Rattle.cg_member.specs.Rebalance.{completed, emptied, is_ready, joined_reply, next_round, told_to_joins, tried, turn_of}
@@ -246,9 +247,9 @@ round-groups : (turn : Group → Turn) → ((g : Group) → IsOneRound (turn g).
 round-groups turn k [] = tt
 round-groups turn k (g ∷ gs) = (k g, round-groups turn k gs)
 
-pub rounds_are_one : RoundsAreOne
+in_rounds : (s : Machine) (e : Event) → IsInRounds s e
 unfolding replies_by_group met everywhere
-rounds_are_one s (event.Join ticket r fresh) = record {
+in_rounds s (event.Join ticket r fresh) = record {
   whole = whole-one _;
   rounds = (
     round-concluded s ticket (join s.last r fresh ticket s.groups) (fine-join InRound s.last r fresh ticket s.groups
@@ -259,7 +260,7 @@ rounds_are_one s (event.Join ticket r fresh) = record {
     tt,
   );
 }
-rounds_are_one s (event.Sync ticket r) = record {
+in_rounds s (event.Sync ticket r) = record {
   whole = whole-one _;
   rounds = (
     round-concluded s ticket (sync s.last r ticket s.groups) (fine-sync InRound s.last r ticket s.groups
@@ -267,7 +268,7 @@ rounds_are_one s (event.Sync ticket r) = record {
     tt,
   );
 }
-rounds_are_one s (event.Beat ticket r) = record {
+in_rounds s (event.Beat ticket r) = record {
   whole = whole-one _;
   rounds = (
     round-concluded s ticket (beat s.last r ticket s.groups) (fine-beat InRound s.last r ticket s.groups
@@ -275,7 +276,7 @@ rounds_are_one s (event.Beat ticket r) = record {
     tt,
   );
 }
-rounds_are_one s (event.Leave ticket r) = record {
+in_rounds s (event.Leave ticket r) = record {
   whole = whole-one _;
   rounds = (
     round-concluded s ticket (leave s.last r ticket s.groups) (fine-leave InRound s.last r ticket s.groups
@@ -283,7 +284,7 @@ rounds_are_one s (event.Leave ticket r) = record {
     tt,
   );
 }
-rounds_are_one s (event.Commit ticket r) = record {
+in_rounds s (event.Commit ticket r) = record {
   whole = whole-one _;
   rounds = (
     round-concluded s ticket (commit s.last r ticket s.groups) (fine-commit InRound s.last r ticket s.groups
@@ -292,15 +293,19 @@ rounds_are_one s (event.Commit ticket r) = record {
     tt,
   );
 }
-rounds_are_one s (event.Fetch ticket r) = record { whole = refl; rounds = (no_round ((ticket, fetched s.offsets r.group r.partitions) ∷ []) (round-fetched s.offsets r.group r.partitions, tt), tt) }
-rounds_are_one s (event.Delete ticket id) = record { whole = whole-one _; rounds = (round-deleted s ticket (deleting id s.groups), tt) }
-rounds_are_one s (event.Describe ticket id) = record { whole = refl; rounds = (no_round ((ticket, describe id s.groups) ∷ []) (round-describe id s.groups, tt), tt) }
-rounds_are_one s (event.List ticket) = record { whole = refl; rounds = (no_round _ (tt, tt), tt) }
-rounds_are_one s (event.Gone session) = record {
+in_rounds s (event.Fetch ticket r) = record { whole = refl; rounds = (no_round ((ticket, fetched s.offsets r.group r.partitions) ∷ []) (round-fetched s.offsets r.group r.partitions, tt), tt) }
+in_rounds s (event.Delete ticket id) = record { whole = whole-one _; rounds = (round-deleted s ticket (deleting id s.groups), tt) }
+in_rounds s (event.Describe ticket id) = record { whole = refl; rounds = (no_round ((ticket, describe id s.groups) ∷ []) (round-describe id s.groups, tt), tt) }
+in_rounds s (event.List ticket) = record { whole = refl; rounds = (no_round _ (tt, tt), tt) }
+in_rounds s (event.Gone session) = record {
   whole = flat_map-map (λ g. (gone_in s.last session g).replies) s.groups;
   rounds = round-groups (gone_in s.last session) (λ g. bare_round g (gone_in s.last session g).replies (told-gone_in Bare (λ _. tt) s.last session g)) s.groups;
 }
-rounds_are_one s event.Tick = record {
+in_rounds s event.Tick = record {
   whole = flat_map-map (λ g. (ticked s.last g).replies) s.groups;
   rounds = round-groups (ticked s.last) (λ g. round-ticked s.last g) s.groups;
 }
+
+pub rounds_are_one : RoundsAreOne
+rounds_are_one [] s = tt
+rounds_are_one (e ∷ es) s = (in_rounds (at_event s e.1) e.0, rounds_are_one es (step s e.0 e.1).after)

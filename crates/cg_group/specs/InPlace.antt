@@ -1,13 +1,18 @@
--- Requests that only mark a member as heard: they change the member in place.
-use Rattle.std.specs.Prelude.{◌≡◌, ℕ, List, Option, Some, Ok}
+-- Requests that only mark a member as heard: they change the member in place. Others replace their group.
+use Rattle.std.specs.Prelude.{◌≡◌, ℕ, Bool, true, List, Option, Some, None, Result, Ok, Err}
+use Rattle.cg_names.specs.declared.code.Code.{Code}
 use Rattle.cg_member.specs.declared.group.Group.{Group}
 use Rattle.cg_member.specs.declared.member.Member.{Member}
 use Rattle.cg_member.specs.declared.reply.Reply.{Reply}
 use Rattle.cg_request.specs.declared.request.BeatRequest.{BeatRequest}
 use Rattle.cg_request.specs.declared.request.SyncRequest.{SyncRequest}
 use Rattle.cg_request.specs.declared.ticket.Ticket.{Ticket}
+use Rattle.cg_member.specs.declared.turn.Turn.{Turn}
 use Rattle.cg_turn.specs.Beating.{beat_held, beat_reply, beat_taken}
-use Rattle.cg_held.specs.Held.{find_group}
+use Rattle.cg_group.specs.Machine.{concluded}
+use Rattle.cg_held.specs.Held.{at_moment, find_group, outcome}
+use Rattle.cg_held.specs.Sessions.{AreKnown}
+use Rattle.cg_member.specs.declared.effects.Effects.{Effects}
 use Rattle.cg_member.specs.Syncing.{sync_current, sync_held}
 
 -- the request names this group, and it is loaded
@@ -33,3 +38,14 @@ pub record IsSyncIn (r : SyncRequest) (groups : List Group) (own id bytes : List
   pub group : Group
   pub named : IsNamed r.group groups own group
   pub current : IsCurrent r group id bytes
+
+-- the group whose step this is; a refusal is no step
+abbrev pub group_of : Result Turn Code → Option (List ℕ)
+group_of (Err code) = None
+group_of (Ok t) = Some t.group.id
+
+-- if the index has the group of the step for the session of the call, it has every call that is parked after the step
+abbrev pub ParksKnown : ℕ → List Group → Ticket → Result Turn Code → Type 0
+ParksKnown now groups ticket o =
+    (homes : ℕ → List ℕ → Bool) (after : List Group) (made : Effects) → ((x : List ℕ) → group_of o ≡ Some x → homes ticket.session x ≡ true)
+    → concluded (at_moment now groups) ticket o ≡ outcome now after made → AreKnown homes groups → AreKnown homes after

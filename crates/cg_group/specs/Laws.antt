@@ -1,8 +1,9 @@
 -- Laws of the machine, for every list of events after recovery from any durable state.
-use Rattle.std.specs.Prelude.{◌≡◌, ◌⊎◌, ℕ, Bool, true, false, pos, ◌&&◌, ◌==◌, List, [], ◌∷◌, ◌++◌, map, Option, Some, None, Ok, is_some}
+use Rattle.std.specs.Prelude.{◌≡◌, ◌⊎◌, ◌≤◌, ℕ, Bool, true, false, pos, ◌&&◌, ◌==◌, List, [], ◌∷◌, ◌++◌, map, Option, Some, None, Ok, IfSome, is_some}
 use Rattle.std.specs.List.{list_any, flat_map}
 use Rattle.std.specs.Ordering.{int_eq}
 use Rattle.std.specs.FinMap as finmap
+use Rattle.cg_names.specs.declared.code.Code.{Code}
 use Rattle.cg_record.specs.declared.command.Command.{Command}
 use Rattle.cg_record.specs.declared.command.Command.TheVariants as command
 use Rattle.cg_record.specs.declared.member.Member.{Member as KeptMember}
@@ -22,10 +23,11 @@ use Rattle.cg_member.specs.declared.reply.Reply.TheVariants as reply
 use Rattle.cg_request.specs.declared.ticket.Ticket.{Ticket}
 use Rattle.cg_turn.specs.Committing.{is_negative}
 use Rattle.cg_member.specs.Fencing.{fencing}
-use Rattle.cg_held.specs.Kept.{AreRecords, Each, Kept, kept_in}
+use Rattle.cg_held.specs.Kept.{AreRecords, Each, HasOffset, Kept, kept_in}
 use Rattle.cg_member.specs.Leaving.{gone_in}
 use Rattle.cg_member.specs.Members.{AreDistinct}
-use Rattle.cg_group.specs.Machine.{met, step}
+use Rattle.cg_member.specs.Offsets.{OffsetMap}
+use Rattle.cg_group.specs.Machine.{at_event, met, reply_alone, step}
 use Rattle.cg_held.specs.Held.{Machine, Outcome, find_group}
 use Rattle.cg_member.specs.Membership.{find_member, has_instance, is_named, is_same}
 use Rattle.cg_held.specs.Reviving.{revive}
@@ -42,13 +44,13 @@ unfoldable pub commands_of : List (Event × ℕ) → Machine → List Command
 commands_of [] s = []
 commands_of (e ∷ es) s = (step s e.0 e.1).effects.commands ++ commands_of es (step s e.0 e.1).after
 
--- a JOIN lists at least one protocol
+-- what the types of requests give: a JOIN lists a protocol, and a COMMIT has an entry
 abbrev pub is_request : Event → Bool
 is_request (event.Join ticket r fresh) = list_any (λ p. true) r.protocols
+is_request (event.Commit ticket r) = list_any (λ e. true) r.entries
 is_request (event.Sync ticket r) = true
 is_request (event.Beat ticket r) = true
 is_request (event.Leave ticket r) = true
-is_request (event.Commit ticket r) = true
 is_request (event.Fetch ticket r) = true
 is_request (event.Delete ticket id) = true
 is_request (event.Describe ticket id) = true
@@ -105,8 +107,14 @@ pub record IsInRounds (s : Machine) (e : Event) : Type 0 where
   pub whole : (met s e).effects.replies ≡ flat_map (λ replies. replies) (replies_by_group s e)
   pub rounds : Each IsOneRound (replies_by_group s e)
 
+-- the same for each event of a list, in the state that the events before it left
+abbrev pub AreInRounds : List (Event × ℕ) → Machine → Type 0
+AreInRounds [] s = Unit {0}
+AreInRounds (e ∷ es) s = IsInRounds (at_event s e.1) e.0 × AreInRounds es (step s e.0 e.1).after
+
+-- from every state, and so from every recovered one
 abbrev pub RoundsAreOne : Type 0
-RoundsAreOne = (s : Machine) (e : Event) → IsInRounds s e
+RoundsAreOne = (events : List (Event × ℕ)) (s : Machine) → AreInRounds events s
 
 -- Machine and commands agree.
 
@@ -119,17 +127,22 @@ pub record IsAssignedAs (r : GroupRecord) (roster : RosterParts) (g : Group) : T
   pub leader : Some roster.leader ≡ g.leader
   pub members : roster.members ≡ map (kept_member g.protocol) g.members
 
--- the record of a group without members
+-- the record of a group without members: it has no protocol and no leader either
 pub record IsEmptiedAs (r : GroupRecord) (g : Group) : Type 0 where
   pub phase : g.phase ≡ Empty
   pub generation : r.generation ≡ g.generation
   pub kind : Some r.kind ≡ g.kind
+  pub protocol : g.protocol ≡ None
+  pub leader : g.leader ≡ None
   pub members : g.members ≡ []
 
--- a group without members in which no rebalance has completed: it has no record
+-- a group of which only offsets are stored: it has nothing of a rebalance
 pub record IsUnrecorded (g : Group) : Type 0 where
   pub phase : g.phase ≡ Empty
   pub generation : g.generation ≡ 0
+  pub kind : g.kind ≡ None
+  pub protocol : g.protocol ≡ None
+  pub leader : g.leader ≡ None
   pub members : g.members ≡ []
 
 -- the record has everything of the group, by its roster
@@ -149,22 +162,48 @@ AgreesIn Empty g kept = TellsOf g kept
 AgreesIn Preparing g kept = Unit {0}
 AgreesIn Completing g kept = Unit {0}
 
--- the offsets are those of the durable state; each group with a record or an offset is loaded; and each group agrees
--- with its record
+-- a rebalance is under way
+abbrev pub IsRebalancing : Phase → Type 0
+IsRebalancing phase = (phase ≡ Preparing) ⊎ (phase ≡ Completing)
+
+-- a group is loaded for a reason: it has a record or an offset, or a rebalance is under way in it
+abbrev pub IsFounded : OffsetMap → Kept → Group → Type 0
+IsFounded offsets kept g = kept g.id ≡ None → HasOffset offsets g.id ⊎ IsRebalancing g.phase
+
+-- the offsets are those of the durable state; each group with a record or an offset is loaded; each group agrees with
+-- its record; and no other group is loaded, unless a rebalance is under way in it
 pub record Agrees (s : Machine) (state : State) : Type 0 where
   pub offsets : s.offsets ≡ state.offsets
   pub held : (id : List ℕ) → is_some (kept_in state id) ≡ true → is_some (find_group id s.groups) ≡ true
   pub read : (key : OffsetKey) → is_some (finmap.get state.offsets key) ≡ true → is_some (find_group key.group s.groups) ≡ true
   pub told : Each (λ g. AgreesIn g.phase g (kept_in state g.id)) s.groups
+  pub founded : Each (IsFounded state.offsets (kept_in state)) s.groups
+
+-- no record has generation 0
+abbrev pub AreCompleted : State → Type 0
+AreCompleted state = (group : List ℕ) → IfSome (kept_in state group) (λ r. 1 ≤ r.generation)
+
+-- an Empty group of generation 0 has no record, and at least one offset
+abbrev pub IsFresh : State → Group → Type 0
+IsFresh state g = g.phase ≡ Empty → g.generation ≡ 0 → (kept_in state g.id ≡ None) × HasOffset state.offsets g.id
+
+-- no record has generation 0, and so generation 0 tells that a group has none
+pub record IsDated (s : Machine) (state : State) : Type 0 where
+  pub completed : AreCompleted state
+  pub fresh : Each (IsFresh state) s.groups
 
 -- the durable state after these events
 abbrev pub state_after : State → ℕ → List (Event × ℕ) → State
 state_after state now events = after state (commands_of events (revive state now))
 
-abbrev pub MachineAndCommandsAgree : Type 0
-MachineAndCommandsAgree =
-    (state : State) (now : ℕ) (events : List (Event × ℕ)) → AreRequests events
-    → Agrees (after_all events (revive state now)) (state_after state now events)
+-- machine and commands agree; and if no recovered record has generation 0, none ever has
+pub record AgreeAfter (events : List (Event × ℕ)) (state : State) (now : ℕ) : Type 0 where
+  pub agrees : Agrees (after_all events (revive state now)) (state_after state now events)
+  pub dated : AreCompleted state → IsDated (after_all events (revive state now)) (state_after state now events)
+
+-- for the events of a list, after recovery from any durable state at any moment
+abbrev pub MachineAndCommandsAgree : List (Event × ℕ) → Type 0
+MachineAndCommandsAgree events = (state : State) (now : ℕ) → AgreeAfter events state now
 
 -- A SYNC reply goes to a member that gave the group's generation, and has the assignment that is stored for it; a
 -- replacement has the assignment of the replaced member.
@@ -241,14 +280,15 @@ pub record IsEarned (events : List (Event × ℕ)) (before : Machine) (kept : Ke
   pub replies : Each (λ r. is_earned events o.after.groups kept r ≡ true) o.effects.replies
   pub commands : Each (λ c. is_passed_on before.groups c ≡ true) o.effects.commands
 
-abbrev pub AssignmentsAreEarned : Type 0
-AssignmentsAreEarned =
-    (state : State) (now : ℕ) (events : List (Event × ℕ)) (e : Event) (m : ℕ) → AreRequests events
+-- for the events of a list and any one after them
+abbrev pub AssignmentsAreEarned : List (Event × ℕ) → Type 0
+AssignmentsAreEarned events =
+    (state : State) (now : ℕ) (e : Event) (m : ℕ)
     → let before : Machine = after_all events (revive state now) in
     let o : Outcome = step before e m in
     IsEarned (events ++ (e, m) ∷ []) before (kept_in (after (state_after state now events) o.effects.commands)) o
 
--- A commit that is not refused has a negative generation and a group without members, or comes from a member that is
+-- A COMMIT that is not refused has a negative generation and a group without members, or comes from a member that is
 -- not fenced, with the group's generation, in PreparingRebalance or Stable.
 
 -- the members of a group, or none if it is not loaded
@@ -272,8 +312,22 @@ pub record IsOfMember (r : CommitRequest) (held : Option Group) : Type 0 where
   pub generation : int_eq r.generation (pos group.generation) ≡ true
   pub phase : (group.phase ≡ Preparing) ⊎ (group.phase ≡ Stable)
 
-abbrev pub CommitsAreLawful : Type 0
-CommitsAreLawful =
-    (state : State) (now : ℕ) (events : List (Event × ℕ)) (ticket : Ticket) (r : CommitRequest) (m : ℕ) (group : List ℕ) → AreRequests events → r.group ≡ Some group
+-- a commit that may be taken, in the group that it names
+pub record IsLawfulCommit (r : CommitRequest) (groups : List Group) : Type 0 where
+  pub id : List ℕ
+  pub named : r.group ≡ Some id
+  pub sender : IsOfNobody r (find_group id groups) ⊎ IsOfMember r (find_group id groups)
+
+-- the request gets one reply, an error code, and has no other effect
+pub record IsRefused (ticket : Ticket) (before : Machine) (o : Outcome) : Type 0 where
+  pub code : Code
+  pub effects : o.effects ≡ reply_alone ticket (reply.Refused code)
+  pub groups : o.after.groups ≡ before.groups
+  pub offsets : o.after.offsets ≡ before.offsets
+
+-- after the events of a list, a COMMIT is refused or lawful: one that gets OK, or that makes a command, is lawful
+abbrev pub CommitsAreLawful : List (Event × ℕ) → Type 0
+CommitsAreLawful events =
+    (state : State) (now : ℕ) (ticket : Ticket) (r : CommitRequest) (m : ℕ)
     → let s : Machine = after_all events (revive state now) in
-    ((step s (event.Commit ticket r) m).effects.commands ≡ [] → ⊥) → IsOfNobody r (find_group group s.groups) ⊎ IsOfMember r (find_group group s.groups)
+    IsRefused ticket s (step s (event.Commit ticket r) m) ⊎ IsLawfulCommit r s.groups

@@ -1,6 +1,6 @@
 -- The machine: the effect of an event on the loaded groups and the offsets. The moment of an event is its own or the
 -- last one, whichever is later.
-use Rattle.std.specs.Prelude.{not, ℕ, max, List, [], ◌∷◌, map, length, Option, Some, None, Result, Ok, Err, option_map, ok_or}
+use Rattle.std.specs.Prelude.{not, ℕ, max, List, [], ◌∷◌, map, length, Option, Some, None, Result, Ok, Err, Bool, true, is_ok, is_some, option_map, ok_or}
 use Rattle.cg_names.specs.declared.code.Code.{Code}
 use Rattle.cg_names.specs.declared.code.Code.TheVariants.{GroupIdNotFound, InvalidGroupId, InvalidSessionTimeout, NonEmptyGroup, UnknownMemberId}
 use Rattle.cg_record.specs.declared.command.Command.TheVariants as command
@@ -133,10 +133,28 @@ met s (event.List ticket) = replying s ticket (reply.Groups (map listing s.group
 met s (Gone session) = everywhere (gone_in s.last session) s
 met s Tick = everywhere (ticked s.last) s
 
+-- the event is not refused
+unfoldable pub is_taken : Machine → Event → Bool
+is_taken s (Join ticket r fresh) = is_ok (join s.last r fresh ticket s.groups)
+is_taken s (Sync ticket r) = is_ok (sync s.last r ticket s.groups)
+is_taken s (Beat ticket r) = is_ok (beat s.last r ticket s.groups)
+is_taken s (Leave ticket r) = is_ok (leave s.last r ticket s.groups)
+is_taken s (Commit ticket r) = is_ok (commit s.last r ticket s.groups)
+is_taken s (Fetch ticket r) = is_some r.group
+is_taken s (Delete ticket id) = is_ok (deleting id s.groups)
+is_taken s (Describe ticket id) = is_some id
+is_taken s (event.List ticket) = true
+is_taken s (Gone session) = true
+is_taken s Tick = true
+
 -- the commands change the offsets
 abbrev pub with_offsets : Outcome → Outcome
 with_offsets o = record o { after = record o.after { offsets = offsets_after o.after.offsets o.effects.commands } }
 
--- the step: an event at a moment; an earlier moment counts as the last one
+-- the machine at the moment of an event; an earlier moment counts as the last one
+abbrev pub at_event : Machine → ℕ → Machine
+at_event s now = record s { last = max s.last now }
+
+-- the step: an event at a moment
 unfoldable pub step : Machine → Event → ℕ → Outcome
-step s event now = with_offsets (met (record s { last = max s.last now }) event)
+step s event now = with_offsets (met (at_event s now) event)

@@ -1,5 +1,5 @@
 //! The outcome of a request that passed or failed its checks.
-ghost use Rattle.std.specs.Prelude.{◌≡◌, IfOk, OnErr};
+ghost use Rattle.std.specs.Prelude.{◌≡◌, true, is_ok, IfOk, OnErr};
 ghost use Rattle.cg_group.specs.Machine.{concluded};
 ghost use Rattle.cg_held.specs.Held.{at_moment, outcome};
 
@@ -25,6 +25,7 @@ pub fn conclude(
     ensures ok { IfOk result
         (λ e. concluded (at_moment now held.old) ticket concluding ≡ outcome now held.new e) }
     ensures err { OnErr result (held.new ≡ held.old) }
+    ensures taken { OnErr result (is_ok concluding ≡ true) }
 {
     match concluding {
         Err(code) => Ok(reply_alone(alloc, ticket, Reply::Refused(code))),

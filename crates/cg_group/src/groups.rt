@@ -1,8 +1,8 @@
 //! The group machine: the loaded groups, and the step function.
-ghost use Rattle.std.specs.Prelude.{◌≡◌, IfOk, IfErr, OnErr, length, slice_get};
+ghost use Rattle.std.specs.Prelude.{◌≡◌, true, IfOk, IfErr, OnErr, length, slice_get};
 ghost use Rattle.cg_held.specs.Sessions.{AreKnown, AreKnown-prop, is_home};
 ghost use Rattle.cg_member.specs.Waiting.{waiting_calls};
-ghost use Rattle.cg_group.specs.Machine.{step};
+ghost use Rattle.cg_group.specs.Machine.{at_event, is_taken, step};
 ghost use Rattle.cg_held.specs.Reviving.{revive};
 
 use crate::meeting::met;
@@ -80,11 +80,13 @@ impl Groups {
         self.held.parked(i)
     }
 
-    /// Processes an event. An earlier moment counts as the last one. If an allocation fails, nothing changes.
+    /// Processes an event. An earlier moment counts as the last one. If an allocation fails, nothing changes; a request
+    /// that is refused needs no allocation.
     #[tactic(auto, unfolding(crate::specs::Machine::step))]
     pub fn step(&mut self, event: Event, now: Moment) -> Result<Effects, AllocError>
         ensures ok { IfOk result (λ effects. step self.old event now ≡ record { after = self.new; effects = effects }) }
         ensures err { OnErr result (self.new ≡ self.old) }
+        ensures taken { OnErr result (is_taken (at_event self.old now) event ≡ true) }
     {
         let now = self.last.max(now);
         let effects = met(

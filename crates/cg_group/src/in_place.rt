@@ -1,5 +1,5 @@
 //! Requests that only mark a member as heard. They change the member in place and do not copy its group.
-ghost use Rattle.std.specs.Prelude.{◌≡◌, ℕ, Bool, List, Some, Err, IfOk, OnErr, MatchResult, MatchOption, ⊤};
+ghost use Rattle.std.specs.Prelude.{◌≡◌, ℕ, Bool, List, Some, Err, true, is_ok, IfOk, OnErr, MatchResult, MatchOption, ⊤};
 ghost use Rattle.cg_member.specs.declared.group.Group.{Group};
 ghost use Rattle.cg_group.specs.InPlace.{IsBeatIn, IsSyncIn};
 ghost use Rattle.cg_turn.specs.Committing.{commit_by, hearing_committer};
@@ -110,7 +110,8 @@ pub fn syncing<'a>(
     r: &'a SyncRequest,
     groups: &Held,
 ) -> Result<Option<(&'a GroupId, &'a MemberId, Assignment)>, AllocError>
-    ensures { IfOk result (λ o. MatchOption o ⊤ (λ p. IsSyncIn r.now groups.now p.0.now p.1.now p.2)) }
+    ensures ok { IfOk result (λ o. MatchOption o ⊤ (λ p. IsSyncIn r.now groups.now p.0.now p.1.now p.2)) }
+    ensures taken { OnErr result ((now : ℕ) (ticket : Ticket) → is_ok (sync now r.now ticket groups.now) ≡ true) }
 {
     let Ok((own, group)) = named(groups, &r.group) else {
         return Ok(None);
@@ -168,6 +169,7 @@ pub fn commit_in(
         → concluded (at_moment now held.old) ticket (commit_by now (option_copied who.entry) entries ticket g) ≡ outcome now held.new e) }
     ensures offsets { IfOk result (λ e. offsets.new ≡ offsets_after offsets.old e.commands) }
     ensures err { OnErr result ((held.new ≡ held.old) × (offsets.new ≡ offsets.old)) }
+    ensures taken { OnErr result ((g : Group) → is_ok (commit_by now (option_copied who.entry) entries ticket g) ≡ true) }
 {
     let alloc = held.allocator();
     let Some(entries) = entries.into_entries(alloc)? else {

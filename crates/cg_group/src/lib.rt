@@ -13,8 +13,8 @@ mod parking;
 
 pub use groups::Groups;
 pub use laws::{
-    assignments_are_earned, commits_are_lawful, machine_and_commands_agree, members_stay_distinct,
-    rounds_are_one,
+    assignments_are_earned, commits_are_lawful, events_are_requests, machine_and_commands_agree,
+    members_stay_distinct, rounds_are_one,
 };
 
 // The types of events, replies and groups, for the callers of `step`.

@@ -1,12 +1,14 @@
 //! The processing of each event on the loaded groups.
-ghost use Rattle.std.specs.Prelude.{◌≡◌, Ok, Err, None, length, IfOk, OnErr, MatchResult};
+ghost use Rattle.std.specs.Prelude.{◌≡◌, Ok, Err, None, true, is_ok, is_some, length, IfOk, OnErr, OnOk, MatchResult};
+ghost use Rattle.std.specs.BTreeMap.{get};
+ghost use Rattle.std.specs.Ordering.{nat_cmp};
 ghost use Rattle.cg_member.specs.Leaving.{gone_in};
 ghost use Rattle.cg_turn.specs.Committing.{commit_unheld, keeping_entries};
 ghost use Rattle.cg_member.specs.Joining.{new_group};
 ghost use Rattle.cg_member.specs.Offsets.{offsets_after};
 ghost use Rattle.cg_held.specs.Sessions.{AreKnown, is_home};
 ghost use Rattle.cg_member.specs.Ticking.{ticked};
-ghost use Rattle.cg_group.specs.Machine.{concluded, commit, deleting, deleted, deleted_alone, describe, met};
+ghost use Rattle.cg_group.specs.Machine.{concluded, commit, deleting, deleted, deleted_alone, describe, is_taken, met};
 ghost use Rattle.cg_held.specs.Held.{at_moment, standing, outcome, outcome_beside, find_group, everywhere};
 
 use crate::in_place::{commit_in, meet_beat, reply_alone};
@@ -36,7 +38,8 @@ use std::alloc::{AllocError, Global};
 
 #[tactic(auto, unfolding(crate::specs::Machine::describe))]
 fn describe(alloc: Global, id: &Option<GroupId>, groups: &Held) -> Result<Reply, AllocError>
-    ensures { IfOk result (λ reply. reply ≡ describe id.now groups.now) }
+    ensures ok { IfOk result (λ reply. reply ≡ describe id.now groups.now) }
+    ensures taken { OnErr result (is_some id.now ≡ true) }
 {
     match id {
         None => Ok(Reply::Refused(Code::InvalidGroupId)),
@@ -95,6 +98,7 @@ fn commit_apart(
         (λ e. concluded (at_moment now held.old) ticket (commit_unheld generation entries ticket (length held.old) id) ≡ outcome now held.new e) }
     ensures offsets { IfOk result (λ e. offsets.new ≡ offsets_after offsets.old e.commands) }
     ensures err { OnErr result ((held.new ≡ held.old) × (offsets.new ≡ offsets.old)) }
+    ensures taken { OnErr result (is_ok (commit_unheld generation entries ticket (length held.old) id) ≡ true) }
 {
     let alloc = held.allocator();
     match committing_unheld(alloc, generation, entries, held.len())? {
@@ -118,6 +122,7 @@ fn meet_commit(
         (λ e. concluded (at_moment now held.old) ticket (commit now r ticket held.old) ≡ outcome now held.new e) }
     ensures offsets { IfOk result (λ e. offsets.new ≡ offsets_after offsets.old e.commands) }
     ensures err { OnErr result ((held.new ≡ held.old) × (offsets.new ≡ offsets.old)) }
+    ensures taken { OnErr result (is_ok (commit now r ticket held.old) ≡ true) }
 {
     let alloc = held.allocator();
     let CommitRequest {
@@ -185,6 +190,7 @@ fn meet_delete(
         (λ e. deleted (at_moment now held.old) ticket (deleting id.now held.old) ≡ outcome now held.new e) }
     ensures offsets { IfOk result (λ e. offsets.new ≡ offsets_after offsets.old e.commands) }
     ensures err { OnErr result ((held.new ≡ held.old) × (offsets.new ≡ offsets.old)) }
+    ensures taken { OnErr result (is_ok (deleting id.now held.old) ≡ true) }
 {
     let alloc = held.allocator();
     match deleting(id, held) {
@@ -232,6 +238,7 @@ fn meet_gone(
     ensures ok { IfOk result
         (λ e. everywhere (gone_in now session) (at_moment now held.old) ≡ outcome now held.new e) }
     ensures err { OnErr result (held.new ≡ held.old) }
+    ensures gone { OnOk result (get nat_cmp homes.new session ≡ None) }
 {
     let alloc = held.allocator();
     let going = Going { now, session };
@@ -247,7 +254,7 @@ fn meet_gone(
 
 /// Processes an event at this moment, which becomes the last one. A closed session costs only the groups in which its
 /// calls may be parked.
-#[tactic(auto, unfolding(crate::specs::Machine::met))]
+#[tactic(auto, unfolding(crate::specs::Machine::met, crate::specs::Machine::is_taken))]
 pub fn met(
     now: Moment,
     held: &mut Held,
@@ -260,6 +267,7 @@ pub fn met(
     ensures ok { IfOk result (λ e. met (standing now held.old offsets.old) event ≡ outcome_beside offsets.old now held.new e) }
     ensures offsets { IfOk result (λ e. offsets.new ≡ offsets_after offsets.old e.commands) }
     ensures err { OnErr result ((held.new ≡ held.old) × (offsets.new ≡ offsets.old)) }
+    ensures taken { OnErr result (is_taken (standing now held.old offsets.old) event ≡ true) }
 {
     let alloc = held.allocator();
     match event {

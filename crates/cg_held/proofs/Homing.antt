@@ -1,11 +1,13 @@
 -- The session index keeps each parked call after an event.
 use Rattle.std.proofs.Common.{◌≡◌, ℕ, zero, suc, ◌+◌, ◌<◌, ◌≤◌, Bool, true, false, cond, List, [], ◌∷◌, length, get_or, is_some, inl, inr, Option, Some, None, refl, sym, ap, ◌∙◌, subst, arith}
-use Rattle.std.proofs.lemmas.Bool.{cases_lt, false≢true}
-use Rattle.std.specs.Prelude.{◌⊎◌}
+use Rattle.std.proofs.lemmas.Bool.{cases_lt, eqb-false, eqb-true, false≢true, or_left, or_right}
+use Rattle.std.specs.List.{list_any}
+use Rattle.std.specs.Prelude.{◌⊎◌, ◌==◌}
 use Rattle.std.specs.BTreeMap.{BTreeMap, get, is_at}
 use Rattle.std.specs.Cmp.Lexicographic.{slice_cmp}
 use Rattle.std.proofs.lemmas.Map.Text.{is_eq-slice_cmp}
 use Rattle.std.specs.Ordering.{nat_cmp, is_eq}
+use Rattle.cg_member.specs.declared.calls.Calls.TheVariants.{OfSession}
 use Rattle.cg_member.specs.declared.group.Group.{Group}
 use Rattle.cg_member.specs.declared.member.Member.{Member}
 use Rattle.cg_member.specs.declared.member.Waits.{Waits}
@@ -13,8 +15,9 @@ use Rattle.cg_member.specs.declared.member.Waits.TheVariants.{Nothing, Join, Syn
 use Rattle.cg_held.specs.declared.sessions.Home.{Home}
 use Rattle.cg_held.specs.Kept.{Each}
 use Rattle.cg_held.specs.Held.{InOrder, find_group}
+use Rattle.cg_member.specs.Waiting.{is_waiting}
 use Rattle.cg_request.specs.Names.{is_same}
-use Rattle.cg_held.specs.Sessions.{AreKnown, Known, is_certain_in, is_known, is_lived_in, is_noted}
+use Rattle.cg_held.specs.Sessions.{AreKnown, HasLetGo, IsFilled, IsSettled, IsSettledIn, Known, is_certain, is_certain_in, is_parked, is_known, is_lived_in, is_noted}
 use Rattle.cg_held.proofs.InOrder.{found_alone, found_named, none_found}
 use Rattle.cg_held.proofs.KeptLists.{same_names, same_self}
 
@@ -55,6 +58,11 @@ each_to_place P (x ∷ xs) h (suc k) d lt = each_to_place P xs h.1 k d (omega ar
 pub each_from_place : {X : Type 0} (P : X → Type 0) (xs : List X) → ((k : ℕ) (d : X) → k < length xs → P (get_or xs k d)) → Each P xs
 each_from_place P [] h = tt
 each_from_place P (x ∷ xs) h = (h 0 x (omega arith), each_from_place P xs (λ k d lt. h (suc k) d (omega arith)))
+
+-- what two facts about each element give
+pub each_both : {X : Type 0} (P Q R : X → Type 0) → ((x : X) → P x → Q x → R x) → (xs : List X) → Each P xs → Each Q xs → Each R xs
+each_both P Q R both [] p q = tt
+each_both P Q R both (x ∷ xs) p q = (both x p.0 q.0, each_both P Q R both xs p.1 q.1)
 
 -- the group in which the event happened, and the others
 module _ (before after : ℕ → List ℕ → Bool) (id : List ℕ) (others : (q : ℕ) (x : List ℕ) → (x ≡ id → ⊥) → before q x ≡ true → after q x ≡ true) where
@@ -128,3 +136,38 @@ affirmed first before sure after ms i m below here kept certain own h k d lt kno
         let P : Member → Type 0 = λ x. is_known after x.waits ≡ true in
         let Q : Member → Type 0 = λ x. is_known first x.waits ≡ true in
         subst P same (own (known_more first before kept m.waits (subst Q (sym same) known)))
+
+-- a fact about each element before an index, and about the one at it
+pub each_more : {X : Type 0} (P : X → Type 0) (xs : List X) (i : ℕ) (x : X) → i < length xs → x ≡ get_or xs i x → P x → ((k : ℕ) (d : X) → k < i → P (get_or xs k d)) → (k : ℕ) (d : X) → k < i + 1 → P (get_or xs k d)
+each_more P xs i x below here own h k d lt = choose (cases_lt k i)
+  where
+    choose : (k < i) ⊎ (i ≤ k) → P (get_or xs k d)
+    choose (inl less) = h k d less
+    choose (inr more) = let at : i ≡ k = omega arith in subst P (here ∙ at_any xs i x d below ∙ ap (λ n. get_or xs n d) at) own
+
+-- the element at an index passes the test, and so one does
+pub any_at : {X : Type 0} (p : X → Bool) (xs : List X) (i : ℕ) (d : X) → i < length xs → p (get_or xs i d) ≡ true → list_any p xs ≡ true
+any_at p [] i d lt e = absurd (omega arith)
+any_at p (x ∷ xs) zero d lt e = or_left (p x) (list_any p xs) e
+any_at p (x ∷ xs) (suc i) d lt e = or_right (p x) (list_any p xs) (any_at p xs i d (omega arith) e)
+
+-- what was settled for a session stays so while another one is settled
+pub still_settled : (id : List ℕ) (old new : BTreeMap ℕ (BTreeMap (List ℕ) Home)) (session q : ℕ) → IsSettled new session id → ((Some session ≡ Some q → ⊥) → get nat_cmp new q ≡ get nat_cmp old q) → IsSettled old q id → IsSettled new q id
+still_settled id old new session q own apart h =
+    (elim (session == q) as (λ b. (session == q) ≡ b → IsSettled new q id) [
+      | true ↦ λ e. let P : ℕ → Type 0 = λ x. IsSettled new x id in subst P (eqb-true session q e) own
+      | false ↦ λ e.
+          let P : Option (BTreeMap (List ℕ) Home) → Type 0 = λ o. IsSettledIn id o × IsFilled o in
+          subst P (sym (apart (λ same. eqb-false session q e (cc)))) h
+    ]) refl
+
+-- after an update of the index for a loaded group
+pub let_go_held : (doubted sure final : BTreeMap ℕ (BTreeMap (List ℕ) Home)) (groups : List Group) (id : List ℕ) (g : Group) → find_group id groups ≡ Some g
+    → ((q : ℕ) → is_certain final q id ≡ true → is_certain sure q id ≡ true)
+    → ((q : ℕ) → is_certain sure q id ≡ true → (is_certain doubted q id ≡ true) ⊎ (list_any (is_waiting (OfSession q)) g.members ≡ true))
+    → (q : ℕ) → is_certain doubted q id ≡ false → IsSettled final q id → HasLetGo final groups id q
+let_go_held doubted sure final groups id g found stays waits q doubtful settled = record { parked = λ here. parked (waits q (stays q (settled.0 here))); filled = settled.1 }
+  where
+    parked : (is_certain doubted q id ≡ true) ⊎ (list_any (is_waiting (OfSession q)) g.members ≡ true) → is_parked q (find_group id groups) ≡ true
+    parked (inl before) = absurd (false≢true (sym doubtful ∙ before))
+    parked (inr w) = ap (is_parked q) found ∙ w

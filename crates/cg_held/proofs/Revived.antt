@@ -2,6 +2,7 @@
 use Rattle.std.proofs.Common.{◌≡◌, ℕ, Bool, true, false, ◌||◌, ◌&&◌, List, [], ◌∷◌, cond, is_some, refl, sym, ap, ◌∙◌, subst, Option, Some, None, map as each, zero, suc, ◌+◌, ◌<◌, length, get_or, take, arith, ◌++◌}
 use Rattle.std.proofs.Math.Dec.{T}
 use Rattle.std.specs.List.{list_any}
+use Rattle.std.specs.Cmp.{eq_by_cmp_equiv}
 use Rattle.std.specs.Ordering.{eq_by_cmp, is_eq, is_lt, nat_cmp, ordering_then}
 use Rattle.std.specs.Cmp.Lexicographic.{slice_cmp}
 use Rattle.std.specs.FinMap.{contains_key-keys, entries, entries_sorted, from_entries, get, get-from_entries, is_sorted, keys}
@@ -18,16 +19,18 @@ use Rattle.cg_fold.specs.Durable.{State}
 use Rattle.cg_fold.specs.Key.{key_cmp, name_cmp}
 use Rattle.cg_fold.specs.declared.key.OffsetKey.{OffsetKey}
 use Rattle.cg_fold.specs.Snapshot.{groups_in, in_order, marked}
+use Rattle.cg_fold.proofs.KeyOrder.{key_total}
 use Rattle.cg_record.specs.Rosters.{RosterParts}
 use Rattle.cg_member.specs.declared.group.Group.{Group}
 use Rattle.cg_member.specs.Joining.{new_group}
-use Rattle.cg_held.specs.Kept.{Ascending, ComeBefore, ComesBefore, kept_in}
+use Rattle.cg_held.specs.Kept.{Ascending, ComeBefore, ComesBefore, Each, HasOffset, kept_in}
 use Rattle.cg_held.specs.Held.{InOrder, find_group, with_group}
 use Rattle.cg_member.specs.Membership.{is_same}
 use Rattle.cg_held.specs.Reviving.{revived, revived_from, revived_with}
 use Rattle.cg_held.proofs.Homing.{each_to_place}
 use Rattle.cg_held.proofs.InOrder.{with_group-last}
-use Rattle.cg_held.proofs.KeptLists.{group_ids}
+use Rattle.cg_held.proofs.KeptLists.{group_ids, same_names, same_self}
+use Rattle.cg_member.specs.Offsets.{OffsetMap}
 
 -- names in ascending order
 
@@ -156,3 +159,35 @@ read_revived now state key h =
     ∙ list_any-append (eq_by_cmp name_cmp key.group) (keys state.records) (each (λ k. k.group) (keys state.offsets))
     ∙ or_right (list_any (eq_by_cmp name_cmp key.group) (keys state.records)) (list_any (eq_by_cmp name_cmp key.group) (each (λ k. k.group) (keys state.offsets)))
     (group_among key (keys state.offsets) (sym (contains_key-keys state.offsets key) ∙ h)))
+
+-- a group among them has a record or an offset
+
+offset_among : (group : List ℕ) (offsets : OffsetMap) (ks : List OffsetKey) → ((k : OffsetKey) → list_any (eq_by_cmp key_cmp k) ks ≡ true → is_some (get offsets k) ≡ true) → list_any (eq_by_cmp name_cmp group) (each (λ k. k.group) ks) ≡ true → HasOffset offsets group
+offset_among group offsets [] has e = absurd (false≢true e)
+offset_among group offsets (k ∷ ks) has e =
+    (elim (eq_by_cmp name_cmp group k.group) as (λ b. eq_by_cmp name_cmp group k.group ≡ b → (b || list_any (eq_by_cmp name_cmp group) (each (λ x. x.group) ks)) ≡ true → HasOffset offsets group) [
+      | true ↦ λ same _. record {
+        key = k;
+        own = same_names k.group group (sym (same_by_order group k.group) ∙ same);
+        stored = has k (or_left (eq_by_cmp key_cmp k k) (list_any (eq_by_cmp key_cmp k) ks) ((eq_by_cmp_equiv key_total).refl k));
+      }
+      | false ↦ λ _ rest. offset_among group offsets ks (λ x h. has x (or_right (eq_by_cmp key_cmp x k) (list_any (eq_by_cmp key_cmp x) ks) h)) rest
+    ]) refl e
+
+stored_offset : (state : State) (q : List ℕ) → list_any (eq_by_cmp name_cmp q) (in_order (groups_in state)) ≡ true → kept_in state q ≡ None → HasOffset state.offsets q
+stored_offset state q e none =
+    let read : Bool = list_any (eq_by_cmp name_cmp q) (each (λ k. k.group) (keys state.offsets)) in
+    let split : (list_any (eq_by_cmp name_cmp q) (keys state.records) || read) ≡ true =
+    sym (list_any-append (eq_by_cmp name_cmp q) (keys state.records) (each (λ k. k.group) (keys state.offsets))) ∙ sym (in_order-has q (groups_in state)) ∙ e in
+    let unkept : list_any (eq_by_cmp name_cmp q) (keys state.records) ≡ false = sym (contains_key-keys state.records q) ∙ ap is_some none in
+    offset_among q state.offsets (keys state.offsets) (λ k h. contains_key-keys state.offsets k ∙ h) (sym (ap (λ b. b || read) unkept) ∙ split)
+
+stored_offsets : (state : State) (names : List (List ℕ)) → ((q : List ℕ) → list_any (eq_by_cmp name_cmp q) names ≡ true → list_any (eq_by_cmp name_cmp q) (in_order (groups_in state)) ≡ true) → Each (λ q. kept_in state q ≡ None → HasOffset state.offsets q) names
+stored_offsets state [] within = tt
+stored_offsets state (x ∷ xs) within = (
+  stored_offset state x (within x (or_left (eq_by_cmp name_cmp x x) (list_any (eq_by_cmp name_cmp x) xs) (same_by_order x x ∙ same_self x))),
+  stored_offsets state xs (λ q h. within q (or_right (eq_by_cmp name_cmp q x) (list_any (eq_by_cmp name_cmp q) xs) h)),
+)
+
+pub offsets_revived : (state : State) → Each (λ q. kept_in state q ≡ None → HasOffset state.offsets q) (in_order (groups_in state))
+offsets_revived state = stored_offsets state (in_order (groups_in state)) (λ q h. h)

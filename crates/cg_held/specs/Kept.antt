@@ -1,12 +1,14 @@
 -- Records of the durable state, and lists in ascending order.
-use Rattle.std.specs.Prelude.{◌≡◌, ℕ, List, [], ◌∷◌, Option, IfSome}
+use Rattle.std.specs.Prelude.{◌≡◌, ℕ, true, List, [], ◌∷◌, Option, IfSome, is_some}
 use Rattle.std.specs.Ordering.{Ordering-set, nat_cmp}
 use Rattle.std.specs.FinMap as finmap
 use mathlib.Core.HLevel.{Unit-prop, ×_prop}
 use Rattle.std.specs.Cmp.Lexicographic.{slice_cmp}
 use Rattle.std.specs.declared.cmp.Ordering.TheVariants.{Less}
+use Rattle.cg_fold.specs.declared.key.OffsetKey.{OffsetKey}
 use Rattle.cg_fold.specs.declared.record.GroupRecord.{GroupRecord}
 use Rattle.cg_fold.specs.Durable.{State}
+use Rattle.cg_member.specs.Offsets.{OffsetMap}
 use Rattle.cg_record.specs.Rosters.{IsRoster}
 
 -- a fact about each element
@@ -42,6 +44,12 @@ Kept = List ℕ → Option GroupRecord
 
 abbrev pub kept_in : State → Kept
 kept_in state group = finmap.get state.records group
+
+-- the group has a committed offset
+pub record HasOffset (offsets : OffsetMap) (group : List ℕ) : Type 0 where
+  pub key : OffsetKey
+  pub own : key.group ≡ group
+  pub stored : is_some (finmap.get offsets key) ≡ true
 
 -- a record as commands make it: its members are lawful, and one of them leads
 abbrev pub IsRecord : GroupRecord → Type 0

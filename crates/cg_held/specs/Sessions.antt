@@ -10,11 +10,15 @@ use Rattle.cg_request.specs.declared.event.Event.{Event}
 use Rattle.cg_request.specs.declared.event.Event.TheVariants as event
 use Rattle.cg_member.specs.declared.group.Group.{Group}
 use Rattle.cg_member.specs.declared.member.Member.{Member}
+use Rattle.cg_member.specs.declared.reply.Reply.{Reply}
+use Rattle.cg_request.specs.declared.ticket.Ticket.{Ticket}
 use Rattle.cg_member.specs.declared.member.Waits.{Waits}
 use Rattle.cg_member.specs.declared.member.Waits.TheVariants.{Nothing, Join, Sync}
 use Rattle.cg_held.specs.declared.sessions.Home.{Home}
 use Rattle.cg_held.specs.declared.sessions.Home.TheVariants.{Certain, Doubtful}
+use Rattle.cg_held.specs.Held.{find_group}
 use Rattle.cg_held.specs.Kept.{Each}
+use Rattle.cg_turn.specs.Touching.{gone_touches}
 
 -- the member has no parked call, or one of these sessions
 abbrev pub is_known : (ℕ → Bool) → Waits → Bool
@@ -77,3 +81,31 @@ is_certain_in id (Some groups) = is_lived_in (map.get (slice_cmp nat_cmp) groups
 -- the index has the group for the session, as one in which a call is parked
 abbrev pub is_certain : BTreeMap ℕ (BTreeMap (List ℕ) Home) → ℕ → List ℕ → Bool
 is_certain homes session id = is_certain_in id (map.get nat_cmp homes session)
+
+-- the group is one of these only if a call is parked in it
+abbrev pub IsSettledIn : List ℕ → Option (BTreeMap (List ℕ) Home) → Type 0
+IsSettledIn id groups = is_noted id groups ≡ true → is_certain_in id groups ≡ true
+
+-- a session that the index has has a group
+abbrev pub IsFilled : Option (BTreeMap (List ℕ) Home) → Type 0
+IsFilled None = Unit {0}
+IsFilled (Some groups) = map.IsEmpty groups → ⊥
+
+-- the index has the group for the session only if a call is parked in it, and the session only with a group
+abbrev pub IsSettled : BTreeMap ℕ (BTreeMap (List ℕ) Home) → ℕ → List ℕ → Type 0
+IsSettled homes session id = IsSettledIn id (map.get nat_cmp homes session) × IsFilled (map.get nat_cmp homes session)
+
+-- a call of the session is parked in the group
+abbrev pub is_parked : ℕ → Option Group → Bool
+is_parked session None = false
+is_parked session (Some g) = gone_touches session g
+
+-- the index has the group for the session only if a call of the session is parked there, and the session only with a
+-- group
+pub record HasLetGo (homes : BTreeMap ℕ (BTreeMap (List ℕ) Home)) (groups : List Group) (id : List ℕ) (session : ℕ) : Type 0 where
+  pub parked : is_home homes session id ≡ true → is_parked session (find_group id groups) ≡ true
+  pub filled : IsFilled (map.get nat_cmp homes session)
+
+-- the same for each session that got one of these replies
+abbrev pub HaveLetGo : BTreeMap ℕ (BTreeMap (List ℕ) Home) → List Group → List ℕ → List (Ticket × Reply) → Type 0
+HaveLetGo homes groups id replies = Each (λ r. HasLetGo homes groups id r.0.session) replies

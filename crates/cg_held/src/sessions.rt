@@ -1,10 +1,10 @@
 //! The session index: for each session, the groups in which its calls may be parked. A closed session visits only
 //! these.
-ghost use Rattle.std.specs.Prelude.{◌≡◌, ℕ, List, Some, None, true, false, OnOk};
+ghost use Rattle.std.specs.Prelude.{◌≡◌, ◌⊎◌, ℕ, List, Some, None, true, false, OnOk};
 ghost use Rattle.std.specs.BTreeMap.{get};
 ghost use Rattle.std.specs.Ordering.{nat_cmp};
 ghost use Rattle.std.specs.Cmp.Lexicographic.{slice_cmp};
-ghost use Rattle.cg_held.specs.Sessions.{is_certain, is_certain_in, is_home, is_noted};
+ghost use Rattle.cg_held.specs.Sessions.{IsFilled, IsSettled, IsSettledIn, is_certain, is_certain_in, is_home, is_noted};
 
 use cg_names::GroupId;
 use std::alloc::{AllocError, Global};
@@ -56,7 +56,8 @@ pub fn note(alloc: Global, homes: &mut Homes, session: u64, id: GroupId) -> Resu
 }
 
 fn doubt_in(groups: &mut BTreeMap<GroupId, Home>, id: &GroupId)
-    ensures { (x : List ℕ) → is_noted x (Some groups.old) ≡ true → is_noted x (Some groups.new) ≡ true }
+    ensures kept { (x : List ℕ) → is_noted x (Some groups.old) ≡ true → is_noted x (Some groups.new) ≡ true }
+    ensures here { is_certain_in id.now (Some groups.new) ≡ false }
 {
     if let Some(home) = groups.get_mut(id) {
         *home = Home::Doubtful;
@@ -65,7 +66,9 @@ fn doubt_in(groups: &mut BTreeMap<GroupId, Home>, id: &GroupId)
 
 /// Marks the group as doubtful for the session, if the index has it: a call of the session got its reply there.
 pub fn doubt(homes: &mut Homes, session: u64, id: &GroupId)
-    ensures { (q : ℕ) (x : List ℕ) → is_home homes.old q x ≡ true → is_home homes.new q x ≡ true }
+    ensures kept { (q : ℕ) (x : List ℕ) → is_home homes.old q x ≡ true → is_home homes.new q x ≡ true }
+    ensures here { is_certain homes.new session id.now ≡ false }
+    ensures doubtful { (q : ℕ) → is_certain homes.old q id.now ≡ false → is_certain homes.new q id.now ≡ false }
 {
     if let Some(groups) = homes.get_mut(&session) {
         doubt_in(groups, id);
@@ -87,6 +90,7 @@ pub fn affirm(homes: &mut Homes, session: u64, id: &GroupId)
     ensures kept { (q : ℕ) (x : List ℕ) → is_home homes.old q x ≡ true → is_home homes.new q x ≡ true }
     ensures certain { (q : ℕ) (x : List ℕ) → is_certain homes.old q x ≡ true → is_certain homes.new q x ≡ true }
     ensures here { is_home homes.old session id.now ≡ true → is_certain homes.new session id.now ≡ true }
+    ensures others { (q : ℕ) → (Some session ≡ Some q → ⊥) → is_certain homes.new q id.now ≡ is_certain homes.old q id.now }
 {
     if let Some(groups) = homes.get_mut(&session) {
         affirm_in(groups, id);
@@ -94,7 +98,8 @@ pub fn affirm(homes: &mut Homes, session: u64, id: &GroupId)
 }
 
 fn is_doubtful(groups: &BTreeMap<GroupId, Home>, id: &GroupId) -> bool
-    ensures { result ≡ true → is_certain_in id.now (Some groups.now) ≡ false }
+    ensures doubtful { result ≡ true → is_certain_in id.now (Some groups.now) ≡ false }
+    ensures settled { result ≡ false → IsSettledIn id.now (Some groups.now) }
 {
     match groups.get(id) {
         Some(Home::Doubtful) => true,
@@ -106,6 +111,8 @@ fn is_doubtful(groups: &BTreeMap<GroupId, Home>, id: &GroupId) -> bool
 fn leave_in(groups: &mut BTreeMap<GroupId, Home>, id: &GroupId)
     ensures others { (x : List ℕ) → (x ≡ id.now → ⊥) → is_noted x (Some groups.old) ≡ true → is_noted x (Some groups.new) ≡ true }
     ensures certain { (x : List ℕ) → is_certain_in x (Some groups.old) ≡ true → is_certain_in x (Some groups.new) ≡ true }
+    ensures settled { IsSettledIn id.now (Some groups.new) }
+    ensures sure { is_certain_in id.now (Some groups.new) ≡ true → is_certain_in id.now (Some groups.old) ≡ true }
 {
     if is_doubtful(groups, id) {
         groups.remove(id);
@@ -116,8 +123,12 @@ fn leave_in(groups: &mut BTreeMap<GroupId, Home>, id: &GroupId)
 fn leave_one(homes: &mut Homes, session: u64, id: &GroupId) -> bool
     ensures others { (q : ℕ) (x : List ℕ) → (x ≡ id.now → ⊥) → is_home homes.old q x ≡ true → is_home homes.new q x ≡ true }
     ensures certain { (q : ℕ) (x : List ℕ) → is_certain homes.old q x ≡ true → is_certain homes.new q x ≡ true }
+    ensures settled { IsSettledIn id.now (get nat_cmp homes.new session) }
+    ensures sure { (q : ℕ) → is_certain homes.new q id.now ≡ true → is_certain homes.old q id.now ≡ true }
+    ensures apart { (q : ℕ) → (Some session ≡ Some q → ⊥) → get nat_cmp homes.new q ≡ get nat_cmp homes.old q }
     ensures bare { result ≡ true → (x : List ℕ) → is_home homes.new session x ≡ false }
     ensures calm { result ≡ true → (x : List ℕ) → is_certain homes.new session x ≡ false }
+    ensures filled { result ≡ false → IsFilled (get nat_cmp homes.new session) }
 {
     let Some(groups) = homes.get_mut(&session) else {
         return false;
@@ -126,10 +137,13 @@ fn leave_one(homes: &mut Homes, session: u64, id: &GroupId) -> bool
     groups.is_empty()
 }
 
-/// Removes the group from the session's groups if it is doubtful.
+/// Removes the group from the session's groups if it is doubtful, and the session if it has no groups left.
 pub fn leave(homes: &mut Homes, session: u64, id: &GroupId)
     ensures others { (q : ℕ) (x : List ℕ) → (x ≡ id.now → ⊥) → is_home homes.old q x ≡ true → is_home homes.new q x ≡ true }
     ensures certain { (q : ℕ) (x : List ℕ) → is_certain homes.old q x ≡ true → is_certain homes.new q x ≡ true }
+    ensures settled { IsSettled homes.new session id.now }
+    ensures sure { (q : ℕ) → is_certain homes.new q id.now ≡ true → is_certain homes.old q id.now ≡ true }
+    ensures apart { (q : ℕ) → (Some session ≡ Some q → ⊥) → get nat_cmp homes.new q ≡ get nat_cmp homes.old q }
 {
     if leave_one(homes, session, id) {
         let _left = homes.remove(&session);
@@ -138,7 +152,8 @@ pub fn leave(homes: &mut Homes, session: u64, id: &GroupId)
 
 /// Removes the session, once it is closed.
 pub fn forget(homes: &mut Homes, session: u64)
-    ensures { (q : ℕ) (x : List ℕ) → (Some session ≡ Some q → ⊥) → is_home homes.old q x ≡ true → is_home homes.new q x ≡ true }
+    ensures gone { get nat_cmp homes.new session ≡ None }
+    ensures others { (q : ℕ) (x : List ℕ) → (Some session ≡ Some q → ⊥) → is_home homes.old q x ≡ true → is_home homes.new q x ≡ true }
 {
     let _closed = homes.remove(&session);
 }

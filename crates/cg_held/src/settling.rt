@@ -1,8 +1,13 @@
 //! After an event: drops from the session index the groups in which no call of a session is parked any more.
-ghost use Rattle.std.specs.Prelude.{◌≡◌, ℕ, List, true};
+ghost use Rattle.std.specs.Prelude.{◌≡◌, ◌⊎◌, ℕ, List, Some, true, false};
+ghost use Rattle.std.specs.List.{list_any};
+ghost use Rattle.cg_member.specs.declared.calls.Calls.TheVariants.{OfSession};
 ghost use Rattle.cg_member.specs.declared.member.Member.{Member};
 ghost use Rattle.cg_held.specs.Kept.{Each};
-ghost use Rattle.cg_held.specs.Sessions.{AreKnown, is_certain, is_home, is_known};
+ghost use Rattle.cg_held.specs.Sessions.{AreKnown, HaveLetGo, IsSettled, is_certain, is_home, is_known};
+ghost use Rattle.cg_member.specs.Waiting.{is_waiting};
+ghost use Rattle.cg_member.specs.declared.reply.Reply.{Reply};
+ghost use Rattle.cg_request.specs.declared.ticket.Ticket.{Ticket};
 
 use crate::changes::Answered;
 use crate::held::Held;
@@ -15,7 +20,8 @@ use cg_request::ticket::Ticket;
 
 // Marks the group as doubtful for each session that got a reply.
 fn doubt_all(homes: &mut Homes, id: &GroupId, replies: &[(Ticket, Reply)])
-    ensures { (q : ℕ) (x : List ℕ) → is_home homes.old q x ≡ true → is_home homes.new q x ≡ true }
+    ensures here { Each (λ (r : Ticket × Reply). is_certain homes.new r.0.session id.now ≡ false) replies.now }
+    ensures kept { (q : ℕ) (x : List ℕ) → is_home homes.old q x ≡ true → is_home homes.new q x ≡ true }
 {
     for (ticket, _) in replies {
         doubt(homes, ticket.session, id);
@@ -26,6 +32,7 @@ fn affirm_one(homes: &mut Homes, id: &GroupId, member: &Member)
     ensures kept { (q : ℕ) (x : List ℕ) → is_home homes.old q x ≡ true → is_home homes.new q x ≡ true }
     ensures certain { (q : ℕ) (x : List ℕ) → is_certain homes.old q x ≡ true → is_certain homes.new q x ≡ true }
     ensures here { is_known (λ q. is_home homes.old q id.now) member.now.waits ≡ true → is_known (λ q. is_certain homes.new q id.now) member.now.waits ≡ true }
+    ensures parked { (q : ℕ) → is_certain homes.new q id.now ≡ true → (is_certain homes.old q id.now ≡ true) ⊎ (is_waiting (OfSession q) member.now ≡ true) }
 {
     if let Some(ticket) = Calls::Any.called(member.waits) {
         affirm(homes, ticket.session, id);
@@ -36,6 +43,7 @@ fn affirm_one(homes: &mut Homes, id: &GroupId, member: &Member)
 fn affirm_all(homes: &mut Homes, id: &GroupId, members: &[Member])
     ensures kept { (q : ℕ) (x : List ℕ) → is_home homes.old q x ≡ true → is_home homes.new q x ≡ true }
     ensures here { Each (λ (m : Member). is_known (λ q. is_home homes.old q id.now) m.waits ≡ true) members.now → Each (λ (m : Member). is_known (λ q. is_certain homes.new q id.now) m.waits ≡ true) members.now }
+    ensures parked { (q : ℕ) → is_certain homes.new q id.now ≡ true → (is_certain homes.old q id.now ≡ true) ⊎ (list_any (is_waiting (OfSession q)) members.now ≡ true) }
 {
     for member in members {
         affirm_one(homes, id, member);
@@ -46,6 +54,8 @@ fn affirm_all(homes: &mut Homes, id: &GroupId, members: &[Member])
 fn leave_all(homes: &mut Homes, id: &GroupId, replies: &[(Ticket, Reply)])
     ensures others { (q : ℕ) (x : List ℕ) → (x ≡ id.now → ⊥) → is_home homes.old q x ≡ true → is_home homes.new q x ≡ true }
     ensures certain { (q : ℕ) (x : List ℕ) → is_certain homes.old q x ≡ true → is_certain homes.new q x ≡ true }
+    ensures sure { (q : ℕ) → is_certain homes.new q id.now ≡ true → is_certain homes.old q id.now ≡ true }
+    ensures settled { Each (λ (r : Ticket × Reply). IsSettled homes.new r.0.session id.now) replies.now }
 {
     for (ticket, _) in replies {
         leave(homes, ticket.session, id);
@@ -55,7 +65,8 @@ fn leave_all(homes: &mut Homes, id: &GroupId, replies: &[(Ticket, Reply)])
 /// Updates the index after these replies to calls in the group. Costs a few look-ups for each reply and for each call
 /// that is still parked there, and one pass over the members. No allocation.
 pub fn settle(homes: &mut Homes, held: &Held, id: &GroupId, replies: &[(Ticket, Reply)])
-    ensures { AreKnown (is_home homes.old) held.now → AreKnown (is_home homes.new) held.now }
+    ensures known { AreKnown (is_home homes.old) held.now → AreKnown (is_home homes.new) held.now }
+    ensures let_go { HaveLetGo homes.new held.now id.now replies.now }
 {
     doubt_all(homes, id, replies);
     match held.find(id) {
@@ -74,7 +85,8 @@ pub fn settle_named(
     id: &Option<GroupId>,
     replies: &[(Ticket, Reply)],
 )
-    ensures { AreKnown (is_home homes.old) held.now → AreKnown (is_home homes.new) held.now }
+    ensures known { AreKnown (is_home homes.old) held.now → AreKnown (is_home homes.new) held.now }
+    ensures let_go { (x : List ℕ) → id.now ≡ Some x → HaveLetGo homes.new held.now x replies.now }
 {
     if let Some(id) = id {
         settle(homes, held, id, replies);

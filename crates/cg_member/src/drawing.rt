@@ -1,9 +1,13 @@
 //! Member ids of new members.
-ghost use Rattle.std.specs.Prelude.{◌≡◌, IfOk};
+ghost use Rattle.std.specs.Prelude.{◌≡◌, ◌∷◌, ◌++◌, find, is_some, IfOk};
+ghost use Rattle.std.specs.Option.{option_copied};
 ghost use Rattle.cg_names.specs.Grammar.{IsName};
 ghost use Rattle.cg_names.specs.declared.name.TheConstants.{MEMBER_ID_BYTES_MAX, NAME_BYTES_MAX};
 ghost use Rattle.cg_member.specs.Joining.{drawn, own_name};
+ghost use Rattle.cg_member.specs.Membership.{find_member, is_same};
 
+use crate::member::Member;
+use crate::members::Members;
 use cg_names::{MemberId, NameFault};
 use cg_request::request::JoinRequest;
 use std::alloc::{AllocError, Global};
@@ -51,4 +55,38 @@ pub fn drawn(alloc: Global, r: &JoinRequest, fresh: Uuid) -> Result<MemberId, Al
     let bytes = drawn_bytes(alloc, own_name(r), fresh)?;
     let id = member_id(alloc, bytes.as_slice())?;
     Ok(id)
+}
+
+// Returns whether the bytes are this name, `-` and this text.
+fn is_joined_of(bytes: &[u8], name: &[u8], text: &[u8]) -> bool
+    ensures { result ≡ is_same bytes.now (name.now ++ 45 ∷ text.now) }
+{
+    match name {
+        [] => match bytes {
+            [] => false,
+            [first, rest @ ..] => *first == b'-' && rest == text,
+        },
+        [own, name @ ..] => match bytes {
+            [] => false,
+            [first, rest @ ..] => *first == *own && is_joined_of(rest, name, text),
+        },
+    }
+}
+
+fn found_among<'a>(members: &'a [Member], name: &[u8], text: &[u8]) -> Option<&'a Member>
+    ensures { option_copied result ≡ find (λ m. is_same m.id (name.now ++ 45 ∷ text.now)) members.now }
+{
+    members
+        .iter()
+        .find(|m| is_joined_of(m.id.as_bytes(), name, text))
+}
+
+/// Returns whether a member has the id that would be drawn. Linear in the members, no allocation.
+#[tactic(auto, unfolding(crate::specs::Joining::drawn, crate::specs::Membership::find_member))]
+pub fn is_drawn_held(r: &JoinRequest, fresh: Uuid, members: &Members) -> bool
+    ensures { result ≡ is_some (find_member (drawn (own_name r.now) fresh) members.now) }
+{
+    let mut buffer = Uuid::encode_buffer();
+    let text = fresh.hyphenated().encode_lower(&mut buffer);
+    found_among(members.as_slice(), own_name(r), text.as_bytes()).is_some()
 }

@@ -1,5 +1,5 @@
 //! FETCH (OffsetFetch request): the committed offsets of a group. It changes nothing and reads only the offsets.
-ghost use Rattle.std.specs.Prelude.{◌≡◌, IfOk, map};
+ghost use Rattle.std.specs.Prelude.{◌≡◌, true, is_some, IfOk, OnErr, map};
 ghost use Rattle.std.specs.Option.{option_copied};
 ghost use Rattle.cg_member.specs.Fetching.{fetched, fetched_partition};
 
@@ -59,7 +59,8 @@ fn fetched_all(
 /// Returns the reply to a FETCH. Costs one look-up for each partition, and copies the metadata. A group id of `-` is
 /// refused by 24.
 pub fn fetched(alloc: Global, offsets: &Offsets, r: FetchRequest) -> Result<Reply, AllocError>
-    ensures { IfOk result (λ reply. reply ≡ fetched offsets.now r.group r.partitions) }
+    ensures ok { IfOk result (λ reply. reply ≡ fetched offsets.now r.group r.partitions) }
+    ensures err { OnErr result (is_some r.group ≡ true) }
 {
     let FetchRequest { group, partitions } = r;
     let Some(group) = group else {

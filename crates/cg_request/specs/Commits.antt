@@ -1,11 +1,12 @@
 -- Which entries a COMMIT can have, and what a command keeps of them.
-use Rattle.std.specs.Prelude.{◌≡◌, ◌≤◌, Bool, true, not, ◌&&◌, nat_lt, List, [], ◌∷◌, length}
+use Rattle.std.specs.Prelude.{◌≡◌, ◌≤◌, ℕ, ◌+◌, Bool, true, not, ◌&&◌, ◌||◌, nat_lt, List, [], ◌∷◌, length}
 use Rattle.std.specs.List.{list_any}
 use Rattle.cg_record.specs.declared.entries.TheConstants.{ENTRIES_MAX}
 use Rattle.cg_record.specs.declared.entry.Entry.{Entry}
 use Rattle.cg_record.specs.declared.metadata.TheConstants.{METADATA_BYTES_MAX}
 use Rattle.cg_record.specs.Keys.{have_one_key}
 use Rattle.cg_request.specs.declared.commit_entry.CommitEntry.{CommitEntry}
+use Rattle.cg_request.specs.declared.commits.TheConstants.{COMMIT_METADATA_BYTES_MAX}
 
 -- the entry of the command
 abbrev pub kept_entry : CommitEntry → Entry
@@ -30,6 +31,11 @@ pub record AreCommits (entries : List CommitEntry) : Type 0 where
 abbrev pub is_long : CommitEntry → Bool
 is_long e = nat_lt METADATA_BYTES_MAX (length e.metadata)
 
--- the metadata of some entry is too long; entries within this limit are together within that of a commit, 262,144 bytes
+-- the bytes of metadata in all entries together
+abbrev pub metadata_bytes : List CommitEntry → ℕ
+metadata_bytes [] = 0
+metadata_bytes (e ∷ es) = length e.metadata + metadata_bytes es
+
+-- the metadata of one entry is too long, or that of the whole commit (error 12)
 abbrev pub is_too_large : List CommitEntry → Bool
-is_too_large entries = list_any is_long entries
+is_too_large entries = list_any is_long entries || nat_lt COMMIT_METADATA_BYTES_MAX (metadata_bytes entries)

@@ -1,19 +1,19 @@
 //! JOIN (JoinGroup request): its checks, in the order of the refusals.
-ghost use Rattle.std.specs.Prelude.{◌≡◌, ◌<◌, Ok, Err, None, Some, false, is_some, length, IfOk, MatchResult};
+ghost use Rattle.std.specs.Prelude.{◌≡◌, ◌<◌, ℕ, List, Ok, Err, None, Some, true, false, is_ok, is_some, length, IfOk, OnErr, MatchOption, MatchResult};
 ghost use Rattle.std.specs.Option.{option_copied};
 ghost use Rattle.std.specs.List.{list_any};
 ghost use Rattle.cg_record.specs.declared.roster.TheConstants.{MEMBERS_MAX};
 ghost use Rattle.cg_member.specs.Membership.{is_named, find_member, find_instance};
 ghost use Rattle.cg_member.specs.Vote.{is_common};
-ghost use Rattle.cg_member.specs.Joining.{is_inconsistent};
-ghost use Rattle.cg_turn.specs.Admission.{is_full, join_placed, join_drawn, join_held, join_unheld};
+ghost use Rattle.cg_member.specs.Joining.{is_inconsistent, join_known};
+ghost use Rattle.cg_turn.specs.Admission.{is_full, join_placed, join_held, join_unheld};
 
 use crate::bounds::GROUPS_MAX;
 use crate::joining::{join_known, join_new, new_group};
 use crate::replacing::join_replacing;
 use cg_member::checked::CheckedJoin;
 use cg_member::copies::copied_group;
-use cg_member::drawing::drawn;
+use cg_member::drawing::{drawn, is_drawn_held};
 use cg_member::fencing::checked_member;
 use cg_member::group::Group;
 use cg_member::member::Member;
@@ -85,26 +85,8 @@ fn join_placed(
     }
 }
 
-#[tactic(auto, unfolding(crate::specs::Admission::join_drawn))]
-fn join_drawn(
-    alloc: Global,
-    now: Moment,
-    r: CheckedJoin,
-    id: MemberId,
-    ticket: Ticket,
-    group: &Group,
-) -> Result<Result<Turn, Code>, AllocError>
-    requires { is_full (find_instance r.instance group.now.members) group.now.members ≡ false }
-    ensures { IfOk result (λ o. o ≡ join_drawn now r id ticket group.now) }
-{
-    if group.members.has(&id) {
-        return Ok(Err(Code::CoordinatorNotAvailable));
-    }
-    let turn = join_placed(alloc, now, r, id, ticket, group)?;
-    Ok(Ok(turn))
-}
-
-#[tactic(auto, unfolding(crate::specs::Admission::join_held))]
+// The refusals come before the first allocation.
+#[tactic(auto, unfolding(crate::specs::Admission::join_held, crate::specs::Admission::join_drawn))]
 fn join_stranger(
     alloc: Global,
     now: Moment,
@@ -113,7 +95,8 @@ fn join_stranger(
     ticket: Ticket,
     group: &Group,
 ) -> Result<Result<Turn, Code>, AllocError>
-    ensures { IfOk result (λ o. o ≡ join_held now r fresh ticket None group.now) }
+    ensures ok { IfOk result (λ o. o ≡ join_held now r fresh ticket None group.now) }
+    ensures err { OnErr result (is_ok (join_held now r fresh ticket None group.now) ≡ true) }
 {
     let old = group.members.find_instance(&r.request.instance);
     if is_full(old, &group.members) {
@@ -122,37 +105,34 @@ fn join_stranger(
     if is_inconsistent(&r.request, group) {
         return Ok(Err(Code::InconsistentGroupProtocol));
     }
-    let id = drawn(alloc, &r.request, fresh)?;
-    let outcome = join_drawn(alloc, now, r, id, ticket, group)?;
-    Ok(outcome)
-}
-
-#[tactic(auto, unfolding(crate::specs::Admission::join_held))]
-fn join_member(
-    alloc: Global,
-    now: Moment,
-    r: CheckedJoin,
-    fresh: Uuid,
-    ticket: Ticket,
-    id: &MemberId,
-    group: &Group,
-) -> Result<Result<Turn, Code>, AllocError>
-    ensures { IfOk result (λ o. o ≡ join_held now r fresh ticket (Some id.now) group.now) }
-{
-    let given = Some(id.clone()?);
-    let (own, member) = match checked_member(&r.request.instance, &given, &group.members) {
-        Ok(who) => who,
-        Err(code) => return Ok(Err(code)),
-    };
-    if is_inconsistent(&r.request, group) {
-        return Ok(Err(Code::InconsistentGroupProtocol));
+    if is_drawn_held(&r.request, fresh, &group.members) {
+        return Ok(Err(Code::CoordinatorNotAvailable));
     }
-    let turn = join_known(alloc, now, r, own, ticket, member, group)?;
+    let id = drawn(alloc, &r.request, fresh)?;
+    let turn = join_placed(alloc, now, r, id, ticket, group)?;
     Ok(Ok(turn))
 }
 
-/// Returns the step of a JOIN in a loaded group, or its error code. Copies the group.
+// Returns the member that joins again, with the id that it gives.
 #[tactic(auto, unfolding(crate::specs::Admission::join_held))]
+fn known_joiner<'a, 'b>(
+    r: &'a JoinRequest,
+    group: &'b Group,
+) -> Result<(&'a MemberId, &'b Member), Code>
+    ensures check { MatchResult result
+        (λ who. (now : ℕ) (fresh : List ℕ) (ticket : Ticket) (id : List ℕ) → r.now.member ≡ Some id → join_held now r.now fresh ticket (Some id) group.now ≡ Ok (join_known now r.now who.0.now ticket who.1.now group.now))
+        (λ code. (now : ℕ) (fresh : List ℕ) (ticket : Ticket) (id : List ℕ) → r.now.member ≡ Some id → join_held now r.now fresh ticket (Some id) group.now ≡ Err code) }
+    ensures found { IfOk result (λ who. find_member who.0.now group.now.members ≡ Some who.1.now) }
+{
+    let who = checked_member(&r.instance, &r.member, &group.members)?;
+    if is_inconsistent(r, group) {
+        return Err(Code::InconsistentGroupProtocol);
+    }
+    Ok(who)
+}
+
+/// Returns the step of a JOIN in a loaded group, or its error code. Copies the group. Only a JOIN that is not refused
+/// needs an allocation.
 pub fn join_held(
     alloc: Global,
     now: Moment,
@@ -161,15 +141,36 @@ pub fn join_held(
     ticket: Ticket,
     group: &Group,
 ) -> Result<Result<Turn, Code>, AllocError>
-    ensures { IfOk result (λ o. o ≡ join_held now r fresh ticket r.member group.now) }
+    ensures ok { IfOk result (λ o. o ≡ join_held now r fresh ticket r.member group.now) }
+    ensures err { OnErr result (is_ok (join_held now r fresh ticket r.member group.now) ≡ true) }
 {
     match &r.request.member {
         None => join_stranger(alloc, now, r, fresh, ticket, group),
-        Some(id) => {
-            let id = id.clone()?;
-            join_member(alloc, now, r, fresh, ticket, &id, group)
-        }
+        Some(_) => match known_joiner(&r.request, group) {
+            Err(code) => Ok(Err(code)),
+            Ok((id, member)) => {
+                let id = id.clone()?;
+                let turn = join_known(alloc, now, r, &id, ticket, member, group)?;
+                Ok(Ok(turn))
+            }
+        },
     }
+}
+
+/// Returns the error code of a JOIN in a group that is not loaded, if it is refused. No allocation.
+#[tactic(auto, unfolding(crate::specs::Admission::join_unheld))]
+pub fn unheld_refusal(r: &JoinRequest, held: usize) -> Option<Code>
+    ensures { MatchOption result
+        ((now : ℕ) (fresh : List ℕ) (ticket : Ticket) (id : List ℕ) → is_ok (join_unheld now r.now fresh ticket held id) ≡ true)
+        (λ code. (now : ℕ) (fresh : List ℕ) (ticket : Ticket) (id : List ℕ) → join_unheld now r.now fresh ticket held id ≡ Err code) }
+{
+    if r.member.is_some() {
+        return Some(Code::UnknownMemberId);
+    }
+    if GROUPS_MAX <= held {
+        return Some(Code::CoordinatorNotAvailable);
+    }
+    None
 }
 
 /// Returns the step of a JOIN in a group that is not loaded, or its error code. `held` is the number of loaded groups.
@@ -183,7 +184,8 @@ pub fn join_unheld(
     held: usize,
     id: GroupId,
 ) -> Result<Result<Turn, Code>, AllocError>
-    ensures { IfOk result (λ o. o ≡ join_unheld now r fresh ticket held id) }
+    ensures ok { IfOk result (λ o. o ≡ join_unheld now r fresh ticket held id) }
+    ensures err { OnErr result (is_ok (join_unheld now r fresh ticket held id) ≡ true) }
 {
     if r.request.member.is_some() {
         return Ok(Err(Code::UnknownMemberId));

@@ -1,5 +1,5 @@
 //! COMMIT (OffsetCommit request): its checks and its command.
-ghost use Rattle.std.specs.Prelude.{◌≡◌, ℕ, List, Ok, Err, Some, IfOk, MatchResult};
+ghost use Rattle.std.specs.Prelude.{◌≡◌, ℕ, List, Ok, Err, Some, true, is_ok, IfOk, OnErr, MatchResult};
 ghost use Rattle.std.specs.Option.{option_copied};
 ghost use Rattle.cg_turn.specs.Committing.{commit_effects, commit_of_member, commit_unheld, committer, keeping_entries};
 ghost use Rattle.cg_member.specs.Joining.{new_group};
@@ -73,7 +73,7 @@ pub fn kept(alloc: Global, committed: Committed, ticket: Ticket) -> Effects
 }
 
 /// Returns the entries that a COMMIT stores in a group that is not loaded, or its error code. `held` is the number of
-/// loaded groups.
+/// loaded groups. Only a COMMIT that is not refused needs an allocation.
 #[tactic(auto, unfolding(crate::specs::Committing::commit_unheld, crate::specs::Committing::keeping_entries))]
 pub fn committing_unheld(
     alloc: Global,
@@ -81,18 +81,22 @@ pub fn committing_unheld(
     entries: Commits,
     held: usize,
 ) -> Result<Result<Entries, Code>, AllocError>
-    ensures { IfOk result (λ o. MatchResult o
+    ensures ok { IfOk result (λ o. MatchResult o
         (λ kept. (ticket : Ticket) (id : List ℕ) → commit_unheld generation entries ticket held id ≡ Ok (keeping_entries kept ticket (new_group id)))
         (λ code. (ticket : Ticket) (id : List ℕ) → commit_unheld generation entries ticket held id ≡ Err code)) }
+    ensures err { OnErr result ((ticket : Ticket) (id : List ℕ) → is_ok (commit_unheld generation entries ticket held id) ≡ true) }
 {
     if generation >= 0 {
         return Ok(Err(Code::IllegalGeneration));
     }
-    let Some(entries) = entries.into_entries(alloc)? else {
+    if entries.is_too_large() {
         return Ok(Err(Code::OffsetMetadataTooLarge));
-    };
+    }
     if GROUPS_MAX <= held {
         return Ok(Err(Code::CoordinatorNotAvailable));
     }
-    Ok(Ok(entries))
+    match entries.into_entries(alloc)? {
+        None => Ok(Err(Code::OffsetMetadataTooLarge)),
+        Some(entries) => Ok(Ok(entries)),
+    }
 }

@@ -1,5 +1,5 @@
 //! LEAVE (LeaveGroup request), and closed sessions.
-ghost use Rattle.std.specs.Prelude.{◌≡◌, Ok, Err, Some, not, IfOk, MatchResult};
+ghost use Rattle.std.specs.Prelude.{◌≡◌, Ok, Err, Some, true, not, is_ok, IfOk, OnErr, MatchResult};
 ghost use Rattle.cg_member.specs.Leaving.{after_removal, left, leave_taken, may_be, leaver, leave_held, gone_in};
 ghost use Rattle.cg_turn.specs.Touching.{gone_touches};
 ghost use Rattle.cg_member.specs.Membership.{has_id, is_named, keeping, leader_among};
@@ -145,7 +145,8 @@ fn leaver<'a>(r: &LeaveRequest, members: &'a Members) -> Result<&'a Member, Code
     }
 }
 
-/// Returns the step of a LEAVE in a loaded group, or its error code. Copies the group.
+/// Returns the step of a LEAVE in a loaded group, or its error code. Copies the group. Only a LEAVE that is not refused
+/// needs an allocation.
 #[tactic(auto, unfolding(cg_member::specs::Leaving::leave_held))]
 pub fn leave_held(
     alloc: Global,
@@ -154,7 +155,8 @@ pub fn leave_held(
     ticket: Ticket,
     group: &Group,
 ) -> Result<Result<Turn, Code>, AllocError>
-    ensures { IfOk result (λ o. o ≡ leave_held now r.now ticket group.now) }
+    ensures ok { IfOk result (λ o. o ≡ leave_held now r.now ticket group.now) }
+    ensures err { OnErr result (is_ok (leave_held now r.now ticket group.now) ≡ true) }
 {
     match leaver(r, &group.members) {
         Err(code) => Ok(Err(code)),

@@ -1,5 +1,5 @@
 //! SYNC (SyncGroup request): the leader sends the assignments, and each member gets its own.
-ghost use Rattle.std.specs.Prelude.{◌≡◌, ◌++◌, true, Some, IfOk, OnOk, map};
+ghost use Rattle.std.specs.Prelude.{◌≡◌, ◌++◌, true, Some, is_ok, IfOk, OnErr, OnOk, map};
 ghost use Rattle.cg_member.specs.Membership.{find_member, has_member, is_led};
 ghost use Rattle.cg_member.specs.Syncing.{assigning, kept_member, kept_roster, assigned_command, synced_reply, told_to_syncs, distributed, sync_waits, sync_current, sync_taken, sync_held};
 
@@ -261,7 +261,8 @@ fn sync_taken(
     }
 }
 
-/// Returns the step of a SYNC in a loaded group, or its error code. Copies the group.
+/// Returns the step of a SYNC in a loaded group, or its error code. Copies the group. Only a SYNC that is not refused
+/// needs an allocation.
 #[tactic(auto, unfolding(cg_member::specs::Syncing::sync_held))]
 pub fn sync_held(
     alloc: Global,
@@ -270,7 +271,8 @@ pub fn sync_held(
     ticket: Ticket,
     group: &Group,
 ) -> Result<Result<Turn, Code>, AllocError>
-    ensures { IfOk result (λ o. o ≡ sync_held now r.now ticket group.now) }
+    ensures ok { IfOk result (λ o. o ≡ sync_held now r.now ticket group.now) }
+    ensures err { OnErr result (is_ok (sync_held now r.now ticket group.now) ≡ true) }
 {
     let (id, member) = match checked_member(&r.instance, &r.member, &group.members) {
         Ok(who) => who,

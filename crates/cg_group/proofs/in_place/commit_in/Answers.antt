@@ -8,13 +8,13 @@ use Rattle.cg_group.proofs.in_place.commit_in.Goals as goal
 
 pub returns-in_default-clause-ok : goal.returns-in_default-clause-ok
 returns-in_default-clause-ok c =
-    let large : is_too_large c.args.entries ≡ true = rw c.in_default.is at c.in_ok-entries.ensures in
+    let large : is_too_large c.args.entries ≡ true = rw c.in_default.is at c.in_ok-entries.ensures.ok in
     λ g found.
     concluded_refused c.args.now c.args.held.now c.args.ticket (commit_by c.args.now (option_copied c.args.who) c.args.entries c.args.ticket g) OffsetMetadataTooLarge c.reply_alone.result
     (commit_too_large c.args.now c.args.entries c.args.ticket g (option_copied c.args.who) large) c.reply_alone.ensures
 
 pub returns-clause-ok : goal.returns-clause-ok
 returns-clause-ok c =
-    let stored = rw c.in-Some.is at c.in_ok-entries.ensures in
+    let stored = rw c.in-Some.is at c.in_ok-entries.ensures.ok in
     λ g found.
     commit_in_place c.args.now c.args.entries c.args.ticket c.args.held.now c.hear_committer.new.held c.args.id g (option_copied c.args.who) c.kept.result c.in-Some.entries found stored.0 stored.1 (c.hear_committer.ensures g found) c.kept.ensures

@@ -14,4 +14,4 @@ turn_there-requires-clause-others c = known-apart (is_home c.args.homes.now) c.a
 pub returns-clause-known : goal.returns-clause-known
 returns-clause-known c =
     let P : List Group → Type 0 = λ gs. AreKnown (is_home c.forget.new.homes) gs in
-    subst P (sym (c.put_all.ensures ∙ c.in_ok-groups.ensures.groups)) (known-left_all (is_home c.args.homes.now) (is_home c.forget.new.homes) c.args.now c.args.session c.forget.ensures c.args.held.now c.requires)
+    subst P (sym (c.put_all.ensures ∙ c.in_ok-groups.ensures.groups)) (known-left_all (is_home c.args.homes.now) (is_home c.forget.new.homes) c.args.now c.args.session c.forget.ensures.others c.args.held.now c.requires)

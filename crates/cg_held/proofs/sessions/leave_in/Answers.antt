@@ -14,5 +14,5 @@ pub returns-then-is_doubtful-clause-certain : goal.returns-then-is_doubtful-clau
 returns-then-is_doubtful-clause-certain c =
     λ x h.
     lived_in_stay c.args.id.now x (get (slice_cmp nat_cmp) c.args.groups.now x) (get (slice_cmp nat_cmp) c.remove.new.self x) (c.remove.ensures.updates.0 x)
-    (λ same. ap (λ y. is_lived_in (get (slice_cmp nat_cmp) c.args.groups.now y)) same ∙ c.is_doubtful.ensures c.if-is_doubtful.true)
+    (λ same. ap (λ y. is_lived_in (get (slice_cmp nat_cmp) c.args.groups.now y)) same ∙ c.is_doubtful.ensures.doubtful c.if-is_doubtful.true)
     h

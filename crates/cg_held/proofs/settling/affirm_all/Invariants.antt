@@ -1,4 +1,8 @@
 use Rattle.std.proofs.Common.{◌≡◌, ◌<◌, ℕ, List, true, get_or}
+use Rattle.std.specs.Prelude.{◌⊎◌}
+use Rattle.std.specs.List.{list_any}
+use Rattle.cg_member.specs.declared.calls.Calls.TheVariants.{OfSession}
+use Rattle.cg_member.specs.Waiting.{is_waiting}
 use Rattle.cg_member.specs.declared.member.Member.{Member}
 use Rattle.cg_held.specs.Sessions.{is_certain, is_home, is_known}
 use Rattle.cg_held.proofs.settling.affirm_all.Given as goal
@@ -7,3 +11,4 @@ abbrev pub invariant-loop-member : goal.invariant-loop-member
 invariant-loop-member l =
     ((q : ℕ) (x : List ℕ) → is_home l.initial.homes q x ≡ true → is_home l.homes q x ≡ true)
     × ((k : ℕ) (d : Member) → k < l.member-index → is_known (λ q. is_home l.initial.homes q l.id) (get_or l.members k d).waits ≡ true → is_known (λ q. is_certain l.homes q l.id) (get_or l.members k d).waits ≡ true)
+    × ((q : ℕ) → is_certain l.homes q l.id ≡ true → (is_certain l.initial.homes q l.id ≡ true) ⊎ (list_any (is_waiting (OfSession q)) l.members ≡ true))
