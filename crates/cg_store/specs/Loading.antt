@@ -1,4 +1,4 @@
--- Recovery: one frame, its commands, and the frames so far.
+-- Recovery, for the contracts of private functions alone: one frame, its commands, and the frames so far.
 use Rattle.std.specs.Prelude.{◌≡◌, ℕ, ◌+◌, List, Bool, true, false, Option, Some, None, Result, Ok, Err}
 use Rattle.cg_disk.specs.Disk.{Image}
 use Rattle.cg_frame.specs.Frames.{FrameAt, HasFramesTo, IsClosed, IsOpen}
@@ -6,11 +6,16 @@ use Rattle.cg_frame.specs.declared.segment.Frame.{Frame}
 use Rattle.cg_fold.specs.Durable.{State, after}
 use Rattle.cg_record.specs.declared.command.Command.{Command}
 use Rattle.cg_store.specs.Carried.{AreFramesOf, IsFrameOf, Spell, counted, first_segment}
-use Rattle.cg_store.specs.Faults.{Tells}
+use Rattle.cg_store.specs.Faults.{Tells, is_loading_failure}
 use Rattle.cg_store.specs.declared.fault.OpenFault.{OpenFault}
 use Rattle.cg_store.specs.declared.fault.OpenFault.TheVariants.{Memory, Device, BadFrame, BadRecord}
 use Rattle.cg_store.specs.declared.loading.Loading.{Loading}
 use Rattle.cg_store.specs.declared.segment.TheConstants.{FIRST_SEGMENT_SECTOR}
+
+-- a recovery failed because of the disk
+abbrev pub failed_loading : {T : Type 0} → Result T OpenFault → Bool
+failed_loading (Ok x) = false
+failed_loading (Err fault) = is_loading_failure fault
 
 -- the result of reading at a position: a closed gate, a frame, or an open gate without a frame
 abbrev pub Finds : Image → ℕ → Result (Option Frame) OpenFault → Type 0

@@ -6,8 +6,8 @@ ghost use Rattle.cg_frame.specs.Frames.{next_gate};
 ghost use Rattle.cg_frame.specs.declared.segment.TheConstants.{SEGMENT_SECTORS};
 ghost use Rattle.cg_fold.specs.Durable.{State, after, empty};
 ghost use Rattle.cg_store.specs.Carried.{AreCommandsTo, Carries, IsFrameOf, IsFree, Keeps};
-ghost use Rattle.cg_store.specs.Faults.{Tells, failed_loading};
-ghost use Rattle.cg_store.specs.Loading.{Adds, Finds, IsNoText, IsRead, Reads, WasRead};
+ghost use Rattle.cg_store.specs.Faults.{Tells};
+ghost use Rattle.cg_store.specs.Loading.{Adds, Finds, IsNoText, IsRead, Reads, WasRead, failed_loading};
 ghost use Rattle.cg_store.specs.declared.segment.TheConstants.{COMMAND_NUMBER_MAX, FIRST_SEGMENT_SECTOR};
 
 use crate::fault::OpenFault;
