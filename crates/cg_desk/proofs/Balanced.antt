@@ -7,21 +7,26 @@ use Rattle.cg_request.specs.declared.event.Event.{Event}
 use Rattle.cg_request.specs.declared.event.Event.TheVariants.{Gone, Tick}
 use Rattle.cg_member.specs.declared.reply.Reply.TheVariants.{Refused}
 use Rattle.cg_request.specs.Asking.{asked}
-use Rattle.cg_held.specs.Kept.{AreRecords}
+use Rattle.cg_held.specs.Kept.{AreRecords, Each}
 use Rattle.cg_group.specs.Laws.{after_all}
+use Rattle.cg_held.specs.Held.{Machine}
+use Rattle.cg_member.specs.Members.{AreDistinct}
 use Rattle.cg_held.specs.Reviving.{revive}
 use Rattle.cg_names.specs.declared.code.Code.TheVariants.{CoordinatorNotAvailable}
 use Rattle.cg_store.specs.declared.batch.Batch.{Batch}
 use Rattle.cg_desk.specs.Books.{Books, IsTake, is_short, letting_go, served, settling, taking}
 use Rattle.cg_desk.specs.Desks.{Answer, State, Failed, Loading, Serving, IsTakenFrom, at_rest, gone_on, opened, request_on, return_to, serving, settle_on, tick_on}
-use Rattle.cg_desk.specs.Balanced.{DesksStayBalanced, IsBalanced, IsBalancedAt, RepliesFindTheirCalls}
+use Rattle.cg_desk.specs.Balanced.{DesksHaveDistinctMembers, DesksStayBalanced, IsBalanced, IsBalancedAt, RepliesFindTheirCalls}
+use Rattle.cg_desk.specs.Laws.{AreRefusedOnce}
 use Rattle.cg_desk.specs.Outgoings.{answer}
 use Rattle.cg_desk.specs.Owed.{KeepsCalls}
 use Rattle.cg_desk.specs.Tokens.{call_of}
 use Rattle.cg_desk.specs.declared.token.ReplyToken.{ReplyToken}
+use Rattle.cg_group.proofs.DistinctMachine.{members_stay_distinct}
 use Rattle.cg_desk.proofs.CalledEverywhere.{gone-keeps, loaded-idle, tick-keeps}
+use Rattle.cg_desk.proofs.Failing.{by_tokens-once, by_tokens-order}
 use Rattle.cg_desk.proofs.Living.{events_keep_calls, made-step}
-use Rattle.cg_desk.proofs.Owing.{begins, failed, leave-served, leave-settled, owed-served, owed-settled}
+use Rattle.cg_desk.proofs.Owing.{begins, leave-served, leave-settled, owed-served, owed-settled}
 
 loaded : (number : ℕ) (durable : Durable) (now : ℕ) → AreRecords durable → IsBalanced (opened number (revive durable now))
 unfolding after_all
@@ -114,5 +119,9 @@ replies_find_their_calls = record {
   tick = λ b now h. leave-served b [] Tick now h.owed (tick-keeps b.machine now);
   gone = λ b session now h. leave-served b [] (Gone session) now h.owed (gone-keeps b.machine session now);
   settle = λ b count h. leave-settled b count h.owed;
-  fail = λ b h. failed b h.owed;
+  fail = λ b h. subst (AreRefusedOnce b.tokens) (by_tokens-order b h) (by_tokens-once b);
 }
+
+pub desks_have_distinct_members : DesksHaveDistinctMembers
+desks_have_distinct_members b h =
+    subst (λ (m : Machine). Each (λ g. AreDistinct g.members) m.groups) (sym h.made.is) (members_stay_distinct h.made.state h.made.began h.made.events h.made.lawful)

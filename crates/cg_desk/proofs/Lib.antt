@@ -13,5 +13,6 @@ pub mod CalledTurns
 pub mod CalledEverywhere
 pub mod CalledGroups
 pub mod CalledEvents
+pub mod Failing
 pub mod Living
 pub mod Balanced

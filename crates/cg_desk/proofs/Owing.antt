@@ -14,7 +14,7 @@ use Rattle.cg_group.specs.Machine.{step}
 use Rattle.cg_held.specs.Held.{Machine}
 use Rattle.cg_member.specs.Waiting.{waiting_calls}
 use Rattle.cg_desk.specs.Answering.{after_answering, answering, answering_one, refusal, refused}
-use Rattle.cg_desk.specs.Books.{Books, failing, letting_go, served, settling, stepped}
+use Rattle.cg_desk.specs.Books.{Books, letting_go, served, settling, stepped}
 use Rattle.cg_desk.specs.Desks.{opened}
 use Rattle.cg_desk.specs.Flights.{Idle}
 use Rattle.cg_desk.specs.Held.{calls_of, holding, ready, released, replies_of, still_held}
@@ -24,7 +24,7 @@ use Rattle.cg_desk.specs.Tokens.{call_of, has_token, is_for, without}
 use Rattle.cg_desk.specs.declared.held.HeldStep.{HeldStep}
 use Rattle.cg_desk.specs.declared.outgoing.Outgoing.{Outgoing}
 use Rattle.cg_desk.specs.declared.token.ReplyToken.{ReplyToken}
-use Rattle.cg_desk.proofs.Weights.{one-weight}
+use Rattle.cg_desk.proofs.Weights.{by_tokens, one-weight}
 
 -- the weight that is one for this ticket and zero for every other
 abbrev alone : Ticket → Ticket → ℕ
@@ -164,8 +164,7 @@ calls-count : (calls : List Ticket) → weight_calls (λ t. 1) calls ≡ length 
 calls-count [] = refl
 calls-count (t ∷ calls) = let one = sum_by-cons (λ (u : Ticket). 1) t calls in let rest = calls-count calls in omega arith
 
-pub failed : (b : Books) → IsOwed b → failing b ≡ map sent (map refusal (calls_of (replies_of b.held) ++ waiting_calls b.machine.groups))
-unfolding failing
+pub failed : (b : Books) → IsOwed b → by_tokens b ≡ map sent (map refusal (calls_of (replies_of b.held) ++ waiting_calls b.machine.groups))
 failed b owed =
     let held = calls_of (replies_of b.held) in
     let waiting = waiting_calls b.machine.groups in

@@ -15,8 +15,8 @@ use Rattle.cg_request.specs.declared.ticket.Ticket.{Ticket}
 use Rattle.cg_group.specs.Machine.{step}
 use Rattle.cg_member.specs.Waiting.{waiting_calls}
 use Rattle.cg_desk.specs.Answering.{after_answering, answering, answering_one, refusal, refused}
-use Rattle.cg_desk.specs.Books.{Books, failing, is_short, letting_go, served, settling, stepped}
-use Rattle.cg_desk.specs.Desks.{Answer, State, Loading, Serving, Failed, at_rest, failing_on, gone_on, request_on, serving, settle_on, tick_on}
+use Rattle.cg_desk.specs.Books.{Books, is_short, letting_go, served, settling, stepped}
+use Rattle.cg_desk.specs.Desks.{Answer, State, Loading, Serving, Failed, at_rest, gone_on, request_on, serving, settle_on, tick_on}
 use Rattle.cg_desk.specs.Held.{calls_of, released, replies_of}
 use Rattle.cg_desk.specs.Laws.{AreKept, TicketsAreKept, tokens_of, weight_of, weight_out}
 use Rattle.cg_desk.specs.Flights.{Idle}
@@ -80,8 +80,16 @@ refused-weight weight (token ∷ tokens) =
     let rest = refused-weight weight tokens in
     omega arith
 
-failed-kept : (b : Books) → AreKept b.tokens [] (failing b) []
-unfolding failing
+-- what a failure sends, by the tokens: the requests of held replies are refused in their order; then the parked ones, at
+-- most as many as there are tokens left; then the rest
+abbrev pub by_tokens : Books → List Outgoing
+by_tokens b =
+    let answered : List (Ticket × Reply) = map refusal (calls_of (replies_of b.held)) in
+    let left : List ReplyToken = after_answering answered b.tokens in
+    let waiting : List (Ticket × Reply) = map refusal (take (length left) (waiting_calls b.machine.groups)) in
+    answering answered b.tokens ++ answering waiting left ++ map refused (after_answering waiting left)
+
+pub failed-kept : (b : Books) → AreKept b.tokens [] (by_tokens b) []
 failed-kept b weight =
     let f : Outgoing → ℕ = λ (o : Outgoing). weight (ticket_of o) in
     let answered : List (Ticket × Reply) = map refusal (calls_of (replies_of b.held)) in
@@ -129,11 +137,5 @@ settle-kept Loading count weight = omega arith
 settle-kept (Failed n m) count weight = omega arith
 settle-kept (Serving b) count weight = settled-kept b count weight
 
-fail-kept : (s : State) → AreKept (tokens_of s) [] (failing_on s) []
-unfolding failing_on
-fail-kept Loading weight = omega arith
-fail-kept (Failed n m) weight = omega arith
-fail-kept (Serving b) weight = failed-kept b weight
-
 pub tickets_are_kept : TicketsAreKept
-tickets_are_kept = record { request = request-kept; tick = tick-kept; gone = gone-kept; settle = settle-kept; fail = fail-kept }
+tickets_are_kept = record { request = request-kept; tick = tick-kept; gone = gone-kept; settle = settle-kept }

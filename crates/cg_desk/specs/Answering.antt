@@ -27,6 +27,10 @@ after_answering (r ∷ rs) tokens = after_answering rs (without r.0 tokens)
 abbrev pub refusal : Ticket → Ticket × Reply
 refusal ticket = (ticket, Refused CoordinatorNotAvailable)
 
+-- the refusal with 15 as it leaves
+abbrev pub refused_call : Ticket → Outgoing
+refused_call ticket = answer ticket (Refused CoordinatorNotAvailable)
+
 -- a token whose request is refused with 15
 abbrev pub refused : ReplyToken → Outgoing
 refused token = answer (call_of token) (Refused CoordinatorNotAvailable)

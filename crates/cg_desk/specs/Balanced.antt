@@ -5,15 +5,15 @@ use Rattle.cg_request.specs.declared.asking.Request.{Request}
 use Rattle.cg_request.specs.declared.event.Event.{Event}
 use Rattle.cg_request.specs.declared.event.Event.TheVariants.{Gone, Tick}
 use Rattle.cg_request.specs.Asking.{asked}
-use Rattle.cg_held.specs.Kept.{AreRecords}
+use Rattle.cg_held.specs.Kept.{AreRecords, Each}
 use Rattle.cg_group.specs.Machine.{step}
 use Rattle.cg_held.specs.Reviving.{revive}
-use Rattle.cg_member.specs.Waiting.{waiting_calls}
+use Rattle.cg_member.specs.Members.{AreDistinct}
 use Rattle.cg_store.specs.declared.batch.Batch.{Batch}
-use Rattle.cg_desk.specs.Answering.{refusal}
 use Rattle.cg_desk.specs.Books.{Books, failing, served, settling, stepped}
 use Rattle.cg_desk.specs.Desks.{State, Failed, Loading, Serving, IsTakenFrom, gone_on, opened, request_on, return_to, settle_on, tick_on}
-use Rattle.cg_desk.specs.Held.{calls_of, released, replies_of}
+use Rattle.cg_desk.specs.Held.{released}
+use Rattle.cg_desk.specs.Laws.{AreRefusedOnce}
 use Rattle.cg_desk.specs.Made.{IsMade}
 use Rattle.cg_desk.specs.Owed.{IsOwed, sent}
 use Rattle.cg_desk.specs.Tokens.{call_of}
@@ -39,15 +39,19 @@ pub record DesksStayBalanced : Type 0 where
   pub give_back : (s : State) → IsBalancedAt s → IsBalancedAt (return_to s)
   pub settle : (s : State) (count : ℕ) → IsBalancedAt s → IsBalancedAt (settle_on s count).after
 
+-- in each group that a balanced desk serves, no two members have one id or one instance
+abbrev pub DesksHaveDistinctMembers : Type 0
+DesksHaveDistinctMembers = (b : Books) → IsBalanced b → Each (λ g. AreDistinct g.members) b.machine.groups
+
 -- every reply of a step whose commands are settled leaves, with the ticket of its request
 abbrev pub AllLeave : Books → List ReplyToken → Event → ℕ → Type 0
 AllLeave b handed e now = (served b handed e now).out ≡ map sent (released b.settled (stepped b (step b.machine e now) handed).held)
 
--- each reply whose commands are settled finds its request; a failure refuses the requests of held replies, then the
--- parked ones, and no others
+-- each reply whose commands are settled finds its request; and the requests that a failure refuses are the pending ones,
+-- each once
 pub record RepliesFindTheirCalls : Type 0 where
   pub request : (b : Books) (r : Request) (token : ReplyToken) (fresh : List ℕ) (now : ℕ) → IsBalanced b → AllLeave b (token ∷ []) (asked r (call_of token) fresh) now
   pub tick : (b : Books) (now : ℕ) → IsBalanced b → AllLeave b [] Tick now
   pub gone : (b : Books) (session now : ℕ) → IsBalanced b → AllLeave b [] (Gone session) now
   pub settle : (b : Books) (count : ℕ) → IsBalanced b → (settling b count).out ≡ map sent (released (b.settled + count) b.held)
-  pub fail : (b : Books) → IsBalanced b → failing b ≡ map sent (map refusal (calls_of (replies_of b.held) ++ waiting_calls b.machine.groups))
+  pub fail : (b : Books) → IsBalanced b → AreRefusedOnce b.tokens (failing b)

@@ -10,7 +10,7 @@ use Rattle.cg_member.specs.Waiting.{waiting_calls}
 use Rattle.cg_record.specs.declared.command.Command.{Command}
 use Rattle.cg_store.specs.declared.batch.Batch.{Batch}
 use Rattle.cg_store.specs.declared.segment.TheConstants.{COMMAND_NUMBER_MAX}
-use Rattle.cg_desk.specs.Answering.{after_answering, answering, refusal, refused}
+use Rattle.cg_desk.specs.Answering.{after_answering, answering, refused_call}
 use Rattle.cg_desk.specs.Fronts.{in_frame}
 use Rattle.cg_desk.specs.Held.{calls_of, holding, released, replies_of, still_held}
 use Rattle.cg_desk.specs.Flights.{Course, Idle, Away, Returned, is_away, unsettled}
@@ -71,14 +71,10 @@ served b handed event now = letting_go (stepped b (step b.machine event now) han
 unfoldable pub settling : Books → ℕ → Served
 settling b count = letting_go (record b { settled = b.settled + count; course = Idle })
 
--- refuses the requests of held replies in their order; then the parked ones, by group and joining order, at most as
--- many as there are tokens left; then the rest, which is empty if each pending request has one token
+-- refuses with 15 the requests with a held reply, in the order of the replies, then the parked ones, by group and
+-- joining order
 unfoldable pub failing : Books → List Outgoing
-failing b =
-    let answered : List (Ticket × Reply) = map refusal (calls_of (replies_of b.held)) in
-    let left : List ReplyToken = after_answering answered b.tokens in
-    let waiting : List (Ticket × Reply) = map refusal (take (length left) (waiting_calls b.machine.groups)) in
-    answering answered b.tokens ++ answering waiting left ++ map refused (after_answering waiting left)
+failing b = map refused_call (calls_of (replies_of b.held) ++ waiting_calls b.machine.groups)
 
 -- the commands of the next batch, if any: those that were given back, or the longest prefix of the queue that fits one
 -- frame

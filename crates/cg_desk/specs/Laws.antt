@@ -1,12 +1,13 @@
 -- The laws of the desk.
-use Rattle.std.specs.Prelude.{◌≡◌, ◌+◌, ◌≤◌, ◌<◌, ℕ, List, [], ◌∷◌, length, take}
+use Rattle.std.specs.Prelude.{◌≡◌, ◌+◌, ◌≤◌, ◌<◌, ℕ, List, [], ◌∷◌, length, map, take}
 use Rattle.std.specs.List.{sum_by}
 use Rattle.cg_frame.specs.declared.segment.TheConstants.{LARGEST_PAYLOAD_BYTES}
 use Rattle.cg_request.specs.declared.event.Event.{Event}
 use Rattle.cg_request.specs.declared.ticket.Ticket.{Ticket}
 use Rattle.cg_record.specs.declared.command.Command.{Command}
 use Rattle.cg_record.specs.Spelling.{spelling}
-use Rattle.cg_desk.specs.Desks.{State, Loading, Serving, Failed, failing_on, gone_on, request_on, settle_on, tick_on}
+use Rattle.cg_desk.specs.Answering.{refused_call}
+use Rattle.cg_desk.specs.Desks.{State, Loading, Serving, Failed, gone_on, request_on, settle_on, tick_on}
 use Rattle.cg_desk.specs.Fronts.{in_frame}
 use Rattle.cg_desk.specs.Outgoings.{ticket_of}
 use Rattle.cg_desk.specs.Tokens.{call_of}
@@ -40,7 +41,12 @@ pub record TicketsAreKept : Type 0 where
   pub tick : (s : State) (now : ℕ) → AreKept (tokens_of s) [] (tick_on s now).out (tokens_of (tick_on s now).after)
   pub gone : (s : State) (session now : ℕ) → AreKept (tokens_of s) [] (gone_on s session now).out (tokens_of (gone_on s session now).after)
   pub settle : (s : State) (count : ℕ) → AreKept (tokens_of s) [] (settle_on s count).out (tokens_of (settle_on s count).after)
-  pub fail : (s : State) → AreKept (tokens_of s) [] (failing_on s) []
+
+-- every one of the requests is refused with 15, once
+pub record AreRefusedOnce (tokens : List ReplyToken) (out : List Outgoing) : Type 0 where
+  pub calls : List Ticket
+  pub refused : out ≡ map refused_call calls
+  pub once : (weight : Ticket → ℕ) → sum_by weight calls ≡ weight_of weight tokens
 
 -- A batch is as long as one frame allows.
 

@@ -56,6 +56,8 @@ impl Desk {
     ghost use Rattle.cg_held.specs.Reviving.{revive};
     ghost use Rattle.cg_store.specs.Receipts.{batch_of};
     ghost use Rattle.cg_desk.specs.Desks.{IsOut, IsReasonAt, IsTakenFrom, failing_on, gone_on, is_out, numbered_of, opened, request_on, return_to, settle_on, settled_of, state_of, tick_on};
+    ghost use Rattle.cg_desk.specs.Balanced.{IsBalancedAt};
+    ghost use Rattle.cg_desk.specs.Laws.{AreRefusedOnce, tokens_of};
     ghost use Rattle.cg_desk.specs.Desks as state;
 
     /// Creates a desk with nothing loaded, which refuses each request with 14. Does not allocate.
@@ -236,12 +238,13 @@ impl Desk {
         }
     }
 
-    /// Handles a device failure. Refuses every pending request with 15: first those with a held reply, in the order of
-    /// the replies, then the parked ones, by group and joining order. From then on the desk refuses every request with
+    /// Handles a device failure. Refuses every pending request with 15, once: first those with a held reply, in the order
+    /// of the replies, then the parked ones, by group and joining order. From then on the desk refuses every request with
     /// 15. Does not allocate. A second failure returns no replies.
-    #[tactic(auto, unfolding(crate::specs::Desks::failing_on))]
+    #[tactic(auto, using(crate::proofs::Failing::none_refused), unfolding(crate::specs::Desks::failing_on))]
     pub fn fail(&mut self) -> Vec<Outgoing>
-        ensures out { result.items ≡ failing_on (state_of self.old) }
+        ensures once { AreRefusedOnce (tokens_of (state_of self.old)) result.items }
+        ensures order { IsBalancedAt (state_of self.old) → result.items ≡ failing_on (state_of self.old) }
         ensures state { state_of self.new ≡ state.Failed (numbered_of (state_of self.old)) (settled_of (state_of self.old)) }
     {
         let failed = Phase::Failed(self.numbered(), self.settled());
@@ -253,9 +256,10 @@ impl Desk {
     }
 
     /// Ends the desk: refuses every pending request as `fail` does. Does not allocate.
-    #[tactic(auto, unfolding(crate::specs::Desks::failing_on))]
+    #[tactic(auto, using(crate::proofs::Failing::none_refused), unfolding(crate::specs::Desks::failing_on))]
     pub fn close(self) -> Vec<Outgoing>
-        ensures { result.items ≡ failing_on (state_of self) }
+        ensures once { AreRefusedOnce (tokens_of (state_of self)) result.items }
+        ensures order { IsBalancedAt (state_of self) → result.items ≡ failing_on (state_of self) }
     {
         let Desk { alloc, phase } = self;
         match phase {

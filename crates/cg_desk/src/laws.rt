@@ -1,7 +1,7 @@
 //! Laws of the desk. They relate definitions of `specs/`, so the bodies are empty; the contracts carry them over to
 //! `Desk`.
 ghost use Rattle.cg_desk.specs.Laws.{BatchesAreLongest, TicketsAreKept};
-ghost use Rattle.cg_desk.specs.Balanced.{DesksStayBalanced, RepliesFindTheirCalls};
+ghost use Rattle.cg_desk.specs.Balanced.{DesksHaveDistinctMembers, DesksStayBalanced, RepliesFindTheirCalls};
 ghost use Rattle.cg_desk.specs.Made.{EventsKeepCalls};
 ghost use Rattle.cg_desk.specs.Turns.{TurnsKeepTheirCalls};
 
@@ -32,8 +32,13 @@ pub fn desks_stay_balanced()
     ensures { DesksStayBalanced }
 {}
 
-/// Each held reply finds the token of its request, and leaves as soon as its commands are settled. A failure refuses
-/// the requests of held replies, then the parked ones, and no others.
+/// In a desk that is balanced, no two members of a group have one id or one instance.
+pub fn desks_have_distinct_members()
+    ensures { DesksHaveDistinctMembers }
+{}
+
+/// Each held reply finds the token of its request, and leaves as soon as its commands are settled. The requests that a
+/// failure refuses are the pending ones, each once.
 pub fn replies_find_their_calls()
     ensures { RepliesFindTheirCalls }
 {}

@@ -1,6 +1,5 @@
 //! The desk numbers the commands of the group machine (`cg_group`), hands them to the store (`cg_store`) in batches,
-//! and
-//! holds each reply until all commands that were numbered before it are settled. Every pending request has a token,
+//! and holds each reply until all commands that were numbered before it are settled. Every pending request has a token,
 //! which cannot be dropped and can be spent once.
 #![tactic(auto)]
 
@@ -26,8 +25,8 @@ pub use bounds::{SPARE_NUMBERS, SPARE_NUMBERS_PER_GROUP};
 pub use desk::Desk;
 pub use fault::{SettleFault, TakeFault};
 pub use laws::{
-    batches_are_longest, desks_stay_balanced, events_keep_calls, replies_find_their_calls,
-    tickets_are_kept, turns_keep_their_calls,
+    batches_are_longest, desks_have_distinct_members, desks_stay_balanced, events_keep_calls,
+    replies_find_their_calls, tickets_are_kept, turns_keep_their_calls,
 };
 pub use outgoing::Outgoing;
 pub use permit::Permit;

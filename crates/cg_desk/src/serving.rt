@@ -45,6 +45,8 @@ pub struct Serving {
 impl Serving {
     ghost use Rattle.cg_request.specs.Asking.{asked};
     ghost use Rattle.cg_request.specs.declared.event.Event.TheVariants as event;
+    ghost use Rattle.cg_desk.specs.Balanced.{IsBalanced};
+    ghost use Rattle.cg_desk.specs.Laws.{AreRefusedOnce};
     ghost use Rattle.cg_desk.specs.Books.{Books, failing, is_short, letting_go, numbering, served};
     ghost use Rattle.cg_desk.specs.Held.{is_waiting};
     ghost use Rattle.cg_desk.specs.Serving.{HasRoom, books};
@@ -184,9 +186,9 @@ impl Serving {
 
     /// Refuses every pending request: first those with a held reply, in the order of the replies, then the parked ones,
     /// by group and joining order. Does not allocate.
-    #[tactic(auto, unfolding(crate::specs::Books::failing))]
     pub fn fail(self) -> Vec<Outgoing>
-        ensures { result.items ≡ failing (books self) }
+        ensures once { AreRefusedOnce (books self).tokens result.items }
+        ensures order { IsBalanced (books self) → result.items ≡ failing (books self) }
     {
         let Serving {
             alloc: _alloc,

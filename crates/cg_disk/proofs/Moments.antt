@@ -1,10 +1,10 @@
 -- Sequences of disk calls, with one lemma for each call, for the crates above.
-use Rattle.std.proofs.Common.{◌≡◌, ◌⊎◌, ℕ, zero, suc, ◌+◌, ◌*◌, ◌<◌, ◌≤◌, false, cond, ◌&&◌, leb, ltb, List, ◌++◌, length, take, drop, refl, sym, ◌∙◌, ap, subst, zero-add, add-zero, suc-add, append_assoc, inl, inr, arith}
+use Rattle.std.proofs.Common.{◌≡◌, ◌⊎◌, ℕ, zero, suc, ◌+◌, ◌*◌, ◌<◌, ◌≤◌, Bool, false, cond, ◌&&◌, leb, ltb, List, ◌++◌, length, take, drop, refl, sym, ◌∙◌, ap, subst, zero-add, add-zero, suc-add, append_assoc, inl, inr, arith}
 use Rattle.std.proofs.lemmas.Bool.{cases_lt}
 use Rattle.std.proofs.lemmas.Bool.Decides.{nat_tests}
 use Rattle.std.proofs.lemmas.List.{length-take, length-drop, nil_from_length, drop-drop, take-append-drop}
 use Rattle.cg_disk.proofs.Bytes.{sector-part}
-use Rattle.cg_disk.specs.Disk.{Image, Moment, History, Changes, Stays, IsDisturbed, IsKept, IsImage, IsSynced, AllBut, LeavesOnly, Holds, present, sector, span}
+use Rattle.cg_disk.specs.Disk.{Image, Moment, History, BeginsWithSync, Changes, Stays, TakesCalls, IsDisturbed, IsKept, IsImage, IsSynced, AllBut, LeavesOnly, Holds, present, sector, span}
 
 -- IsKept and IsDisturbed
 
@@ -227,3 +227,12 @@ span-holds_front image at n m bytes long le holds = span-holds image at m (take 
 pub length-holds : (image : Image) (at n : ℕ) (bytes : List ℕ) (i : ℕ) → length bytes ≡ 512 * n → Holds image at n bytes → i < n → length (image (at + i)) ≡ 512
 unfolding sector
 length-holds image at n bytes i long holds lt = ap length (holds i lt) ∙ simp (length-take, length-drop) (omega arith)
+
+-- a sync, and then calls that write nothing
+pub BeginsWithSync-then : (old mid new : History) (failed : Bool) → TakesCalls 1 old mid false → IsSynced (present mid) → Stays mid new → BeginsWithSync old new failed
+BeginsWithSync-then old mid new failed clock synced then =
+    let now : mid.now ≡ old.now + 1 = clock.all refl in
+    record {
+      called = λ _. omega (arith, then.later);
+      synced = λ _. subst (λ (k : ℕ). IsSynced (new.at k)) now (subst IsSynced (sym (then.keeps mid.now (omega arith))) synced);
+    }

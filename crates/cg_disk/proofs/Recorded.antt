@@ -1,12 +1,12 @@
 -- The moments of a record of calls.
 use Rattle.std.proofs.Common.{◌≡◌, ℕ, ◌+◌, ◌*◌, ◌/◌, ◌%◌, ◌<◌, ◌≤◌, Bool, true, false, cond, List, [], ◌∷◌, ◌++◌, length, take, drop, refl, sym, ◌∙◌, ap, subst, arith}
 use Rattle.std.proofs.lemmas.List.{drop_all, take_all, length_push, take-append-le, drop-append-le}
-use Rattle.std.proofs.lemmas.List.{length-take, length-drop}
+use Rattle.std.proofs.lemmas.List.{length-append, length-take, length-drop}
 use Rattle.std.proofs.lemmas.Bool.Decides.{nat_tests}
 use Rattle.std.specs.Prelude.{Vec}
 use Rattle.std.specs.declared.alloc.Global.{Global}
 use Rattle.cg_disk.proofs.Bytes.{overwritten-overwritten, sector-overwritten_below, sector-overwritten_above, sector-overwritten_within}
-use Rattle.cg_disk.specs.Disk.{History, Changes, Holds, IsUnsynced, IsDisturbed, IsKept, IsSynced, Stays, present, sector}
+use Rattle.cg_disk.specs.Disk.{History, Changes, Holds, IsUnsynced, IsDisturbed, IsKept, IsSynced, Stays, TakesCalls, present, sector}
 use Rattle.cg_disk.specs.Record.{before_call, undone, is_marked, is_unsynced, moment_after, recorded, overwritten}
 use Rattle.cg_disk.specs.declared.record.Call.{Call}
 use Rattle.cg_disk.specs.declared.record.Call.TheVariants.{Write, Sync}
@@ -102,3 +102,11 @@ module _ (bytes new : List ℕ) (at : ℕ) (replaced : Vec ℕ Global) (fits : 5
     where
       within : (u : Bool) → is_marked (Write at replaced) (at + i) u ≡ true
       within u = let l = long in grind (arith, nat_tests)
+
+-- one more call moves the clock by one
+pub TakesCalls-noted : (b failed : Bool) (bytes now : List ℕ) (calls later : List Call) (call : Call) → later ≡ cond b (calls ++ call ∷ []) calls → (failed ≡ false → b ≡ true) → TakesCalls 1 (recorded bytes calls) (recorded now later) failed
+TakesCalls-noted true failed bytes now calls later call is ok = record {
+  most = omega (arith, ap length is, length-append calls (call ∷ []));
+  all = λ _. omega (arith, ap length is, length-append calls (call ∷ []));
+}
+TakesCalls-noted false failed bytes now calls later call is ok = record { most = omega (arith, ap length is); all = λ f. let e = ok f in cc }

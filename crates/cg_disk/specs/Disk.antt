@@ -84,6 +84,16 @@ pub record LeavesOnly (old new : History) (P : Image → Type 0) : Type 0 where
   pub keeps : (k : ℕ) → k ≤ old.now → new.at k ≡ old.at k
   pub each : (k : ℕ) → old.now ≤ k → k ≤ new.now → (image : Image) → IsImage (new.at k) image → P image
 
+-- the clock of the disk moved by n calls; if one failed, by at most n
+pub record TakesCalls (n : ℕ) (old new : History) (failed : Bool) : Type 0 where
+  pub most : new.now ≤ old.now + n
+  pub all : failed ≡ false → new.now ≡ old.now + n
+
+-- the first call is a sync, unless the disk failed: one call later no sector is unsynced
+pub record BeginsWithSync (old new : History) (failed : Bool) : Type 0 where
+  pub called : failed ≡ false → old.now + 1 ≤ new.now
+  pub synced : failed ≡ false → IsSynced (new.at (old.now + 1))
+
 -- the count of failures rises exactly if a call failed; it stops at 2^64 - 1
 pub record Counts (before now : ℕ) (failed : Bool) : Type 0 where
   pub later : before ≤ now

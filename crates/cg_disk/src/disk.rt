@@ -1,6 +1,6 @@
 //! The disk interface and the contract of each call.
 ghost use Rattle.std.specs.Prelude.{◌≡◌, ℕ, ◌+◌, ◌≤◌, Bool, true, OnOk, is_err};
-ghost use Rattle.cg_disk.specs.Disk.{History, present, sector_count, IsWhole, Holds, IsUnsynced, IsSynced, Changes, Stays, Counts};
+ghost use Rattle.cg_disk.specs.Disk.{History, present, sector_count, IsWhole, Holds, IsUnsynced, IsSynced, Changes, Stays, TakesCalls, Counts};
 
 use crate::DiskFault;
 
@@ -9,7 +9,7 @@ pub const SECTOR_BYTES: usize = 512;
 
 /// A disk of sectors. A crash keeps what was synced; a sector that was written after the last successful sync may hold
 /// anything afterwards. Buffers are whole sectors within the disk. Except for sizes and the count of failures, the
-/// contracts hold for honest disks only.
+/// contracts hold for honest disks only. On an honest disk each successful call moves the clock of its history by one.
 pub trait SectorDisk {
     /// Number of sectors.
     ghost size: { Self → ℕ };
@@ -37,6 +37,7 @@ pub trait SectorDisk {
         ensures bytes { is_honest self.old ≡ true → OnOk result
             (Holds (present (history self.old)).content at (sector_count bytes.old) bytes.new) }
         ensures time { is_honest self.old ≡ true → Stays (history self.old) (history self.new) }
+        ensures clock { is_honest self.old ≡ true → TakesCalls 1 (history self.old) (history self.new) (is_err result) }
         ensures cause { Counts (failures self.old) (failures self.new) (is_err result) };
 
     /// Writes the sectors from position `at`. Until the next sync a crash may leave anything in them, and so may a
@@ -53,6 +54,7 @@ pub trait SectorDisk {
             (IsUnsynced (present (history self.new)) at (sector_count bytes.now)) }
         ensures time { is_honest self.old ≡ true →
             Changes at (sector_count bytes.now) (history self.old) (history self.new) }
+        ensures clock { is_honest self.old ≡ true → TakesCalls 1 (history self.old) (history self.new) (is_err result) }
         ensures cause { Counts (failures self.old) (failures self.new) (is_err result) };
 
     /// Makes all writes durable: after a successful sync a crash leaves what reads return.
@@ -61,5 +63,6 @@ pub trait SectorDisk {
         ensures same_honesty { is_honest self.new ≡ is_honest self.old }
         ensures durable { is_honest self.old ≡ true → OnOk result (IsSynced (present (history self.new))) }
         ensures time { is_honest self.old ≡ true → Stays (history self.old) (history self.new) }
+        ensures clock { is_honest self.old ≡ true → TakesCalls 1 (history self.old) (history self.new) (is_err result) }
         ensures cause { Counts (failures self.old) (failures self.new) (is_err result) };
 }

@@ -1,6 +1,6 @@
 //! Fault injection.
 ghost use Rattle.std.specs.Prelude.{◌≡◌, ℕ, ◌+◌, ◌-◌, ◌^◌, ◌≤◌, min, true, Some, OnOk, is_err, IsErr, ◌↔◌, if◌then◌else◌};
-ghost use Rattle.cg_disk.specs.Disk.{present, sector_count, IsWhole, Holds, IsUnsynced, IsSynced, Changes, Stays, Counts};
+ghost use Rattle.cg_disk.specs.Disk.{present, sector_count, IsWhole, Holds, IsUnsynced, IsSynced, Changes, Stays, TakesCalls, Counts};
 ghost use Rattle.cg_disk.specs.Burning.{burnt};
 
 use crate::{DiskFault, SectorDisk};
@@ -95,6 +95,7 @@ impl<D: SectorDisk> SectorDisk for FuseDisk<D> {
         ensures bytes { D.is_honest (inner_of self.old) ≡ true → OnOk result
             (Holds (present (D.history (inner_of self.old))).content at (sector_count bytes.old) bytes.new) }
         ensures time { D.is_honest (inner_of self.old) ≡ true → Stays (D.history (inner_of self.old)) (D.history (inner_of self.new)) }
+        ensures clock { D.is_honest (inner_of self.old) ≡ true → TakesCalls 1 (D.history (inner_of self.old)) (D.history (inner_of self.new)) (is_err result) }
         ensures cause { Counts (failures_of D.failures self.old) (failures_of D.failures self.new) (is_err result) }
     {
         burn(&mut self.left, &mut self.blown)?;
@@ -116,6 +117,7 @@ impl<D: SectorDisk> SectorDisk for FuseDisk<D> {
             (IsUnsynced (present (D.history (inner_of self.new))) at (sector_count bytes.now)) }
         ensures time { D.is_honest (inner_of self.old) ≡ true →
             Changes at (sector_count bytes.now) (D.history (inner_of self.old)) (D.history (inner_of self.new)) }
+        ensures clock { D.is_honest (inner_of self.old) ≡ true → TakesCalls 1 (D.history (inner_of self.old)) (D.history (inner_of self.new)) (is_err result) }
         ensures cause { Counts (failures_of D.failures self.old) (failures_of D.failures self.new) (is_err result) }
     {
         burn(&mut self.left, &mut self.blown)?;
@@ -130,6 +132,7 @@ impl<D: SectorDisk> SectorDisk for FuseDisk<D> {
         ensures same_honesty { D.is_honest (inner_of self.new) ≡ D.is_honest (inner_of self.old) }
         ensures durable { D.is_honest (inner_of self.old) ≡ true → OnOk result (IsSynced (present (D.history (inner_of self.new)))) }
         ensures time { D.is_honest (inner_of self.old) ≡ true → Stays (D.history (inner_of self.old)) (D.history (inner_of self.new)) }
+        ensures clock { D.is_honest (inner_of self.old) ≡ true → TakesCalls 1 (D.history (inner_of self.old)) (D.history (inner_of self.new)) (is_err result) }
         ensures cause { Counts (failures_of D.failures self.old) (failures_of D.failures self.new) (is_err result) }
     {
         burn(&mut self.left, &mut self.blown)?;

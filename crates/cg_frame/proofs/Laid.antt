@@ -1,5 +1,6 @@
 -- Sectors that were laid, seen as a frame.
-use Rattle.std.proofs.Common.{◌≡◌, ℕ, ◌+◌, ◌*◌, ◌^◌, ◌<◌, ◌≤◌, List, length, take, drop, get_or, ◌∙◌, ap, inl, inr, arith, add-zero}
+use Rattle.std.proofs.Common.{◌≡◌, ℕ, zero, suc, refl, [], ◌∷◌, ◌+◌, ◌*◌, ◌^◌, ◌<◌, ◌≤◌, List, length, take, drop, get_or, ◌∙◌, ap, inl, inr, arith, add-zero}
+use Rattle.std.proofs.Math.Seq.{take-nil}
 use Rattle.std.proofs.lemmas.List.{get_or-take, get_or-drop, take-take}
 use Rattle.cg_disk.specs.Disk.{Image, Moment, History, LeavesOnly, IsImage, present, sector, sector_count, span}
 use Rattle.cg_disk.proofs.Moments.{AllBut-wider, AllBut-image, span-holds_front, LeavesOnly-starts, LeavesOnly-weaker}
@@ -14,15 +15,22 @@ sector_first : (bytes : List ℕ) (i : ℕ) → get_or (sector bytes i) 0 0 ≡ 
 unfolding sector
 sector_first bytes i = get_or-take 512 (drop (512 * i) bytes) 0 0 (omega arith) ∙ get_or-drop (512 * i) bytes 0 0 ∙ ap (λ (k : ℕ). get_or bytes k 0) (add-zero (512 * i))
 
--- the sectors of a frame: its body, then a closed gate
+-- an element of a prefix is 0 if it is 0 in the list
+get_or-zero_take : (xs : List ℕ) (n i : ℕ) → get_or xs i 0 ≡ 0 → get_or (take n xs) i 0 ≡ 0
+get_or-zero_take [] n i is = ap (λ (l : List ℕ). get_or l i 0) (take-nil n) ∙ is
+get_or-zero_take (x ∷ xs) zero i is = refl
+get_or-zero_take (x ∷ xs) (suc n) zero is = is
+get_or-zero_take (x ∷ xs) (suc n) (suc i) is = get_or-zero_take xs n i is
+
+-- the sectors of a frame: its body, zeros, and so a closed gate
 pub record IsStaged (sectors : List ℕ) (count : ℕ) (payload : List ℕ) : Type 0 where
   pub long : length sectors ≡ 512 * (body_sectors (length payload) + 1)
   pub body_is : take (16 + length payload) sectors ≡ body count payload
-  pub closed : get_or sectors (512 * body_sectors (length payload)) 0 ≡ 0
+  pub padded : (i : ℕ) → 16 + length payload ≤ i → get_or sectors i 0 ≡ 0
 
 -- the same of a slice of them
-pub IsStaged-shown : (shown items : List ℕ) (count : ℕ) (payload : List ℕ) → shown ≡ items → length items ≡ 512 * (body_sectors (length payload) + 1) → take (16 + length payload) items ≡ body count payload → get_or items (512 * body_sectors (length payload)) 0 ≡ 0 → IsStaged shown count payload
-IsStaged-shown shown items count payload same long body_is closed = rw same record { long = long; body_is = body_is; closed = closed }
+pub IsStaged-shown : (shown items : List ℕ) (count : ℕ) (payload : List ℕ) → shown ≡ items → length items ≡ 512 * (body_sectors (length payload) + 1) → take (16 + length payload) items ≡ body count payload → ((i : ℕ) → 16 + length payload ≤ i → get_or items i 0 ≡ 0) → IsStaged shown count payload
+IsStaged-shown shown items count payload same long body_is padded = rw same record { long = long; body_is = body_is; padded = padded }
 
 module _ (segment : Segment) (pos count : ℕ) (payload sectors : List ℕ) (staged : IsStaged sectors count payload) (counted : 1 ≤ count) (fits_word : count < 2 ^ 64) (fits : next_gate pos (length payload) < segment.sectors) where
   abbrev b : ℕ
@@ -37,7 +45,7 @@ module _ (segment : Segment) (pos count : ℕ) (payload sectors : List ℕ) (sta
       let front : span image (gate + 1) b ≡ take (512 * b) sectors = span-holds_front image (gate + 1) (sector_count sectors) b sectors (omega (arith, staged.long)) (omega (arith, counts)) laid.holds in
       let next : segment.first + next_gate pos (length payload) ≡ gate + 1 + b = omega arith in
       let byte : get_or (image (segment.first + next_gate pos (length payload))) 0 0 ≡ 0 =
-      ap (λ (s : ℕ). get_or (image s) 0 0) next ∙ ap (λ (l : List ℕ). get_or l 0 0) (laid.holds b (omega (arith, counts))) ∙ sector_first sectors b ∙ staged.closed in
+      ap (λ (s : ℕ). get_or (image s) 0 0) next ∙ ap (λ (l : List ℕ). get_or l 0 0) (laid.holds b (omega (arith, counts))) ∙ sector_first sectors b ∙ staged.padded (512 * b) (omega arith) in
       record {
         frame = record {
           is_open = laid.is_open;
@@ -46,6 +54,7 @@ module _ (segment : Segment) (pos count : ℕ) (payload sectors : List ℕ) (sta
           fits_word = fits_word;
           fits = fits;
         };
+        padded = λ i later. ap (λ (l : List ℕ). get_or l i 0) front ∙ get_or-zero_take sectors (512 * b) i (staged.padded i later);
         closed = λ opened. absurd (omega (arith, byte, opened));
       }
 

@@ -1,5 +1,5 @@
 //! The sectors of a frame while it is encoded, and numbers of eight bytes.
-ghost use Rattle.std.specs.Prelude.{◌≡◌, ◌+◌, ◌*◌, ◌/◌, ◌^◌, ◌<◌, ◌≤◌, ◌++◌, IfOk, length, take, drop, slice_index};
+ghost use Rattle.std.specs.Prelude.{◌≡◌, ℕ, ◌+◌, ◌*◌, ◌/◌, ◌^◌, ◌<◌, ◌≤◌, ◌++◌, IfOk, length, take, drop, slice_index};
 ghost use Rattle.cg_frame.specs.Frames.{word, body, body_sectors};
 
 use crate::segment::sectors_of;
@@ -24,15 +24,16 @@ pub(crate) fn number(bytes: &[u8], at: usize) -> u64
     u64::from_be_bytes(eight)
 }
 
-/// Returns the sectors of a body and of the closed gate after it. Copies the payload once.
+/// Returns the sectors of a body and of the closed gate after it, with zeros after the payload. Copies the payload
+/// once.
 pub(crate) fn staged(alloc: Global, count: u64, payload: &[u8]) -> Result<Vec<u8>, AllocError>
     requires { body_sectors (length payload.now) < 2 ^ 54 }
     ensures length { IfOk result (λ sectors.
         length sectors.items ≡ 512 * (body_sectors (length payload.now) + 1)) }
     ensures body { IfOk result (λ sectors.
         take (16 + length payload.now) sectors.items ≡ body count payload.now) }
-    ensures closed { IfOk result (λ sectors.
-        slice_index sectors.items (512 * body_sectors (length payload.now)) ≡ 0) }
+    ensures padded { IfOk result (λ sectors. (i : ℕ) →
+        16 + length payload.now ≤ i → slice_index sectors.items i ≡ 0) }
 {
     let size = (sectors_of(payload.len() as u64) as usize + 1) * SECTOR_BYTES;
     let mut sectors = Vec::with_capacity(alloc, size)?;

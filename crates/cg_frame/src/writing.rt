@@ -1,6 +1,6 @@
 //! Appending a frame to a segment.
 ghost use Rattle.std.specs.Prelude.{◌≡◌, ◌↔◌, ℕ, ◌+◌, ◌^◌, ◌<◌, ◌≤◌, [], ◌∷◌, ◌++◌, true, length, OnOk, IfOk, IsErrOf, is_err, List};
-ghost use Rattle.cg_disk.specs.Disk.{Image, present, IsImage, IsSynced, AllBut, Changes, LeavesOnly, Counts};
+ghost use Rattle.cg_disk.specs.Disk.{Image, present, IsImage, IsSynced, AllBut, Changes, LeavesOnly, TakesCalls, Counts};
 ghost use Rattle.cg_frame.specs.Frames.{IsClosed, body_sectors, next_gate};
 ghost use Rattle.cg_frame.specs.Outcomes.{StandsLast, Appended, KeepsFramesTo, IsBeforeOrAfter, is_device_failure};
 
@@ -29,6 +29,7 @@ pub fn close_gate<D: SectorDisk>(disk: &mut D, segment: Segment, pos: u64) -> Re
     ensures closed { D.is_honest disk.old ≡ true → OnOk result
         ((image : Image) → IsImage (present (D.history disk.new)) image → IsClosed image (segment.first + pos)) }
     ensures durable { D.is_honest disk.old ≡ true → OnOk result (IsSynced (present (D.history disk.new))) }
+    ensures clock { D.is_honest disk.old ≡ true → TakesCalls 2 (D.history disk.old) (D.history disk.new) (is_err result) }
     ensures cause { Counts (D.failures disk.old) (D.failures disk.new) (is_err result) }
 {
     cg_gate::close_gate(disk, segment.first + pos)?;
@@ -58,6 +59,8 @@ pub fn append<D: SectorDisk>(
         ↔ (segment.sectors ≤ next_gate pos (length payload.now)) }
     ensures no_room_leaves { IsErrOf result FrameFault.NoRoom → disk.new ≡ disk.old }
     ensures memory_leaves { IsErrOf result FrameFault.Memory → disk.new ≡ disk.old }
+    // It takes four calls of the device.
+    ensures clock { D.is_honest disk.old ≡ true → TakesCalls 4 (D.history disk.old) (D.history disk.new) (is_err result) }
     ensures device { Counts (D.failures disk.old) (D.failures disk.new) (is_device_failure result) }
     ensures same_size { D.size disk.new ≡ D.size disk.old }
     ensures same_honesty { D.is_honest disk.new ≡ D.is_honest disk.old }

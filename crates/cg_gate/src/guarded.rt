@@ -1,6 +1,6 @@
 //! The guarded write: sectors after a closed gate, a sync, the open gate, a sync.
 ghost use Rattle.std.specs.Prelude.{◌≡◌, ◌+◌, ◌^◌, ◌<◌, ◌≤◌, true, OnOk, is_err};
-ghost use Rattle.cg_disk.specs.Disk.{Image, present, sector_count, IsWhole, Holds, IsImage, IsSynced, AllBut, Changes, LeavesOnly, Counts};
+ghost use Rattle.cg_disk.specs.Disk.{Image, present, sector_count, IsWhole, Holds, IsImage, IsSynced, AllBut, Changes, LeavesOnly, TakesCalls, Counts};
 ghost use Rattle.cg_gate.specs.Gates.{IsClosed, IsOpenGate, IsClosedGate, IsGuarded, GuardedWrite};
 
 use crate::gate::{closed_gate, open_gate};
@@ -18,6 +18,7 @@ fn write_synced<D: SectorDisk>(disk: &mut D, at: u64, bytes: &[u8]) -> Result<()
     ensures durable { D.is_honest disk.old ≡ true → OnOk result (IsSynced (present (D.history disk.new))) }
     ensures time { D.is_honest disk.old ≡ true →
         Changes at (sector_count bytes.now) (D.history disk.old) (D.history disk.new) }
+    ensures clock { D.is_honest disk.old ≡ true → TakesCalls 2 (D.history disk.old) (D.history disk.new) (is_err result) }
     ensures cause { Counts (D.failures disk.old) (D.failures disk.new) (is_err result) }
 {
     disk.write(at, bytes)?;
@@ -43,6 +44,7 @@ pub fn close_gate<D: SectorDisk>(disk: &mut D, gate: u64) -> Result<(), DiskFaul
     ensures gate { D.is_honest disk.old ≡ true → OnOk result
         (IsClosedGate ((present (D.history disk.new)).content gate)) }
     ensures durable { D.is_honest disk.old ≡ true → OnOk result (IsSynced (present (D.history disk.new))) }
+    ensures clock { D.is_honest disk.old ≡ true → TakesCalls 2 (D.history disk.old) (D.history disk.new) (is_err result) }
     ensures cause { Counts (D.failures disk.old) (D.failures disk.new) (is_err result) }
 {
     write_synced(disk, gate, &closed_gate())?;
@@ -76,6 +78,7 @@ pub fn write_guarded<D: SectorDisk>(
     ensures gate { D.is_honest disk.old ≡ true → OnOk result
         (IsOpenGate ((present (D.history disk.new)).content gate)) }
     ensures durable { D.is_honest disk.old ≡ true → OnOk result (IsSynced (present (D.history disk.new))) }
+    ensures clock { D.is_honest disk.old ≡ true → TakesCalls 4 (D.history disk.old) (D.history disk.new) (is_err result) }
     ensures cause { Counts (D.failures disk.old) (D.failures disk.new) (is_err result) }
 {
     write_synced(disk, gate + 1, sectors)?;

@@ -1,5 +1,5 @@
 -- One more batch on a disk.
-use Rattle.std.proofs.Common.{◌≡◌, inl, inr, ℕ, ◌+◌, ◌≤◌, List, [], ◌∷◌, ◌++◌, length, subst, sym, arith, refl}
+use Rattle.std.proofs.Common.{◌≡◌, inl, inr, ℕ, ◌+◌, ◌≤◌, List, [], ◌∷◌, ◌++◌, length, subst, sym, arith, refl, Ok}
 use Rattle.cg_disk.specs.Disk.{History, LeavesOnly, present}
 use Rattle.cg_disk.proofs.Moments.{LeavesOnly-starts, LeavesOnly-weaker}
 use Rattle.cg_frame.specs.Frames.{next_gate}
@@ -7,16 +7,16 @@ use Rattle.cg_frame.specs.Outcomes.{IsBeforeOrAfter, KeepsFramesTo}
 use Rattle.cg_fold.specs.Durable.{State, after}
 use Rattle.cg_record.specs.declared.command.Command.{Command}
 use Rattle.cg_record.specs.Lawful.{AreCommands}
-use Rattle.cg_record.specs.Spelling.{spelling}
+use Rattle.cg_record.specs.Reading.{commands_of}
 use Rattle.cg_store.specs.Carried.{CarriesBeforeOrAfter, Keeps, Spell, counted, first_segment}
 use Rattle.cg_store.specs.declared.segment.TheConstants.{COMMAND_NUMBER_MAX}
 use Rattle.cg_store.proofs.Loaded.{keeps-carry}
 use Rattle.cg_store.proofs.Spelled.{Spell-counted, Spell-push}
 
-module _ (n : ℕ) (state : State) (commands : List Command) (payload : List ℕ) (spelled : payload ≡ spelling commands) (lawful : AreCommands commands)
+module _ (n : ℕ) (state : State) (commands : List Command) (payload : List ℕ) (decoded : commands_of payload ≡ Ok commands) (lawful : AreCommands commands)
     (few : n + length commands ≤ COMMAND_NUMBER_MAX) where
   one-more : (frames : List (ℕ × List ℕ)) → Spell frames n state → Spell (frames ++ (length commands, payload) ∷ []) (n + length commands) (after state commands)
-  one-more frames spell = Spell-push frames n state (length commands) payload commands spell (record { lawful = lawful; spelled = spelled; number = refl })
+  one-more frames spell = Spell-push frames n state (length commands) payload commands spell (record { decoded = decoded; lawful = lawful; number = refl })
 
   in-range : (frames : List (ℕ × List ℕ)) → Spell frames n state → counted (frames ++ (length commands, payload) ∷ []) ≤ COMMAND_NUMBER_MAX
   in-range frames spell = omega (arith, few, Spell-counted (frames ++ (length commands, payload) ∷ []) (n + length commands) (after state commands) (one-more frames spell))

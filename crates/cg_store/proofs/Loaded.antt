@@ -1,17 +1,17 @@
 -- The result of a recovery from a synced disk.
-use Rattle.std.proofs.Common.{◌≡◌, ℕ, ◌+◌, ◌≤◌, Bool, true, false, [], ◌∙◌, subst, refl, arith, lit≤, Err, not}
+use Rattle.std.proofs.Common.{◌≡◌, ℕ, ◌+◌, ◌≤◌, Bool, true, false, List, [], ◌∙◌, sym, subst, refl, arith, lit≤, Err, not}
 use Rattle.cg_disk.specs.Disk.{History, Image, IsSynced, Stays, present}
 use Rattle.cg_disk.proofs.Moments.{IsSynced-image, Stays-content, Stays-synced}
 use Rattle.cg_frame.specs.Frames.{IsClosed}
 use Rattle.cg_fold.specs.Durable.{State, empty}
-use Rattle.cg_store.specs.Carried.{AllCarry, Carries, IsFree, IsWhole, Keeps, Spell}
+use Rattle.cg_store.specs.Carried.{AreCommandsTo, AreFramesOf, AllCarry, Carries, IsFree, IsWhole, Keeps, Spell}
 use Rattle.cg_store.specs.Faults.{Tells}
-use Rattle.cg_store.specs.Loading.{HasRead, IsRead, Reads}
+use Rattle.cg_store.specs.Loading.{HasRead, IsRead, Reads, WasRead}
 use Rattle.cg_store.specs.declared.fault.OpenFault.{OpenFault}
 use Rattle.cg_store.specs.declared.fault.OpenFault.TheVariants as variants
 use Rattle.cg_store.specs.declared.loading.Loading.{Loading}
 use Rattle.cg_store.specs.declared.segment.TheConstants.{COMMAND_NUMBER_MAX, FIRST_SEGMENT_SECTOR}
-use Rattle.cg_store.proofs.Spelled.{Spell-nil}
+use Rattle.cg_store.proofs.Spelled.{Spell-commands, Spell-nil}
 use Rattle.cg_store.proofs.Whole.{frames-same, whole-unique}
 
 whole-read : (image : Image) (loading : Loading) → loading.count ≤ COMMAND_NUMBER_MAX → (read : HasRead image loading) → IsWhole image read.frames
@@ -29,9 +29,13 @@ bad-record image loading few not_all read =
     let whole = whole-read image loading few read in (
       (read.frames, whole),
       λ n state carries.
-          subst (λ (b : Bool). IsRead b read.frames loading.count loading.durable) not_all read.is_read carries.spelled.batches carries.spelled.lawful
-          (whole-unique image read.frames carries.frames whole carries.whole ∙ carries.spelled.frames_are),
+          subst (λ (b : Bool). IsRead b read.frames loading.count loading.durable) not_all read.is_read carries.spelled.batches
+          (subst (λ (l : List (ℕ × List ℕ)). AreFramesOf l carries.spelled.batches) (sym (whole-unique image read.frames carries.frames whole carries.whole)) carries.spelled.frames_are),
     )
+
+-- the commands of the frames that were read, whatever the disk gave
+pub commands-read : (loading : Loading) → loading.all_read ≡ true → WasRead loading → AreCommandsTo loading.count loading.durable
+commands-read loading all read = Spell-commands read.frames loading.count loading.durable (subst (λ (b : Bool). IsRead b read.frames loading.count loading.durable) all read.is_read)
 
 -- a disk that was synced and then read keeps what was read
 pub keeps-read : (mid new : History) (loading : Loading) → IsSynced (present mid) → Stays mid new → loading.count ≤ COMMAND_NUMBER_MAX → loading.all_read ≡ true

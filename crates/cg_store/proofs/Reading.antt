@@ -10,7 +10,7 @@ use Rattle.cg_frame.proofs.Standing.{Chain-goes_on, Chain-push, FrameAt-same}
 use Rattle.cg_fold.specs.Durable.{State, empty}
 use Rattle.cg_store.specs.Carried.{Spell, counted, first_segment}
 use Rattle.cg_store.specs.Faults.{Tells}
-use Rattle.cg_store.specs.Loading.{Adds, Finds, HasRead, IsRead, Reads}
+use Rattle.cg_store.specs.Loading.{Adds, Finds, HasRead, IsRead, Reads, WasRead}
 use Rattle.cg_store.specs.declared.fault.OpenFault.{OpenFault}
 use Rattle.cg_store.specs.declared.fault.OpenFault.TheVariants as variants
 use Rattle.cg_store.specs.declared.loading.Loading.{Loading}
@@ -50,6 +50,12 @@ starts image end count all_read state at_first none all nothing = record {
   chain = sym at_first;
   count_is = none;
   is_read = subst (λ b. IsRead b [] count state) (sym all) (subst (λ n. Spell [] n state) (sym none) (subst (λ s. Spell [] 0 s) (sym nothing) Spell-nil));
+}
+
+pub WasRead-none : (loading : Loading) → loading.count ≡ 0 → loading.all_read ≡ true → loading.durable ≡ empty → WasRead loading
+WasRead-none loading none all nothing = record {
+  frames = [];
+  is_read = subst (λ b. IsRead b [] loading.count loading.durable) (sym all) (subst (λ n. Spell [] n loading.durable) (sym none) (subst (λ s. Spell [] 0 s) (sym nothing) Spell-nil));
 }
 
 counted-append : (frames more : List (ℕ × List ℕ)) → counted (frames ++ more) ≡ counted frames + counted more

@@ -5,12 +5,12 @@ use Rattle.cg_disk.specs.Disk.{Image}
 use Rattle.cg_frame.specs.Frames.{HasFramesTo, IsClosed}
 use Rattle.cg_frame.proofs.Standing.{Chain-same, HasFrames-unique}
 use Rattle.cg_fold.specs.Durable.{State}
-use Rattle.cg_store.specs.Carried.{Carries, IsWhole, Spell, first_segment}
+use Rattle.cg_store.specs.Carried.{AreCommandsTo, Carries, IsWhole, Spell, first_segment}
 use Rattle.cg_store.specs.Faults.{Tells}
 use Rattle.cg_store.specs.declared.fault.OpenFault.{OpenFault}
 use Rattle.cg_store.specs.declared.fault.OpenFault.TheVariants as variants
 use Rattle.cg_store.specs.declared.segment.TheConstants.{FIRST_SEGMENT_SECTOR}
-use Rattle.cg_store.proofs.Spelled.{Spell-unique}
+use Rattle.cg_store.proofs.Spelled.{Spell-commands, Spell-unique}
 
 pub closed-same : (a b : Image) (at : ℕ) → ((s : ℕ) → b s ≡ a s) → IsClosed a at → IsClosed b at
 closed-same a b at same closed = λ opened. closed (sym (ap (λ (l : List ℕ). get_or l 0 0) (same at)) ∙ opened)
@@ -42,6 +42,10 @@ whole-unique image frames others a b = HasFrames-unique image first_segment fram
 pub Carries-unique : (image : Image) (n m : ℕ) (state other : State) → Carries image n state → Carries image m other → (n ≡ m) × (state ≡ other)
 Carries-unique image n m state other a b =
     Spell-unique b.frames n m state other (subst (λ (l : List (ℕ × List ℕ)). Spell l n state) (whole-unique image a.frames b.frames a.whole b.whole) a.spelled) b.spelled
+
+-- the state of an image is made by lawful commands
+pub Carries-commands : (image : Image) (n : ℕ) (state : State) → Carries image n state → AreCommandsTo n state
+Carries-commands image n state carries = Spell-commands carries.frames n state carries.spelled
 
 -- an image with content has no damage
 pub carried-fault : (image : Image) (n : ℕ) (state : State) (fault : OpenFault) → Carries image n state → Tells image fault → (fault ≡ variants.Memory) ⊎ (fault ≡ variants.Device)

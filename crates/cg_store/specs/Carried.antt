@@ -1,6 +1,6 @@
 -- The content of an image: the number of commands in its frames, and the state after them.
-use Rattle.std.specs.Prelude.{◌≡◌, ◌⊎◌, ℕ, ◌+◌, ◌≤◌, List, map, length, sum_by}
-use Rattle.std.specs.List.{flat_map, AllByRecursion}
+use Rattle.std.specs.Prelude.{◌≡◌, ◌⊎◌, ℕ, ◌+◌, ◌≤◌, List, [], ◌∷◌, length, sum_by, Ok}
+use Rattle.std.specs.List.{flat_map}
 use Rattle.cg_disk.specs.Disk.{History, Image, IsImage, present}
 use Rattle.cg_frame.specs.Frames.{HasFrames, IsClosed}
 use Rattle.cg_frame.specs.Outcomes.{KeepsFramesTo}
@@ -9,16 +9,25 @@ use Rattle.cg_frame.specs.declared.segment.TheConstants.{SEGMENT_SECTORS}
 use Rattle.cg_fold.specs.Durable.{State, after, folded}
 use Rattle.cg_record.specs.declared.command.Command.{Command}
 use Rattle.cg_record.specs.Lawful.{AreCommands}
-use Rattle.cg_record.specs.Spelling.{spelling}
+use Rattle.cg_record.specs.Reading.{commands_of}
 use Rattle.cg_store.specs.declared.segment.TheConstants.{COMMAND_NUMBER_MAX, FIRST_SEGMENT_SECTOR}
 
 -- the segment with the frames
 abbrev pub first_segment : Segment
 first_segment = record { first = FIRST_SEGMENT_SECTOR; sectors = SEGMENT_SECTORS }
 
--- the frame of a batch: the number of its commands, and their encoding
-abbrev pub frame_of : List Command → ℕ × List ℕ
-frame_of commands = (length commands, spelling commands)
+-- the payload of a frame decodes to these lawful commands, and the frame counts them
+pub record IsFrameOf (frame : ℕ × List ℕ) (commands : List Command) : Type 0 where
+  pub decoded : commands_of frame.1 ≡ Ok commands
+  pub lawful : AreCommands commands
+  pub number : frame.0 ≡ length commands
+
+-- these are the frames of these batches, one for each
+abbrev pub AreFramesOf : List (ℕ × List ℕ) → List (List Command) → Type 0
+AreFramesOf [] [] = Unit {0}
+AreFramesOf [] (batch ∷ batches) = ⊥
+AreFramesOf (frame ∷ frames) [] = ⊥
+AreFramesOf (frame ∷ frames) (batch ∷ batches) = IsFrameOf frame batch × AreFramesOf frames batches
 
 -- the commands of batches, in their order
 abbrev pub joined : List (List Command) → List Command
@@ -28,11 +37,17 @@ joined batches = flat_map (λ (commands : List Command). commands) batches
 abbrev pub counted : List (ℕ × List ℕ) → ℕ
 counted frames = sum_by (λ (frame : ℕ × List ℕ). frame.0) frames
 
--- the frames are encoded batches, with n commands in all, after which the state is this one
+-- n lawful commands make this state
+pub record AreCommandsTo (n : ℕ) (state : State) : Type 0 where
+  pub commands : List Command
+  pub lawful : AreCommands commands
+  pub number : n ≡ length commands
+  pub state_is : state ≡ folded commands
+
+-- the frames are those of batches with n commands in all, after which the state is this one
 pub record Spell (frames : List (ℕ × List ℕ)) (n : ℕ) (state : State) : Type 0 where
   pub batches : List (List Command)
-  pub frames_are : frames ≡ map frame_of batches
-  pub lawful : AllByRecursion AreCommands batches
+  pub frames_are : AreFramesOf frames batches
   pub number : n ≡ length (joined batches)
   pub state_is : state ≡ folded (joined batches)
 
@@ -65,3 +80,11 @@ pub record Keeps (history : History) (end n : ℕ) (state : State) : Type 0 wher
 -- every crash image has a closed gate at `end`
 abbrev pub IsFree : History → ℕ → Type 0
 IsFree history end = (image : Image) → IsImage (present history) image → IsClosed image (FIRST_SEGMENT_SECTOR + end)
+
+-- the content of an image is unique: it has one number of commands and one state
+abbrev pub ImagesCarryOnePair : Type 0
+ImagesCarryOnePair = (image : Image) (n m : ℕ) (state other : State) → Carries image n state → Carries image m other → (n ≡ m) × (state ≡ other)
+
+-- the state of an image is the one that its lawful commands make
+abbrev pub ImagesCarryCommands : Type 0
+ImagesCarryCommands = (image : Image) (n : ℕ) (state : State) → Carries image n state → AreCommandsTo n state

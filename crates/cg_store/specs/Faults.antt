@@ -15,18 +15,13 @@ Tells image open_fault.Device = Unit {0}
 Tells image open_fault.BadFrame = (frames : List (ℕ × List ℕ)) → ¬ IsWhole image frames
 Tells image open_fault.BadRecord = ((frames : List (ℕ × List ℕ)) × IsWhole image frames) × ((n : ℕ) (state : State) → ¬ Carries image n state)
 
--- a recovery failed because of the disk
+-- an opening failed because of the disk, by its fault and by its result
 abbrev pub is_loading_failure : OpenFault → Bool
 is_loading_failure open_fault.Memory = false
 is_loading_failure open_fault.Device = true
 is_loading_failure open_fault.BadFrame = false
 is_loading_failure open_fault.BadRecord = false
 
-abbrev pub failed_loading : {T : Type 0} → Result T OpenFault → Bool
-failed_loading (Ok x) = false
-failed_loading (Err fault) = is_loading_failure fault
-
--- an opening failed because of the disk
 abbrev pub failed_opening : {T D : Type 0} → Result T (OpenFault × D) → Bool
 failed_opening (Ok x) = false
 failed_opening (Err refused) = is_loading_failure refused.0

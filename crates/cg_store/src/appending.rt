@@ -1,7 +1,7 @@
 //! The append of a batch.
-ghost use Rattle.std.specs.Prelude.{◌≡◌, ◌≢◌, ℕ, ◌+◌, ◌≤◌, ◌<◌, true, false, length, Option, IfOk, IfErr, OnOk, IsErrOf, MatchResult, None};
+ghost use Rattle.std.specs.Prelude.{◌≡◌, ◌≢◌, ℕ, ◌+◌, ◌≤◌, ◌<◌, true, false, length, Option, IfOk, IfErr, OnOk, IsErrOf, MatchResult, None, is_err};
 ghost use Rattle.std.specs.Option.{MatchOption};
-ghost use Rattle.cg_disk.specs.Disk.{Counts, LeavesOnly};
+ghost use Rattle.cg_disk.specs.Disk.{Counts, LeavesOnly, TakesCalls};
 ghost use Rattle.cg_frame.specs.Frames.{next_gate};
 ghost use Rattle.cg_frame.specs.Outcomes.{is_device_failure};
 ghost use Rattle.cg_frame.specs.declared.segment.TheConstants.{SEGMENT_SECTORS};
@@ -40,6 +40,7 @@ fn append_frame<D: SectorDisk>(
     ensures inside { IfOk result (λ next. next < SEGMENT_SECTORS) }
     ensures no_room { IsErrOf result FrameFault.NoRoom → SEGMENT_SECTORS ≤ next_gate end (length (spelling batch.now.commands)) }
     ensures memory_leaves { IsErrOf result FrameFault.Memory → disk.new ≡ disk.old }
+    ensures clock { D.is_honest disk.old ≡ true → TakesCalls 4 (D.history disk.old) (D.history disk.new) (is_err result) }
     ensures device { Counts (D.failures disk.old) (D.failures disk.new) (is_device_failure result) }
     ensures same_size { D.size disk.new ≡ D.size disk.old }
     ensures same_honesty { D.is_honest disk.new ≡ D.is_honest disk.old }
@@ -99,6 +100,7 @@ impl<D: SectorDisk> Store<D> {
             (λ fault. IsToldOf (refusal self.old batch.now) fault) }
         ensures unchanged { IfErr result (λ fault. fault ≢ StoreFault.Device → IsUnchanged self.old self.new) }
         ensures failed { IsErrOf result StoreFault.Device → has_failed self.new ≡ true }
+        ensures clock { D.is_honest (disk_of self.old) ≡ true → TakesCalls 4 (D.history (disk_of self.old)) (D.history (disk_of self.new)) (is_err result) }
         ensures device { Counts (D.failures (disk_of self.old)) (D.failures (disk_of self.new)) (failed_put result) }
         ensures same_size { D.size (disk_of self.new) ≡ D.size (disk_of self.old) }
         ensures same_honesty { D.is_honest (disk_of self.new) ≡ D.is_honest (disk_of self.old) }
@@ -143,6 +145,8 @@ impl<D: SectorDisk> Store<D> {
             (λ refused. IsToldOf (refusal self.old batch) refused.0) }
         ensures unchanged { IfErr result (λ refused. refused.0 ≢ StoreFault.Device → IsUnchanged self.old self.new) }
         ensures failed { IfErr result (λ refused. refused.0 ≡ StoreFault.Device → has_failed self.new ≡ true) }
+        // It takes four calls of the disk.
+        ensures clock { D.is_honest (disk_of self.old) ≡ true → TakesCalls 4 (D.history (disk_of self.old)) (D.history (disk_of self.new)) (is_err result) }
         ensures device { Counts (D.failures (disk_of self.old)) (D.failures (disk_of self.new)) (failed_append result) }
         ensures same_size { D.size (disk_of self.new) ≡ D.size (disk_of self.old) }
         ensures same_honesty { D.is_honest (disk_of self.new) ≡ D.is_honest (disk_of self.old) }

@@ -1,6 +1,7 @@
 //! Commands in the encoding that is written to disk.
-ghost use Rattle.std.specs.Prelude.{◌≡◌, ◌<◌, ◌^◌, ◌↔◌, ◌++◌, ◌∷◌, [], length, IfOk, OnOk, OnErr, IsTrue};
+ghost use Rattle.std.specs.Prelude.{◌≡◌, ◌<◌, ◌^◌, ◌↔◌, ◌++◌, ◌∷◌, [], length, IfOk, OnOk, OnErr, IsTrue, Ok};
 ghost use Rattle.cg_record.specs.Lawful.{AreCommands};
+ghost use Rattle.cg_record.specs.Reading.{commands_of};
 ghost use Rattle.cg_record.specs.Spelling.{spelling};
 ghost use Rattle.cg_store.specs.Texts.{IsText, told};
 
@@ -32,6 +33,7 @@ impl Model for Commands {
 fn spelling_of(bytes: &[u8]) -> &[u8]
     requires { IsText bytes.now }
     ensures same { result.now ≡ bytes.now }
+    ensures decoded { commands_of result.now ≡ Ok (told bytes.now) }
     ensures spelled { result.now ≡ spelling (told bytes.now) }
     ensures lawful { AreCommands (told bytes.now) }
 {
@@ -82,6 +84,7 @@ impl Commands {
 
     /// Returns the payload: the encoding of the commands.
     pub fn as_bytes(&self) -> &[u8]
+        ensures decoded { commands_of result.now ≡ Ok self.now }
         ensures spelled { result.now ≡ spelling self.now }
         ensures lawful { AreCommands self.now }
     {

@@ -7,6 +7,7 @@ mod batch;
 mod commands;
 mod fault;
 mod fusing;
+mod laws;
 mod loading;
 mod opening;
 mod receipt;
@@ -16,6 +17,7 @@ mod store;
 pub use batch::Batch;
 pub use commands::Commands;
 pub use fault::{OpenFault, StoreFault};
+pub use laws::{images_carry_commands, images_carry_one_pair};
 pub use receipt::Receipt;
 pub use segment::{
     COMMAND_NUMBER_MAX, DISK_SECTORS, FIRST_SEGMENT_SECTOR, format, layout_has_these_numbers,

@@ -1,13 +1,13 @@
 //! Recovery: the commands of a segment are read back from the disk alone.
 ghost use Rattle.std.specs.Prelude.{◌≡◌, ◌⊎◌, ℕ, ◌+◌, ◌≤◌, ◌<◌, ◌∷◌, [], ◌++◌, true, length, List, IfOk, IfErr, IfSome, OnOk, MatchResult};
 ghost use Rattle.std.specs.Option.{MatchOption};
-ghost use Rattle.cg_disk.specs.Disk.{Counts, Stays, present};
+ghost use Rattle.cg_disk.specs.Disk.{BeginsWithSync, Counts, Stays, present};
 ghost use Rattle.cg_frame.specs.Frames.{next_gate};
 ghost use Rattle.cg_frame.specs.declared.segment.TheConstants.{SEGMENT_SECTORS};
 ghost use Rattle.cg_fold.specs.Durable.{State, after, empty};
-ghost use Rattle.cg_store.specs.Carried.{Carries, IsFree, Keeps};
-ghost use Rattle.cg_store.specs.Faults.{Tells, failed_loading};
-ghost use Rattle.cg_store.specs.Loading.{Adds, Finds, IsNoText, IsRead, IsTextOf, Reads};
+ghost use Rattle.cg_store.specs.Carried.{AreCommandsTo, Carries, IsFrameOf, IsFree, Keeps};
+ghost use Rattle.cg_store.specs.Faults.{Tells};
+ghost use Rattle.cg_store.specs.Loading.{Adds, Finds, IsNoText, IsRead, Reads, WasRead, failed_loading};
 ghost use Rattle.cg_store.specs.declared.segment.TheConstants.{COMMAND_NUMBER_MAX, FIRST_SEGMENT_SECTOR};
 
 use crate::fault::OpenFault;
@@ -60,7 +60,7 @@ fn next_frame<D: SectorDisk>(
 fn commands_in(alloc: Global, frame: &Frame) -> Result<Option<Vec<Command>>, AllocError>
     ensures { IfOk result (λ o. MatchOption o
         (IsNoText frame.now.count frame.now.payload.items)
-        (λ v. IsTextOf frame.now.count frame.now.payload.items v.items)) }
+        (λ v. IsFrameOf (frame.now.count, frame.now.payload.items) v.items)) }
 {
     match cg_record::read(alloc, &frame.payload) {
         Ok(commands) if commands.len() as u64 == frame.count => Ok(Some(commands)),
@@ -160,6 +160,7 @@ impl Loading {
 fn read_frames<D: SectorDisk>(alloc: Global, disk: &mut D) -> Result<Loading, OpenFault>
     requires { FIRST_SEGMENT_SECTOR + SEGMENT_SECTORS ≤ D.size disk.old }
     ensures reads { D.is_honest disk.old ≡ true → Reads (present (D.history disk.old)).content result }
+    ensures read { IfOk result (λ loading. WasRead loading) }
     ensures inside { IfOk result (λ loading. loading.end < SEGMENT_SECTORS) }
     ensures in_range { IfOk result (λ loading. loading.count ≤ COMMAND_NUMBER_MAX) }
     ensures time { D.is_honest disk.old ≡ true → Stays (D.history disk.old) (D.history disk.new) }
@@ -184,6 +185,8 @@ pub(crate) fn load<D: SectorDisk>(alloc: Global, disk: &mut D) -> Result<Loading
         → MatchResult result
         (λ loading. (loading.count ≡ n) × (loading.durable ≡ state))
         (λ fault. (fault ≡ OpenFault.Memory) ⊎ (fault ≡ OpenFault.Device)) }
+    ensures made { IfOk result (λ loading. AreCommandsTo loading.count loading.durable) }
+    ensures first { D.is_honest disk.old ≡ true → BeginsWithSync (D.history disk.old) (D.history disk.new) (failed_loading result) }
     ensures gate { D.is_honest disk.old ≡ true → IfOk result (λ loading. IsFree (D.history disk.new) loading.end) }
     ensures inside { IfOk result (λ loading. loading.end < SEGMENT_SECTORS) }
     ensures in_range { IfOk result (λ loading. loading.count ≤ COMMAND_NUMBER_MAX) }

@@ -1,9 +1,9 @@
 //! The opening of a store.
 ghost use Rattle.std.specs.Prelude.{◌≡◌, ◌⊎◌, ℕ, ◌+◌, ◌≤◌, true, false, IfOk, IfErr, MatchResult};
-ghost use Rattle.cg_disk.specs.Disk.{Counts, Stays, present};
+ghost use Rattle.cg_disk.specs.Disk.{BeginsWithSync, Counts, Stays, present};
 ghost use Rattle.cg_frame.specs.declared.segment.TheConstants.{SEGMENT_SECTORS};
 ghost use Rattle.cg_fold.specs.Durable.{State};
-ghost use Rattle.cg_store.specs.Carried.{AllCarry, Carries};
+ghost use Rattle.cg_store.specs.Carried.{AllCarry, AreCommandsTo, Carries};
 ghost use Rattle.cg_store.specs.Faults.{Tells, failed_opening};
 ghost use Rattle.cg_store.specs.declared.segment.TheConstants.{FIRST_SEGMENT_SECTOR};
 
@@ -27,10 +27,14 @@ impl<D: SectorDisk> Store<D> {
             → MatchResult result
             (λ opened. (opened.1 ≡ n) × (opened.2 ≡ state))
             (λ refused. (refused.0 ≡ OpenFault.Memory) ⊎ (refused.0 ≡ OpenFault.Device)) }
+        // Whatever the disk gives, the opened state is the one that this many lawful commands make.
+        ensures made { IfOk result (λ opened. AreCommandsTo opened.1 opened.2) }
         ensures stands { D.is_honest disk ≡ true → IfOk result (λ opened. StandsAt D.is_honest D.history opened.0 opened.1 opened.2) }
         ensures images { D.is_honest disk ≡ true → IfOk result (λ opened. AllCarry (D.history (disk_of opened.0)) opened.1 opened.2) }
         ensures tells { D.is_honest disk ≡ true → IfErr result (λ refused. Tells (present (D.history disk)).content refused.0) }
         ensures serves { IfOk result (λ opened. (has_failed opened.0 ≡ false) × (front_of opened.0 ≡ opened.1)) }
+        // The first call of the disk is a sync, and no call is a write.
+        ensures first { D.is_honest disk ≡ true → BeginsWithSync (D.history disk) (D.history (disk_after result)) (failed_opening result) }
         ensures content { D.is_honest disk ≡ true → Stays (D.history disk) (D.history (disk_after result)) }
         ensures device { Counts (D.failures disk) (D.failures (disk_after result)) (failed_opening result) }
         ensures same_size { D.size (disk_after result) ≡ D.size disk }

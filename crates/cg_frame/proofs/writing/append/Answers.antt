@@ -18,32 +18,32 @@ returns-in_err-sectors-clause-frames g c honest fs keeps = frames-starts _ c.arg
 
 pub returns-in_err-write_guarded-clause-any_moment : goal.returns-in_err-write_guarded-clause-any_moment
 returns-in_err-write_guarded-clause-any_moment g c honest =
-    let staged = IsStaged-shown c.deref.result.now c.in_ok-sectors.sectors.items c.args.count c.args.payload.now c.deref.ensures.value c.in_ok-sectors.ensures.length c.in_ok-sectors.ensures.body c.in_ok-sectors.ensures.closed in
+    let staged = IsStaged-shown c.deref.result.now c.in_ok-sectors.sectors.items c.args.count c.args.payload.now c.deref.ensures.value c.in_ok-sectors.ensures.length c.in_ok-sectors.ensures.body c.in_ok-sectors.ensures.padded in
     Appended-run c.args.segment c.args.pos c.args.count c.args.payload.now c.deref.result.now staged c.requires.counted (omega arith) (omega arith) _ _ (c.write_guarded.ensures.any_moment honest)
 
 pub returns-in_err-write_guarded-clause-frames : goal.returns-in_err-write_guarded-clause-frames
 returns-in_err-write_guarded-clause-frames g c honest fs keeps =
-    let staged = IsStaged-shown c.deref.result.now c.in_ok-sectors.sectors.items c.args.count c.args.payload.now c.deref.ensures.value c.in_ok-sectors.ensures.length c.in_ok-sectors.ensures.body c.in_ok-sectors.ensures.closed in
+    let staged = IsStaged-shown c.deref.result.now c.in_ok-sectors.sectors.items c.args.count c.args.payload.now c.deref.ensures.value c.in_ok-sectors.ensures.length c.in_ok-sectors.ensures.body c.in_ok-sectors.ensures.padded in
     frames-run c.args.segment c.args.pos c.args.count c.args.payload.now c.deref.result.now staged c.requires.counted (omega arith) (omega arith) _ _ (c.write_guarded.ensures.any_moment honest) fs keeps
 
 pub returns-clause-any_moment : goal.returns-clause-any_moment
 returns-clause-any_moment g c honest =
-    let staged = IsStaged-shown c.deref.result.now c.in_ok-sectors.sectors.items c.args.count c.args.payload.now c.deref.ensures.value c.in_ok-sectors.ensures.length c.in_ok-sectors.ensures.body c.in_ok-sectors.ensures.closed in
+    let staged = IsStaged-shown c.deref.result.now c.in_ok-sectors.sectors.items c.args.count c.args.payload.now c.deref.ensures.value c.in_ok-sectors.ensures.length c.in_ok-sectors.ensures.body c.in_ok-sectors.ensures.padded in
     Appended-run c.args.segment c.args.pos c.args.count c.args.payload.now c.deref.result.now staged c.requires.counted (omega arith) (omega arith) _ _ (c.write_guarded.ensures.any_moment honest)
 
 pub returns-clause-frames : goal.returns-clause-frames
 returns-clause-frames g c honest fs keeps =
-    let staged = IsStaged-shown c.deref.result.now c.in_ok-sectors.sectors.items c.args.count c.args.payload.now c.deref.ensures.value c.in_ok-sectors.ensures.length c.in_ok-sectors.ensures.body c.in_ok-sectors.ensures.closed in
+    let staged = IsStaged-shown c.deref.result.now c.in_ok-sectors.sectors.items c.args.count c.args.payload.now c.deref.ensures.value c.in_ok-sectors.ensures.length c.in_ok-sectors.ensures.body c.in_ok-sectors.ensures.padded in
     frames-run c.args.segment c.args.pos c.args.count c.args.payload.now c.deref.result.now staged c.requires.counted (omega arith) (omega arith) _ _ (c.write_guarded.ensures.any_moment honest) fs keeps
 
 pub returns-clause-stands : goal.returns-clause-stands
 returns-clause-stands g c honest image is =
-    let staged = IsStaged-shown c.deref.result.now c.in_ok-sectors.sectors.items c.args.count c.args.payload.now c.deref.ensures.value c.in_ok-sectors.ensures.length c.in_ok-sectors.ensures.body c.in_ok-sectors.ensures.closed in
+    let staged = IsStaged-shown c.deref.result.now c.in_ok-sectors.sectors.items c.args.count c.args.payload.now c.deref.ensures.value c.in_ok-sectors.ensures.length c.in_ok-sectors.ensures.body c.in_ok-sectors.ensures.padded in
     StandsLast-laid c.args.segment c.args.pos c.args.count c.args.payload.now c.deref.result.now staged c.requires.counted (omega arith) (omega arith) image (c.in_ok-write_guarded.ensures.guarded honest image is)
 
 pub returns-clause-frames_after : goal.returns-clause-frames_after
 returns-clause-frames_after g c honest fs keeps image is =
-    let staged = IsStaged-shown c.deref.result.now c.in_ok-sectors.sectors.items c.args.count c.args.payload.now c.deref.ensures.value c.in_ok-sectors.ensures.length c.in_ok-sectors.ensures.body c.in_ok-sectors.ensures.closed in
+    let staged = IsStaged-shown c.deref.result.now c.in_ok-sectors.sectors.items c.args.count c.args.payload.now c.deref.ensures.value c.in_ok-sectors.ensures.length c.in_ok-sectors.ensures.body c.in_ok-sectors.ensures.padded in
     HasFramesTo-appended _ c.args.segment c.args.pos c.args.count c.args.payload.now fs image keeps
     (LeavesOnly-present _ _ _ (Appended-run c.args.segment c.args.pos c.args.count c.args.payload.now c.deref.result.now staged c.requires.counted (omega arith) (omega arith) _ _ (c.write_guarded.ensures.any_moment honest)) image is)
     (StandsLast-laid c.args.segment c.args.pos c.args.count c.args.payload.now c.deref.result.now staged c.requires.counted (omega arith) (omega arith) image (c.in_ok-write_guarded.ensures.guarded honest image is))

@@ -14,7 +14,7 @@ returns-in_err-next-clause-images g c honest n state keeps few =
     let leaves = subst (λ s. (frames : List (ℕ × List ℕ)) → KeepsFramesTo (present before) s frames c.args.end → LeavesOnly before now (IsBeforeOrAfter s frames (length commands) payload)) c.segment.ensures
     (subst (λ k. (frames : List (ℕ × List ℕ)) → KeepsFramesTo (present before) c.segment.result frames c.args.end → LeavesOnly before now (IsBeforeOrAfter c.segment.result frames k payload)) c.len-count.ensures
     (c.in_err-next.ensures.frames honest)) in
-    images-push n state commands payload c.as_bytes-payload.ensures.spelled c.as_bytes-payload.ensures.lawful few before now c.args.end leaves keeps
+    images-push n state commands payload c.as_bytes-payload.ensures.decoded c.as_bytes-payload.ensures.lawful few before now c.args.end leaves keeps
 
 pub returns-clause-ok : goal.returns-clause-ok
 returns-clause-ok g c honest n state keeps few =
@@ -25,7 +25,7 @@ returns-clause-ok g c honest n state keeps few =
     let grown = subst (λ s. (frames : List (ℕ × List ℕ)) → KeepsFramesTo (present before) s frames c.args.end → KeepsFramesTo (present now) s (frames ++ (length commands, payload) ∷ []) (next_gate c.args.end (length payload))) c.segment.ensures
     (subst (λ k. (frames : List (ℕ × List ℕ)) → KeepsFramesTo (present before) c.segment.result frames c.args.end → KeepsFramesTo (present now) c.segment.result (frames ++ (k, payload) ∷ []) (next_gate c.args.end (length payload))) c.len-count.ensures
     (c.in_ok-next.ensures.frames_after honest)) in
-    keeps-push n state commands payload c.as_bytes-payload.ensures.spelled c.as_bytes-payload.ensures.lawful few before now c.args.end c.in_ok-next.next c.in_ok-next.ensures.next grown keeps
+    keeps-push n state commands payload c.as_bytes-payload.ensures.decoded c.as_bytes-payload.ensures.lawful few before now c.args.end c.in_ok-next.next c.in_ok-next.ensures.next grown keeps
 
 pub returns-clause-images : goal.returns-clause-images
 returns-clause-images g c honest n state keeps few =
@@ -36,4 +36,4 @@ returns-clause-images g c honest n state keeps few =
     let leaves = subst (λ s. (frames : List (ℕ × List ℕ)) → KeepsFramesTo (present before) s frames c.args.end → LeavesOnly before now (IsBeforeOrAfter s frames (length commands) payload)) c.segment.ensures
     (subst (λ k. (frames : List (ℕ × List ℕ)) → KeepsFramesTo (present before) c.segment.result frames c.args.end → LeavesOnly before now (IsBeforeOrAfter c.segment.result frames k payload)) c.len-count.ensures
     (c.in_ok-next.ensures.frames honest)) in
-    images-push n state commands payload c.as_bytes-payload.ensures.spelled c.as_bytes-payload.ensures.lawful few before now c.args.end leaves keeps
+    images-push n state commands payload c.as_bytes-payload.ensures.decoded c.as_bytes-payload.ensures.lawful few before now c.args.end leaves keeps

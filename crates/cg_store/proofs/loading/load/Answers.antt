@@ -3,7 +3,7 @@ use Rattle.std.proofs.lemmas.Result.{err_from_is_err_and}
 use Rattle.cg_disk.specs.Disk.{present}
 use Rattle.cg_disk.proofs.Moments.{Stays-content}
 use Rattle.cg_store.specs.declared.fault.OpenFault.TheVariants as variants
-use Rattle.cg_store.proofs.Loaded.{bad-record, carries-read, keeps-free, keeps-read, not-false, not-true, tells-read}
+use Rattle.cg_store.proofs.Loaded.{bad-record, carries-read, commands-read, keeps-free, keeps-read, not-false, not-true, tells-read}
 use Rattle.cg_store.proofs.Whole.{Carries-same, Carries-unique, Tells-same, carried-fault}
 use Rattle.cg_store.proofs.loading.load.Goals as goal
 
@@ -62,3 +62,6 @@ returns-clause-gate g c honest =
     let keeps = keeps-read (g.D.SectorDisk.history c.sync.new.self) (g.D.SectorDisk.history c.read_frames.new.disk) c.in_ok-loading.loading (c.in_ok-sync.ensures.durable honest)
     (c.read_frames.ensures.time (c.sync.ensures.same_honesty ∙ honest)) c.in_ok-loading.ensures.in_range (not-false c.in_ok-loading.loading.all_read c.if-not-loading.false) (c.in_ok-loading.ensures.reads (c.sync.ensures.same_honesty ∙ honest)) in
     keeps-free (g.D.SectorDisk.history c.read_frames.new.disk) c.in_ok-loading.loading.end c.in_ok-loading.loading.count c.in_ok-loading.loading.durable keeps
+
+pub returns-clause-made : goal.returns-clause-made
+returns-clause-made g c = commands-read c.in_ok-loading.loading (not-false c.in_ok-loading.loading.all_read c.if-not-loading.false) c.in_ok-loading.ensures.read

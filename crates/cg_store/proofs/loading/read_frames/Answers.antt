@@ -1,4 +1,4 @@
-use Rattle.std.proofs.Common.{◌≡◌, ◌<◌, ◌∙◌, sym, subst, refl, arith, length, Ok, Err, Some, None, rules}
+use Rattle.std.proofs.Common.{◌≡◌, [], ◌∷◌, ◌++◌, ◌<◌, ◌∙◌, sym, subst, refl, arith, length, Ok, Err, Some, None, rules}
 use Rattle.std.specs.Prelude.{IfSome}
 use Rattle.std.proofs.lemmas.Result.{err_from_is_err_and}
 use Rattle.cg_disk.specs.Disk.{present}
@@ -6,7 +6,7 @@ use Rattle.cg_disk.proofs.Moments.{Changes-refl, Changes-then, Stays-content}
 use Rattle.cg_frame.specs.Frames.{next_gate}
 use Rattle.cg_frame.specs.declared.segment.TheConstants.{SEGMENT_SECTORS}
 use Rattle.cg_store.specs.Loading.{Finds, Reads}
-use Rattle.cg_store.proofs.Reading.{Finds-same, ends, goes_on, refused, starts, stops}
+use Rattle.cg_store.proofs.Reading.{Finds-same, WasRead-none, ends, goes_on, refused, starts, stops}
 use Rattle.cg_store.proofs.loading.read_frames.Goals as goal
 
 pub loop-loading-init : goal.loop-loading-init
@@ -14,6 +14,7 @@ loop-loading-init g c =
     let new = c.new-loading.ensures in
     record {
       progress = λ honest. starts (present (g.D.SectorDisk.history c.args.disk.now)).content _ _ _ _ new.0 new.1 new.2 new.3;
+      read = WasRead-none c.new-loading.result new.1 new.2 new.3;
       time = λ honest. Changes-refl 0 0 (g.D.SectorDisk.history c.args.disk.now);
       same_failures = refl;
       same_size = refl;
@@ -66,6 +67,7 @@ loop-loading-preserved g c =
           goes_on first c.loop-loading.loading.end c.loop-loading.loading.count c.in-Some.frame.count c.add.new.self.count c.add.new.self.end c.in-Some.frame.payload.items
           c.loop-loading.loading.all_read c.add.new.self.all_read c.loop-loading.loading.durable c.add.new.self.durable so_far found c.in_ok-add.ensures.count (to ∙ next_is)
           (c.in_ok-add.ensures.read so_far.frames so_far.is_read);
+      read = record { frames = inv.read.frames ++ (c.in-Some.frame.count, c.in-Some.frame.payload.items) ∷ []; is_read = c.in_ok-add.ensures.read inv.read.frames inv.read.is_read };
       time = λ honest. Changes-then 0 0 _ _ _ (inv.time honest) (c.next_frame.ensures.time (inv.same_honesty ∙ honest));
       same_failures = c.in_ok-frame.ensures.device.stays refl ∙ inv.same_failures;
       same_size = c.next_frame.ensures.same_size ∙ inv.same_size;

@@ -1,13 +1,24 @@
-use Rattle.std.proofs.Common.{◌≡◌, [], refl, rules}
+use Rattle.std.proofs.Common.{◌≡◌, ◌∙◌, [], refl, rules, subst, sym}
 use Rattle.std.proofs.lemmas.List.{nil_from_length}
-use Rattle.cg_desk.specs.Books.{failing}
 use Rattle.cg_desk.specs.Held.{calls_of, replies_of}
+use Rattle.cg_desk.specs.Laws.{AreRefusedOnce}
+use Rattle.cg_desk.specs.Serving.{books}
 use Rattle.cg_member.specs.Waiting.{waiting_calls}
+use Rattle.cg_desk.proofs.Failing.{by_tokens-once, by_tokens-order}
 use Rattle.cg_desk.proofs.Leaving.{all_refused}
+use Rattle.cg_desk.proofs.Weights.{by_tokens}
 use Rattle.cg_desk.proofs.serving.Serving.fail.Goals as goal
 
-pub returns : goal.returns
-unfolding failing
-returns c =
+pub returns-clause-once : goal.returns-clause-once
+returns-clause-once c =
     let empty : c.args.self.leaving.items ≡ [] = nil_from_length _ (search rules) in
-    all_refused (calls_of (replies_of c.args.self.held.items)) (waiting_calls c.args.self.groups.groups) _ _ _ _ _ _ _ _ empty c.refuse_held.ensures.out c.refuse_held.ensures.tokens c.refuse_waiting.ensures.out c.refuse_waiting.ensures.tokens refl c.refuse_rest.ensures.out
+    let is : c.refuse_rest.new.out.items ≡ by_tokens (books c.args.self) =
+    all_refused (calls_of (replies_of c.args.self.held.items)) (waiting_calls c.args.self.groups.groups) _ _ _ _ _ _ _ _ empty c.refuse_held.ensures.out c.refuse_held.ensures.tokens c.refuse_waiting.ensures.out c.refuse_waiting.ensures.tokens refl c.refuse_rest.ensures.out in
+    subst (AreRefusedOnce (books c.args.self).tokens) (sym is) (by_tokens-once (books c.args.self))
+
+pub returns-clause-order : goal.returns-clause-order
+returns-clause-order c balanced =
+    let empty : c.args.self.leaving.items ≡ [] = nil_from_length _ (search rules) in
+    let is : c.refuse_rest.new.out.items ≡ by_tokens (books c.args.self) =
+    all_refused (calls_of (replies_of c.args.self.held.items)) (waiting_calls c.args.self.groups.groups) _ _ _ _ _ _ _ _ empty c.refuse_held.ensures.out c.refuse_held.ensures.tokens c.refuse_waiting.ensures.out c.refuse_waiting.ensures.tokens refl c.refuse_rest.ensures.out in
+    is ∙ by_tokens-order (books c.args.self) balanced

@@ -1,0 +1,89 @@
+-- What a failure of a desk sends.
+use Rattle.std.proofs.Common.{◌≡◌, ℕ, ◌+◌, Bool, true, false, List, [], ◌∷◌, ◌++◌, length, map, take, refl, ap, sym, ◌∙◌, arith}
+use Rattle.std.specs.Prelude.{if◌then◌else◌}
+use Rattle.std.specs.List.{sum_by}
+use Rattle.std.proofs.lemmas.List.{map-append}
+use Rattle.std.proofs.lemmas.List.Sums.{sum_by-cons}
+use Rattle.cg_member.specs.declared.reply.Reply.{Reply}
+use Rattle.cg_request.specs.declared.ticket.Ticket.{Ticket}
+use Rattle.cg_member.specs.Waiting.{waiting_calls}
+use Rattle.cg_desk.specs.Answering.{after_answering, answering, answering_one, refusal, refused, refused_call}
+use Rattle.cg_desk.specs.Balanced.{IsBalanced}
+use Rattle.cg_desk.specs.Books.{Books, failing}
+use Rattle.cg_desk.specs.Held.{calls_of, replies_of}
+use Rattle.cg_desk.specs.Laws.{AreKept, AreRefusedOnce, weight_of, weight_out}
+use Rattle.cg_desk.specs.Outgoings.{answer, ticket_of}
+use Rattle.cg_desk.specs.Owed.{sent}
+use Rattle.cg_desk.specs.Tokens.{call_of, has_token, without}
+use Rattle.cg_desk.specs.declared.outgoing.Outgoing.{Outgoing}
+use Rattle.cg_desk.specs.declared.token.ReplyToken.{ReplyToken}
+use Rattle.cg_desk.proofs.Leaving.{answering-cons, answering-nil}
+use Rattle.cg_desk.proofs.Owing.{failed}
+use Rattle.cg_desk.proofs.Weights.{by_tokens, failed-kept}
+
+-- these replies are refusals with 15
+record Refuses (out : List Outgoing) : Type 0 where
+  pub calls : List Ticket
+  pub is : out ≡ map refused_call calls
+
+refuses-both : (a b : List Outgoing) → Refuses a → Refuses b → Refuses (a ++ b)
+refuses-both a b one two = record {
+  calls = one.calls ++ two.calls;
+  is = ap (λ (l : List Outgoing). l ++ b) one.is ∙ ap (λ (l : List Outgoing). map refused_call one.calls ++ l) two.is ∙ sym (map-append refused_call one.calls two.calls);
+}
+
+refuses-one : (ticket : Ticket) (has : Bool) → Refuses (if has then answer ticket (refusal ticket).1 ∷ [] else [])
+refuses-one ticket true = record { calls = ticket ∷ []; is = refl }
+refuses-one ticket false = record { calls = []; is = refl }
+
+refuses-answering : (calls : List Ticket) (tokens : List ReplyToken) → Refuses (answering (map refusal calls) tokens)
+refuses-answering [] tokens = record { calls = []; is = answering-nil tokens }
+refuses-answering (t ∷ calls) tokens =
+    let rest = refuses-both (answering_one (refusal t) tokens) (answering (map refusal calls) (without t tokens)) (refuses-one t (has_token t tokens)) (refuses-answering calls (without t tokens)) in
+    record { calls = rest.calls; is = answering-cons (refusal t) (map refusal calls) tokens ∙ rest.is }
+
+refuses-rest : (tokens : List ReplyToken) → Refuses (map refused tokens)
+refuses-rest [] = record { calls = []; is = refl }
+refuses-rest (token ∷ tokens) =
+    let rest = refuses-rest tokens in record { calls = call_of token ∷ rest.calls; is = ap (λ (l : List Outgoing). refused token ∷ l) rest.is }
+
+refused-weight : (weight : Ticket → ℕ) (calls : List Ticket) → weight_out weight (map refused_call calls) ≡ sum_by weight calls
+refused-weight weight [] = refl
+refused-weight weight (t ∷ calls) =
+    let out = sum_by-cons (λ (o : Outgoing). weight (ticket_of o)) (refused_call t) (map refused_call calls) in
+    let one = sum_by-cons weight t calls in
+    let rest = refused-weight weight calls in
+    omega arith
+
+-- refusals that weigh as much as the tokens
+once : (tokens : List ReplyToken) (out : List Outgoing) → Refuses out → AreKept tokens [] out [] → AreRefusedOnce tokens out
+once tokens out refuses kept = record {
+  calls = refuses.calls;
+  refused = refuses.is;
+  once = λ weight. let all = kept weight in let same = ap (weight_out weight) refuses.is in let sum = refused-weight weight refuses.calls in omega arith;
+}
+
+-- whatever the desk, each token's request is refused once
+pub by_tokens-once : (b : Books) → AreRefusedOnce b.tokens (by_tokens b)
+by_tokens-once b =
+    let held : List Ticket = calls_of (replies_of b.held) in
+    let left : List ReplyToken = after_answering (map refusal held) b.tokens in
+    let parked : List Ticket = take (length left) (waiting_calls b.machine.groups) in
+    once b.tokens (by_tokens b)
+    (refuses-both (answering (map refusal held) b.tokens ++ answering (map refusal parked) left) (map refused (after_answering (map refusal parked) left))
+    (refuses-both (answering (map refusal held) b.tokens) (answering (map refusal parked) left) (refuses-answering held b.tokens) (refuses-answering parked left))
+    (refuses-rest (after_answering (map refusal parked) left)))
+    (failed-kept b)
+
+sent-refusals : (calls : List Ticket) → map sent (map refusal calls) ≡ map refused_call calls
+sent-refusals [] = refl
+sent-refusals (t ∷ calls) = ap (λ (l : List Outgoing). refused_call t ∷ l) (sent-refusals calls)
+
+-- each token is that of a held reply or of a parked request
+pub by_tokens-order : (b : Books) → IsBalanced b → by_tokens b ≡ failing b
+unfolding failing
+by_tokens-order b h = failed b h.owed ∙ sent-refusals (calls_of (replies_of b.held) ++ waiting_calls b.machine.groups)
+
+-- no request is pending
+pub none_refused : AreRefusedOnce [] []
+none_refused = record { calls = []; refused = refl; once = λ weight. refl }

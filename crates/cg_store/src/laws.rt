@@ -1,0 +1,13 @@
+//! Laws of images. They relate definitions of `specs/`, so the bodies are empty; the contracts of `Store` carry them over
+//! to every store.
+ghost use Rattle.cg_store.specs.Carried.{ImagesCarryCommands, ImagesCarryOnePair};
+
+/// An image has at most one number of commands and one state.
+pub fn images_carry_one_pair()
+    ensures { ImagesCarryOnePair }
+{}
+
+/// The state of an image is the one that as many lawful commands make.
+pub fn images_carry_commands()
+    ensures { ImagesCarryCommands }
+{}
