@@ -1,0 +1,3 @@
+pub mod Props
+pub mod Found
+pub mod Filled

@@ -1,0 +1,12 @@
+//! The log: frames in the segments that a root names, those of the base before those of the tail. Every crash image
+//! carries the frames that were appended, with the one in flight or without.
+//! It stands on `cg_frame` for frames in one segment, and on `cg_root` for the root.
+#![tactic(auto)]
+
+mod fault;
+mod numbers;
+mod scanning;
+mod segment;
+
+pub use fault::LogFault;
+pub use numbers::{COMMAND_NUMBER_MAX, log_numbers};
