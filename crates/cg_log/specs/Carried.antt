@@ -3,7 +3,7 @@ use Rattle.std.specs.Prelude.{◌≡◌, ◌⊎◌, ℕ, ◌+◌, ◌≤◌, Lis
 use Rattle.cg_disk.specs.Disk.{Image, Moment, IsImage}
 use Rattle.cg_root.specs.Roots.{CountingRoot}
 use Rattle.cg_root.specs.declared.root.Root.{Root}
-use Rattle.cg_log.specs.Segments.{Frames, Filled, ids_of, frames_of, counted, AreStored}
+use Rattle.cg_log.specs.Segments.{Frames, Filled, ids_of, frames_of, counted, end_of_frames, AreStored}
 use Rattle.cg_log.specs.declared.numbers.TheConstants.{COMMAND_NUMBER_MAX}
 
 -- the segments of a log: those of the base, the tails before the last, and the last tail
@@ -58,3 +58,9 @@ KeepsLog m sectors root has = (image : Image) → IsImage m image → LogAt imag
 -- every crash image of a moment carries these commands and frames
 abbrev pub AllCarry : Moment → ℕ → ℕ → Frames → Frames → Type 0
 AllCarry m sectors n base tail = (image : Image) → IsImage m image → Carries image sectors n base tail
+
+-- every crash image of a moment has this root and content, of which the last frame ends there, and the last command has this number
+pub record HoldsContent (m : Moment) (sectors : ℕ) (root : Root) (end number : ℕ) (has : Content) : Type 0 where
+  pub keeps : KeepsLog m sectors root has
+  pub end_is : end ≡ end_of_frames 0 has.last.1
+  pub number_is : number ≡ root.base_number + counted (frames_of (tails has))

@@ -10,3 +10,4 @@ pub mod Ready
 pub mod FaultOf
 pub mod Faults
 pub mod Scanned
+pub mod Loaded

@@ -4,6 +4,7 @@
 #![tactic(auto)]
 
 mod fault;
+mod loading;
 mod numbers;
 mod scanning;
 mod segment;

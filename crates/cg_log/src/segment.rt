@@ -1,5 +1,5 @@
 //! Where segments lie on a disk.
-ghost use Rattle.std.specs.Prelude.{◌≡◌, ℕ, ◌+◌, ◌-◌, ◌≤◌, ◌<◌, length};
+ghost use Rattle.std.specs.Prelude.{◌≡◌, ℕ, ◌+◌, ◌-◌, ◌≤◌, ◌<◌, [], ◌∷◌, ◌++◌, length};
 ghost use Rattle.cg_gate.specs.Layout.{segment_count, first_sector};
 ghost use Rattle.cg_gate.specs.declared.layout.TheConstants.{SEGMENT_SECTORS};
 ghost use Rattle.cg_log.specs.Segments.{segment_of};
@@ -27,4 +27,12 @@ pub(crate) fn last_id(ids: &[SegmentId]) -> SegmentId
     ensures { result ≡ last_id ids.now }
 {
     ids[ids.len() - 1]
+}
+
+/// Returns the ids before the last.
+pub(crate) fn earlier_ids(ids: &[SegmentId]) -> &[SegmentId]
+    requires { 1 ≤ length ids.now }
+    ensures { ids.now ≡ result.now ++ last_id ids.now ∷ [] }
+{
+    &ids[..ids.len() - 1]
 }
