@@ -2,7 +2,8 @@
 use Rattle.std.proofs.Common.{◌≡◌, ◌⊎◌, inl, inr, ℕ, zero, suc, ◌+◌, ◌-◌, ◌^◌, ◌<◌, ◌≤◌, List, [], ◌∷◌, ◌++◌, length, map, get_or, take, min, sym, ap, ◌∙◌, subst, refl, arith}
 use Rattle.std.proofs.lemmas.List.{map-append}
 use Rattle.std.proofs.lemmas.Grind.{flat_map-append}
-use Rattle.std.proofs.lemmas.List.{append-nil, take_all, take_more}
+use Rattle.std.proofs.lemmas.List.{append-nil, take_all, take_more, length-append}
+use Rattle.std.proofs.Math.Seq.{get_or-append_seam}
 use Rattle.std.specs.List.{flat_map, AllByRecursion}
 use Rattle.cg_disk.specs.Disk.{Image}
 use Rattle.cg_frame.specs.Frames.{Chain, IsClosed, HasFrames, HasFramesTo, next_gate}
@@ -11,6 +12,7 @@ use Rattle.cg_frame.proofs.Standing.{Chain-same, Chain-unique, HasFrames-unique}
 use Rattle.cg_gate.specs.Layout.{first_sector}
 use Rattle.cg_log.specs.Loaded.{IsTailEnd}
 use Rattle.cg_log.specs.declared.numbers.TheConstants.{COMMAND_NUMBER_MAX}
+use Rattle.cg_log.specs.Ready.{last_id}
 use Rattle.cg_log.specs.Scanned.{IsExtent, AreCounted, counted_in_64_bits}
 use Rattle.cg_log.specs.Segments.{Frames, Filled, segment_of, ids_of, frames_of, counted, end_of_frames, AreStored}
 use Rattle.cg_log.specs.declared.scanning.Extent.{Extent}
@@ -178,3 +180,8 @@ module _ (image : Image) (ids earlier : List ℕ) (last : ℕ) (split : ids ≡ 
       end_is = Chain-end image (segment_of last) 0 is_extent.frames extent.end is_extent.has.chain;
       number_is = omega (arith, is, small, all_counted, are_counted.count_is, is_extent.count_is);
     }
+
+pub last_id-push : (xs : List ℕ) (x : ℕ) → last_id (xs ++ x ∷ []) ≡ x
+last_id-push xs x =
+    let long : length (xs ++ x ∷ []) - 1 ≡ length xs = omega (arith, length-append xs (x ∷ [])) in
+    ap (λ (i : ℕ). get_or (xs ++ x ∷ []) i 0) long ∙ get_or-append_seam xs x [] 0

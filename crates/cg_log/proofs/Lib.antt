@@ -1,4 +1,4 @@
-pub mod Props
 pub mod Found
 pub mod Filled
 pub mod Ids
+pub mod Images

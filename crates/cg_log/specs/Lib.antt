@@ -7,7 +7,9 @@ pub mod Segments
 pub mod Carried
 pub mod Free
 pub mod Ready
+pub mod Props
 pub mod FaultOf
 pub mod Faults
 pub mod Scanned
 pub mod Loaded
+pub mod Log

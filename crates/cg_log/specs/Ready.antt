@@ -1,7 +1,5 @@
 -- What every crash image of an open log has, on which the next append and the next root rest.
 use Rattle.std.specs.Prelude.{◌≡◌, ℕ, ◌+◌, ◌-◌, Bool, true, false, List, length, slice_index}
-use Rattle.std.specs.Coded.{×_prop, Π_prop, →_prop, le_prop}
-use Rattle.std.specs.List.{IsDistinct-prop}
 use Rattle.cg_disk.specs.Disk.{Image, Moment, IsImage}
 use Rattle.cg_gate.specs.Gates.{IsOpen, IsClosed}
 use Rattle.cg_gate.specs.Layout.{first_sector}

@@ -5,9 +5,11 @@
 
 mod fault;
 mod loading;
+mod log;
 mod numbers;
 mod scanning;
 mod segment;
 
 pub use fault::LogFault;
+pub use log::Log;
 pub use numbers::{COMMAND_NUMBER_MAX, log_numbers};

@@ -85,3 +85,53 @@ fn read_tails<D: SectorDisk>(
         number,
     })
 }
+
+/// Reads the root, the gate of the other root slot, and the frames of base and tail.
+fn read_log<D: SectorDisk>(alloc: Global, disk: &mut D) -> Result<Loaded, LogFault>
+    ensures loaded { D.is_honest disk.old ≡ true → IfOk result (λ loaded.
+        (has : Content) × IsLoaded (present (D.history disk.old)).content (D.size disk.old) loaded has) }
+    ensures other { D.is_honest disk.old ≡ true → IfOk result (λ loaded. IsTrue loaded.is_other_open
+        ↔ IsOpen (present (D.history disk.old)).content (gate_of (other_slot loaded.root.slot))) }
+    ensures tells { D.is_honest disk.old ≡ true → IfErr result (λ fault.
+        Tells (present (D.history disk.old)).content (D.size disk.old) fault) }
+    ensures lawful { IfOk result (λ loaded. IsLawful (D.size disk.old) loaded.root) }
+    ensures inside { IfOk result (λ loaded. loaded.tail.end < SEGMENT_SECTORS) }
+    ensures in_range { IfOk result (λ loaded. loaded.tail.number ≤ COMMAND_NUMBER_MAX) }
+    ensures room { IfOk result (λ loaded. 4 ≤ D.size disk.old) }
+    ensures device { Counts (D.failures disk.old) (D.failures disk.new) (is_device_failure result) }
+    ensures same_size { D.size disk.new ≡ D.size disk.old }
+    ensures same_honesty { D.is_honest disk.new ≡ D.is_honest disk.old }
+    ensures time { D.is_honest disk.old ≡ true → Stays (D.history disk.old) (D.history disk.new) }
+{
+    let root = read_root(alloc, disk)?;
+    let is_other_open = is_open(disk, root.slot.other().gate())?;
+    let _ = count_segments(alloc, disk, root.base.as_slice())?;
+    let tail = read_tails(alloc, disk, root.base_number, root.tail.as_slice())?;
+    Ok(Loaded {
+        root,
+        tail,
+        is_other_open,
+    })
+}
+
+/// Syncs the disk, so that a crash cannot take back what is read, and reads the log.
+pub(crate) fn load<D: SectorDisk>(alloc: Global, disk: &mut D) -> Result<Loaded, LogFault>
+    ensures holds { D.is_honest disk.old ≡ true → IfOk result (λ loaded. (has : Content) ×
+        HoldsContent (present (D.history disk.new)) (D.size disk.old) loaded.root loaded.tail.end loaded.tail.number has) }
+    ensures ready { D.is_honest disk.old ≡ true → IfOk result (λ loaded.
+        IsReady (present (D.history disk.new)) (D.size disk.old) loaded.root loaded.tail.end loaded.is_other_open) }
+    ensures tells { D.is_honest disk.old ≡ true → IfErr result (λ fault.
+        Tells (present (D.history disk.old)).content (D.size disk.old) fault) }
+    ensures lawful { IfOk result (λ loaded. IsLawful (D.size disk.old) loaded.root) }
+    ensures inside { IfOk result (λ loaded. loaded.tail.end < SEGMENT_SECTORS) }
+    ensures in_range { IfOk result (λ loaded. loaded.tail.number ≤ COMMAND_NUMBER_MAX) }
+    ensures room { IfOk result (λ loaded. 4 ≤ D.size disk.old) }
+    ensures device { Counts (D.failures disk.old) (D.failures disk.new) (is_device_failure result) }
+    ensures same_size { D.size disk.new ≡ D.size disk.old }
+    ensures same_honesty { D.is_honest disk.new ≡ D.is_honest disk.old }
+    ensures time { D.is_honest disk.old ≡ true → Stays (D.history disk.old) (D.history disk.new) }
+{
+    disk.sync()?;
+    let loaded = read_log(alloc, disk)?;
+    Ok(loaded)
+}

@@ -1,11 +1,11 @@
 -- Facts with one proof at most.
-use Rattle.std.proofs.Common.{◌≡◌, ℕ, ◌+◌, ◌<◌, List, Bool, sym, ◌∙◌, ap, subst, inl, inr}
+use Rattle.std.proofs.Common.{◌≡◌, ℕ, ◌+◌, ◌<◌, List, Bool, true, false, sym, ◌∙◌, ap, subst, inl, inr}
 use mathlib.Core.HLevel.{is_prop→PathP}
 use Rattle.std.proofs.Props.{props}
 use Rattle.std.specs.List.{IsDistinct-prop}
 use Rattle.cg_disk.specs.Disk.{Image, Moment, IsImage}
 use Rattle.cg_gate.specs.Gates.{IsOpen, IsClosed}
-use Rattle.cg_root.specs.Roots.{RootAt, HasOlder, IsNewest, CountingRoot, KeepsRoot}
+use Rattle.cg_root.specs.Roots.{RootAt, HasOlder, IsNewest, CountingRoot, IsLawful, KeepsRoot}
 use Rattle.cg_root.specs.Slots.{gate_of, other_slot}
 use Rattle.cg_root.specs.declared.root.Root.{Root}
 use Rattle.cg_root.specs.declared.slot.Slot.{Slot}
@@ -45,3 +45,10 @@ CountingRoot-prop image sectors root = hlevel (props, RootAt-prop, IsNewest-prop
 
 pub IsReady-prop : (m : Moment) (sectors : ℕ) (root : Root) (end : ℕ) (is_other_open : Bool) → IsProp (IsReady m sectors root end is_other_open)
 IsReady-prop m sectors root end is_other_open = hlevel (props, CountingRoot-prop)
+
+pub IsLawful-prop : (sectors : ℕ) (root : Root) → IsProp (IsLawful sectors root)
+IsLawful-prop sectors root = hlevel (props, IsDistinct-prop)
+
+-- the same of a log that has not failed, on an honest disk
+pub ready-prop : (has_failed is_honest : Bool) (m : Moment) (sectors : ℕ) (root : Root) (end : ℕ) (is_other_open : Bool) → IsProp (has_failed ≡ false → is_honest ≡ true → IsReady m sectors root end is_other_open)
+ready-prop has_failed is_honest m sectors root end is_other_open = hlevel (IsReady-prop m sectors root end is_other_open)
