@@ -2,3 +2,4 @@ pub mod Found
 pub mod Filled
 pub mod Ids
 pub mod Images
+pub mod Moves

@@ -1,5 +1,5 @@
 -- Free segments.
-use Rattle.std.specs.Prelude.{ℕ, List, Bool, not, nat_eq, filter}
+use Rattle.std.specs.Prelude.{◌≡◌, ◌<◌, ℕ, List, Bool, true, false, not, nat_eq, count_by}
 use Rattle.std.specs.List.{list_any, range_with_len}
 use Rattle.cg_gate.specs.Layout.{segment_count}
 
@@ -7,6 +7,16 @@ use Rattle.cg_gate.specs.Layout.{segment_count}
 abbrev pub is_among : ℕ → List ℕ → Bool
 is_among id ids = list_any (nat_eq id) ids
 
--- the ids of the segments of a disk that are none of these, by number
-unfoldable pub free_segments : ℕ → List ℕ → List ℕ
-free_segments sectors ids = filter (λ id. not (is_among id ids)) (range_with_len 0 (segment_count sectors))
+-- how many segments of a disk are none of these
+unfoldable pub free_count_of : ℕ → List ℕ → ℕ
+free_count_of sectors ids = count_by (λ id. not (is_among id ids)) (range_with_len 0 (segment_count sectors))
+
+-- the segment of the least id that is none of these
+pub record IsLeastFree (sectors : ℕ) (ids : List ℕ) (id : ℕ) : Type 0 where
+  pub below : id < segment_count sectors
+  pub free : is_among id ids ≡ false
+  pub least : (k : ℕ) → k < id → is_among k ids ≡ true
+
+-- each segment is among these
+abbrev pub NoneIsFree : ℕ → List ℕ → Type 0
+NoneIsFree sectors ids = (id : ℕ) → id < segment_count sectors → is_among id ids ≡ true

@@ -1,0 +1,165 @@
+-- What an append and a new tail leave of a log.
+use Rattle.std.proofs.Common.{◌≡◌, ◌⊎◌, inl, inr, ℕ, ◌+◌, ◌^◌, ◌<◌, ◌≤◌, Bool, true, false, List, [], ◌∷◌, ◌++◌, length, get_or, sym, ap, ◌∙◌, subst, refl, arith, add-zero, append_assoc}
+use Rattle.std.proofs.lemmas.List.{append-nil, length-append}
+use Rattle.std.proofs.lemmas.List.Sums.{sum_by-append}
+use Rattle.cg_disk.specs.Disk.{Image, Moment, History, Changes, AllBut, IsImage, LeavesOnly, present}
+use Rattle.cg_disk.proofs.Moments.{AllBut-disturbed, AllBut-image, Changes-present, LeavesOnly-weaker, LeavesOnly-both, LeavesOnly-changes, LeavesOnly-present}
+use Rattle.cg_frame.specs.Frames.{IsClosed, HasFrames, HasFramesTo, body_sectors, next_gate}
+use Rattle.cg_frame.specs.Outcomes.{Appended, StandsLast, KeepsFramesTo}
+use Rattle.cg_frame.proofs.Standing.{IsBeforeOrAfter-appended, HasFramesTo-appended}
+use Rattle.cg_gate.specs.Gates.{IsOpen}
+use Rattle.cg_gate.specs.Layout.{first_sector, segment_count}
+use Rattle.cg_root.specs.Roots.{AreSegments, CountingRoot, IsLawful, IsOldOrNew, KeepsRoot, IsNewest, root_ids}
+use Rattle.cg_root.specs.Slots.{gate_of, other_slot}
+use Rattle.cg_root.specs.declared.root.Root.{Root}
+use Rattle.cg_root.specs.declared.slot.Slot.{Slot}
+use Rattle.cg_root.proofs.Stored.{CountingRoot-same, gate_of-small, IsNewest-next}
+use Rattle.cg_log.specs.Carried.{Content, LogAt, KeepsLog, HoldsContent, tails, appended, rolled}
+use Rattle.cg_log.specs.Free.{is_among}
+use Rattle.cg_log.specs.Ready.{AllClosed, AllOpen, IsReady, last_id}
+use Rattle.cg_log.specs.Rolled.{HasOneMoreTail, HasOrRolled}
+use Rattle.cg_log.specs.Segments.{Frames, Filled, segment_of, ids_of, frames_of, counted, end_of_frames, AreStored}
+use Rattle.cg_log.proofs.Filled.{AreApart, AreApart-slots, AreStored-apart, AreStored-append, AreStored-back, AreStored-front, HasFramesTo-end, frames_of-append, frames_of-push, ids_of-push, last_id-push}
+use Rattle.cg_log.proofs.Found.{counted-append}
+use Rattle.cg_log.proofs.Ids.{AreApart-segment, AreSegments-push, is_among-back, is_among-front, is_among-last}
+
+-- Gates that a change does not reach
+
+module _ (at n : ℕ) (old new : History) (change : Changes at n old new) (s : ℕ) (outside : (s < at) ⊎ (at + n ≤ s)) where
+  same_there : (image : Image) → IsImage (present new) image → (base : Image) × (IsImage (present old) base × (image s ≡ base s))
+  same_there image is =
+      let but = AllBut-disturbed at n (present old) (present new) image (Changes-present at n old new change) is in
+      (but.base, (but.was, elim outside [ inl lt ↦ but.below s lt | inr le ↦ but.above s le ]))
+
+  pub AllClosed-kept : AllClosed (present old) s → AllClosed (present new) s
+  AllClosed-kept closed image is opened =
+      let there = same_there image is in
+      closed there.0 there.1.0 (ap (λ (l : List ℕ). get_or l 0 0) (sym there.1.1) ∙ opened)
+
+  pub AllOpen-kept : AllOpen (present old) s → AllOpen (present new) s
+  AllOpen-kept opened image is =
+      let there = same_there image is in
+      ap (λ (l : List ℕ). get_or l 0 0) there.1.1 ∙ opened there.0 there.1.0
+
+-- a change after the slots keeps the root
+CountingRoot-but : (m : Moment) (sectors : ℕ) (root : Root) (at n : ℕ) (image : Image) → 4 ≤ at → (but : AllBut at n m image) → CountingRoot but.base sectors root → CountingRoot image sectors root
+CountingRoot-but m sectors root at n image le but counting =
+    CountingRoot-same but.base image sectors root (λ slot. record { gate = but.below (gate_of slot) (omega (arith, gate_of-small slot)); body = but.below (gate_of slot + 1) (omega (arith, gate_of-small slot)) }) counting
+
+-- a change elsewhere keeps the segments
+module _ (m : Moment) (sectors : ℕ) (root : Root) (has : Content) (at n : ℕ) (image : Image) (keeps : KeepsLog m sectors root has) (but : AllBut at n m image) (base_apart : AreApart at n has.base) (tail_apart : AreApart at n (tails has)) where
+  pub LogAt-counting : CountingRoot image sectors root → LogAt image sectors root has
+  LogAt-counting counting =
+      let was = keeps but.base but.was in
+      record {
+        counting = counting;
+        base_ids = was.base_ids;
+        tail_ids = was.tail_ids;
+        base = AreStored-apart but.base image at n has.base but.below but.above base_apart was.base;
+        tail = AreStored-apart but.base image at n (tails has) but.below but.above tail_apart was.tail;
+      }
+
+  pub LogAt-elsewhere : 4 ≤ at → LogAt image sectors root has
+  LogAt-elsewhere le = LogAt-counting (CountingRoot-but m sectors root at n image le but (keeps but.base but.was).counting)
+
+-- the ids of a content
+ids_of-tails : (has : Content) → ids_of (tails has) ≡ ids_of has.sealed ++ has.last.0 ∷ []
+ids_of-tails has = ids_of-push has.sealed has.last.0 has.last.1
+
+-- An append
+
+pub end_of_frames-push : (pos count : ℕ) (payload : List ℕ) (frames : Frames) → end_of_frames pos (frames ++ (count, payload) ∷ []) ≡ next_gate (end_of_frames pos frames) (length payload)
+end_of_frames-push pos count payload [] = refl
+end_of_frames-push pos count payload (f ∷ frames) = end_of_frames-push (next_gate pos (length f.1)) count payload frames
+
+module _ (sectors : ℕ) (root : Root) (has : Content) (lawful : IsLawful sectors root) (base_ids : root.base ≡ ids_of has.base) (tail_ids : root.tail ≡ ids_of (tails has)) where
+  -- the last tail is none of the segments before it
+  last_apart : is_among has.last.0 (ids_of has.base ++ ids_of has.sealed) ≡ false
+  last_apart =
+      let all : root_ids root ≡ (ids_of has.base ++ ids_of has.sealed) ++ has.last.0 ∷ [] =
+      (λ i. base_ids i ++ (tail_ids ∙ ids_of-tails has) i) ∙ sym (append_assoc (ids_of has.base) (ids_of has.sealed) (has.last.0 ∷ [])) in
+      is_among-last has.last.0 (ids_of has.base ++ ids_of has.sealed) (rw all at lawful.ids.distinct)
+
+  module _ (at n : ℕ) (low : first_sector has.last.0 ≤ at) (high : at + n ≤ first_sector has.last.0 + 2048) where
+    pub base_apart : AreApart at n has.base
+    base_apart = AreApart-segment has.last.0 at n has.base low high (is_among-front has.last.0 (ids_of has.base) (ids_of has.sealed) last_apart)
+
+    pub sealed_apart : AreApart at n has.sealed
+    sealed_apart = AreApart-segment has.last.0 at n has.sealed low high (is_among-back has.last.0 (ids_of has.base) (ids_of has.sealed) last_apart)
+
+module _ (m : Moment) (sectors : ℕ) (root : Root) (has : Content) (end count : ℕ) (payload : List ℕ) (lawful : IsLawful sectors root) (keeps : KeepsLog m sectors root has) (end_is : end ≡ end_of_frames 0 has.last.1) (fits : next_gate end (length payload) < 2048) (image : Image) (left : Appended m (segment_of has.last.0) end count payload image) where
+  abbrev at : ℕ
+  at = first_sector has.last.0 + end
+
+  abbrev n : ℕ
+  n = body_sectors (length payload) + 2
+
+  was : LogAt left.elsewhere.base sectors root has
+  was = keeps left.elsewhere.base left.elsewhere.was
+
+  last_kept : KeepsFramesTo m (segment_of has.last.0) has.last.1 end
+  last_kept image is = subst (HasFramesTo image (segment_of has.last.0) has.last.1) (sym end_is) (HasFramesTo-end image (segment_of has.last.0) has.last.1 (AreStored-back image has.sealed (has.last ∷ []) (keeps image is).tail).0)
+
+  -- the same segments, of which the last has these frames
+  with_last : (frames : Frames) → HasFrames image (segment_of has.last.0) frames → LogAt image sectors root record { base = has.base; sealed = has.sealed; last = (has.last.0, frames) }
+  with_last frames last = record {
+    counting = CountingRoot-but m sectors root at n image (omega arith) left.elsewhere was.counting;
+    base_ids = was.base_ids;
+    tail_ids = was.tail_ids ∙ ids_of-tails has ∙ sym (ids_of-push has.sealed has.last.0 frames);
+    base = AreStored-apart left.elsewhere.base image at n has.base left.elsewhere.below left.elsewhere.above (base_apart sectors root has lawful was.base_ids was.tail_ids at n (omega arith) (omega arith)) was.base;
+    tail =
+        AreStored-append image has.sealed ((has.last.0, frames) ∷ [])
+        (AreStored-apart left.elsewhere.base image at n has.sealed left.elsewhere.below left.elsewhere.above (sealed_apart sectors root has lawful was.base_ids was.tail_ids at n (omega arith) (omega arith)) (AreStored-front left.elsewhere.base has.sealed (has.last ∷ []) was.tail))
+        (last, tt);
+  }
+
+  pub LogAt-left : LogAt image sectors root has ⊎ LogAt image sectors root (appended has count payload)
+  LogAt-left = elim (IsBeforeOrAfter-appended m (segment_of has.last.0) end count payload has.last.1 image last_kept left) [
+    | inl before ↦ inl (with_last has.last.1 before)
+    | inr after ↦ inr (with_last (has.last.1 ++ (count, payload) ∷ []) after)
+  ]
+
+  pub LogAt-stands : StandsLast image (segment_of has.last.0) end count payload → LogAt image sectors root (appended has count payload)
+  LogAt-stands stands = with_last (has.last.1 ++ (count, payload) ∷ []) (next_gate end (length payload), HasFramesTo-appended m (segment_of has.last.0) end count payload has.last.1 image last_kept left stands)
+
+pub frames_of-appended : (has : Content) (count : ℕ) (payload : List ℕ) → frames_of (tails (appended has count payload)) ≡ frames_of (tails has) ++ (count, payload) ∷ []
+frames_of-appended has count payload =
+    frames_of-push has.sealed has.last.0 (has.last.1 ++ (count, payload) ∷ []) ∙ sym (append_assoc (frames_of has.sealed) has.last.1 ((count, payload) ∷ []))
+    ∙ ap (λ (l : Frames). l ++ (count, payload) ∷ []) (sym (frames_of-push has.sealed has.last.0 has.last.1))
+
+pub frames_of-rolled : (has : Content) (id : ℕ) → frames_of (tails (rolled has id)) ≡ frames_of (tails has)
+frames_of-rolled has id = frames_of-push (tails has) id [] ∙ append-nil (frames_of (tails has))
+
+-- A new tail
+
+module _ (sectors : ℕ) (current next : Root) (has : Content) (id : ℕ) (more : HasOneMoreTail current next id) (free : is_among id (root_ids current) ≡ false) where
+  -- a change in the new segment reaches no other
+  module _ (at n : ℕ) (low : first_sector id ≤ at) (high : at + n ≤ first_sector id + 2048) (base_ids : current.base ≡ ids_of has.base) (tail_ids : current.tail ≡ ids_of (tails has)) where
+    none : is_among id (ids_of has.base ++ ids_of (tails has)) ≡ false
+    none = ap (is_among id) (λ i. sym base_ids i ++ sym tail_ids i) ∙ free
+
+    pub new_base_apart : AreApart at n has.base
+    new_base_apart = AreApart-segment id at n has.base low high (is_among-front id (ids_of has.base) (ids_of (tails has)) none)
+
+    pub new_tail_apart : AreApart at n (tails has)
+    new_tail_apart = AreApart-segment id at n (tails has) low high (is_among-back id (ids_of has.base) (ids_of (tails has)) none)
+
+  pub LogAt-rolled : (image : Image) → CountingRoot image sectors next → current.base ≡ ids_of has.base → current.tail ≡ ids_of (tails has) → AreStored image has.base → AreStored image (tails has) → IsClosed image (first_sector id) → LogAt image sectors next (rolled has id)
+  LogAt-rolled image counting base_ids tail_ids base tail closed = record {
+    counting = counting;
+    base_ids = more.base ∙ base_ids;
+    tail_ids = more.tail ∙ ap (λ (l : List ℕ). l ++ id ∷ []) tail_ids ∙ sym (ids_of-push (tails has) id []);
+    base = base;
+    tail = AreStored-append image (tails has) ((id, []) ∷ []) tail ((0, record { chain = refl; closed = subst (IsClosed image) (sym (add-zero (first_sector id))) closed }), tt);
+  }
+
+  pub IsLawful-rolled : IsLawful sectors current → next.epoch < 2 ^ 63 → id < segment_count sectors → IsLawful sectors next
+  IsLawful-rolled lawful small below = record {
+    epoch_from = omega (arith, more.epoch);
+    epoch_to = small;
+    base_number = omega (arith, more.base_number, lawful.base_number);
+    tail = omega (arith, ap length more.tail, length-append current.tail (id ∷ []));
+    ids =
+        let all : root_ids next ≡ root_ids current ++ id ∷ [] = (λ i. more.base i ++ more.tail i) ∙ sym (append_assoc current.base current.tail (id ∷ [])) in
+        subst (AreSegments (segment_count sectors)) (sym all) (AreSegments-push id (segment_count sectors) (root_ids current) lawful.ids below free);
+  }
