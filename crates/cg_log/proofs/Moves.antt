@@ -3,7 +3,7 @@ use Rattle.std.proofs.Common.{◌≡◌, ◌⊎◌, inl, inr, ℕ, ◌+◌, ◌^
 use Rattle.std.proofs.lemmas.List.{append-nil, length-append}
 use Rattle.std.proofs.lemmas.List.Sums.{sum_by-append}
 use Rattle.cg_disk.specs.Disk.{Image, Moment, History, Changes, AllBut, IsImage, LeavesOnly, present}
-use Rattle.cg_disk.proofs.Moments.{AllBut-disturbed, AllBut-image, Changes-present, LeavesOnly-weaker, LeavesOnly-both, LeavesOnly-changes, LeavesOnly-present}
+use Rattle.cg_disk.proofs.Moments.{AllBut-disturbed, AllBut-image, Changes-present, LeavesOnly-weaker, LeavesOnly-both, LeavesOnly-changes, LeavesOnly-present, LeavesOnly-then, IsImage-content}
 use Rattle.cg_frame.specs.Frames.{IsClosed, HasFrames, HasFramesTo, body_sectors, next_gate}
 use Rattle.cg_frame.specs.Outcomes.{Appended, StandsLast, KeepsFramesTo}
 use Rattle.cg_frame.proofs.Standing.{IsBeforeOrAfter-appended, HasFramesTo-appended}
@@ -13,7 +13,8 @@ use Rattle.cg_root.specs.Roots.{AreSegments, CountingRoot, IsLawful, IsOldOrNew,
 use Rattle.cg_root.specs.Slots.{gate_of, other_slot}
 use Rattle.cg_root.specs.declared.root.Root.{Root}
 use Rattle.cg_root.specs.declared.slot.Slot.{Slot}
-use Rattle.cg_root.proofs.Stored.{CountingRoot-same, gate_of-small, IsNewest-next}
+use Rattle.cg_root.specs.declared.slot.Slot.TheVariants.{Zero, One}
+use Rattle.cg_root.proofs.Stored.{CountingRoot-same, gate_of-small, other_other}
 use Rattle.cg_log.specs.Carried.{Content, LogAt, KeepsLog, HoldsContent, tails, appended, rolled}
 use Rattle.cg_log.specs.Free.{is_among}
 use Rattle.cg_log.specs.Ready.{AllClosed, AllOpen, IsReady, last_id}
@@ -163,3 +164,80 @@ module _ (sectors : ℕ) (current next : Root) (has : Content) (id : ℕ) (more 
         let all : root_ids next ≡ root_ids current ++ id ∷ [] = (λ i. more.base i ++ more.tail i) ∙ sym (append_assoc current.base current.tail (id ∷ [])) in
         subst (AreSegments (segment_count sectors)) (sym all) (AreSegments-push id (segment_count sectors) (root_ids current) lawful.ids below free);
   }
+
+-- the gates of the two slots lie apart
+gates_apart : (slot : Slot) → (gate_of slot < gate_of (other_slot slot)) ⊎ (gate_of (other_slot slot) + 2 ≤ gate_of slot)
+gates_apart Zero = inl (omega arith)
+gates_apart One = inr (omega arith)
+
+pub KeepsRoot-kept : (at n : ℕ) (old new : History) (sectors : ℕ) (root : Root) → 4 ≤ at → Changes at n old new → KeepsRoot (present old) sectors root → KeepsRoot (present new) sectors root
+KeepsRoot-kept at n old new sectors root le change keeps image is =
+    let but = AllBut-disturbed at n (present old) (present new) image (Changes-present at n old new change) is in
+    CountingRoot-but (present old) sectors root at n image le but (keeps but.base but.was)
+
+-- the three steps of a new tail: its first gate is closed, the other root's gate is closed, the next root is published
+module _ (sectors : ℕ) (current next : Root) (has : Content) (id : ℕ) (more : HasOneMoreTail current next id) (free : is_among id (root_ids current) ≡ false) (h0 h1 h2 h3 : History) (keeps : KeepsLog (present h0) sectors current has) where
+  first_ids : LogAt (present h0).content sectors current has
+  first_ids = keeps (present h0).content (IsImage-content (present h0))
+
+  pub tail-first : LeavesOnly h0 h1 (AllBut (first_sector id) 1 (present h0)) → LeavesOnly h0 h1 (λ image. LogAt image sectors current has)
+  tail-first run = LeavesOnly-weaker h0 h1 _ _ (λ image but.
+      LogAt-elsewhere (present h0) sectors current has (first_sector id) 1 image keeps but
+      (new_base_apart sectors current next has id more free (first_sector id) 1 (omega arith) (omega arith) first_ids.base_ids first_ids.tail_ids)
+      (new_tail_apart sectors current next has id more free (first_sector id) 1 (omega arith) (omega arith) first_ids.base_ids first_ids.tail_ids) (omega arith)) run
+
+  module _ (first : LeavesOnly h0 h1 (λ image. LogAt image sectors current has)) (second_time : Changes (gate_of (other_slot current.slot)) 1 h1 h2) (second_root : LeavesOnly h1 h2 (λ image. CountingRoot image sectors current)) where
+    keeps1 : KeepsLog (present h1) sectors current has
+    keeps1 = LeavesOnly-present h0 h1 _ first
+
+    pub tail-second : LeavesOnly h1 h2 (λ image. LogAt image sectors current has)
+    tail-second = LeavesOnly-weaker h1 h2 _ _ (λ image both.
+        LogAt-counting (present h1) sectors current has (gate_of (other_slot current.slot)) 1 image keeps1 both.0
+        (AreApart-slots (gate_of (other_slot current.slot)) 1 has.base (omega (arith, gate_of-small (other_slot current.slot))))
+        (AreApart-slots (gate_of (other_slot current.slot)) 1 (tails has) (omega (arith, gate_of-small (other_slot current.slot)))) both.1)
+        (LeavesOnly-both h1 h2 _ _ (LeavesOnly-changes (gate_of (other_slot current.slot)) 1 h1 h2 second_time) second_root)
+
+    keeps2 : KeepsLog (present h2) sectors current has
+    keeps2 = LeavesOnly-present h1 h2 _ tail-second
+
+    pub tail-two : LeavesOnly h0 h2 (λ image. LogAt image sectors current has)
+    tail-two = LeavesOnly-then h0 h1 h2 _ first tail-second
+
+    module _ (closed : AllClosed (present h2) (first_sector id)) (third_time : Changes (gate_of next.slot) 2 h2 h3) where
+      -- the segments of an image of the third step, whichever root counts
+      third_rolled : (image : Image) → AllBut (gate_of next.slot) 2 (present h2) image → CountingRoot image sectors next → LogAt image sectors next (rolled has id)
+      third_rolled image but counting =
+          let was = keeps2 but.base but.was in
+          LogAt-rolled sectors current next has id more free image counting was.base_ids was.tail_ids
+          (AreStored-apart but.base image (gate_of next.slot) 2 has.base but.below but.above (AreApart-slots (gate_of next.slot) 2 has.base (omega (arith, gate_of-small next.slot))) was.base)
+          (AreStored-apart but.base image (gate_of next.slot) 2 (tails has) but.below but.above (AreApart-slots (gate_of next.slot) 2 (tails has) (omega (arith, gate_of-small next.slot))) was.tail)
+          (λ opened. closed but.base but.was (ap (λ (l : List ℕ). get_or l 0 0) (sym (but.above (first_sector id) (omega (arith, gate_of-small next.slot)))) ∙ opened))
+
+      pub tail-third : LeavesOnly h2 h3 (IsOldOrNew sectors current next) → LeavesOnly h2 h3 (HasOrRolled sectors current next has id)
+      tail-third run = LeavesOnly-weaker h2 h3 _ _ (λ image both. elim both.1 [
+        | inl old ↦ inl (LogAt-counting (present h2) sectors current has (gate_of next.slot) 2 image keeps2 both.0
+          (AreApart-slots (gate_of next.slot) 2 has.base (omega (arith, gate_of-small next.slot)))
+          (AreApart-slots (gate_of next.slot) 2 (tails has) (omega (arith, gate_of-small next.slot))) old)
+        | inr new ↦ inr (third_rolled image both.0 new)
+      ]) (LeavesOnly-both h2 h3 _ _ (LeavesOnly-changes (gate_of next.slot) 2 h2 h3 third_time) run)
+
+      pub tail-all : LeavesOnly h2 h3 (IsOldOrNew sectors current next) → LeavesOnly h0 h3 (HasOrRolled sectors current next has id)
+      tail-all run = LeavesOnly-then h0 h2 h3 _ (LeavesOnly-weaker h0 h2 _ _ (λ image at. inl at) tail-two) (tail-third run)
+
+      pub KeepsLog-rolled : KeepsRoot (present h3) sectors next → KeepsLog (present h3) sectors next (rolled has id)
+      KeepsLog-rolled published image is = third_rolled image (AllBut-disturbed (gate_of next.slot) 2 (present h2) (present h3) image (Changes-present (gate_of next.slot) 2 h2 h3 third_time) is) (published image is)
+
+-- the log is ready for the next append after it
+pub IsReady-rolled : (sectors : ℕ) (current next : Root) (id : ℕ) → HasOneMoreTail current next id → (h2 h3 : History) → AllClosed (present h2) (first_sector id) → Changes (gate_of next.slot) 2 h2 h3 → KeepsRoot (present h2) sectors current → KeepsRoot (present h3) sectors next → IsReady (present h3) sectors next 0 true
+IsReady-rolled sectors current next id more h2 h3 closed time keeps published =
+    let last : last_id next.tail ≡ id = ap last_id more.tail ∙ last_id-push current.tail id in
+    let other : other_slot next.slot ≡ current.slot = ap other_slot more.slot ∙ other_other current.slot in
+    let apart : (gate_of current.slot < gate_of next.slot) ⊎ (gate_of next.slot + 2 ≤ gate_of current.slot) = subst (λ (s : Slot). (gate_of current.slot < gate_of s) ⊎ (gate_of s + 2 ≤ gate_of current.slot)) (sym more.slot) (gates_apart current.slot) in
+    record {
+      root_counts = published;
+      closed =
+          subst (AllClosed (present h3)) (let e : first_sector id ≡ first_sector (last_id next.tail) + 0 = omega (arith, last) in e)
+          (AllClosed-kept (gate_of next.slot) 2 h2 h3 time (first_sector id) (inr (omega (arith, gate_of-small next.slot))) closed);
+      other_open = λ _. subst (λ (s : Slot). AllOpen (present h3) (gate_of s)) (sym other) (AllOpen-kept (gate_of next.slot) 2 h2 h3 time (gate_of current.slot) apart (λ image is. (keeps image is).stored.is_open));
+      other_closed = λ shut. absurd cc;
+    }

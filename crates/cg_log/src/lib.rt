@@ -7,6 +7,7 @@ mod fault;
 mod loading;
 mod log;
 mod numbers;
+mod rolling;
 mod scanning;
 mod segment;
 
