@@ -1,5 +1,5 @@
 -- What an append and a new tail leave of a log.
-use Rattle.std.proofs.Common.{◌≡◌, ◌⊎◌, inl, inr, ℕ, ◌+◌, ◌^◌, ◌<◌, ◌≤◌, Bool, true, false, List, [], ◌∷◌, ◌++◌, length, get_or, sym, ap, ◌∙◌, subst, refl, arith, add-zero, append_assoc}
+use Rattle.std.proofs.Common.{◌≡◌, ◌⊎◌, inl, inr, ℕ, ◌+◌, ◌-◌, ◌^◌, ◌<◌, ◌≤◌, Bool, true, false, List, [], ◌∷◌, ◌++◌, length, take, get_or, sym, ap, ◌∙◌, subst, refl, arith, add-zero, append_assoc}
 use Rattle.std.proofs.lemmas.List.{append-nil, length-append}
 use Rattle.std.proofs.lemmas.List.Sums.{sum_by-append}
 use Rattle.cg_disk.specs.Disk.{Image, Moment, History, Changes, AllBut, IsImage, LeavesOnly, present}
@@ -20,9 +20,9 @@ use Rattle.cg_log.specs.Free.{is_among}
 use Rattle.cg_log.specs.Ready.{AllClosed, AllOpen, IsReady, last_id}
 use Rattle.cg_log.specs.Rolled.{HasOneMoreTail, HasOrRolled}
 use Rattle.cg_log.specs.Segments.{Frames, Filled, segment_of, ids_of, frames_of, counted, end_of_frames, AreStored}
-use Rattle.cg_log.proofs.Filled.{AreApart, AreApart-slots, AreStored-apart, AreStored-append, AreStored-back, AreStored-front, HasFramesTo-end, frames_of-append, frames_of-push, ids_of-push, last_id-push}
+use Rattle.cg_log.proofs.Filled.{AreApart, AreApart-slots, AreStored-apart, AreStored-append, AreStored-back, AreStored-front, HasFramesTo-end, frames_of-append, frames_of-push, ids_of-push, last_id-push, split_last}
 use Rattle.cg_log.proofs.Found.{counted-append}
-use Rattle.cg_log.proofs.Ids.{AreApart-segment, AreSegments-push, is_among-back, is_among-front, is_among-last}
+use Rattle.cg_log.proofs.Ids.{AreApart-segment, AreSegments-push, is_among-back, is_among-front, is_among-last, below_back, below_last}
 
 -- Gates that a change does not reach
 
@@ -241,3 +241,41 @@ IsReady-rolled sectors current next id more h2 h3 closed time keeps published =
       other_open = λ _. subst (λ (s : Slot). AllOpen (present h3) (gate_of s)) (sym other) (AllOpen-kept (gate_of next.slot) 2 h2 h3 time (gate_of current.slot) apart (λ image is. (keeps image is).stored.is_open));
       other_closed = λ shut. absurd cc;
     }
+
+-- The last tail of a log
+
+pub last_id-below : (sectors : ℕ) (root : Root) → IsLawful sectors root → last_id root.tail < segment_count sectors
+last_id-below sectors root lawful =
+    let split = split_last root.tail (length root.tail) refl lawful.tail in
+    below_last (segment_count sectors) (take (length root.tail - 1) root.tail) (last_id root.tail) (rw split at (below_back (segment_count sectors) root.base root.tail lawful.ids.below))
+
+pub last_id-content : (m : Moment) (sectors : ℕ) (root : Root) (has : Content) → KeepsLog m sectors root has → last_id root.tail ≡ has.last.0
+last_id-content m sectors root has keeps =
+    ap last_id ((keeps m.content (IsImage-content m)).tail_ids ∙ ids_of-tails has) ∙ last_id-push (ids_of has.sealed) has.last.0
+
+-- the log is ready for the next append after one
+pub IsReady-appended : (old new : History) (sectors : ℕ) (root : Root) (end next n : ℕ) (is_other_open : Bool) → Changes (first_sector (last_id root.tail) + end) n old new → AllClosed (present new) (first_sector (last_id root.tail) + next) → IsReady (present old) sectors root end is_other_open → IsReady (present new) sectors root next is_other_open
+IsReady-appended old new sectors root end next n is_other_open change closed ready =
+    let before : gate_of (other_slot root.slot) < first_sector (last_id root.tail) + end = omega (arith, gate_of-small (other_slot root.slot)) in
+    record {
+      root_counts = KeepsRoot-kept (first_sector (last_id root.tail) + end) n old new sectors root (omega arith) change ready.root_counts;
+      closed = closed;
+      other_open = λ opened. AllOpen-kept (first_sector (last_id root.tail) + end) n old new change (gate_of (other_slot root.slot)) (inl before) (ready.other_open opened);
+      other_closed = λ shut. AllClosed-kept (first_sector (last_id root.tail) + end) n old new change (gate_of (other_slot root.slot)) (inl before) (ready.other_closed shut);
+    }
+
+module _ (old new : History) (sectors : ℕ) (root : Root) (end number count : ℕ) (payload : List ℕ) (has : Content) (lawful : IsLawful sectors root) (fits : next_gate end (length payload) < 2048) (holds : HoldsContent (present old) sectors root end number has) (run : LeavesOnly old new (Appended (present old) (segment_of (last_id root.tail)) end count payload)) where
+  run_last : LeavesOnly old new (Appended (present old) (segment_of has.last.0) end count payload)
+  run_last = subst (λ (id : ℕ). LeavesOnly old new (Appended (present old) (segment_of id) end count payload)) (last_id-content (present old) sectors root has holds.keeps) run
+
+  pub append-images : LeavesOnly old new (λ image. LogAt image sectors root has ⊎ LogAt image sectors root (appended has count payload))
+  append-images = LeavesOnly-weaker old new _ _ (LogAt-left (present old) sectors root has end count payload lawful holds.keeps holds.end_is fits) run_last
+
+  pub append-stored : ((image : Image) → IsImage (present new) image → StandsLast image (segment_of (last_id root.tail)) end count payload) → HoldsContent (present new) sectors root (next_gate end (length payload)) (number + count) (appended has count payload)
+  append-stored stands = record {
+    keeps = λ image is. LogAt-stands (present old) sectors root has end count payload lawful holds.keeps holds.end_is fits image (LeavesOnly-present old new _ run_last image is)
+        (subst (λ (id : ℕ). StandsLast image (segment_of id) end count payload) (last_id-content (present old) sectors root has holds.keeps) (stands image is));
+    end_is = ap (λ (e : ℕ). next_gate e (length payload)) holds.end_is ∙ sym (end_of_frames-push 0 count payload has.last.1);
+    number_is =
+        omega (arith, holds.number_is, ap counted (frames_of-appended has count payload), counted-append (frames_of (tails has)) ((count, payload) ∷ []));
+  }

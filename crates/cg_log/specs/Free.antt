@@ -1,15 +1,20 @@
 -- Free segments.
-use Rattle.std.specs.Prelude.{◌≡◌, ◌<◌, ℕ, List, Bool, true, false, not, nat_eq, count_by}
-use Rattle.std.specs.List.{list_any, range_with_len}
+use Rattle.std.specs.Prelude.{◌≡◌, ◌<◌, ℕ, zero, suc, ◌+◌, List, Bool, true, false, nat_eq, if◌then◌else◌}
+use Rattle.std.specs.List.{list_any}
 use Rattle.cg_gate.specs.Layout.{segment_count}
 
 -- this id is among these
 abbrev pub is_among : ℕ → List ℕ → Bool
 is_among id ids = list_any (nat_eq id) ids
 
+-- how many of the ids below a number are none of these
+unfoldable pub free_below : ℕ → List ℕ → ℕ
+free_below zero ids = 0
+free_below (suc n) ids = if is_among n ids then free_below n ids else free_below n ids + 1
+
 -- how many segments of a disk are none of these
-unfoldable pub free_count_of : ℕ → List ℕ → ℕ
-free_count_of sectors ids = count_by (λ id. not (is_among id ids)) (range_with_len 0 (segment_count sectors))
+abbrev pub free_count_of : ℕ → List ℕ → ℕ
+free_count_of sectors ids = free_below (segment_count sectors) ids
 
 -- the segment of the least id that is none of these
 pub record IsLeastFree (sectors : ℕ) (ids : List ℕ) (id : ℕ) : Type 0 where

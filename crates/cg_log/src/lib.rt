@@ -3,7 +3,9 @@
 //! It stands on `cg_frame` for frames in one segment, and on `cg_root` for the root.
 #![tactic(auto)]
 
+mod appending;
 mod fault;
+mod free;
 mod loading;
 mod log;
 mod numbers;

@@ -1,21 +1,51 @@
 //! A new tail: a free segment, and the root that names it.
-ghost use Rattle.std.specs.Prelude.{◌≡◌, ℕ, ◌+◌, ◌^◌, ◌≤◌, ◌<◌, true, false, IfOk, OnOk, is_err};
+ghost use Rattle.std.specs.Prelude.{◌≡◌, ℕ, ◌+◌, ◌^◌, ◌≤◌, ◌<◌, ◌⊎◌, ◌≢◌, true, false, IfErr, IfOk, OnOk, IsErrOf, is_err};
 ghost use Rattle.cg_disk.specs.Disk.{Changes, Counts, IsSynced, LeavesOnly, present};
 ghost use Rattle.cg_gate.specs.Layout.{segment_count};
 ghost use Rattle.cg_root.specs.Roots.{CountingRoot, IsLawful, KeepsRoot, root_ids};
 ghost use Rattle.cg_root.specs.Slots.{gate_of, other_slot};
-ghost use Rattle.cg_log.specs.Carried.{Content, KeepsLog, rolled};
+ghost use Rattle.cg_log.specs.Carried.{Carries, Content, KeepsLog, rolled, tails};
 ghost use Rattle.cg_log.specs.Free.{is_among};
+ghost use Rattle.cg_log.specs.Segments.{frames_of};
+ghost use Rattle.cg_log.specs.Faults.{is_device_failure};
 ghost use Rattle.cg_log.specs.Ready.{AllClosed, AllOpen, IsReady};
-ghost use Rattle.cg_log.specs.Rolled.{HasOneMoreTail, HasOrRolled};
+ghost use Rattle.cg_log.specs.Rolled.{HasOneMoreTail, HasOrRolled, IsNextTail, IsFullFor, IsRolled};
 
+use crate::free::least_free;
+use crate::log::Log;
+use crate::segment::last_id;
+use crate::LogFault;
 use cg_disk::{DiskFault, SectorDisk};
 use cg_gate::{close_gate, first_sector};
-use cg_root::{Root, SegmentId, SegmentIds, close_other, publish};
+use cg_root::{EPOCH_MAX, Root, SegmentId, SegmentIds, close_other, publish};
 use std::alloc::{AllocError, Global};
 
+/// The next tail of a log, before it is written.
+#[derive(Drop)]
+pub(crate) struct NextTail {
+    pub(crate) id: SegmentId,
+    pub(crate) root: Root,
+}
+
+/// Returns the next tail and the root that names it. Reports `Full` before it allocates.
+pub(crate) fn next_tail(alloc: Global, sectors: u64, current: &Root) -> Result<NextTail, LogFault>
+    requires { IsLawful sectors current.now }
+    ensures next { IfOk result (λ tail. IsNextTail sectors current.now tail.id tail.root) }
+    ensures full { IsErrOf result LogFault.Full → IsFullFor sectors current.now }
+    ensures faults { IfErr result (λ fault. (fault ≡ LogFault.Memory) ⊎ (fault ≡ LogFault.Full)) }
+{
+    if current.epoch == EPOCH_MAX {
+        return Err(LogFault::Full);
+    }
+    let Some(id) = least_free(sectors, current.base.as_slice(), current.tail.as_slice()) else {
+        return Err(LogFault::Full);
+    };
+    let root = next_root(alloc, current, id)?;
+    Ok(NextTail { id, root })
+}
+
 /// Returns the root with one more tail.
-pub(crate) fn next_root(alloc: Global, current: &Root, id: SegmentId) -> Result<Root, AllocError>
+fn next_root(alloc: Global, current: &Root, id: SegmentId) -> Result<Root, AllocError>
     requires { current.now.epoch + 1 < 2 ^ 63 }
     ensures { IfOk result (λ next. HasOneMoreTail current.now next id) }
 {
@@ -102,4 +132,73 @@ pub(crate) fn publish_tail<D: SectorDisk>(
     close_other_if_open(disk, current, is_other_open)?;
     publish(disk, next)?;
     Ok(())
+}
+
+impl<D: SectorDisk> Log<D> {
+    ghost use Rattle.cg_log.specs.Log.{IsUnchanged, LogHas, disk_of, end_of, has_failed, number_of, root_of};
+
+    /// Publishes the next tail.
+    pub(crate) fn add_tail(&mut self, tail: NextTail) -> Result<SegmentId, LogFault>
+        requires serves { has_failed self.old ≡ false }
+        requires next { IsNextTail (D.size (disk_of self.old)) (root_of self.old) tail.id tail.root }
+
+        ensures stored { (has : Content) → LogHas D.is_honest D.history D.size self.old has → IfOk result (λ id.
+            LogHas D.is_honest D.history D.size self.new (rolled has id)) }
+        ensures images { (has : Content) → LogHas D.is_honest D.history D.size self.old has →
+            LeavesOnly (D.history (disk_of self.old)) (D.history (disk_of self.new))
+            (λ image. Carries image (D.size (disk_of self.old)) (number_of self.old) (frames_of has.base) (frames_of (tails has))) }
+        ensures number { number_of self.new ≡ number_of self.old }
+        ensures end { OnOk result (end_of self.new ≡ 0) }
+        ensures serves { OnOk result (has_failed self.new ≡ false) }
+        ensures faults { IfErr result (λ fault. fault ≡ LogFault.Device) }
+        ensures failed { IfErr result (λ fault. has_failed self.new ≡ true) }
+        ensures device { Counts (D.failures (disk_of self.old)) (D.failures (disk_of self.new)) (is_device_failure result) }
+        ensures same_size { D.size (disk_of self.new) ≡ D.size (disk_of self.old) }
+        ensures same_honesty { D.is_honest (disk_of self.new) ≡ D.is_honest (disk_of self.old) }
+    {
+        let NextTail { id, root } = tail;
+        match publish_tail(&mut self.disk, &self.root, &root, id, self.is_other_open) {
+            Ok(()) => {
+                self.root = root;
+                self.end = 0;
+                self.is_other_open = true;
+                Ok(id)
+            }
+            Err(DiskFault::Device) => {
+                self.has_failed = true;
+                Err(LogFault::Device)
+            }
+        }
+    }
+
+    /// Begins a new tail in the free segment of the least id, unless the last tail has no frame. Returns the id of the
+    /// last tail. Every crash image since the start carries the frames as they were. `Full` is reported only where no
+    /// segment is free or the epoch is the last.
+    pub fn roll(&mut self) -> Result<SegmentId, LogFault>
+        ensures stored { (has : Content) → LogHas D.is_honest D.history D.size self.old has → IfOk result (λ id.
+            (new : Content) × (IsRolled has id new × LogHas D.is_honest D.history D.size self.new new)) }
+        ensures images { (has : Content) → LogHas D.is_honest D.history D.size self.old has →
+            LeavesOnly (D.history (disk_of self.old)) (D.history (disk_of self.new))
+            (λ image. Carries image (D.size (disk_of self.old)) (number_of self.old) (frames_of has.base) (frames_of (tails has))) }
+        ensures number { number_of self.new ≡ number_of self.old }
+        ensures full { IsErrOf result LogFault.Full → IsFullFor (D.size (disk_of self.old)) (root_of self.old) }
+        ensures unchanged { IfErr result (λ fault. fault ≢ LogFault.Device → IsUnchanged self.old self.new) }
+        ensures empty_stays { end_of self.old ≡ 0 → IsUnchanged self.old self.new }
+        ensures serves { OnOk result (has_failed self.new ≡ false) }
+        ensures failed { IsErrOf result LogFault.Device → has_failed self.new ≡ true }
+        ensures refused { IsErrOf result LogFault.Failed → has_failed self.old ≡ true }
+        ensures device { Counts (D.failures (disk_of self.old)) (D.failures (disk_of self.new)) (is_device_failure result) }
+        ensures same_size { D.size (disk_of self.new) ≡ D.size (disk_of self.old) }
+        ensures same_honesty { D.is_honest (disk_of self.new) ≡ D.is_honest (disk_of self.old) }
+    {
+        if self.has_failed {
+            return Err(LogFault::Failed);
+        }
+        if self.end == 0 {
+            return Ok(last_id(self.root.tail.as_slice()));
+        }
+        let tail = next_tail(self.alloc, self.disk.sectors(), &self.root)?;
+        let id = self.add_tail(tail)?;
+        Ok(id)
+    }
 }
