@@ -3,7 +3,7 @@ use Rattle.std.proofs.Common.{◌≡◌, ◌⊎◌, inl, inr, ℕ, ◌+◌, ◌-
 use Rattle.std.proofs.lemmas.List.{append-nil, length-append}
 use Rattle.std.proofs.lemmas.List.Sums.{sum_by-append}
 use Rattle.cg_disk.specs.Disk.{Image, Moment, History, Changes, AllBut, IsImage, LeavesOnly, present}
-use Rattle.cg_disk.proofs.Moments.{AllBut-disturbed, AllBut-image, Changes-present, LeavesOnly-weaker, LeavesOnly-both, LeavesOnly-changes, LeavesOnly-present, LeavesOnly-then, IsImage-content}
+use Rattle.cg_disk.proofs.Moments.{AllBut-disturbed, AllBut-image, Changes-present, LeavesOnly-weaker, LeavesOnly-both, LeavesOnly-changes, LeavesOnly-present, LeavesOnly-then, LeavesOnly-starts, IsImage-content}
 use Rattle.cg_frame.specs.Frames.{IsClosed, HasFrames, HasFramesTo, body_sectors, next_gate}
 use Rattle.cg_frame.specs.Outcomes.{Appended, StandsLast, KeepsFramesTo}
 use Rattle.cg_frame.proofs.Standing.{IsBeforeOrAfter-appended, HasFramesTo-appended}
@@ -15,12 +15,14 @@ use Rattle.cg_root.specs.declared.root.Root.{Root}
 use Rattle.cg_root.specs.declared.slot.Slot.{Slot}
 use Rattle.cg_root.specs.declared.slot.Slot.TheVariants.{Zero, One}
 use Rattle.cg_root.proofs.Stored.{CountingRoot-same, gate_of-small, other_other}
-use Rattle.cg_log.specs.Carried.{Content, LogAt, KeepsLog, HoldsContent, tails, appended, rolled}
-use Rattle.cg_log.specs.Free.{is_among}
+use Rattle.cg_log.specs.Carried.{Content, Carries, CarriesBeforeOrAfter, LogAt, KeepsLog, HoldsContent, tails, appended, rolled}
+use Rattle.cg_log.specs.Free.{is_among, IsLeastFree}
 use Rattle.cg_log.specs.Ready.{AllClosed, AllOpen, IsReady, last_id}
 use Rattle.cg_log.specs.Rolled.{HasOneMoreTail, HasOrRolled}
 use Rattle.cg_log.specs.Segments.{Frames, Filled, segment_of, ids_of, frames_of, counted, end_of_frames, AreStored}
 use Rattle.cg_log.proofs.Filled.{AreApart, AreApart-slots, AreStored-apart, AreStored-append, AreStored-back, AreStored-front, HasFramesTo-end, frames_of-append, frames_of-push, ids_of-push, last_id-push, split_last}
+use Rattle.cg_log.specs.declared.numbers.TheConstants.{COMMAND_NUMBER_MAX}
+use Rattle.cg_log.proofs.Images.{AllCarry-holds, Carries-at}
 use Rattle.cg_log.proofs.Found.{counted-append}
 use Rattle.cg_log.proofs.Ids.{AreApart-segment, AreSegments-push, is_among-back, is_among-front, is_among-last, below_back, below_last}
 
@@ -154,16 +156,16 @@ module _ (sectors : ℕ) (current next : Root) (has : Content) (id : ℕ) (more 
     tail = AreStored-append image (tails has) ((id, []) ∷ []) tail ((0, record { chain = refl; closed = subst (IsClosed image) (sym (add-zero (first_sector id))) closed }), tt);
   }
 
-  pub IsLawful-rolled : IsLawful sectors current → next.epoch < 2 ^ 63 → id < segment_count sectors → IsLawful sectors next
-  IsLawful-rolled lawful small below = record {
-    epoch_from = omega (arith, more.epoch);
-    epoch_to = small;
-    base_number = omega (arith, more.base_number, lawful.base_number);
-    tail = omega (arith, ap length more.tail, length-append current.tail (id ∷ []));
-    ids =
-        let all : root_ids next ≡ root_ids current ++ id ∷ [] = (λ i. more.base i ++ more.tail i) ∙ sym (append_assoc current.base current.tail (id ∷ [])) in
-        subst (AreSegments (segment_count sectors)) (sym all) (AreSegments-push id (segment_count sectors) (root_ids current) lawful.ids below free);
-  }
+pub IsLawful-rolled : (sectors : ℕ) (current next : Root) (id : ℕ) → HasOneMoreTail current next id → IsLeastFree sectors (root_ids current) id → IsLawful sectors current → next.epoch < 2 ^ 63 → IsLawful sectors next
+IsLawful-rolled sectors current next id more free lawful small = record {
+  epoch_from = omega (arith, more.epoch);
+  epoch_to = small;
+  base_number = omega (arith, more.base_number, lawful.base_number);
+  tail = omega (arith, ap length more.tail, length-append current.tail (id ∷ []));
+  ids =
+      let all : root_ids next ≡ root_ids current ++ id ∷ [] = (λ i. more.base i ++ more.tail i) ∙ sym (append_assoc current.base current.tail (id ∷ [])) in
+      subst (AreSegments (segment_count sectors)) (sym all) (AreSegments-push id (segment_count sectors) (root_ids current) lawful.ids free.below free.free);
+}
 
 -- the gates of the two slots lie apart
 gates_apart : (slot : Slot) → (gate_of slot < gate_of (other_slot slot)) ⊎ (gate_of (other_slot slot) + 2 ≤ gate_of slot)
@@ -279,3 +281,48 @@ module _ (old new : History) (sectors : ℕ) (root : Root) (end number count : �
     number_is =
         omega (arith, holds.number_is, ap counted (frames_of-appended has count payload), counted-append (frames_of (tails has)) ((count, payload) ∷ []));
   }
+
+-- Calls of an open log
+
+-- no call of the device
+pub still-images : (h : History) (sectors : ℕ) (root : Root) (end number : ℕ) (has : Content) → number ≤ COMMAND_NUMBER_MAX → HoldsContent (present h) sectors root end number has → LeavesOnly h h (λ image. Carries image sectors number (frames_of has.base) (frames_of (tails has)))
+still-images h sectors root end number has small holds = LeavesOnly-starts h _ (AllCarry-holds (present h) sectors root end number has small holds)
+
+pub HoldsContent-rolled : (m m' : Moment) (sectors : ℕ) (current next : Root) (end number : ℕ) (has : Content) (id : ℕ) → HasOneMoreTail current next id → HoldsContent m sectors current end number has → KeepsLog m' sectors next (rolled has id) → HoldsContent m' sectors next 0 number (rolled has id)
+HoldsContent-rolled m m' sectors current next end number has id more holds keeps = record {
+  keeps = keeps;
+  end_is = refl;
+  number_is = omega (arith, holds.number_is, more.base_number, ap counted (frames_of-rolled has id));
+}
+
+module _ (old new : History) (sectors : ℕ) (current : Root) (end number : ℕ) (has : Content) (small : number ≤ COMMAND_NUMBER_MAX) (holds : HoldsContent (present old) sectors current end number has) where
+  pub roll-images : (next : Root) (id : ℕ) → HasOneMoreTail current next id → LeavesOnly old new (HasOrRolled sectors current next has id) → LeavesOnly old new (λ image. Carries image sectors number (frames_of has.base) (frames_of (tails has)))
+  roll-images next id more run = LeavesOnly-weaker old new _ _ (λ image either. elim either [
+    | inl at ↦ Carries-at image sectors number current has at holds.number_is small
+    | inr at ↦ subst (Carries image sectors number (frames_of has.base)) (frames_of-rolled has id)
+      (Carries-at image sectors number next (rolled has id) at (omega (arith, holds.number_is, more.base_number, ap counted (frames_of-rolled has id))) small)
+  ]) run
+
+  pub put-images : (count : ℕ) (payload : List ℕ) → number + count ≤ COMMAND_NUMBER_MAX → LeavesOnly old new (λ image. LogAt image sectors current has ⊎ LogAt image sectors current (appended has count payload)) → LeavesOnly old new (CarriesBeforeOrAfter sectors number (frames_of has.base) (frames_of (tails has)) count payload)
+  put-images count payload few run = LeavesOnly-weaker old new _ _ (λ image either. elim either [
+    | inl at ↦ inl (Carries-at image sectors number current has at holds.number_is small)
+    | inr at ↦ inr (subst (Carries image sectors (number + count) (frames_of has.base)) (frames_of-appended has count payload)
+      (Carries-at image sectors (number + count) current (appended has count payload) at (omega (arith, holds.number_is, ap counted (frames_of-appended has count payload), counted-append (frames_of (tails has)) ((count, payload) ∷ []))) few))
+  ]) run
+
+-- a tail whose frames end at its first gate has none
+pub no_frames : (frames : Frames) → end_of_frames 0 frames ≡ 0 → frames ≡ []
+no_frames [] is = refl
+no_frames (f ∷ frames) is = absurd (omega (arith, is, end_past (next_gate 0 (length f.1)) frames))
+  where
+    end_past : (pos : ℕ) (frames : Frames) → pos ≤ end_of_frames pos frames
+    end_past pos [] = omega arith
+    end_past pos (f ∷ frames) = omega (arith, end_past (next_gate pos (length f.1)) frames)
+
+-- a new tail, then a frame in it
+pub then-images : (h0 h1 h2 : History) (sectors sectors' number number' count : ℕ) (payload : List ℕ) (has : Content) (id : ℕ) → sectors' ≡ sectors → number' ≡ number → LeavesOnly h0 h1 (λ image. Carries image sectors number (frames_of has.base) (frames_of (tails has))) → LeavesOnly h1 h2 (CarriesBeforeOrAfter sectors' number' (frames_of has.base) (frames_of (tails (rolled has id))) count payload) → LeavesOnly h0 h2 (CarriesBeforeOrAfter sectors number (frames_of has.base) (frames_of (tails has)) count payload)
+then-images h0 h1 h2 sectors sectors' number number' count payload has id size same first second =
+    let after = subst (λ (n : ℕ). LeavesOnly h1 h2 (CarriesBeforeOrAfter sectors n (frames_of has.base) (frames_of (tails has)) count payload)) same
+        (subst (λ (n : ℕ). LeavesOnly h1 h2 (CarriesBeforeOrAfter n number' (frames_of has.base) (frames_of (tails has)) count payload)) size
+        (subst (λ (l : Frames). LeavesOnly h1 h2 (CarriesBeforeOrAfter sectors' number' (frames_of has.base) l count payload)) (frames_of-rolled has id) second)) in
+    LeavesOnly-then h0 h1 h2 _ (LeavesOnly-weaker h0 h1 _ _ (λ image c. inl c) first) after

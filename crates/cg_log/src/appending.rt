@@ -1,13 +1,18 @@
 //! One more frame in the last tail.
-ghost use Rattle.std.specs.Prelude.{◌≡◌, ◌⊎◌, ℕ, ◌+◌, ◌^◌, ◌≤◌, ◌<◌, Bool, true, length, IfOk, OnOk, is_err};
+ghost use Rattle.std.specs.Prelude.{◌≡◌, ◌⊎◌, ℕ, ◌+◌, ◌^◌, ◌≤◌, ◌<◌, Bool, ◌≢◌, true, false, length, IfErr, IfOk, OnOk, IsErrOf, is_err};
 ghost use Rattle.cg_disk.specs.Disk.{Counts, LeavesOnly, present};
 ghost use Rattle.cg_frame.specs.Frames.{next_gate};
 ghost use Rattle.cg_gate.specs.Layout.{first_sector};
 ghost use Rattle.cg_gate.specs.declared.layout.TheConstants.{SEGMENT_SECTORS};
 ghost use Rattle.cg_root.specs.Roots.{IsLawful};
-ghost use Rattle.cg_log.specs.Carried.{Content, HoldsContent, LogAt, appended};
+ghost use Rattle.cg_log.specs.Carried.{CarriesBeforeOrAfter, Content, HoldsContent, LogAt, appended, tails};
+ghost use Rattle.cg_log.specs.Faults.{is_device_failure};
+ghost use Rattle.cg_log.specs.Segments.{frames_of};
+ghost use Rattle.cg_log.specs.declared.numbers.TheConstants.{COMMAND_NUMBER_MAX};
 ghost use Rattle.cg_log.specs.Ready.{AllClosed, IsReady, last_id};
 
+use crate::LogFault;
+use crate::log::Log;
 use crate::segment::{last_id, segment};
 use cg_disk::{DiskFault, SectorDisk};
 use cg_frame::{StagedFrame, append_staged};
@@ -46,4 +51,42 @@ pub(crate) fn append_last<D: SectorDisk>(
     let last = segment(last_id(root.tail.as_slice()));
     let next = append_staged(disk, last, end, frame)?;
     Ok(next)
+}
+
+impl<D: SectorDisk> Log<D> {
+    ghost use Rattle.cg_log.specs.Log.{IsUnchanged, LogHas, disk_of, end_of, has_failed, number_of, root_of};
+
+    // Appends a frame that fits to the last tail.
+    fn put(&mut self, frame: &StagedFrame, count: u64) -> Result<(), LogFault>
+        requires serves { has_failed self.old ≡ false }
+        requires count { count ≡ frame.now.0 }
+        requires counted { 1 ≤ count }
+        requires few { number_of self.old + count ≤ COMMAND_NUMBER_MAX }
+        requires fits { next_gate (end_of self.old) (length frame.now.1) < SEGMENT_SECTORS }
+
+        ensures stored { (has : Content) → LogHas D.is_honest D.history D.size self.old has → OnOk result
+            (LogHas D.is_honest D.history D.size self.new (appended has frame.now.0 frame.now.1)) }
+        ensures images { (has : Content) → LogHas D.is_honest D.history D.size self.old has →
+            LeavesOnly (D.history (disk_of self.old)) (D.history (disk_of self.new))
+            (CarriesBeforeOrAfter (D.size (disk_of self.old)) (number_of self.old) (frames_of has.base) (frames_of (tails has)) frame.now.0 frame.now.1) }
+        ensures number { OnOk result (number_of self.new ≡ number_of self.old + count) }
+        ensures serves { OnOk result (has_failed self.new ≡ false) }
+        ensures faults { IfErr result (λ fault. fault ≡ LogFault.Device) }
+        ensures failed { IfErr result (λ fault. has_failed self.new ≡ true) }
+        ensures device { Counts (D.failures (disk_of self.old)) (D.failures (disk_of self.new)) (is_device_failure result) }
+        ensures same_size { D.size (disk_of self.new) ≡ D.size (disk_of self.old) }
+        ensures same_honesty { D.is_honest (disk_of self.new) ≡ D.is_honest (disk_of self.old) }
+    {
+        match append_last(&mut self.disk, &self.root, self.end, frame) {
+            Ok(next) => {
+                self.end = next;
+                self.number += count;
+                Ok(())
+            }
+            Err(DiskFault::Device) => {
+                self.has_failed = true;
+                Err(LogFault::Device)
+            }
+        }
+    }
 }
