@@ -85,6 +85,10 @@ module _ (y : ℕ) where
         list_all-append (λ id. nat_lt id n) xs (y ∷ []) ∙ ap (λ (b : Bool). b && (nat_lt y n && true)) are.below ∙ ap (λ (b : Bool). b && true) test;
   }
 
+pub AreSegments-nil : (n : ℕ) → AreSegments n []
+unfolding IsDistinct
+AreSegments-nil n = record { distinct = tt; below = refl }
+
 -- segments of these ids have no sector in the segment of an id that is none of them
 pub AreApart-segment : (id at n : ℕ) (segments : List Filled) → first_sector id ≤ at → at + n ≤ first_sector id + 2048 → is_among id (ids_of segments) ≡ false → AreApart at n segments
 AreApart-segment id at n [] low high none = tt

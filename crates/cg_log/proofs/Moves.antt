@@ -15,16 +15,17 @@ use Rattle.cg_root.specs.declared.root.Root.{Root}
 use Rattle.cg_root.specs.declared.slot.Slot.{Slot}
 use Rattle.cg_root.specs.declared.slot.Slot.TheVariants.{Zero, One}
 use Rattle.cg_root.proofs.Stored.{CountingRoot-same, gate_of-small, other_other}
-use Rattle.cg_log.specs.Carried.{Content, Carries, CarriesBeforeOrAfter, LogAt, KeepsLog, HoldsContent, tails, appended, rolled}
+use Rattle.cg_log.specs.Carried.{AllCarry, Content, Carries, CarriesBeforeOrAfter, LogAt, KeepsLog, HoldsContent, tails, appended, rolled}
+use Rattle.cg_log.specs.Formatted.{first_root, nothing}
 use Rattle.cg_log.specs.Free.{is_among, IsLeastFree}
 use Rattle.cg_log.specs.Ready.{AllClosed, AllOpen, IsReady, last_id}
-use Rattle.cg_log.specs.Rolled.{HasOneMoreTail, HasOrRolled}
+use Rattle.cg_log.specs.Rolled.{HasOneMoreTail, HasOrRolled, IsAppended}
 use Rattle.cg_log.specs.Segments.{Frames, Filled, segment_of, ids_of, frames_of, counted, end_of_frames, AreStored}
 use Rattle.cg_log.proofs.Filled.{AreApart, AreApart-slots, AreStored-apart, AreStored-append, AreStored-back, AreStored-front, HasFramesTo-end, frames_of-append, frames_of-push, ids_of-push, last_id-push, split_last}
 use Rattle.cg_log.specs.declared.numbers.TheConstants.{COMMAND_NUMBER_MAX}
 use Rattle.cg_log.proofs.Images.{AllCarry-holds, Carries-at}
 use Rattle.cg_log.proofs.Found.{counted-append}
-use Rattle.cg_log.proofs.Ids.{AreApart-segment, AreSegments-push, is_among-back, is_among-front, is_among-last, below_back, below_last}
+use Rattle.cg_log.proofs.Ids.{AreApart-segment, AreSegments-nil, AreSegments-push, is_among-back, is_among-front, is_among-last, below_back, below_last}
 
 -- Gates that a change does not reach
 
@@ -326,3 +327,47 @@ then-images h0 h1 h2 sectors sectors' number number' count payload has id size s
         (subst (λ (n : ℕ). LeavesOnly h1 h2 (CarriesBeforeOrAfter n number' (frames_of has.base) (frames_of (tails has)) count payload)) size
         (subst (λ (l : Frames). LeavesOnly h1 h2 (CarriesBeforeOrAfter sectors' number' (frames_of has.base) l count payload)) (frames_of-rolled has id) second)) in
     LeavesOnly-then h0 h1 h2 _ (LeavesOnly-weaker h0 h1 _ _ (λ image c. inl c) first) after
+
+pub before-images : (old new : History) (sectors number count : ℕ) (base tail : Frames) (payload : List ℕ) → LeavesOnly old new (λ image. Carries image sectors number base tail) → LeavesOnly old new (CarriesBeforeOrAfter sectors number base tail count payload)
+before-images old new sectors number count base tail payload run = LeavesOnly-weaker old new _ _ (λ image c. inl c) run
+
+-- no call of the device before an append
+pub still-append-images : (h : History) (sectors : ℕ) (root : Root) (end number : ℕ) (has : Content) (count : ℕ) (payload : List ℕ) → number ≤ COMMAND_NUMBER_MAX → HoldsContent (present h) sectors root end number has → LeavesOnly h h (CarriesBeforeOrAfter sectors number (frames_of has.base) (frames_of (tails has)) count payload)
+still-append-images h sectors root end number has count payload small holds = before-images h h sectors number count (frames_of has.base) (frames_of (tails has)) payload (still-images h sectors root end number has small holds)
+
+-- after an append
+pub AllCarry-appended : (m : Moment) (sectors sectors' : ℕ) (root : Root) (end number n count : ℕ) (payload : List ℕ) (has new : Content) → IsAppended has count payload new → HoldsContent m sectors' root end number new → number ≤ COMMAND_NUMBER_MAX → sectors' ≡ sectors → number ≡ n + count → AllCarry m sectors (n + count) (frames_of has.base) (frames_of (tails has) ++ (count, payload) ∷ [])
+AllCarry-appended m sectors sectors' root end number n count payload has new is holds small size sum image left =
+    let carries = AllCarry-holds m sectors' root end number new small holds image left in
+    let base : frames_of new.base ≡ frames_of has.base = elim is [ inl same ↦ ap (λ (c : Content). frames_of c.base) same | inr at ↦ ap (λ (c : Content). frames_of c.base) at.1 ] in
+    let tail : frames_of (tails new) ≡ frames_of (tails has) ++ (count, payload) ∷ [] = elim is [
+      | inl same ↦ ap (λ (c : Content). frames_of (tails c)) same ∙ frames_of-appended has count payload
+      | inr at ↦ ap (λ (c : Content). frames_of (tails c)) at.1 ∙ frames_of-appended (rolled has at.0) count payload ∙ ap (λ (l : Frames). l ++ (count, payload) ∷ []) (frames_of-rolled has at.0)
+    ] in
+    coe 0 1 (i. Carries image (size i) (sum i) (base i) (tail i)) carries
+
+-- Formatting
+
+pub IsLawful-first : (sectors : ℕ) → 0 < segment_count sectors → IsLawful sectors first_root
+IsLawful-first sectors some = record {
+  epoch_from = omega arith;
+  epoch_to = omega arith;
+  base_number = omega arith;
+  tail = omega arith;
+  ids = AreSegments-push 0 (segment_count sectors) [] (AreSegments-nil (segment_count sectors)) some refl;
+}
+
+pub LogAt-formatted : (image : Image) (sectors : ℕ) → CountingRoot image sectors first_root → IsClosed image (first_sector 0) → LogAt image sectors first_root nothing
+LogAt-formatted image sectors counting closed = record {
+  counting = counting;
+  base_ids = refl;
+  tail_ids = refl;
+  base = tt;
+  tail = ((0, record { chain = refl; closed = closed }), tt);
+}
+
+pub KeepsLog-formatted : (old new : History) (sectors : ℕ) → Changes 0 2 old new → KeepsRoot (present new) sectors first_root → AllClosed (present old) (first_sector 0) → KeepsLog (present new) sectors first_root nothing
+KeepsLog-formatted old new sectors change keeps closed image is = LogAt-formatted image sectors (keeps image is) (AllClosed-kept 0 2 old new change (first_sector 0) (inr (omega arith)) closed image is)
+
+pub AllCarry-formatted : (m : Moment) (sectors : ℕ) → KeepsLog m sectors first_root nothing → AllCarry m sectors 0 [] []
+AllCarry-formatted m sectors keeps image is = Carries-at image sectors 0 first_root nothing (keeps image is) refl (omega arith)

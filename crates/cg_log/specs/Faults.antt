@@ -51,3 +51,7 @@ IsOutOfReach fault = (fault ≡ log_fault.Memory) ⊎ (fault ≡ log_fault.Devic
 -- nothing else than a bad frame, an allocation or the device
 abbrev pub IsReadingFault : LogFault → Type 0
 IsReadingFault fault = (fault ≡ log_fault.BadFrame) ⊎ ((fault ≡ log_fault.Memory) ⊎ (fault ≡ log_fault.Device))
+
+-- a refusal that leaves the log as it was, or a failure of the device
+abbrev pub IsWritingFault : LogFault → Type 0
+IsWritingFault fault = (fault ≡ log_fault.Full) ⊎ ((fault ≡ log_fault.Memory) ⊎ (fault ≡ log_fault.Device))
