@@ -8,7 +8,6 @@ use Rattle.cg_frame.specs.Frames.{IsClosed, body, body_sectors, next_gate}
 use Rattle.cg_gate.specs.Gates.{IsGuarded, GuardedWrite}
 use Rattle.cg_frame.specs.Outcomes.{StandsLast, Appended, KeepsFramesTo, IsBeforeOrAfter}
 use Rattle.cg_frame.specs.declared.segment.Segment.{Segment}
-use Rattle.cg_frame.proofs.Standing.{IsBeforeOrAfter-appended}
 
 -- the first byte of a later sector
 sector_first : (bytes : List ℕ) (i : ℕ) → get_or (sector bytes i) 0 0 ≡ get_or bytes (512 * i) 0
@@ -27,10 +26,6 @@ pub record IsStaged (sectors : List ℕ) (count : ℕ) (payload : List ℕ) : Ty
   pub long : length sectors ≡ 512 * (body_sectors (length payload) + 1)
   pub body_is : take (16 + length payload) sectors ≡ body count payload
   pub padded : (i : ℕ) → 16 + length payload ≤ i → get_or sectors i 0 ≡ 0
-
--- the same of a slice of them
-pub IsStaged-shown : (shown items : List ℕ) (count : ℕ) (payload : List ℕ) → shown ≡ items → length items ≡ 512 * (body_sectors (length payload) + 1) → take (16 + length payload) items ≡ body count payload → ((i : ℕ) → 16 + length payload ≤ i → get_or items i 0 ≡ 0) → IsStaged shown count payload
-IsStaged-shown shown items count payload same long body_is padded = rw same record { long = long; body_is = body_is; padded = padded }
 
 module _ (segment : Segment) (pos count : ℕ) (payload sectors : List ℕ) (staged : IsStaged sectors count payload) (counted : 1 ≤ count) (fits_word : count < 2 ^ 64) (fits : next_gate pos (length payload) < segment.sectors) where
   abbrev b : ℕ
@@ -67,9 +62,6 @@ module _ (segment : Segment) (pos count : ℕ) (payload sectors : List ℕ) (sta
   module _ (old new : History) (run : LeavesOnly old new (GuardedWrite (present old) (segment.first + pos) (sector_count sectors) sectors)) where
     pub Appended-run : LeavesOnly old new (Appended (present old) segment pos count payload)
     Appended-run = LeavesOnly-weaker old new _ _ (Appended-lays (present old)) run
-
-    pub frames-run : (frames : List (ℕ × List ℕ)) → KeepsFramesTo (present old) segment frames pos → LeavesOnly old new (IsBeforeOrAfter segment frames count payload)
-    frames-run frames keeps = LeavesOnly-weaker old new _ _ (λ image appended. IsBeforeOrAfter-appended (present old) segment pos count payload frames image keeps appended) Appended-run
 
 -- before the disk is called
 pub Appended-starts : (h : History) (segment : Segment) (pos count : ℕ) (payload : List ℕ) → ((image : Image) → IsImage (present h) image → IsClosed image (segment.first + pos)) → LeavesOnly h h (Appended (present h) segment pos count payload)

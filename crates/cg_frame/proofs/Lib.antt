@@ -1,3 +1,4 @@
+mod Encoded
 mod Laid
 pub mod Loading
 mod Parts

@@ -2,3 +2,4 @@ pub use Rattle.cg_disk.specs.Disk
 pub use Rattle.cg_gate.specs.Gates
 pub mod Frames
 pub mod Outcomes
+pub mod Staged

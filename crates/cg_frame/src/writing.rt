@@ -4,11 +4,8 @@ ghost use Rattle.cg_disk.specs.Disk.{Image, present, IsImage, IsSynced, AllBut, 
 ghost use Rattle.cg_frame.specs.Frames.{IsClosed, body_sectors, next_gate};
 ghost use Rattle.cg_frame.specs.Outcomes.{StandsLast, Appended, KeepsFramesTo, IsBeforeOrAfter, is_device_failure};
 
-use crate::buffer::staged;
-use crate::segment::sectors_of;
-use crate::{FrameFault, Segment, fits};
+use crate::{FrameFault, Segment, append_staged, fits, stage};
 use cg_disk::{DiskFault, SectorDisk};
-use cg_gate::write_guarded;
 use std::alloc::Global;
 
 /// Writes a closed gate at `pos` and syncs it.
@@ -87,11 +84,10 @@ pub fn append<D: SectorDisk>(
         (frames ++ (count, payload.now) ∷ []) (next_gate pos (length payload.now))) }
     ensures durable { D.is_honest disk.old ≡ true → OnOk result (IsSynced (present (D.history disk.new))) }
 {
-    let bytes = payload.len() as u64;
-    if !fits(segment, pos, bytes) {
+    if !fits(segment, pos, payload.len() as u64) {
         return Err(FrameFault::NoRoom);
     }
-    let sectors = staged(alloc, count, payload)?;
-    write_guarded(disk, segment.first + pos, &sectors)?;
-    Ok(pos + sectors_of(bytes) + 1)
+    let frame = stage(alloc, count, payload)?;
+    let next = append_staged(disk, segment, pos, &frame)?;
+    Ok(next)
 }

@@ -1,0 +1,117 @@
+-- Ids of segments: ranges, and that no two are equal.
+use Rattle.std.proofs.Common.{◌≡◌, ◌⊎◌, inl, inr, ℕ, ◌<◌, ◌≤◌, ◌+◌, Bool, true, false, List, [], ◌∷◌, ◌++◌, length, refl, sym, ap, ◌∙◌, subst, arith, add-one}
+use Rattle.std.specs.Prelude.{◌&&◌, ◌||◌, nat_lt, nat_eq, IsTrue}
+use Rattle.std.specs.List.{list_all, list_any, AllByRecursion, IsDistinct}
+use Rattle.std.proofs.lemmas.Bool.{cases_lt}
+use Rattle.std.proofs.lemmas.Bool.Decides.{nat_tests}
+use Rattle.std.proofs.lemmas.List.Folds.{list_all-append}
+use Rattle.cg_gate.specs.Layout.{first_sector}
+use Rattle.cg_root.specs.Roots.{AreSegments}
+use Rattle.cg_log.specs.Free.{is_among, free_below}
+use Rattle.cg_log.specs.Segments.{Filled, ids_of}
+use Rattle.cg_log.proofs.Filled.{AreApart}
+
+both_true : (a b : Bool) → (a && b) ≡ true → (a ≡ true) × (b ≡ true)
+both_true true b e = (refl, e)
+both_true false b e = absurd cc
+
+both_false : (a b : Bool) → (a || b) ≡ false → (a ≡ false) × (b ≡ false)
+both_false true b e = absurd cc
+both_false false b e = (refl, e)
+
+-- the ids are below a bound
+pub below_front : (n : ℕ) (xs ys : List ℕ) → IsTrue (list_all (λ id. nat_lt id n) (xs ++ ys)) → IsTrue (list_all (λ id. nat_lt id n) xs)
+below_front n [] ys is = refl
+below_front n (x ∷ xs) ys is =
+    let parts = both_true (nat_lt x n) (list_all (λ id. nat_lt id n) (xs ++ ys)) is in
+    ap (λ (b : Bool). b && list_all (λ id. nat_lt id n) xs) parts.0 ∙ below_front n xs ys parts.1
+
+pub below_back : (n : ℕ) (xs ys : List ℕ) → IsTrue (list_all (λ id. nat_lt id n) (xs ++ ys)) → IsTrue (list_all (λ id. nat_lt id n) ys)
+below_back n [] ys is = is
+below_back n (x ∷ xs) ys is = below_back n xs ys (both_true (nat_lt x n) (list_all (λ id. nat_lt id n) (xs ++ ys)) is).1
+
+pub below_last : (n : ℕ) (xs : List ℕ) (x : ℕ) → IsTrue (list_all (λ id. nat_lt id n) (xs ++ x ∷ [])) → x < n
+below_last n xs x is =
+    let test : nat_lt x n ≡ true = (both_true (nat_lt x n) true (below_back n xs (x ∷ []) is)).0 in
+    grind (arith, nat_tests)
+
+-- an id that is none of these
+module _ (y : ℕ) where
+  none_equal : (xs : List ℕ) → is_among y xs ≡ false → AllByRecursion (λ x. nat_eq y x ≡ false) xs
+  none_equal [] none = tt
+  none_equal (x ∷ xs) none = let parts = both_false (nat_eq y x) (is_among y xs) none in (parts.0, none_equal xs parts.1)
+
+  pub is_among-front : (xs ys : List ℕ) → is_among y (xs ++ ys) ≡ false → is_among y xs ≡ false
+  is_among-front [] ys none = refl
+  is_among-front (x ∷ xs) ys none =
+      let parts = both_false (nat_eq y x) (is_among y (xs ++ ys)) none in
+      ap (λ (b : Bool). b || is_among y xs) parts.0 ∙ is_among-front xs ys parts.1
+
+  pub is_among-back : (xs ys : List ℕ) → is_among y (xs ++ ys) ≡ false → is_among y ys ≡ false
+  is_among-back [] ys none = none
+  is_among-back (x ∷ xs) ys none = is_among-back xs ys (both_false (nat_eq y x) (is_among y (xs ++ ys)) none).1
+
+  -- the last of distinct ids is none of those before it
+  differs_last : (x : ℕ) (xs : List ℕ) → AllByRecursion (λ z. nat_eq x z ≡ false) (xs ++ y ∷ []) → nat_eq x y ≡ false
+  differs_last x [] all = all.0
+  differs_last x (z ∷ xs) all = differs_last x xs all.1
+
+  pub is_among-last : (xs : List ℕ) → IsDistinct nat_eq (xs ++ y ∷ []) → is_among y xs ≡ false
+  unfolding IsDistinct
+  is_among-last [] distinct = refl
+  is_among-last (x ∷ xs) distinct =
+      let apart : nat_eq x y ≡ false = differs_last x xs distinct.0 in
+      let flipped : nat_eq y x ≡ false = grind (arith, nat_tests) in
+      ap (λ (b : Bool). b || is_among y xs) flipped ∙ is_among-last xs distinct.1
+
+  all_push : (x : ℕ) (xs : List ℕ) → AllByRecursion (λ z. nat_eq x z ≡ false) xs → nat_eq x y ≡ false → AllByRecursion (λ z. nat_eq x z ≡ false) (xs ++ y ∷ [])
+  all_push x [] all last = (last, tt)
+  all_push x (z ∷ xs) all last = (all.0, all_push x xs all.1 last)
+
+  distinct_push : (xs : List ℕ) → IsDistinct nat_eq xs → is_among y xs ≡ false → IsDistinct nat_eq (xs ++ y ∷ [])
+  unfolding IsDistinct
+  distinct_push [] distinct none = (tt, tt)
+  distinct_push (x ∷ xs) distinct none =
+      let parts = both_false (nat_eq y x) (is_among y xs) none in
+      let apart : nat_eq y x ≡ false = parts.0 in
+      let flipped : nat_eq x y ≡ false = grind (arith, nat_tests) in
+      (all_push x xs distinct.0 flipped, distinct_push xs distinct.1 parts.1)
+
+  pub AreSegments-push : (n : ℕ) (xs : List ℕ) → AreSegments n xs → y < n → is_among y xs ≡ false → AreSegments n (xs ++ y ∷ [])
+  AreSegments-push n xs are lt none = record {
+    distinct = distinct_push xs are.distinct none;
+    below =
+        let test : nat_lt y n ≡ true = grind (arith, nat_tests) in
+        list_all-append (λ id. nat_lt id n) xs (y ∷ []) ∙ ap (λ (b : Bool). b && (nat_lt y n && true)) are.below ∙ ap (λ (b : Bool). b && true) test;
+  }
+
+pub AreSegments-nil : (n : ℕ) → AreSegments n []
+unfolding IsDistinct
+AreSegments-nil n = record { distinct = tt; below = refl }
+
+-- segments of these ids have no sector in the segment of an id that is none of them
+pub AreApart-segment : (id at n : ℕ) (segments : List Filled) → first_sector id ≤ at → at + n ≤ first_sector id + 2048 → is_among id (ids_of segments) ≡ false → AreApart at n segments
+AreApart-segment id at n [] low high none = tt
+AreApart-segment id at n (s ∷ segments) low high none =
+    let parts = both_false (nat_eq id s.0) (is_among id (ids_of segments)) none in
+    (apart (cases_lt id s.0) parts.0, AreApart-segment id at n segments low high parts.1)
+  where
+    apart : (id < s.0) ⊎ (s.0 ≤ id) → nat_eq id s.0 ≡ false → (first_sector s.0 + 2048 ≤ at) ⊎ (at + n ≤ first_sector s.0)
+    apart (inl lt) differs = inr (omega arith)
+    apart (inr le) differs =
+        let lt : s.0 < id = grind (arith, nat_tests) in
+        inl (omega arith)
+
+-- the free ids below a number, one by one
+module _ (ids : List ℕ) (n : ℕ) where
+  pub free_below-among : is_among n ids ≡ true → free_below (n + 1) ids ≡ free_below n ids
+  unfolding free_below
+  free_below-among is = rw (add-one, is) refl
+
+  pub free_below-free : is_among n ids ≡ false → free_below (n + 1) ids ≡ free_below n ids + 1
+  unfolding free_below
+  free_below-free is = rw (add-one, is) refl
+
+pub free_below-zero : (ids : List ℕ) → free_below 0 ids ≡ 0
+unfolding free_below
+free_below-zero ids = refl

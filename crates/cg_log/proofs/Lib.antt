@@ -1,0 +1,5 @@
+pub mod Found
+pub mod Filled
+pub mod Ids
+pub mod Images
+pub mod Moves

@@ -1,0 +1,51 @@
+use Rattle.std.proofs.Common.{ℕ, List, subst}
+use Rattle.cg_disk.specs.Disk.{LeavesOnly}
+use Rattle.cg_log.specs.Carried.{CarriesBeforeOrAfter, appended, rolled, tails}
+use Rattle.cg_log.specs.Log.{LogHas, disk_of, number_of}
+use Rattle.cg_log.specs.Segments.{frames_of}
+use Rattle.cg_log.proofs.Moves.{before-images, still-append-images, then-images}
+use Rattle.cg_log.proofs.log.Log.put_in_new_tail.Goals as goal
+
+pub returns-in_err-tail-clause-images : goal.returns-in_err-tail-clause-images
+returns-in_err-tail-clause-images g c has log =
+    let self = c.args.self.now in
+    still-append-images (g.D.SectorDisk.history self.disk) (g.D.SectorDisk.size self.disk) self.root self.end self.number has c.args.count c.args.payload.now self.in_range log.holds
+
+pub returns-in_err-frame-clause-images : goal.returns-in_err-frame-clause-images
+returns-in_err-frame-clause-images g c has log =
+    let self = c.args.self.now in
+    still-append-images (g.D.SectorDisk.history self.disk) (g.D.SectorDisk.size self.disk) self.root self.end self.number has c.args.count c.args.payload.now self.in_range log.holds
+
+pub returns-in_err-add_tail-clause-images : goal.returns-in_err-add_tail-clause-images
+returns-in_err-add_tail-clause-images g c has log =
+    let self = c.args.self.now in
+    before-images (g.D.SectorDisk.history self.disk) _ (g.D.SectorDisk.size self.disk) self.number c.args.count (frames_of has.base) (frames_of (tails has)) c.args.payload.now (c.add_tail.ensures.images has log)
+
+pub returns-in_err-put-clause-images : goal.returns-in_err-put-clause-images
+returns-in_err-put-clause-images g c has log =
+    let self = c.args.self.now in
+    let h0 = g.D.SectorDisk.history self.disk in
+    let mid = c.add_tail.new.self in
+    let h1 = g.D.SectorDisk.history (disk_of mid) in
+    let h2 = g.D.SectorDisk.history (disk_of c.put.new.self) in
+    let id = c.in_ok-add_tail.field-0 in
+    let stored = c.in_ok-add_tail.ensures.stored has log in
+    let run = subst (λ (f : ℕ × List ℕ). LeavesOnly h1 h2 (CarriesBeforeOrAfter (g.D.SectorDisk.size (disk_of mid)) (number_of mid) (frames_of has.base) (frames_of (tails (rolled has id))) f.0 f.1)) c.in_ok-frame.ensures (c.put.ensures.images (rolled has id) stored) in
+    then-images h0 h1 h2 (g.D.SectorDisk.size self.disk) (g.D.SectorDisk.size (disk_of mid)) self.number (number_of mid) c.args.count c.args.payload.now has id c.add_tail.ensures.same_size c.add_tail.ensures.number (c.add_tail.ensures.images has log) run
+
+pub returns-clause-images : goal.returns-clause-images
+returns-clause-images g c has log =
+    let self = c.args.self.now in
+    let h0 = g.D.SectorDisk.history self.disk in
+    let mid = c.add_tail.new.self in
+    let h1 = g.D.SectorDisk.history (disk_of mid) in
+    let h2 = g.D.SectorDisk.history (disk_of c.put.new.self) in
+    let id = c.in_ok-add_tail.field-0 in
+    let stored = c.in_ok-add_tail.ensures.stored has log in
+    let run = subst (λ (f : ℕ × List ℕ). LeavesOnly h1 h2 (CarriesBeforeOrAfter (g.D.SectorDisk.size (disk_of mid)) (number_of mid) (frames_of has.base) (frames_of (tails (rolled has id))) f.0 f.1)) c.in_ok-frame.ensures (c.put.ensures.images (rolled has id) stored) in
+    then-images h0 h1 h2 (g.D.SectorDisk.size self.disk) (g.D.SectorDisk.size (disk_of mid)) self.number (number_of mid) c.args.count c.args.payload.now has id c.add_tail.ensures.same_size c.add_tail.ensures.number (c.add_tail.ensures.images has log) run
+
+pub returns-clause-stored : goal.returns-clause-stored
+returns-clause-stored g c has log =
+    let id = c.in_ok-add_tail.field-0 in
+    (id, subst (λ (f : ℕ × List ℕ). LogHas g.D.SectorDisk.is_honest g.D.SectorDisk.history g.D.SectorDisk.size c.put.new.self (appended (rolled has id) f.0 f.1)) c.in_ok-frame.ensures (c.in_ok-put.ensures.stored (rolled has id) (c.in_ok-add_tail.ensures.stored has log)))

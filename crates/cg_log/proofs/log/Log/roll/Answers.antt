@@ -1,0 +1,27 @@
+use Rattle.std.proofs.Common.{◌≡◌, ◌∙◌, inl, refl, sym, ap}
+use Rattle.cg_disk.specs.Disk.{present}
+use Rattle.cg_log.specs.Ready.{last_id}
+use Rattle.cg_log.proofs.Moves.{last_id-content, no_frames, still-images}
+use Rattle.cg_log.proofs.log.Log.roll.Goals as goal
+
+pub returns-then-self-clause-images : goal.returns-then-self-clause-images
+returns-then-self-clause-images g c has log =
+    let self = c.args.self.now in
+    still-images (g.D.SectorDisk.history self.disk) (g.D.SectorDisk.size self.disk) self.root self.end self.number has self.in_range log.holds
+
+pub returns-then-self-eq0-clause-stored : goal.returns-then-self-eq0-clause-stored
+returns-then-self-eq0-clause-stored g c has log =
+    let self = c.args.self.now in
+    let last = last_id-content (present (g.D.SectorDisk.history self.disk)) (g.D.SectorDisk.size self.disk) self.root has log.holds.keeps in
+    let empty = no_frames has.last.1 (sym log.holds.end_is ∙ c.if-self-eq0.true) in
+    (has, (inl (empty, refl, c.last_id.ensures ∙ ap last_id c.as_slice.ensures ∙ last), log))
+
+pub returns-then-self-eq0-clause-images : goal.returns-then-self-eq0-clause-images
+returns-then-self-eq0-clause-images g c has log =
+    let self = c.args.self.now in
+    still-images (g.D.SectorDisk.history self.disk) (g.D.SectorDisk.size self.disk) self.root self.end self.number has self.in_range log.holds
+
+pub returns-in_err-tail-clause-images : goal.returns-in_err-tail-clause-images
+returns-in_err-tail-clause-images g c has log =
+    let self = c.args.self.now in
+    still-images (g.D.SectorDisk.history self.disk) (g.D.SectorDisk.size self.disk) self.root self.end self.number has self.in_range log.holds

@@ -1,0 +1,17 @@
+pub use Rattle.cg_disk.specs.Disk
+pub use Rattle.cg_gate.specs.Gates
+pub use Rattle.cg_gate.specs.Layout
+pub use Rattle.cg_frame.specs.Frames
+pub use Rattle.cg_root.specs.Roots
+pub mod Segments
+pub mod Carried
+pub mod Free
+pub mod Formatted
+pub mod Rolled
+pub mod Ready
+pub mod Props
+pub mod FaultOf
+pub mod Faults
+pub mod Scanned
+pub mod Loaded
+pub mod Log

@@ -1,0 +1,45 @@
+-- The model of a log.
+use Rattle.std.specs.Prelude.{◌≡◌, ℕ, Bool, true, List, Result, Ok, Err}
+use Rattle.cg_disk.specs.Disk.{History, present}
+use Rattle.cg_root.specs.declared.root.Root.{Root}
+use Rattle.cg_log.specs.Carried.{Content, HoldsContent}
+use Rattle.cg_log.specs.declared.fault.LogFault.{LogFault}
+use Rattle.cg_log.specs.declared.log.Log.{Log}
+
+-- its disk
+abbrev pub disk_of : {D : Type 0} {g : _} → Log D g → D
+disk_of log = log.disk
+
+-- its root
+abbrev pub root_of : {D : Type 0} {g : _} → Log D g → Root
+root_of log = log.root
+
+-- the position of the next frame in the last tail
+abbrev pub end_of : {D : Type 0} {g : _} → Log D g → ℕ
+end_of log = log.end
+
+-- the number of the last command
+abbrev pub number_of : {D : Type 0} {g : _} → Log D g → ℕ
+number_of log = log.number
+
+-- its device failed
+abbrev pub has_failed : {D : Type 0} {g : _} → Log D g → Bool
+has_failed log = log.has_failed
+
+-- a log on an honest disk has this content in every crash image
+pub record LogHas {D : Type 0} {g : _} (honest : D → Bool) (history : D → History) (size : D → ℕ) (log : Log D g) (has : Content) : Type 0 where
+  pub is_honest : honest (disk_of log) ≡ true
+  pub holds : HoldsContent (present (history (disk_of log))) (size (disk_of log)) (root_of log) (end_of log) (number_of log) has
+
+-- the log did not change
+pub record IsUnchanged {D : Type 0} {g : _} (old new : Log D g) : Type 0 where
+  pub disk : disk_of new ≡ disk_of old
+  pub root : root_of new ≡ root_of old
+  pub end : end_of new ≡ end_of old
+  pub number : number_of new ≡ number_of old
+  pub failed : has_failed new ≡ has_failed old
+
+-- the disk after an opening
+abbrev pub disk_after : {D : Type 0} {g : _} → Result (Log D g) (LogFault × D) → D
+disk_after (Ok log) = disk_of log
+disk_after (Err refused) = refused.1

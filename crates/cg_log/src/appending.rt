@@ -1,0 +1,169 @@
+//! One more frame in the last tail.
+ghost use Rattle.std.specs.Prelude.{◌≡◌, ◌⊎◌, ℕ, ◌+◌, ◌^◌, ◌≤◌, ◌<◌, [], ◌∷◌, ◌++◌, Bool, ◌≢◌, true, false, length, IfErr, IfOk, OnOk, IsErrOf, is_err};
+ghost use Rattle.cg_disk.specs.Disk.{Counts, LeavesOnly, present};
+ghost use Rattle.cg_frame.specs.Frames.{next_gate};
+ghost use Rattle.cg_frame.specs.declared.segment.TheConstants.{LARGEST_PAYLOAD_BYTES};
+ghost use Rattle.cg_gate.specs.Layout.{first_sector};
+ghost use Rattle.cg_gate.specs.declared.layout.TheConstants.{SEGMENT_SECTORS};
+ghost use Rattle.cg_root.specs.Roots.{IsLawful};
+ghost use Rattle.cg_log.specs.Carried.{AllCarry, CarriesBeforeOrAfter, Content, HoldsContent, LogAt, appended, rolled, tails};
+ghost use Rattle.cg_log.specs.Faults.{is_device_failure, IsWritingFault};
+ghost use Rattle.cg_log.specs.Rolled.{IsAppended, IsFullFor};
+ghost use Rattle.cg_log.specs.Segments.{frames_of};
+ghost use Rattle.cg_log.specs.declared.numbers.TheConstants.{COMMAND_NUMBER_MAX};
+ghost use Rattle.cg_log.specs.Ready.{AllClosed, IsReady, last_id};
+
+use crate::rolling::next_tail;
+use crate::log::Log;
+use crate::segment::{last_id, segment};
+use crate::{COMMAND_NUMBER_MAX, LogFault};
+use cg_disk::{DiskFault, SectorDisk};
+use cg_frame::{StagedFrame, append_staged, fits, stage};
+use cg_root::Root;
+
+/// Appends a frame that fits to the last tail. Returns the position of the gate after it. A crash at any moment leaves
+/// the content as it was, with the frame or without.
+pub(crate) fn append_last<D: SectorDisk>(
+    disk: &mut D,
+    root: &Root,
+    end: u64,
+    frame: &StagedFrame,
+) -> Result<u64, DiskFault>
+    requires lawful { IsLawful (D.size disk.old) root.now }
+    requires counted { 1 ≤ frame.now.0 }
+    requires fits { next_gate end (length frame.now.1) < SEGMENT_SECTORS }
+    requires closed { D.is_honest disk.old ≡ true →
+        AllClosed (present (D.history disk.old)) (first_sector (last_id root.now.tail) + end) }
+
+    ensures next { IfOk result (λ next. next ≡ next_gate end (length frame.now.1)) }
+    ensures cause { Counts (D.failures disk.old) (D.failures disk.new) (is_err result) }
+    ensures same_size { D.size disk.new ≡ D.size disk.old }
+    ensures same_honesty { D.is_honest disk.new ≡ D.is_honest disk.old }
+    ensures images { D.is_honest disk.old ≡ true → (has : Content) (number : ℕ) →
+        HoldsContent (present (D.history disk.old)) (D.size disk.old) root.now end number has →
+        LeavesOnly (D.history disk.old) (D.history disk.new) (λ image. LogAt image (D.size disk.old) root.now has
+        ⊎ LogAt image (D.size disk.old) root.now (appended has frame.now.0 frame.now.1)) }
+    ensures stored { D.is_honest disk.old ≡ true → IfOk result (λ next. (has : Content) (number : ℕ) →
+        HoldsContent (present (D.history disk.old)) (D.size disk.old) root.now end number has →
+        HoldsContent (present (D.history disk.new)) (D.size disk.old) root.now next (number + frame.now.0)
+        (appended has frame.now.0 frame.now.1)) }
+    ensures ready { D.is_honest disk.old ≡ true → IfOk result (λ next. (is_other_open : Bool) →
+        IsReady (present (D.history disk.old)) (D.size disk.old) root.now end is_other_open →
+        IsReady (present (D.history disk.new)) (D.size disk.old) root.now next is_other_open) }
+{
+    let last = segment(last_id(root.tail.as_slice()));
+    let next = append_staged(disk, last, end, frame)?;
+    Ok(next)
+}
+
+impl<D: SectorDisk> Log<D> {
+    ghost use Rattle.cg_log.specs.Log.{IsUnchanged, LogHas, disk_of, end_of, has_failed, number_of, root_of};
+
+    // Appends a frame that fits to the last tail.
+    fn put(&mut self, frame: &StagedFrame, count: u64) -> Result<(), LogFault>
+        requires serves { has_failed self.old ≡ false }
+        requires count { count ≡ frame.now.0 }
+        requires counted { 1 ≤ count }
+        requires few { number_of self.old + count ≤ COMMAND_NUMBER_MAX }
+        requires fits { next_gate (end_of self.old) (length frame.now.1) < SEGMENT_SECTORS }
+
+        ensures stored { (has : Content) → LogHas D.is_honest D.history D.size self.old has → OnOk result
+            (LogHas D.is_honest D.history D.size self.new (appended has frame.now.0 frame.now.1)) }
+        ensures images { (has : Content) → LogHas D.is_honest D.history D.size self.old has →
+            LeavesOnly (D.history (disk_of self.old)) (D.history (disk_of self.new))
+            (CarriesBeforeOrAfter (D.size (disk_of self.old)) (number_of self.old) (frames_of has.base) (frames_of (tails has)) frame.now.0 frame.now.1) }
+        ensures number { OnOk result (number_of self.new ≡ number_of self.old + count) }
+        ensures serves { OnOk result (has_failed self.new ≡ false) }
+        ensures faults { IfErr result (λ fault. fault ≡ LogFault.Device) }
+        ensures failed { IfErr result (λ fault. has_failed self.new ≡ true) }
+        ensures device { Counts (D.failures (disk_of self.old)) (D.failures (disk_of self.new)) (is_device_failure result) }
+        ensures same_size { D.size (disk_of self.new) ≡ D.size (disk_of self.old) }
+        ensures same_honesty { D.is_honest (disk_of self.new) ≡ D.is_honest (disk_of self.old) }
+    {
+        match append_last(&mut self.disk, &self.root, self.end, frame) {
+            Ok(next) => {
+                self.end = next;
+                self.number += count;
+                Ok(())
+            }
+            Err(DiskFault::Device) => {
+                self.has_failed = true;
+                Err(LogFault::Device)
+            }
+        }
+    }
+
+    // Adds a tail and appends a frame to it. Allocates both before it writes.
+    fn put_in_new_tail(&mut self, count: u64, payload: &[u8]) -> Result<(), LogFault>
+        requires serves { has_failed self.old ≡ false }
+        requires counted { 1 ≤ count }
+        requires one_frame { length payload.now ≤ LARGEST_PAYLOAD_BYTES }
+        requires few { number_of self.old + count ≤ COMMAND_NUMBER_MAX }
+
+        ensures stored { (has : Content) → LogHas D.is_honest D.history D.size self.old has → OnOk result
+            ((id : ℕ) × LogHas D.is_honest D.history D.size self.new (appended (rolled has id) count payload.now)) }
+        ensures images { (has : Content) → LogHas D.is_honest D.history D.size self.old has →
+            LeavesOnly (D.history (disk_of self.old)) (D.history (disk_of self.new))
+            (CarriesBeforeOrAfter (D.size (disk_of self.old)) (number_of self.old) (frames_of has.base) (frames_of (tails has)) count payload.now) }
+        ensures number { OnOk result (number_of self.new ≡ number_of self.old + count) }
+        ensures serves { OnOk result (has_failed self.new ≡ false) }
+        ensures full { IsErrOf result LogFault.Full → IsFullFor (D.size (disk_of self.old)) (root_of self.old) }
+        ensures unchanged { IfErr result (λ fault. fault ≢ LogFault.Device → IsUnchanged self.old self.new) }
+        ensures failed { IsErrOf result LogFault.Device → has_failed self.new ≡ true }
+        ensures faults { IfErr result IsWritingFault }
+        ensures device { Counts (D.failures (disk_of self.old)) (D.failures (disk_of self.new)) (is_device_failure result) }
+        ensures same_size { D.size (disk_of self.new) ≡ D.size (disk_of self.old) }
+        ensures same_honesty { D.is_honest (disk_of self.new) ≡ D.is_honest (disk_of self.old) }
+    {
+        let tail = next_tail(self.alloc, self.disk.sectors(), &self.root)?;
+        let frame = stage(self.alloc, count, payload)?;
+        let _ = self.add_tail(tail)?;
+        self.put(&frame, count)?;
+        Ok(())
+    }
+
+    /// Appends a frame of `count` commands, in four calls of the device; where it does not fit the last tail, in a new
+    /// tail. Every crash image since the start carries the frames before, or these and the new one; after `Ok` the
+    /// latter. `Full` is reported only where the number of a command would be too great, or where the frame does not
+    /// fit the last tail and no segment is free or the epoch is the last. After `Device` every call reports `Failed`.
+    pub fn append(&mut self, count: u64, payload: &[u8]) -> Result<(), LogFault>
+        requires counted { 1 ≤ count }
+        requires one_frame { length payload.now ≤ LARGEST_PAYLOAD_BYTES }
+
+        ensures stored { (has : Content) → LogHas D.is_honest D.history D.size self.old has → OnOk result ((new : Content) ×
+            (IsAppended has count payload.now new × LogHas D.is_honest D.history D.size self.new new)) }
+        ensures images { (has : Content) → LogHas D.is_honest D.history D.size self.old has →
+            LeavesOnly (D.history (disk_of self.old)) (D.history (disk_of self.new))
+            (CarriesBeforeOrAfter (D.size (disk_of self.old)) (number_of self.old) (frames_of has.base) (frames_of (tails has)) count payload.now) }
+        ensures after { (has : Content) → LogHas D.is_honest D.history D.size self.old has → OnOk result
+            (AllCarry (present (D.history (disk_of self.new))) (D.size (disk_of self.old)) (number_of self.old + count)
+            (frames_of has.base) (frames_of (tails has) ++ (count, payload.now) ∷ [])) }
+        ensures number { OnOk result (number_of self.new ≡ number_of self.old + count) }
+        ensures full { IsErrOf result LogFault.Full → (COMMAND_NUMBER_MAX < number_of self.old + count)
+            ⊎ ((SEGMENT_SECTORS ≤ next_gate (end_of self.old) (length payload.now))
+            × IsFullFor (D.size (disk_of self.old)) (root_of self.old)) }
+        ensures unchanged { IfErr result (λ fault. fault ≢ LogFault.Device → IsUnchanged self.old self.new) }
+        ensures serves { OnOk result (has_failed self.new ≡ false) }
+        ensures failed { IsErrOf result LogFault.Device → has_failed self.new ≡ true }
+        ensures refused { has_failed self.old ≡ true → IsErrOf result LogFault.Failed }
+        ensures faults { IfErr result (λ fault. IsWritingFault fault ⊎ ((fault ≡ LogFault.Failed) × (has_failed self.old ≡ true))) }
+        ensures device { Counts (D.failures (disk_of self.old)) (D.failures (disk_of self.new)) (is_device_failure result) }
+        ensures same_size { D.size (disk_of self.new) ≡ D.size (disk_of self.old) }
+        ensures same_honesty { D.is_honest (disk_of self.new) ≡ D.is_honest (disk_of self.old) }
+    {
+        if self.has_failed {
+            return Err(LogFault::Failed);
+        }
+        if count > COMMAND_NUMBER_MAX - self.number {
+            return Err(LogFault::Full);
+        }
+        let last = segment(last_id(self.root.tail.as_slice()));
+        if !fits(last, self.end, payload.len() as u64) {
+            self.put_in_new_tail(count, payload)?;
+            return Ok(());
+        }
+        let frame = stage(self.alloc, count, payload)?;
+        self.put(&frame, count)?;
+        Ok(())
+    }
+}

@@ -1,0 +1,55 @@
+//! Free segments: those that the root does not name.
+ghost use Rattle.std.specs.Prelude.{◌≡◌, ◌+◌, ◌<◌, ◌≤◌, ◌++◌};
+ghost use Rattle.std.specs.Option.{MatchOption};
+ghost use Rattle.cg_gate.specs.Layout.{segment_count};
+ghost use Rattle.cg_log.specs.Free.{free_count_of, is_among, IsLeastFree, NoneIsFree};
+
+use cg_gate::segment_count;
+use cg_root::SegmentId;
+
+// How many segments a disk of that many sectors has.
+fn segments_of(sectors: u64) -> u16
+    ensures { result ≡ segment_count sectors }
+{
+    segment_count(sectors) as u16
+}
+
+fn is_among(id: u16, ids: &[SegmentId]) -> bool
+    ensures { result ≡ is_among id ids.now }
+{
+    ids.iter().any(|other| id == other.get())
+}
+
+/// Returns whether the segment is named by the root of these base and tail ids.
+fn is_named(id: u16, base: &[SegmentId], tail: &[SegmentId]) -> bool
+    ensures { result ≡ is_among id (base.now ++ tail.now) }
+{
+    is_among(id, base) || is_among(id, tail)
+}
+
+/// Returns the free segment of the least id, on a disk of that many sectors.
+pub(crate) fn least_free(sectors: u64, base: &[SegmentId], tail: &[SegmentId]) -> Option<SegmentId>
+    ensures { MatchOption result
+        (NoneIsFree sectors (base.now ++ tail.now))
+        (λ id. IsLeastFree sectors (base.now ++ tail.now) id) }
+{
+    for id in 0..segments_of(sectors) {
+        if !is_named(id, base, tail) {
+            return Some(SegmentId::new(id));
+        }
+    }
+    None
+}
+
+/// Returns how many segments of a disk of that many sectors are free.
+pub(crate) fn count_free(sectors: u64, base: &[SegmentId], tail: &[SegmentId]) -> u64
+    ensures { result ≡ free_count_of sectors (base.now ++ tail.now) }
+{
+    let mut count = 0;
+    for id in 0..segments_of(sectors) {
+        if !is_named(id, base, tail) {
+            count += 1;
+        }
+    }
+    count
+}

@@ -1,0 +1,88 @@
+//! The log, and its opening.
+ghost use Rattle.std.specs.Prelude.{◌≡◌, ℕ, ◌≤◌, ◌<◌, true, false, length, IfOk, IfErr, MatchResult};
+ghost use Rattle.cg_disk.specs.Disk.{Counts, Stays, present};
+ghost use Rattle.cg_gate.specs.declared.layout.TheConstants.{SEGMENT_SECTORS};
+ghost use Rattle.cg_root.specs.Roots.{IsLawful};
+ghost use Rattle.cg_log.specs.Carried.{Content, AllCarry, Carries};
+ghost use Rattle.cg_log.specs.Faults.{Tells, is_opening_failure, IsOutOfReach};
+ghost use Rattle.cg_log.specs.Ready.{IsReady};
+ghost use Rattle.cg_log.specs.Segments.{Frames};
+ghost use Rattle.cg_log.specs.declared.numbers.TheConstants.{COMMAND_NUMBER_MAX};
+ghost use Rattle.cg_log.specs.Props.{IsLawful-prop, ready-prop};
+
+use crate::LogFault;
+use crate::loading::{Loaded, load};
+use cg_disk::SectorDisk;
+use cg_root::Root;
+use std::alloc::Global;
+
+/// An open log. It keeps the root in memory, and of the frames where the last one ends and how many commands they have.
+#[derive(Drop)]
+pub struct Log<D: SectorDisk> {
+    pub(crate) alloc: Global,
+    pub(crate) disk: D,
+    pub(crate) root: Root,
+    pub(crate) end: u64,
+    pub(crate) number: u64,
+    pub(crate) is_other_open: bool,
+    pub(crate) has_failed: bool,
+    ghost room: { 4 ≤ D.size disk },
+    ghost lawful: { IsLawful (D.size disk) root } by { IsLawful-prop (D.size disk) root },
+    ghost inside: { end < SEGMENT_SECTORS },
+    ghost in_range: { number ≤ COMMAND_NUMBER_MAX },
+    ghost ready: { has_failed ≡ false → D.is_honest disk ≡ true →
+        IsReady (present (D.history disk)) (D.size disk) root end is_other_open }
+        by { ready-prop has_failed (D.is_honest disk) (present (D.history disk)) (D.size disk) root end is_other_open },
+}
+
+impl<D: SectorDisk> Log<D> {
+    ghost use Rattle.cg_log.specs.Log.{LogHas, disk_after, disk_of, number_of, has_failed};
+
+    /// Opens the log on a disk. Syncs the disk once, writes nothing, and reads each frame once. The faults are reported
+    /// in the order `NoRoot`, `BadRoot`, `BadFrame`, where no allocation and no call of the device fails; a fault comes
+    /// with the disk.
+    pub fn open(alloc: Global, disk: D) -> Result<Self, (LogFault, D)>
+        ensures stored { D.is_honest disk ≡ true → IfOk result (λ log.
+            (has : Content) × LogHas D.is_honest D.history D.size log has) }
+        // The commands and frames are those on the disk, unless an allocation or the device fails.
+        ensures carried { D.is_honest disk ≡ true → (n : ℕ) (base tail : Frames) →
+            Carries (present (D.history disk)).content (D.size disk) n base tail → MatchResult result
+            (λ log. (number_of log ≡ n) × AllCarry (present (D.history (disk_of log))) (D.size disk) n base tail)
+            (λ refused. IsOutOfReach refused.0) }
+        ensures tells { D.is_honest disk ≡ true → IfErr result (λ refused.
+            Tells (present (D.history disk)).content (D.size disk) refused.0) }
+        ensures serves { IfOk result (λ log. has_failed log ≡ false) }
+        ensures content { D.is_honest disk ≡ true → Stays (D.history disk) (D.history (disk_after result)) }
+        ensures device { Counts (D.failures disk) (D.failures (disk_after result)) (is_opening_failure result) }
+        ensures same_size { D.size (disk_after result) ≡ D.size disk }
+        ensures same_honesty { D.is_honest (disk_after result) ≡ D.is_honest disk }
+    {
+        let mut disk = disk;
+        let loaded = match load(alloc, &mut disk) {
+            Ok(loaded) => loaded,
+            Err(fault) => return Err((fault, disk)),
+        };
+        let Loaded {
+            root,
+            tail,
+            is_other_open,
+        } = loaded;
+        Ok(Log {
+            alloc,
+            disk,
+            root,
+            end: tail.end,
+            number: tail.number,
+            is_other_open,
+            has_failed: false,
+        })
+    }
+
+    /// Returns the disk, without a call of the device.
+    pub fn into_disk(self) -> D
+        ensures { result ≡ disk_of self }
+    {
+        let Log { disk, .. } = self;
+        disk
+    }
+}
