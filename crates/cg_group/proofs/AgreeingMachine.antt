@@ -25,7 +25,8 @@ use Rattle.cg_request.specs.declared.ticket.Ticket.{Ticket}
 use Rattle.cg_member.specs.Joining.{new_group}
 use Rattle.cg_held.specs.Kept.{Each, HasOffset, Kept, kept_in}
 use Rattle.cg_held.proofs.Kept.{kept-after, kept_after}
-use Rattle.cg_group.specs.Laws.{AgreesIn, AreCompleted, AreRequests, IsFounded, IsFresh, IsRebalancing, IsRecordedAs, MachineAndCommandsAgree, TellsOf, after_all, commands_of, has_named, is_request, is_same_ticket, is_sync_of, state_after}
+use Rattle.cg_group.specs.Laws.{AgreesIn, AreCompleted, AreRequests, IsFounded, IsFresh, IsRebalancing, IsRecordedAs, MachineAndCommandsAgree, TellsOf, after_all, commands_of, is_request, state_after}
+use Rattle.cg_group.proofs.Asked.{has_named, is_same_ticket, is_sync_of}
 use Rattle.cg_member.specs.Leaving.{gone_in}
 use Rattle.cg_group.specs.Machine.{beat, commit, concluded, deleted, deleting, join, leave, met, step, sync}
 use Rattle.cg_held.specs.Held.{Machine, everywhere, find_group}

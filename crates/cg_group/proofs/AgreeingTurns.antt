@@ -28,7 +28,7 @@ use Rattle.cg_turn.specs.Committing.{committed, hearing_committer, keeping_entri
 use Rattle.cg_member.specs.Joining.{admitted, in_join_phase, is_current, join_again, join_current, join_known, join_new, new_member, rejoined, updated, updating, waiting, waits_with}
 use Rattle.cg_held.specs.Kept.{Kept}
 use Rattle.cg_held.proofs.Kept.{kept_after}
-use Rattle.cg_group.specs.Laws.{has_named}
+use Rattle.cg_group.proofs.Asked.{has_named}
 use Rattle.cg_member.specs.Offsets.{OffsetMap}
 use Rattle.cg_member.specs.Leaving.{after_removal, gone_in, leave_taken, left}
 use Rattle.cg_member.specs.Membership.{find_instance, find_member, has_id, heard, hearing, is_empty, is_named, is_preparing, is_stable, keeping, leads, with_member}

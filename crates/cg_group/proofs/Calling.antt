@@ -9,7 +9,7 @@ use Rattle.cg_member.specs.declared.member.Waits.{Waits}
 use Rattle.cg_member.specs.declared.member.Waits.TheVariants.{Nothing, Join, Sync}
 use Rattle.cg_request.specs.declared.request.SyncEntry.{SyncEntry}
 use Rattle.cg_held.specs.Kept.{Each}
-use Rattle.cg_group.specs.Laws.{has_named}
+use Rattle.cg_group.proofs.Asked.{has_named}
 use Rattle.cg_member.specs.Membership.{has_id, has_instance, with_member}
 use Rattle.cg_member.specs.Replacing.{seated}
 use Rattle.cg_member.specs.Syncing.{assigned}

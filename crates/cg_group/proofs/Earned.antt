@@ -30,7 +30,8 @@ use Rattle.cg_member.specs.declared.turn.Turn.{Turn}
 use Rattle.cg_member.specs.Joining.{admitted, is_current, join_again, join_current, join_known, join_new, new_group, new_member, rejoined, updating, waiting, waits_with}
 use Rattle.cg_held.specs.Kept.{Each, Kept, kept_in}
 use Rattle.cg_held.proofs.Kept.{kept-after, kept_after}
-use Rattle.cg_group.specs.Laws.{AreRequests, IsRecordedAs, TellsOf, after_all, has_named, is_earned, is_earned_in, is_in_roster, is_kept_for, state_after}
+use Rattle.cg_group.specs.Laws.{AreRequests, IsRecordedAs, TellsOf, after_all, state_after}
+use Rattle.cg_group.proofs.Asked.{has_named, is_earned, is_earned_in, is_in_roster, is_kept_for}
 use Rattle.cg_request.specs.declared.topic_partition.TopicPartition.{TopicPartition}
 use Rattle.cg_member.specs.Fetching.{fetched}
 use Rattle.cg_member.specs.Offsets.{OffsetMap}

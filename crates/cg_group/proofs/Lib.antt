@@ -23,3 +23,4 @@ pub mod Succeeding
 pub mod Telling
 pub mod Founded
 pub mod Dated
+pub mod Asked

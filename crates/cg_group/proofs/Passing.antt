@@ -1,5 +1,5 @@
 -- A Replaced command has the assignment of the replaced member; only a replacement makes such a command.
-use Rattle.std.proofs.Common.{◌≡◌, ℕ, Bool, true, false, ◌&&◌, ◌||◌, max, List, [], ◌∷◌, find, cond, refl, ap, ◌∙◌, Some, Result, Ok, Err}
+use Rattle.std.proofs.Common.{◌≡◌, ℕ, Bool, true, false, ◌&&◌, ◌||◌, max, List, [], ◌∷◌, ◌++◌, find, cond, refl, ap, subst, ◌∙◌, Some, Result, Ok, Err}
 use Rattle.std.specs.Prelude.{if◌then◌else◌}
 use Rattle.std.specs.List.{list_any, flat_map}
 use Rattle.std.proofs.lemmas.Bool.{and_from, or_left, or_right}
@@ -16,11 +16,16 @@ use Rattle.cg_request.specs.declared.ticket.Ticket.{Ticket}
 use Rattle.cg_member.specs.declared.turn.Turn.{Turn}
 use Rattle.cg_turn.specs.Committing.{committed, hearing_committer, keeping_entries}
 use Rattle.cg_member.specs.Joining.{new_group, new_member, rejoined}
-use Rattle.cg_held.specs.Kept.{Each}
-use Rattle.cg_group.specs.Laws.{AreRequests, AssignmentsAreEarned, after_all, is_passed_on, passes_assignment}
+use Rattle.cg_record.specs.declared.replaced.Replaced.{Replaced}
+use Rattle.cg_fold.specs.Durable.{after}
+use Rattle.cg_member.specs.declared.reply.Reply.{Reply}
+use Rattle.cg_member.specs.declared.reply.Reply.TheVariants as reply
+use Rattle.cg_held.specs.Kept.{Each, Kept, kept_in}
+use Rattle.cg_group.specs.Laws.{AreRequests, AssignmentsAreEarned, IsEarnedAssignment, IsPassedOn, after_all, state_after}
+use Rattle.cg_group.proofs.Asked.{earned_is, is_earned, is_passed_on, passed_is, passes_assignment}
 use Rattle.cg_member.specs.Leaving.{gone_in}
 use Rattle.cg_group.specs.Machine.{beat, commit, concluded, deleted, deleting, join, leave, met, step, sync}
-use Rattle.cg_held.specs.Held.{Machine, everywhere, find_group}
+use Rattle.cg_held.specs.Held.{Machine, Outcome, everywhere, find_group}
 use Rattle.cg_member.specs.Membership.{find_instance, has_instance, is_same}
 use Rattle.cg_member.specs.Replacing.{join_replacing, keeps_generation, replaced, replaced_command, replaced_in_place, successor}
 use Rattle.cg_held.specs.Reviving.{revive}
@@ -151,7 +156,14 @@ unfolding step
 passed-step s e m = passed-met (record s { last = max s.last m }) e
 
 pub assignments_are_earned : (events : List (Event × ℕ)) → AreRequests events → AssignmentsAreEarned events
-assignments_are_earned events asked state now e m = record {
-  replies = replies_are_earned state now events e m asked;
-  commands = passed-step (after_all events (revive state now)) e m;
-}
+assignments_are_earned events asked state now e m =
+    let before : Machine = after_all events (revive state now) in
+    let o : Outcome = step before e m in
+    let past : List (Event × ℕ) = events ++ (e, m) ∷ [] in
+    let kept : Kept = kept_in (after (state_after state now events) o.effects.commands) in
+    record {
+      replies = each-over (λ r. is_earned past o.after.groups kept r ≡ true) (λ r. (bytes : List ℕ) → r.1 ≡ reply.Synced bytes → IsEarnedAssignment past o.after.groups kept r.0 bytes)
+          (λ r h bytes is. earned_is past o.after.groups kept r.0 bytes (subst (λ (x : Reply). is_earned past o.after.groups kept (r.0, x) ≡ true) is h)) o.effects.replies (replies_are_earned state now events e m asked);
+      commands = each-over (λ c. is_passed_on before.groups c ≡ true) (λ c. (new : Replaced) → c ≡ command.Replaced new → IsPassedOn before.groups new)
+          (λ c h new is. passed_is before.groups new (subst (λ (x : Command). is_passed_on before.groups x ≡ true) is h)) o.effects.commands (passed-step before e m);
+    }

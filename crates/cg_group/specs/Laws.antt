@@ -1,5 +1,5 @@
 -- Laws of the machine, for every list of events after recovery from any durable state.
-use Rattle.std.specs.Prelude.{◌≡◌, ◌⊎◌, ◌≤◌, ℕ, Bool, true, false, pos, ◌&&◌, ◌==◌, List, [], ◌∷◌, ◌++◌, map, Option, Some, None, Ok, IfSome, is_some}
+use Rattle.std.specs.Prelude.{◌≡◌, ◌⊎◌, ◌≤◌, ℕ, Bool, true, false, pos, ◌&&◌, ◌==◌, List, [], ◌∷◌, ◌++◌, map, Option, Some, None, Ok, Contains, IfSome, is_some}
 use Rattle.std.specs.List.{list_any, flat_map}
 use Rattle.std.specs.Ordering.{int_eq}
 use Rattle.std.specs.FinMap as finmap
@@ -7,6 +7,7 @@ use Rattle.cg_names.specs.declared.code.Code.{Code}
 use Rattle.cg_record.specs.declared.command.Command.{Command}
 use Rattle.cg_record.specs.declared.command.Command.TheVariants as command
 use Rattle.cg_record.specs.declared.member.Member.{Member as KeptMember}
+use Rattle.cg_record.specs.declared.replaced.Replaced.{Replaced}
 use Rattle.cg_record.specs.Rosters.{RosterParts}
 use Rattle.cg_fold.specs.declared.key.OffsetKey.{OffsetKey}
 use Rattle.cg_fold.specs.declared.record.GroupRecord.{GroupRecord}
@@ -19,6 +20,7 @@ use Rattle.cg_member.specs.declared.group.Phase.TheVariants.{Empty, Preparing, C
 use Rattle.cg_member.specs.declared.member.Member.{Member}
 use Rattle.cg_member.specs.declared.reply.Reply.{Reply}
 use Rattle.cg_request.specs.declared.request.CommitRequest.{CommitRequest}
+use Rattle.cg_request.specs.declared.request.SyncRequest.{SyncRequest}
 use Rattle.cg_member.specs.declared.reply.Reply.TheVariants as reply
 use Rattle.cg_request.specs.declared.ticket.Ticket.{Ticket}
 use Rattle.cg_turn.specs.Committing.{is_negative}
@@ -208,77 +210,43 @@ MachineAndCommandsAgree events = (state : State) (now : ℕ) → AgreeAfter even
 -- A SYNC reply goes to a member that gave the group's generation, and has the assignment that is stored for it; a
 -- replacement has the assignment of the replaced member.
 
-abbrev pub is_same_ticket : Ticket → Ticket → Bool
-is_same_ticket t u = (t.session == u.session) && (t.number == u.number)
+-- an assignment that was earned: a SYNC with this ticket came from a member of a loaded group and gave the generation of
+-- the group, and the record of the group has these bytes for the member
+pub record IsEarnedAssignment (events : List (Event × ℕ)) (groups : List Group) (kept : Kept) (ticket : Ticket) (bytes : List ℕ) : Type 0 where
+  pub group : Group
+  pub loaded : Contains groups group
+  pub member : Member
+  pub joined : Contains group.members member
+  pub request : SyncRequest
+  pub moment : ℕ
+  pub sent : Contains events (event.Sync ticket request, moment)
+  pub addressed : request.group ≡ Some group.id
+  pub given : request.member ≡ Some member.id
+  pub dated : int_eq request.generation (pos group.generation) ≡ true
+  pub entry : GroupRecord
+  pub entry_is : kept group.id ≡ Some entry
+  pub roster : RosterParts
+  pub roster_is : entry.roster ≡ Some roster
+  pub stored : KeptMember
+  pub listed : Contains roster.members stored
+  pub own : stored.id ≡ member.id
+  pub assigned : stored.assignment ≡ bytes
 
--- the event is the SYNC with this ticket, of this member of this group, and gives this generation
-abbrev pub is_sync_of : List ℕ → ℕ → List ℕ → Ticket → Event → Bool
-is_sync_of group generation member t (event.Sync ticket r) =
-    is_same_ticket ticket t && is_named r.group group && is_named r.member member && int_eq r.generation (pos generation)
-is_sync_of group generation member t (event.Join ticket r fresh) = false
-is_sync_of group generation member t (event.Beat ticket r) = false
-is_sync_of group generation member t (event.Leave ticket r) = false
-is_sync_of group generation member t (event.Commit ticket r) = false
-is_sync_of group generation member t (event.Fetch ticket r) = false
-is_sync_of group generation member t (event.Delete ticket id) = false
-is_sync_of group generation member t (event.Describe ticket id) = false
-is_sync_of group generation member t (event.List ticket) = false
-is_sync_of group generation member t (event.Gone session) = false
-is_sync_of group generation member t event.Tick = false
+-- a replacement that has the assignment of the member that it replaces, as its group was before
+pub record IsPassedOn (groups : List Group) (new : Replaced) : Type 0 where
+  pub group : Group
+  pub loaded : Contains groups group
+  pub own : group.id ≡ new.group
+  pub old : Member
+  pub joined : Contains group.members old
+  pub instance : has_instance new.member.instance old ≡ true
+  pub assignment : old.assignment ≡ new.member.assignment
 
--- one of these events is such a SYNC
-abbrev pub has_named : List (Event × ℕ) → List ℕ → ℕ → List ℕ → Ticket → Bool
-has_named events group generation member t = list_any (λ e. is_sync_of group generation member t e.0) events
-
--- these bytes are the assignment of the member in the roster
-abbrev pub is_in_roster : Option RosterParts → List ℕ → List ℕ → Bool
-is_in_roster None member bytes = false
-is_in_roster (Some roster) member bytes = list_any (λ m. is_same m.id member && is_same m.assignment bytes) roster.members
-
--- these bytes are the stored assignment of the member with this id
-abbrev pub is_kept_for : Option GroupRecord → List ℕ → List ℕ → Bool
-is_kept_for None member bytes = false
-is_kept_for (Some r) member bytes = is_in_roster r.roster member bytes
-
--- a SYNC reply is for a SYNC of a member of the group, which gave its generation, and has the member's stored
--- assignment
-abbrev pub is_earned_in : List (Event × ℕ) → Group → Option GroupRecord → Ticket × Reply → Bool
-is_earned_in events g kept (t, reply.Synced bytes) =
-    list_any (λ m. has_named events g.id g.generation m.id t && is_kept_for kept m.id bytes) g.members
-is_earned_in events g kept (t, reply.Joined j) = true
-is_earned_in events g kept (t, reply.Done) = true
-is_earned_in events g kept (t, reply.Fetched partitions) = true
-is_earned_in events g kept (t, reply.Described d) = true
-is_earned_in events g kept (t, reply.Groups listings) = true
-is_earned_in events g kept (t, reply.Refused code) = true
-
--- the same for some loaded group; other replies always pass
-abbrev pub is_earned : List (Event × ℕ) → List Group → Kept → Ticket × Reply → Bool
-is_earned events groups kept (t, reply.Synced bytes) = list_any (λ g. is_earned_in events g (kept g.id) (t, reply.Synced bytes)) groups
-is_earned events groups kept (t, reply.Joined j) = true
-is_earned events groups kept (t, reply.Done) = true
-is_earned events groups kept (t, reply.Fetched partitions) = true
-is_earned events groups kept (t, reply.Described d) = true
-is_earned events groups kept (t, reply.Groups listings) = true
-is_earned events groups kept (t, reply.Refused code) = true
-
--- the member has the instance of the new one, and the same assignment
-abbrev pub passes_assignment : KeptMember → Member → Bool
-passes_assignment new m = has_instance new.instance m && is_same m.assignment new.assignment
-
--- a Replaced command has the assignment of the member that it replaces, as its group was before
-abbrev pub is_passed_on : List Group → Command → Bool
-is_passed_on groups (command.Replaced r) = list_any (λ g. is_same g.id r.group && list_any (passes_assignment r.member) g.members) groups
-is_passed_on groups (command.Assigned a) = true
-is_passed_on groups (command.Emptied e) = true
-is_passed_on groups (command.Committed c) = true
-is_passed_on groups (command.Deleted d) = true
-
--- the law for one more event: each reply by the events so far and by the groups and records at its end; each command by
--- the groups before it
+-- the law for one more event: each SYNC reply by the events so far and by the groups and records at its end; each
+-- Replaced command by the groups before it
 pub record IsEarned (events : List (Event × ℕ)) (before : Machine) (kept : Kept) (o : Outcome) : Type 0 where
-  pub replies : Each (λ r. is_earned events o.after.groups kept r ≡ true) o.effects.replies
-  pub commands : Each (λ c. is_passed_on before.groups c ≡ true) o.effects.commands
+  pub replies : Each (λ r. (bytes : List ℕ) → r.1 ≡ reply.Synced bytes → IsEarnedAssignment events o.after.groups kept r.0 bytes) o.effects.replies
+  pub commands : Each (λ c. (new : Replaced) → c ≡ command.Replaced new → IsPassedOn before.groups new) o.effects.commands
 
 -- for the events of a list and any one after them
 abbrev pub AssignmentsAreEarned : List (Event × ℕ) → Type 0

@@ -187,11 +187,8 @@ pub fn join_unheld(
     ensures ok { IfOk result (λ o. o ≡ join_unheld now r fresh ticket held id) }
     ensures err { OnErr result (is_ok (join_unheld now r fresh ticket held id) ≡ true) }
 {
-    if r.request.member.is_some() {
-        return Ok(Err(Code::UnknownMemberId));
-    }
-    if GROUPS_MAX <= held {
-        return Ok(Err(Code::CoordinatorNotAvailable));
+    if let Some(code) = unheld_refusal(&r.request, held) {
+        return Ok(Err(code));
     }
     let member = drawn(alloc, &r.request, fresh)?;
     let turn = join_new(alloc, now, r, member, ticket, new_group(alloc, id))?;
