@@ -5,7 +5,7 @@
 
 mod appending;
 mod fault;
-mod format;
+mod formatted;
 mod free;
 mod loading;
 mod log;
@@ -15,6 +15,6 @@ mod scanning;
 mod segment;
 
 pub use fault::LogFault;
-pub use format::format;
+pub use formatted::format;
 pub use log::Log;
 pub use numbers::{COMMAND_NUMBER_MAX, log_numbers};
