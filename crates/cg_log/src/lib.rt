@@ -13,6 +13,8 @@ mod numbers;
 mod rolling;
 mod scanning;
 mod segment;
+#[cfg(test)]
+mod tests;
 
 pub use fault::LogFault;
 pub use formatted::format;

@@ -33,8 +33,7 @@ pub struct Log<D: SectorDisk> {
     ghost inside: { end < SEGMENT_SECTORS },
     ghost in_range: { number ≤ COMMAND_NUMBER_MAX },
     ghost ready: { has_failed ≡ false → D.is_honest disk ≡ true →
-        IsReady (present (D.history disk)) (D.size disk) root end is_other_open }
-        by { ready-prop has_failed (D.is_honest disk) (present (D.history disk)) (D.size disk) root end is_other_open },
+        IsReady (present (D.history disk)) (D.size disk) root end is_other_open } by { ready-prop has_failed (D.is_honest disk) (present (D.history disk)) (D.size disk) root end is_other_open },
 }
 
 impl<D: SectorDisk> Log<D> {
@@ -78,6 +77,13 @@ impl<D: SectorDisk> Log<D> {
             is_other_open,
             has_failed: false,
         })
+    }
+
+    /// Returns the number of the last command: the base number, and the commands of the tail.
+    pub fn number(&self) -> u64
+        ensures { result ≡ number_of self.now }
+    {
+        self.number
     }
 
     /// Returns how many segments are free: the root names none of them. Compares each segment with each id.
