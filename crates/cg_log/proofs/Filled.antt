@@ -36,7 +36,6 @@ HasFramesTo-end image segment frames has = subst (HasFramesTo image segment fram
 
 -- two images have the same sectors there
 abbrev pub SameSectors : Image → Image → ℕ → ℕ → Type 0
-
 SameSectors a b at n = (s : ℕ) → at ≤ s → s < at + n → b s ≡ a s
 
 HasFramesTo-same : (a b : Image) (segment : Segment) (frames : Frames) (end : ℕ) → 0 < segment.sectors → SameSectors a b segment.first segment.sectors → HasFramesTo a segment frames end → HasFramesTo b segment frames end
@@ -55,7 +54,6 @@ IsExtent-same a b id extent same is = record { frames = is.frames; has = HasFram
 
 -- these segments have no sector among the n from `at` on
 abbrev pub AreApart : ℕ → ℕ → List Filled → Type 0
-
 AreApart at n segments = AllByRecursion (λ (s : Filled). (first_sector s.0 + 2048 ≤ at) ⊎ (at + n ≤ first_sector s.0)) segments
 
 same_apart : (a b : Image) (at n id : ℕ) → ((s : ℕ) → s < at → b s ≡ a s) → ((s : ℕ) → at + n ≤ s → b s ≡ a s) → (first_sector id + 2048 ≤ at) ⊎ (at + n ≤ first_sector id) → SameSectors a b (first_sector id) 2048

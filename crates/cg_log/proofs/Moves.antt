@@ -219,8 +219,8 @@ module _ (sectors : ℕ) (current next : Root) (has : Content) (id : ℕ) (more 
       pub tail-third : LeavesOnly h2 h3 (IsOldOrNew sectors current next) → LeavesOnly h2 h3 (HasOrRolled sectors current next has id)
       tail-third run = LeavesOnly-weaker h2 h3 _ _ (λ image both. elim both.1 [
         | inl old ↦ inl (LogAt-counting (present h2) sectors current has (gate_of next.slot) 2 image keeps2 both.0
-          (AreApart-slots (gate_of next.slot) 2 has.base (omega (arith, gate_of-small next.slot)))
-          (AreApart-slots (gate_of next.slot) 2 (tails has) (omega (arith, gate_of-small next.slot))) old)
+            (AreApart-slots (gate_of next.slot) 2 has.base (omega (arith, gate_of-small next.slot)))
+            (AreApart-slots (gate_of next.slot) 2 (tails has) (omega (arith, gate_of-small next.slot))) old)
         | inr new ↦ inr (third_rolled image both.0 new)
       ]) (LeavesOnly-both h2 h3 _ _ (LeavesOnly-changes (gate_of next.slot) 2 h2 h3 third_time) run)
 
@@ -301,14 +301,14 @@ module _ (old new : History) (sectors : ℕ) (current : Root) (end number : ℕ)
   roll-images next id more run = LeavesOnly-weaker old new _ _ (λ image either. elim either [
     | inl at ↦ Carries-at image sectors number current has at holds.number_is small
     | inr at ↦ subst (Carries image sectors number (frames_of has.base)) (frames_of-rolled has id)
-      (Carries-at image sectors number next (rolled has id) at (omega (arith, holds.number_is, more.base_number, ap counted (frames_of-rolled has id))) small)
+        (Carries-at image sectors number next (rolled has id) at (omega (arith, holds.number_is, more.base_number, ap counted (frames_of-rolled has id))) small)
   ]) run
 
   pub put-images : (count : ℕ) (payload : List ℕ) → number + count ≤ COMMAND_NUMBER_MAX → LeavesOnly old new (λ image. LogAt image sectors current has ⊎ LogAt image sectors current (appended has count payload)) → LeavesOnly old new (CarriesBeforeOrAfter sectors number (frames_of has.base) (frames_of (tails has)) count payload)
   put-images count payload few run = LeavesOnly-weaker old new _ _ (λ image either. elim either [
     | inl at ↦ inl (Carries-at image sectors number current has at holds.number_is small)
     | inr at ↦ inr (subst (Carries image sectors (number + count) (frames_of has.base)) (frames_of-appended has count payload)
-      (Carries-at image sectors (number + count) current (appended has count payload) at (omega (arith, holds.number_is, ap counted (frames_of-appended has count payload), counted-append (frames_of (tails has)) ((count, payload) ∷ []))) few))
+        (Carries-at image sectors (number + count) current (appended has count payload) at (omega (arith, holds.number_is, ap counted (frames_of-appended has count payload), counted-append (frames_of (tails has)) ((count, payload) ∷ []))) few))
   ]) run
 
 -- a tail whose frames end at its first gate has none
@@ -324,8 +324,8 @@ no_frames (f ∷ frames) is = absurd (omega (arith, is, end_past (next_gate 0 (l
 pub then-images : (h0 h1 h2 : History) (sectors sectors' number number' count : ℕ) (payload : List ℕ) (has : Content) (id : ℕ) → sectors' ≡ sectors → number' ≡ number → LeavesOnly h0 h1 (λ image. Carries image sectors number (frames_of has.base) (frames_of (tails has))) → LeavesOnly h1 h2 (CarriesBeforeOrAfter sectors' number' (frames_of has.base) (frames_of (tails (rolled has id))) count payload) → LeavesOnly h0 h2 (CarriesBeforeOrAfter sectors number (frames_of has.base) (frames_of (tails has)) count payload)
 then-images h0 h1 h2 sectors sectors' number number' count payload has id size same first second =
     let after = subst (λ (n : ℕ). LeavesOnly h1 h2 (CarriesBeforeOrAfter sectors n (frames_of has.base) (frames_of (tails has)) count payload)) same
-        (subst (λ (n : ℕ). LeavesOnly h1 h2 (CarriesBeforeOrAfter n number' (frames_of has.base) (frames_of (tails has)) count payload)) size
-        (subst (λ (l : Frames). LeavesOnly h1 h2 (CarriesBeforeOrAfter sectors' number' (frames_of has.base) l count payload)) (frames_of-rolled has id) second)) in
+    (subst (λ (n : ℕ). LeavesOnly h1 h2 (CarriesBeforeOrAfter n number' (frames_of has.base) (frames_of (tails has)) count payload)) size
+    (subst (λ (l : Frames). LeavesOnly h1 h2 (CarriesBeforeOrAfter sectors' number' (frames_of has.base) l count payload)) (frames_of-rolled has id) second)) in
     LeavesOnly-then h0 h1 h2 _ (LeavesOnly-weaker h0 h1 _ _ (λ image c. inl c) first) after
 
 pub before-images : (old new : History) (sectors number count : ℕ) (base tail : Frames) (payload : List ℕ) → LeavesOnly old new (λ image. Carries image sectors number base tail) → LeavesOnly old new (CarriesBeforeOrAfter sectors number base tail count payload)

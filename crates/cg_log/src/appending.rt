@@ -13,8 +13,8 @@ ghost use Rattle.cg_log.specs.Segments.{frames_of};
 ghost use Rattle.cg_log.specs.declared.numbers.TheConstants.{COMMAND_NUMBER_MAX};
 ghost use Rattle.cg_log.specs.Ready.{AllClosed, IsReady, last_id};
 
-use crate::rolling::next_tail;
 use crate::log::Log;
+use crate::rolling::next_tail;
 use crate::segment::{last_id, segment};
 use crate::{COMMAND_NUMBER_MAX, LogFault};
 use cg_disk::{DiskFault, SectorDisk};

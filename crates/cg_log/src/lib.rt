@@ -5,7 +5,7 @@
 
 mod appending;
 mod fault;
-mod format;
+mod formatted;
 mod free;
 mod loading;
 mod log;
@@ -13,8 +13,10 @@ mod numbers;
 mod rolling;
 mod scanning;
 mod segment;
+#[cfg(test)]
+mod tests;
 
 pub use fault::LogFault;
-pub use format::format;
+pub use formatted::format;
 pub use log::Log;
 pub use numbers::{COMMAND_NUMBER_MAX, log_numbers};

@@ -2,15 +2,17 @@
 ghost use Rattle.std.specs.Prelude.{◌≡◌, ℕ, ◌≤◌, ◌<◌, true, false, length, IfOk, IfErr, MatchResult};
 ghost use Rattle.cg_disk.specs.Disk.{Counts, Stays, present};
 ghost use Rattle.cg_gate.specs.declared.layout.TheConstants.{SEGMENT_SECTORS};
-ghost use Rattle.cg_root.specs.Roots.{IsLawful};
+ghost use Rattle.cg_root.specs.Roots.{IsLawful, root_ids};
 ghost use Rattle.cg_log.specs.Carried.{Content, AllCarry, Carries};
 ghost use Rattle.cg_log.specs.Faults.{Tells, is_opening_failure, IsOutOfReach};
+ghost use Rattle.cg_log.specs.Free.{free_count_of};
 ghost use Rattle.cg_log.specs.Ready.{IsReady};
 ghost use Rattle.cg_log.specs.Segments.{Frames};
 ghost use Rattle.cg_log.specs.declared.numbers.TheConstants.{COMMAND_NUMBER_MAX};
 ghost use Rattle.cg_log.specs.Props.{IsLawful-prop, ready-prop};
 
 use crate::LogFault;
+use crate::free::count_free;
 use crate::loading::{Loaded, load};
 use cg_disk::SectorDisk;
 use cg_root::Root;
@@ -31,12 +33,11 @@ pub struct Log<D: SectorDisk> {
     ghost inside: { end < SEGMENT_SECTORS },
     ghost in_range: { number ≤ COMMAND_NUMBER_MAX },
     ghost ready: { has_failed ≡ false → D.is_honest disk ≡ true →
-        IsReady (present (D.history disk)) (D.size disk) root end is_other_open }
-        by { ready-prop has_failed (D.is_honest disk) (present (D.history disk)) (D.size disk) root end is_other_open },
+        IsReady (present (D.history disk)) (D.size disk) root end is_other_open } by { ready-prop has_failed (D.is_honest disk) (present (D.history disk)) (D.size disk) root end is_other_open },
 }
 
 impl<D: SectorDisk> Log<D> {
-    ghost use Rattle.cg_log.specs.Log.{LogHas, disk_after, disk_of, number_of, has_failed};
+    ghost use Rattle.cg_log.specs.Log.{LogHas, disk_after, disk_of, has_failed, number_of, root_of};
 
     /// Opens the log on a disk. Syncs the disk once, writes nothing, and reads each frame once. The faults are reported
     /// in the order `NoRoot`, `BadRoot`, `BadFrame`, where no allocation and no call of the device fails; a fault comes
@@ -76,6 +77,24 @@ impl<D: SectorDisk> Log<D> {
             is_other_open,
             has_failed: false,
         })
+    }
+
+    /// Returns the number of the last command: the base number, and the commands of the tail.
+    pub fn number(&self) -> u64
+        ensures { result ≡ number_of self.now }
+    {
+        self.number
+    }
+
+    /// Returns how many segments are free: the root names none of them. Compares each segment with each id.
+    pub fn free_count(&self) -> u64
+        ensures { result ≡ free_count_of (D.size (disk_of self.now)) (root_ids (root_of self.now)) }
+    {
+        count_free(
+            self.disk.sectors(),
+            self.root.base.as_slice(),
+            self.root.tail.as_slice(),
+        )
     }
 
     /// Returns the disk, without a call of the device.

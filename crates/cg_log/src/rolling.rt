@@ -11,10 +11,10 @@ ghost use Rattle.cg_log.specs.Faults.{is_device_failure};
 ghost use Rattle.cg_log.specs.Ready.{AllClosed, AllOpen, IsReady};
 ghost use Rattle.cg_log.specs.Rolled.{HasOneMoreTail, HasOrRolled, IsNextTail, IsFullFor, IsRolled};
 
+use crate::LogFault;
 use crate::free::least_free;
 use crate::log::Log;
 use crate::segment::last_id;
-use crate::LogFault;
 use cg_disk::{DiskFault, SectorDisk};
 use cg_gate::{close_gate, first_sector};
 use cg_root::{EPOCH_MAX, Root, SegmentId, SegmentIds, close_other, publish};
