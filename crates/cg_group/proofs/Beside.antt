@@ -7,7 +7,7 @@ use Rattle.cg_member.specs.declared.group.Group.{Group}
 use Rattle.cg_request.specs.declared.ticket.Ticket.{Ticket}
 use Rattle.cg_member.specs.declared.turn.Turn.{Turn}
 use Rattle.cg_group.specs.Machine.{concluded, deleted}
-use Rattle.cg_held.specs.Held.{Outcome, at_moment, everywhere, outcome, outcome_beside, standing}
+use Rattle.cg_held.specs.Held.{Outcome, at_moment, everywhere, outcome, standing}
 use Rattle.cg_member.specs.Offsets.{OffsetMap, offsets_after}
 use Rattle.cg_group.proofs.OffsetsKept.{AreQuiet, quiet-offsets}
 use Rattle.cg_group.proofs.Quiet.{Quiet, quiet-all, quiet-concluded}
@@ -30,24 +30,24 @@ unfolding deleted
 deleted_with now groups offsets ticket (Ok id) = refl
 deleted_with now groups offsets ticket (Err code) = refl
 
-pub concluded_beside : (now : ℕ) (groups after : List Group) (offsets : OffsetMap) (ticket : Ticket) (o : Result Turn Code) (e : Effects) → concluded (at_moment now groups) ticket o ≡ outcome now after e → concluded (standing now groups offsets) ticket o ≡ outcome_beside offsets now after e
+pub concluded_beside : (now : ℕ) (groups after : List Group) (offsets : OffsetMap) (ticket : Ticket) (o : Result Turn Code) (e : Effects) → concluded (at_moment now groups) ticket o ≡ outcome (at_moment now after) e → concluded (standing now groups offsets) ticket o ≡ outcome (standing now after offsets) e
 concluded_beside now groups after offsets ticket o e h = concluded_with now groups offsets ticket o ∙ ap (beside offsets) h
 
-pub deleted_beside : (now : ℕ) (groups after : List Group) (offsets : OffsetMap) (ticket : Ticket) (o : Result (List ℕ) Code) (e : Effects) → deleted (at_moment now groups) ticket o ≡ outcome now after e → deleted (standing now groups offsets) ticket o ≡ outcome_beside offsets now after e
+pub deleted_beside : (now : ℕ) (groups after : List Group) (offsets : OffsetMap) (ticket : Ticket) (o : Result (List ℕ) Code) (e : Effects) → deleted (at_moment now groups) ticket o ≡ outcome (at_moment now after) e → deleted (standing now groups offsets) ticket o ≡ outcome (standing now after offsets) e
 deleted_beside now groups after offsets ticket o e h = deleted_with now groups offsets ticket o ∙ ap (beside offsets) h
 
-pub everywhere_beside : (now : ℕ) (groups after : List Group) (offsets : OffsetMap) (turn : Group → Turn) (e : Effects) → everywhere turn (at_moment now groups) ≡ outcome now after e → everywhere turn (standing now groups offsets) ≡ outcome_beside offsets now after e
+pub everywhere_beside : (now : ℕ) (groups after : List Group) (offsets : OffsetMap) (turn : Group → Turn) (e : Effects) → everywhere turn (at_moment now groups) ≡ outcome (at_moment now after) e → everywhere turn (standing now groups offsets) ≡ outcome (standing now after offsets) e
 unfolding everywhere
 everywhere_beside now groups after offsets turn e h = ap (beside offsets) h
 
 still : (offsets : OffsetMap) (made now : List Command) → AreQuiet made → made ≡ now → offsets ≡ offsets_after offsets now
 still offsets made now q same = let P : List Command → Type 0 = λ cs. AreQuiet cs in sym (quiet-offsets offsets now (subst P same q))
 
-pub concluded_still : (now : ℕ) (groups after : List Group) (offsets : OffsetMap) (ticket : Ticket) (o : Result Turn Code) (e : Effects) → Fine Quiet o → concluded (at_moment now groups) ticket o ≡ outcome now after e → offsets ≡ offsets_after offsets e.commands
+pub concluded_still : (now : ℕ) (groups after : List Group) (offsets : OffsetMap) (ticket : Ticket) (o : Result Turn Code) (e : Effects) → Fine Quiet o → concluded (at_moment now groups) ticket o ≡ outcome (at_moment now after) e → offsets ≡ offsets_after offsets e.commands
 concluded_still now groups after offsets ticket o e fine h =
     still offsets (concluded (at_moment now groups) ticket o).effects.commands e.commands (quiet-concluded (at_moment now groups) ticket o fine) (ap commands_in h)
 
-pub everywhere_still : (now : ℕ) (groups after : List Group) (offsets : OffsetMap) (turn : Group → Turn) (e : Effects) → ((g : Group) → Quiet (turn g)) → everywhere turn (at_moment now groups) ≡ outcome now after e → offsets ≡ offsets_after offsets e.commands
+pub everywhere_still : (now : ℕ) (groups after : List Group) (offsets : OffsetMap) (turn : Group → Turn) (e : Effects) → ((g : Group) → Quiet (turn g)) → everywhere turn (at_moment now groups) ≡ outcome (at_moment now after) e → offsets ≡ offsets_after offsets e.commands
 unfolding everywhere
 everywhere_still now groups after offsets turn e quiet h =
     still offsets (everywhere turn (at_moment now groups)).effects.commands e.commands (quiet-all turn quiet groups) (ap commands_in h)

@@ -41,34 +41,34 @@ pub beat_refused : (now : ℕ) (r : BeatRequest) (ticket : Ticket) (groups : Lis
 unfolding beat
 beat_refused now r ticket groups g code e f = ap (λ o. o >>= λ g. beat_held now r ticket g) e ∙ f
 
-pub concluded_refused : (now : ℕ) (groups : List Group) (ticket : Ticket) (o : Result Turn Code) (code : Code) (e : Effects) → o ≡ Err code → e ≡ reply_alone ticket (reply.Refused code) → concluded (at_moment now groups) ticket o ≡ outcome now groups e
+pub concluded_refused : (now : ℕ) (groups : List Group) (ticket : Ticket) (o : Result Turn Code) (code : Code) (e : Effects) → o ≡ Err code → e ≡ reply_alone ticket (reply.Refused code) → concluded (at_moment now groups) ticket o ≡ outcome (at_moment now groups) e
 unfolding concluded
-concluded_refused now groups ticket o code e is made = ap (concluded (at_moment now groups) ticket) is ∙ ap (outcome now groups) (sym made)
+concluded_refused now groups ticket o code e is made = ap (concluded (at_moment now groups) ticket) is ∙ ap (outcome (at_moment now groups)) (sym made)
 
 -- the group that a request names
 pub named_is : (o : Option (List ℕ)) (groups : List Group) (own : List ℕ) (g : Group) → IsNamed o groups own g → named_group o groups ≡ Ok g
 named_is o groups own g at = ap (λ o. named_group o groups) at.named ∙ ap (λ o. ok_or o UnknownMemberId) at.found
 
 pub beat_in_place : (now : ℕ) (r : BeatRequest) (ticket : Ticket) (groups after : List Group) (own id : List ℕ) (answer : Reply) (e : Effects) → IsBeatIn r groups own id answer
-    → ((g : Group) → find_group own groups ≡ Some g → after ≡ with_group (hearing now id g) groups) → e ≡ reply_alone ticket answer → concluded (at_moment now groups) ticket (beat now r ticket groups) ≡ outcome now after e
+    → ((g : Group) → find_group own groups ≡ Some g → after ≡ with_group (hearing now id g) groups) → e ≡ reply_alone ticket answer → concluded (at_moment now groups) ticket (beat now r ticket groups) ≡ outcome (at_moment now after) e
 unfolding concluded beat beat_taken
 beat_in_place now r ticket groups after own id answer e at put made =
     let g : Group = at.group in
     ap (concluded (at_moment now groups) ticket) (ap (λ o. o >>= λ g. beat_held now r ticket g) (named_is r.group groups own g at.named) ∙ at.taken now ticket)
-    ∙ ap (λ gs. outcome now gs (reply_alone ticket (beat_reply g))) (sym (put g at.named.found))
-    ∙ ap (λ a. outcome now after (reply_alone ticket a)) (sym at.answered)
-    ∙ ap (outcome now after) (sym made)
+    ∙ ap (λ gs. outcome (at_moment now gs) (reply_alone ticket (beat_reply g))) (sym (put g at.named.found))
+    ∙ ap (λ a. outcome (at_moment now after) (reply_alone ticket a)) (sym at.answered)
+    ∙ ap (outcome (at_moment now after)) (sym made)
 
 pub sync_in_place : (now : ℕ) (r : SyncRequest) (ticket : Ticket) (groups after : List Group) (own id bytes : List ℕ) (e : Effects) → IsSyncIn r groups own id bytes
-    → ((g : Group) → find_group own groups ≡ Some g → after ≡ with_group (hearing now id g) groups) → e ≡ reply_alone ticket (reply.Synced bytes) → concluded (at_moment now groups) ticket (sync now r ticket groups) ≡ outcome now after e
+    → ((g : Group) → find_group own groups ≡ Some g → after ≡ with_group (hearing now id g) groups) → e ≡ reply_alone ticket (reply.Synced bytes) → concluded (at_moment now groups) ticket (sync now r ticket groups) ≡ outcome (at_moment now after) e
 unfolding concluded sync sync_current
 sync_in_place now r ticket groups after own id bytes e at put made =
     let g : Group = at.group in
     let current : IsCurrent r g id bytes = at.current in
     ap (concluded (at_moment now groups) ticket) (ap (λ o. o >>= λ g. sync_held now r ticket g) (named_is r.group groups own g at.named) ∙ current.taken now ticket)
-    ∙ ap (λ gs. outcome now gs (reply_alone ticket (reply.Synced current.member.assignment))) (sym (put g at.named.found))
-    ∙ ap (λ b. outcome now after (reply_alone ticket (reply.Synced b))) current.assignment
-    ∙ ap (outcome now after) (sym made)
+    ∙ ap (λ gs. outcome (at_moment now gs) (reply_alone ticket (reply.Synced current.member.assignment))) (sym (put g at.named.found))
+    ∙ ap (λ b. outcome (at_moment now after) (reply_alone ticket (reply.Synced b))) current.assignment
+    ∙ ap (outcome (at_moment now after)) (sym made)
 
 -- the outcome of a COMMIT in a loaded group is that of the group
 commit_found : (now : ℕ) (r : CommitRequest) (ticket : Ticket) (groups : List Group) (g : Group) (id : List ℕ) (o : Option Group) → ok_or o UnknownMemberId ≡ Ok g → commit_in now r ticket groups id o ≡ commit_held now r.generation r.instance r.member r.entries ticket g
@@ -101,12 +101,12 @@ id-committer now None g = refl
 id-committer now (Some id) g = id-hearing now id g
 
 pub commit_in_place : (now : ℕ) (given : List CommitEntry) (ticket : Ticket) (groups after : List Group) (own : List ℕ) (g : Group) (who : Option (List ℕ)) (e : Effects) (entries : List Entry) → find_group own groups ≡ Some g → is_too_large given ≡ false → entries ≡ map kept_entry given
-    → after ≡ with_group (hearing_committer now who g) groups → e ≡ commit_effects entries ticket own → concluded (at_moment now groups) ticket (commit_by now who given ticket g) ≡ outcome now after e
+    → after ≡ with_group (hearing_committer now who g) groups → e ≡ commit_effects entries ticket own → concluded (at_moment now groups) ticket (commit_by now who given ticket g) ≡ outcome (at_moment now after) e
 unfolding concluded keeping_entries
 commit_in_place now given ticket groups after own g who e entries found few kept put made =
     let h : Group = hearing_committer now who g in
     ap (λ b. concluded (at_moment now groups) ticket (refused_if b OffsetMetadataTooLarge >>= λ _. Ok (committed given ticket h))) few
-    ∙ ap (λ gs. outcome now gs (commit_effects (map kept_entry given) ticket h.id)) (sym put)
-    ∙ ap (λ i. outcome now after (commit_effects (map kept_entry given) ticket i)) (id-committer now who g ∙ found_named own groups g found)
-    ∙ ap (λ es. outcome now after (commit_effects es ticket own)) (sym kept)
-    ∙ ap (outcome now after) (sym made)
+    ∙ ap (λ gs. outcome (at_moment now gs) (commit_effects (map kept_entry given) ticket h.id)) (sym put)
+    ∙ ap (λ i. outcome (at_moment now after) (commit_effects (map kept_entry given) ticket i)) (id-committer now who g ∙ found_named own groups g found)
+    ∙ ap (λ es. outcome (at_moment now after) (commit_effects es ticket own)) (sym kept)
+    ∙ ap (outcome (at_moment now after)) (sym made)

@@ -366,13 +366,13 @@ known-left_all homes fewer now session kept (g ∷ gs) h =
     (stays fewer g.id (gone_in now session g) (framed-gone_in now session g) (left_group (at homes g.id) (at fewer g.id) now session (λ q apart k. kept q g.id apart k) g h.0), known-left_all homes fewer now session kept gs h.1)
 
 -- the session index after an event
-pub known-after : (homes : ℕ → List ℕ → Bool) (now : ℕ) (groups after : List Group) (e : Event) (made : Effects) → Owns homes e → met (at_moment now groups) e ≡ outcome now after made → AreKnown homes groups → AreKnown homes after
+pub known-after : (homes : ℕ → List ℕ → Bool) (now : ℕ) (groups after : List Group) (e : Event) (made : Effects) → Owns homes e → met (at_moment now groups) e ≡ outcome (at_moment now after) made → AreKnown homes groups → AreKnown homes after
 known-after homes now groups after e made own is h =
     let P : List Group → Type 0 = λ gs. AreKnown homes gs in
     subst P (ap (λ (o : Outcome). o.after.groups) is) (known-met homes (at_moment now groups) e own h)
 
 -- the same, whether or not an allocation failed
-pub known-through : {E : Type 0} (homes : ℕ → List ℕ → Bool) (now : ℕ) (groups after : List Group) (e : Event) (r : Result Effects E) → Owns homes e → IfOk r (λ made. met (at_moment now groups) e ≡ outcome now after made) → OnErr r (after ≡ groups) → AreKnown homes groups → AreKnown homes after
+pub known-through : {E : Type 0} (homes : ℕ → List ℕ → Bool) (now : ℕ) (groups after : List Group) (e : Event) (r : Result Effects E) → Owns homes e → IfOk r (λ made. met (at_moment now groups) e ≡ outcome (at_moment now after) made) → OnErr r (after ≡ groups) → AreKnown homes groups → AreKnown homes after
 known-through homes now groups after e (Ok made) own ok err h = known-after homes now groups after e made own ok h
 known-through homes now groups after e (Err x) own ok err h = let P : List Group → Type 0 = λ gs. AreKnown homes gs in subst P (sym err) h
 
@@ -459,13 +459,13 @@ named-sync now r ticket groups =
     (λ id own g m named e _ _ _ _ x k. (framed-sync_taken now r own ticket m g g.phase).0 ∙ found_named id groups g e ∙ one_name r.group id x named k)
 
 -- a refusal leaves the groups as they were
-known-refused : (homes : ℕ → List ℕ → Bool) (now : ℕ) (groups after : List Group) (ticket : Ticket) (code : Code) (made : Effects) → concluded (at_moment now groups) ticket (Err code) ≡ outcome now after made → AreKnown homes groups → AreKnown homes after
+known-refused : (homes : ℕ → List ℕ → Bool) (now : ℕ) (groups after : List Group) (ticket : Ticket) (code : Code) (made : Effects) → concluded (at_moment now groups) ticket (Err code) ≡ outcome (at_moment now after) made → AreKnown homes groups → AreKnown homes after
 unfolding concluded
 known-refused homes now groups after ticket code made is h = let P : List Group → Type 0 = λ gs. AreKnown homes gs in subst P (ap (λ (o : Outcome). o.after.groups) is) h
 
 -- the session index after a request that may park a call, if the index has the group of the step
 module _ (now : ℕ) (groups : List Group) (ticket : Ticket) where
-  parks : (group : Option (List ℕ)) (o : Result Turn Code) → ((homes : ℕ → List ℕ → Bool) (after : List Group) (made : Effects) → ((x : List ℕ) → group ≡ Some x → homes ticket.session x ≡ true) → concluded (at_moment now groups) ticket o ≡ outcome now after made → AreKnown homes groups → AreKnown homes after)
+  parks : (group : Option (List ℕ)) (o : Result Turn Code) → ((homes : ℕ → List ℕ → Bool) (after : List Group) (made : Effects) → ((x : List ℕ) → group ≡ Some x → homes ticket.session x ≡ true) → concluded (at_moment now groups) ticket o ≡ outcome (at_moment now after) made → AreKnown homes groups → AreKnown homes after)
       → Fine (λ t. (x : List ℕ) → group ≡ Some x → t.group.id ≡ x) o → ParksKnown now groups ticket o
   parks group (Ok t) known named homes after made noted is h = known homes after made (λ x k. let P : List ℕ → Type 0 = λ i. homes ticket.session i ≡ true in subst P (named x k) (noted t.group.id refl)) is h
   parks group (Err code) known named homes after made noted is h = known-refused homes now groups after ticket code made is h

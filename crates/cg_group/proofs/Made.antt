@@ -14,9 +14,9 @@ use Rattle.cg_held.specs.Held.{at_moment, find_group, outcome, with_group, witho
 use Rattle.cg_member.specs.Refusing.{◌>>=◌}
 use Rattle.cg_held.proofs.Removing.{without_with}
 
-pub commit_made : (now : ℕ) (groups after : List Group) (ticket : Ticket) (entries : List Entry) (id : List ℕ) (e : Effects) → after ≡ with_group (new_group id) groups → e ≡ commit_effects entries ticket id → concluded (at_moment now groups) ticket (Ok (keeping_entries entries ticket (new_group id))) ≡ outcome now after e
+pub commit_made : (now : ℕ) (groups after : List Group) (ticket : Ticket) (entries : List Entry) (id : List ℕ) (e : Effects) → after ≡ with_group (new_group id) groups → e ≡ commit_effects entries ticket id → concluded (at_moment now groups) ticket (Ok (keeping_entries entries ticket (new_group id))) ≡ outcome (at_moment now after) e
 unfolding concluded keeping_entries new_group
-commit_made now groups after ticket entries id e put made = ap (λ gs. outcome now gs (commit_effects entries ticket id)) (sym put) ∙ ap (outcome now after) (sym made)
+commit_made now groups after ticket entries id e put made = ap (λ gs. outcome (at_moment now gs) (commit_effects entries ticket id)) (sym put) ∙ ap (outcome (at_moment now after)) (sym made)
 
 pub commit_unnamed : (now : ℕ) (r : CommitRequest) (ticket : Ticket) (groups : List Group) → r.group ≡ None → commit now r ticket groups ≡ Err InvalidGroupId
 unfolding commit

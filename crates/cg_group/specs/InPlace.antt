@@ -48,4 +48,4 @@ group_of (Ok t) = Some t.group.id
 abbrev pub ParksKnown : ℕ → List Group → Ticket → Result Turn Code → Type 0
 ParksKnown now groups ticket o =
     (homes : ℕ → List ℕ → Bool) (after : List Group) (made : Effects) → ((x : List ℕ) → group_of o ≡ Some x → homes ticket.session x ≡ true)
-    → concluded (at_moment now groups) ticket o ≡ outcome now after made → AreKnown homes groups → AreKnown homes after
+    → concluded (at_moment now groups) ticket o ≡ outcome (at_moment now after) made → AreKnown homes groups → AreKnown homes after

@@ -23,7 +23,7 @@ pub fn conclude(
     concluding: Result<Turn, Code>,
 ) -> Result<Effects, AllocError>
     ensures ok { IfOk result
-        (λ e. concluded (at_moment now held.old) ticket concluding ≡ outcome now held.new e) }
+        (λ e. concluded (at_moment now held.old) ticket concluding ≡ outcome (at_moment now held.new) e) }
     ensures err { OnErr result (held.new ≡ held.old) }
     ensures taken { OnErr result (is_ok concluding ≡ true) }
 {

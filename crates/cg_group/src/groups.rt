@@ -2,6 +2,7 @@
 ghost use Rattle.std.specs.Prelude.{◌≡◌, true, IfOk, IfErr, OnErr, length, slice_get};
 ghost use Rattle.cg_held.specs.Sessions.{AreKnown, AreKnown-prop, is_home};
 ghost use Rattle.cg_member.specs.Waiting.{waiting_calls};
+ghost use Rattle.cg_held.specs.Held.{outcome};
 ghost use Rattle.cg_group.specs.Machine.{at_event, is_taken, step};
 ghost use Rattle.cg_held.specs.Reviving.{revive};
 
@@ -84,7 +85,7 @@ impl Groups {
     /// that is refused needs no allocation.
     #[tactic(auto, unfolding(crate::specs::Machine::step))]
     pub fn step(&mut self, event: Event, now: Moment) -> Result<Effects, AllocError>
-        ensures ok { IfOk result (λ effects. step self.old event now ≡ record { after = self.new; effects = effects }) }
+        ensures ok { IfOk result (λ effects. step self.old event now ≡ outcome self.new effects) }
         ensures err { OnErr result (self.new ≡ self.old) }
         ensures taken { OnErr result (is_taken (at_event self.old now) event ≡ true) }
     {

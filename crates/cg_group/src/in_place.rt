@@ -4,7 +4,7 @@ ghost use Rattle.cg_member.specs.declared.group.Group.{Group};
 ghost use Rattle.cg_group.specs.InPlace.{IsBeatIn, IsSyncIn};
 ghost use Rattle.cg_turn.specs.Committing.{commit_by, hearing_committer};
 ghost use Rattle.cg_group.specs.Machine.{reply_alone, concluded, beat, sync};
-ghost use Rattle.cg_held.specs.Held.{InOrder, at_moment, outcome, find_group, with_group};
+ghost use Rattle.cg_held.specs.Held.{InOrder, at_moment, find_group, outcome, with_group};
 ghost use Rattle.std.specs.Option.{option_copied};
 ghost use Rattle.cg_member.specs.Membership.{hearing};
 ghost use Rattle.cg_member.specs.Offsets.{offsets_after};
@@ -74,7 +74,7 @@ fn beating<'a>(
 
 /// Processes a BEAT. Two look-ups of the group, linear in its members, no allocation.
 pub fn meet_beat(now: Moment, held: &mut Held, ticket: Ticket, r: &BeatRequest) -> Effects
-    ensures { concluded (at_moment now held.old) ticket (beat now r.now ticket held.old) ≡ outcome now held.new result }
+    ensures { concluded (at_moment now held.old) ticket (beat now r.now ticket held.old) ≡ outcome (at_moment now held.new) result }
 {
     match beating(r, held) {
         Err(code) => reply_alone(held.allocator(), ticket, Reply::Refused(code)),
@@ -135,7 +135,7 @@ pub fn sync_in(
     assignment: Assignment,
 ) -> Effects
     ensures met { (r : SyncRequest) → IsSyncIn r held.old own.now id.now assignment
-        → concluded (at_moment now held.old) ticket (sync now r ticket held.old) ≡ outcome now held.new result }
+        → concluded (at_moment now held.old) ticket (sync now r ticket held.old) ≡ outcome (at_moment now held.new) result }
     ensures known { (r : SyncRequest) (homes : ℕ → List ℕ → Bool) → IsSyncIn r held.old own.now id.now assignment → AreKnown homes held.old → AreKnown homes held.new }
 {
     hear_in(now, held, own, id, ticket, Reply::Synced(assignment))
@@ -166,7 +166,7 @@ pub fn commit_in(
 ) -> Result<Effects, AllocError>
     requires { InOrder held.old }
     ensures ok { IfOk result (λ e. (g : Group) → find_group id held.old ≡ Some g
-        → concluded (at_moment now held.old) ticket (commit_by now (option_copied who.entry) entries ticket g) ≡ outcome now held.new e) }
+        → concluded (at_moment now held.old) ticket (commit_by now (option_copied who.entry) entries ticket g) ≡ outcome (at_moment now held.new) e) }
     ensures offsets { IfOk result (λ e. offsets.new ≡ offsets_after offsets.old e.commands) }
     ensures err { OnErr result ((held.new ≡ held.old) × (offsets.new ≡ offsets.old)) }
     ensures taken { OnErr result ((g : Group) → is_ok (commit_by now (option_copied who.entry) entries ticket g) ≡ true) }

@@ -9,7 +9,7 @@ ghost use Rattle.cg_member.specs.Offsets.{offsets_after};
 ghost use Rattle.cg_held.specs.Sessions.{AreKnown, is_home};
 ghost use Rattle.cg_member.specs.Ticking.{ticked};
 ghost use Rattle.cg_group.specs.Machine.{concluded, commit, deleting, deleted, deleted_alone, describe, is_taken, met};
-ghost use Rattle.cg_held.specs.Held.{at_moment, standing, outcome, outcome_beside, find_group, everywhere};
+ghost use Rattle.cg_held.specs.Held.{at_moment, everywhere, find_group, outcome, standing};
 
 use crate::in_place::{commit_in, meet_beat, reply_alone};
 use crate::parking::{meet_join, meet_leave, meet_sync};
@@ -66,7 +66,7 @@ fn commit_new(
 ) -> Result<Effects, AllocError>
     requires { find_group id held.old ≡ None }
     ensures ok { IfOk result
-        (λ e. concluded (at_moment now held.old) ticket (Ok (keeping_entries entries ticket (new_group id))) ≡ outcome now held.new e) }
+        (λ e. concluded (at_moment now held.old) ticket (Ok (keeping_entries entries ticket (new_group id))) ≡ outcome (at_moment now held.new) e) }
     ensures offsets { IfOk result (λ e. offsets.new ≡ offsets_after offsets.old e.commands) }
     ensures err { OnErr result ((held.new ≡ held.old) × (offsets.new ≡ offsets.old)) }
 {
@@ -95,7 +95,7 @@ fn commit_apart(
 ) -> Result<Effects, AllocError>
     requires { find_group id held.old ≡ None }
     ensures ok { IfOk result
-        (λ e. concluded (at_moment now held.old) ticket (commit_unheld generation entries ticket (length held.old) id) ≡ outcome now held.new e) }
+        (λ e. concluded (at_moment now held.old) ticket (commit_unheld generation entries ticket (length held.old) id) ≡ outcome (at_moment now held.new) e) }
     ensures offsets { IfOk result (λ e. offsets.new ≡ offsets_after offsets.old e.commands) }
     ensures err { OnErr result ((held.new ≡ held.old) × (offsets.new ≡ offsets.old)) }
     ensures taken { OnErr result (is_ok (commit_unheld generation entries ticket (length held.old) id) ≡ true) }
@@ -119,7 +119,7 @@ fn meet_commit(
     r: CommitRequest,
 ) -> Result<Effects, AllocError>
     ensures ok { IfOk result
-        (λ e. concluded (at_moment now held.old) ticket (commit now r ticket held.old) ≡ outcome now held.new e) }
+        (λ e. concluded (at_moment now held.old) ticket (commit now r ticket held.old) ≡ outcome (at_moment now held.new) e) }
     ensures offsets { IfOk result (λ e. offsets.new ≡ offsets_after offsets.old e.commands) }
     ensures err { OnErr result ((held.new ≡ held.old) × (offsets.new ≡ offsets.old)) }
     ensures taken { OnErr result (is_ok (commit now r ticket held.old) ≡ true) }
@@ -187,7 +187,7 @@ fn meet_delete(
     id: &Option<GroupId>,
 ) -> Result<Effects, AllocError>
     ensures ok { IfOk result
-        (λ e. deleted (at_moment now held.old) ticket (deleting id.now held.old) ≡ outcome now held.new e) }
+        (λ e. deleted (at_moment now held.old) ticket (deleting id.now held.old) ≡ outcome (at_moment now held.new) e) }
     ensures offsets { IfOk result (λ e. offsets.new ≡ offsets_after offsets.old e.commands) }
     ensures err { OnErr result ((held.new ≡ held.old) × (offsets.new ≡ offsets.old)) }
     ensures taken { OnErr result (is_ok (deleting id.now held.old) ≡ true) }
@@ -211,7 +211,7 @@ fn meet_tick(now: Moment, held: &mut Held, homes: &mut Homes) -> Result<Effects,
     requires { AreKnown (is_home homes.old) held.old }
     ensures known { AreKnown (is_home homes.new) held.new }
     ensures ok { IfOk result
-        (λ e. everywhere (ticked now) (at_moment now held.old) ≡ outcome now held.new e) }
+        (λ e. everywhere (ticked now) (at_moment now held.old) ≡ outcome (at_moment now held.new) e) }
     ensures err { OnErr result (held.new ≡ held.old) }
 {
     let alloc = held.allocator();
@@ -236,7 +236,7 @@ fn meet_gone(
     requires { AreKnown (is_home homes.old) held.old }
     ensures known { AreKnown (is_home homes.new) held.new }
     ensures ok { IfOk result
-        (λ e. everywhere (gone_in now session) (at_moment now held.old) ≡ outcome now held.new e) }
+        (λ e. everywhere (gone_in now session) (at_moment now held.old) ≡ outcome (at_moment now held.new) e) }
     ensures err { OnErr result (held.new ≡ held.old) }
     ensures gone { OnOk result (get nat_cmp homes.new session ≡ None) }
 {
@@ -264,7 +264,7 @@ pub fn met(
 ) -> Result<Effects, AllocError>
     requires { AreKnown (is_home homes.old) held.old }
     ensures known { AreKnown (is_home homes.new) held.new }
-    ensures ok { IfOk result (λ e. met (standing now held.old offsets.old) event ≡ outcome_beside offsets.old now held.new e) }
+    ensures ok { IfOk result (λ e. met (standing now held.old offsets.old) event ≡ outcome (standing now held.new offsets.old) e) }
     ensures offsets { IfOk result (λ e. offsets.new ≡ offsets_after offsets.old e.commands) }
     ensures err { OnErr result ((held.new ≡ held.old) × (offsets.new ≡ offsets.old)) }
     ensures taken { OnErr result (is_taken (standing now held.old offsets.old) event ≡ true) }

@@ -175,7 +175,7 @@ fn park(
     requires known { AreKnown (is_home homes.old) held.old }
     requires parks { ParksKnown now held.old ticket concluding }
     ensures known { AreKnown (is_home homes.new) held.new }
-    ensures ok { IfOk result (λ e. concluded (at_moment now held.old) ticket concluding ≡ outcome now held.new e) }
+    ensures ok { IfOk result (λ e. concluded (at_moment now held.old) ticket concluding ≡ outcome (at_moment now held.new) e) }
     ensures err { OnErr result (held.new ≡ held.old) }
     ensures taken { OnErr result (is_ok concluding ≡ true) }
     ensures let_go { IfOk result (λ e. (id : List ℕ) → group_of concluding ≡ Some id → HaveLetGo homes.new held.new id e.replies) }
@@ -207,7 +207,7 @@ pub fn meet_join(
     requires { AreKnown (is_home homes.old) held.old }
     ensures known { AreKnown (is_home homes.new) held.new }
     ensures ok { IfOk result
-        (λ e. concluded (at_moment now held.old) ticket (join now r fresh ticket held.old) ≡ outcome now held.new e) }
+        (λ e. concluded (at_moment now held.old) ticket (join now r fresh ticket held.old) ≡ outcome (at_moment now held.new) e) }
     ensures err { OnErr result (held.new ≡ held.old) }
     ensures taken { OnErr result (is_ok (join now r fresh ticket held.old) ≡ true) }
 {
@@ -227,7 +227,7 @@ fn meet_sync_apart(
     requires { AreKnown (is_home homes.old) held.old }
     ensures known { AreKnown (is_home homes.new) held.new }
     ensures ok { IfOk result
-        (λ e. concluded (at_moment now held.old) ticket (sync now r.now ticket held.old) ≡ outcome now held.new e) }
+        (λ e. concluded (at_moment now held.old) ticket (sync now r.now ticket held.old) ≡ outcome (at_moment now held.new) e) }
     ensures err { OnErr result (held.new ≡ held.old) }
     ensures taken { OnErr result (is_ok (sync now r.now ticket held.old) ≡ true) }
 {
@@ -247,7 +247,7 @@ pub fn meet_sync(
     requires { AreKnown (is_home homes.old) held.old }
     ensures known { AreKnown (is_home homes.new) held.new }
     ensures ok { IfOk result
-        (λ e. concluded (at_moment now held.old) ticket (sync now r.now ticket held.old) ≡ outcome now held.new e) }
+        (λ e. concluded (at_moment now held.old) ticket (sync now r.now ticket held.old) ≡ outcome (at_moment now held.new) e) }
     ensures err { OnErr result (held.new ≡ held.old) }
     ensures taken { OnErr result (is_ok (sync now r.now ticket held.old) ≡ true) }
 {
@@ -271,7 +271,7 @@ pub fn meet_leave(
     requires { AreKnown (is_home homes.old) held.old }
     ensures known { AreKnown (is_home homes.new) held.new }
     ensures ok { IfOk result
-        (λ e. concluded (at_moment now held.old) ticket (leave now r.now ticket held.old) ≡ outcome now held.new e) }
+        (λ e. concluded (at_moment now held.old) ticket (leave now r.now ticket held.old) ≡ outcome (at_moment now held.new) e) }
     ensures err { OnErr result (held.new ≡ held.old) }
     ensures taken { OnErr result (is_ok (leave now r.now ticket held.old) ≡ true) }
     ensures let_go { IfOk result (λ e. (id : List ℕ) → r.now.group ≡ Some id → HaveLetGo homes.new held.new id e.replies) }

@@ -22,21 +22,17 @@ pub record Outcome : Type 0 where
   pub after : Machine
   pub effects : Effects
 
--- a state with these groups and this moment; its offsets do not matter
-abbrev pub at_moment : ℕ → List Group → Machine
-at_moment now groups = record { groups = groups; offsets = finmap.empty; last = now }
-
 -- a state with these groups, offsets and moment
 abbrev pub standing : ℕ → List Group → OffsetMap → Machine
 standing now groups offsets = record { groups = groups; offsets = offsets; last = now }
 
--- a result with these groups, effects and moment, before the commands change the offsets
-abbrev pub outcome_beside : OffsetMap → ℕ → List Group → Effects → Outcome
-outcome_beside offsets now groups effects = record { after = standing now groups offsets; effects = effects }
+-- the same, where the offsets do not matter
+abbrev pub at_moment : ℕ → List Group → Machine
+at_moment now groups = standing now groups finmap.empty
 
--- a result with these groups, effects and moment; its offsets do not matter
-abbrev pub outcome : ℕ → List Group → Effects → Outcome
-outcome now groups effects = record { after = at_moment now groups; effects = effects }
+-- a result: the state after the event, and the effects
+abbrev pub outcome : Machine → Effects → Outcome
+outcome after effects = record { after = after; effects = effects }
 
 -- the group with this id, if it is loaded
 unfoldable pub find_group : List ℕ → List Group → Option Group
