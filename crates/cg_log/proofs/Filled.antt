@@ -1,22 +1,22 @@
 -- Segments with their frames: lists of them, and images that agree on their sectors.
-use Rattle.std.proofs.Common.{◌≡◌, ◌⊎◌, inl, inr, ℕ, zero, suc, ◌+◌, ◌-◌, ◌^◌, ◌<◌, ◌≤◌, List, [], ◌∷◌, ◌++◌, length, map, get_or, take, min, sym, ap, ◌∙◌, subst, refl, arith}
+use Rattle.std.proofs.Common.{◌≡◌, ◌⊎◌, inl, inr, ℕ, zero, suc, ◌+◌, ◌-◌, ◌^◌, ◌<◌, ◌≤◌, List, [], ◌∷◌, ◌++◌, length, get_or, take, min, sym, ap, ◌∙◌, subst, refl, arith}
 use Rattle.std.proofs.lemmas.List.{map-append}
 use Rattle.std.proofs.lemmas.Grind.{flat_map-append}
 use Rattle.std.proofs.lemmas.List.{append-nil, take_all, take_more, length-append}
 use Rattle.std.proofs.Math.Seq.{get_or-append_seam}
-use Rattle.std.specs.List.{flat_map, AllByRecursion}
+use Rattle.std.specs.List.{AllByRecursion}
 use Rattle.cg_disk.specs.Disk.{Image}
-use Rattle.cg_frame.specs.Frames.{Chain, IsClosed, HasFrames, HasFramesTo, next_gate}
+use Rattle.cg_frame.specs.Frames.{Chain, HasFrames, HasFramesTo, next_gate}
 use Rattle.cg_frame.specs.declared.segment.Segment.{Segment}
-use Rattle.cg_frame.proofs.Standing.{Chain-same, Chain-unique, HasFrames-unique}
+use Rattle.cg_frame.proofs.Standing.{Chain-same, HasFrames-unique}
 use Rattle.cg_gate.specs.Layout.{first_sector}
 use Rattle.cg_log.specs.Loaded.{IsTailEnd}
 use Rattle.cg_log.specs.declared.numbers.TheConstants.{COMMAND_NUMBER_MAX}
 use Rattle.cg_log.specs.Ready.{last_id}
-use Rattle.cg_log.specs.Scanned.{IsExtent, AreCounted, counted_in_64_bits}
+use Rattle.cg_log.specs.Scanned.{IsExtent, AreCounted}
 use Rattle.cg_log.specs.Segments.{Frames, Filled, segment_of, ids_of, frames_of, counted, end_of_frames, AreStored}
 use Rattle.cg_log.specs.declared.scanning.Extent.{Extent}
-use Rattle.cg_log.proofs.Found.{counted-append, min-add}
+use Rattle.cg_log.proofs.Found.{counted-append}
 
 -- The end of frames
 

@@ -1,13 +1,13 @@
 -- Frames that are read one after the other, up to a closed gate.
-use Rattle.std.proofs.Common.{◌≡◌, ◌⊎◌, inl, inr, ℕ, ◌+◌, ◌-◌, ◌^◌, ◌<◌, List, [], ◌∷◌, ◌++◌, length, get_or, min, sym, ap, ◌∙◌, subst, refl, arith, Result, Ok, Err, Option, Some, None}
+use Rattle.std.proofs.Common.{◌≡◌, ℕ, ◌+◌, ◌-◌, ◌^◌, List, [], ◌∷◌, ◌++◌, length, get_or, min, sym, ap, ◌∙◌, subst, refl, arith, Result, Ok, Err, Option, Some, None}
 use Rattle.std.proofs.lemmas.List.Sums.{sum_by-append}
 use Rattle.cg_disk.specs.Disk.{Image}
-use Rattle.cg_frame.specs.Frames.{Chain, FrameAt, IsOpen, IsClosed, HasFrames, next_gate}
+use Rattle.cg_frame.specs.Frames.{Chain, FrameAt, IsClosed, HasFrames, next_gate}
 use Rattle.cg_frame.specs.declared.segment.Frame.{Frame}
 use Rattle.cg_frame.proofs.Loading.{HasFrames-bad}
 use Rattle.cg_frame.proofs.Standing.{Chain-push, FrameAt-same}
 use Rattle.cg_gate.specs.Layout.{first_sector}
-use Rattle.cg_log.specs.Scanned.{Finds, IsExtent, AreCounted, counted_in_64_bits}
+use Rattle.cg_log.specs.Scanned.{Finds, IsExtent, counted_in_64_bits}
 use Rattle.cg_log.specs.Segments.{Frames, counted, segment_of}
 use Rattle.cg_log.specs.declared.fault.LogFault.{LogFault}
 use Rattle.cg_log.specs.declared.fault.LogFault.TheVariants as log_fault

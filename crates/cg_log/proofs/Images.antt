@@ -1,7 +1,6 @@
 -- What images carry: that it is one thing, and what agreeing images carry.
-use Rattle.std.proofs.Common.{◌≡◌, ◌⊎◌, inl, inr, ℕ, ◌+◌, ◌<◌, ◌≤◌, Bool, true, false, List, [], ◌∷◌, ◌++◌, sym, ap, ◌∙◌, subst, refl, arith, get_or}
-use Rattle.std.proofs.lemmas.List.{append-nil}
-use Rattle.cg_disk.specs.Disk.{Image, Moment, IsImage, IsSynced}
+use Rattle.std.proofs.Common.{◌≡◌, inl, inr, ℕ, ◌+◌, ◌<◌, ◌≤◌, Bool, true, false, List, [], ◌∷◌, ◌++◌, sym, ap, ◌∙◌, subst, refl, arith, get_or}
+use Rattle.cg_disk.specs.Disk.{Image, Moment, IsImage}
 use Rattle.cg_disk.proofs.Moments.{IsImage-content}
 use Rattle.cg_gate.specs.Gates.{IsOpen, IsClosed}
 use Rattle.cg_gate.specs.Layout.{first_sector}
@@ -9,7 +8,6 @@ use Rattle.cg_root.specs.Slots.{gate_of, other_slot}
 use Rattle.std.specs.Prelude.{IsTrue, ◌↔◌}
 use Rattle.cg_root.specs.Roots.{CountingRoot}
 use Rattle.cg_root.specs.declared.root.Root.{Root}
-use Rattle.cg_root.specs.declared.slot.Slot.{Slot}
 use Rattle.cg_root.proofs.Stored.{CountingRoot-same, HasNoRoot-same, HasBadRoot-same}
 use Rattle.cg_root.proofs.Unique.{CountingRoot-unique, CountingRoot-some, CountingRoot-good}
 use Rattle.cg_log.specs.Carried.{Content, LogAt, Carries, AllCarry, HoldsContent, tails}

@@ -1,15 +1,13 @@
 -- What an append and a new tail leave of a log.
 use Rattle.std.proofs.Common.{◌≡◌, ◌⊎◌, inl, inr, ℕ, ◌+◌, ◌-◌, ◌^◌, ◌<◌, ◌≤◌, Bool, true, false, List, [], ◌∷◌, ◌++◌, length, take, get_or, sym, ap, ◌∙◌, subst, refl, arith, add-zero, append_assoc}
 use Rattle.std.proofs.lemmas.List.{append-nil, length-append}
-use Rattle.std.proofs.lemmas.List.Sums.{sum_by-append}
 use Rattle.cg_disk.specs.Disk.{Image, Moment, History, Changes, AllBut, IsImage, LeavesOnly, present}
-use Rattle.cg_disk.proofs.Moments.{AllBut-disturbed, AllBut-image, Changes-present, LeavesOnly-weaker, LeavesOnly-both, LeavesOnly-changes, LeavesOnly-present, LeavesOnly-then, LeavesOnly-starts, IsImage-content}
+use Rattle.cg_disk.proofs.Moments.{AllBut-disturbed, Changes-present, LeavesOnly-weaker, LeavesOnly-both, LeavesOnly-changes, LeavesOnly-present, LeavesOnly-then, LeavesOnly-starts, IsImage-content}
 use Rattle.cg_frame.specs.Frames.{IsClosed, HasFrames, HasFramesTo, body_sectors, next_gate}
 use Rattle.cg_frame.specs.Outcomes.{Appended, StandsLast, KeepsFramesTo}
 use Rattle.cg_frame.proofs.Standing.{IsBeforeOrAfter-appended, HasFramesTo-appended}
-use Rattle.cg_gate.specs.Gates.{IsOpen}
 use Rattle.cg_gate.specs.Layout.{first_sector, segment_count}
-use Rattle.cg_root.specs.Roots.{AreSegments, CountingRoot, IsLawful, IsOldOrNew, KeepsRoot, IsNewest, root_ids}
+use Rattle.cg_root.specs.Roots.{AreSegments, CountingRoot, IsLawful, IsOldOrNew, KeepsRoot, root_ids}
 use Rattle.cg_root.specs.Slots.{gate_of, other_slot}
 use Rattle.cg_root.specs.declared.root.Root.{Root}
 use Rattle.cg_root.specs.declared.slot.Slot.{Slot}
@@ -20,8 +18,8 @@ use Rattle.cg_log.specs.Formatted.{first_root, nothing}
 use Rattle.cg_log.specs.Free.{is_among, IsLeastFree}
 use Rattle.cg_log.specs.Ready.{AllClosed, AllOpen, IsReady, last_id}
 use Rattle.cg_log.specs.Rolled.{HasOneMoreTail, HasOrRolled, IsAppended}
-use Rattle.cg_log.specs.Segments.{Frames, Filled, segment_of, ids_of, frames_of, counted, end_of_frames, AreStored}
-use Rattle.cg_log.proofs.Filled.{AreApart, AreApart-slots, AreStored-apart, AreStored-append, AreStored-back, AreStored-front, HasFramesTo-end, frames_of-append, frames_of-push, ids_of-push, last_id-push, split_last}
+use Rattle.cg_log.specs.Segments.{Frames, segment_of, ids_of, frames_of, counted, end_of_frames, AreStored}
+use Rattle.cg_log.proofs.Filled.{AreApart, AreApart-slots, AreStored-apart, AreStored-append, AreStored-back, AreStored-front, HasFramesTo-end, frames_of-push, ids_of-push, last_id-push, split_last}
 use Rattle.cg_log.specs.declared.numbers.TheConstants.{COMMAND_NUMBER_MAX}
 use Rattle.cg_log.proofs.Images.{AllCarry-holds, Carries-at}
 use Rattle.cg_log.proofs.Found.{counted-append}

@@ -1,5 +1,5 @@
 -- The meaning of each fault of a log.
-use Rattle.std.specs.Prelude.{◌≡◌, ◌⊎◌, ℕ, List, Bool, true, false, Result, Ok, Err}
+use Rattle.std.specs.Prelude.{◌≡◌, ◌⊎◌, ℕ, Bool, true, false, Result, Ok, Err}
 use Rattle.cg_disk.specs.Disk.{Image}
 use Rattle.cg_root.specs.Roots.{CountingRoot, HasNoRoot, HasBadRoot}
 use Rattle.cg_root.specs.declared.root.Root.{Root}

@@ -1,5 +1,5 @@
 -- A formatted disk: the first root, and a tail without frames.
-use Rattle.std.specs.Prelude.{List, [], ◌∷◌}
+use Rattle.std.specs.Prelude.{[], ◌∷◌}
 use Rattle.cg_root.specs.declared.root.Root.{Root}
 use Rattle.cg_root.specs.declared.slot.Slot.TheVariants.{Zero}
 use Rattle.cg_log.specs.Carried.{Content}

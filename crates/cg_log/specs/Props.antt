@@ -1,11 +1,11 @@
 -- Facts with one proof at most.
-use Rattle.std.proofs.Common.{◌≡◌, ℕ, ◌+◌, ◌<◌, List, Bool, true, false, sym, ◌∙◌, ap, subst, inl, inr}
+use Rattle.std.proofs.Common.{◌≡◌, ℕ, ◌<◌, Bool, true, false, sym, ◌∙◌, ap, subst, inl, inr}
 use mathlib.Core.HLevel.{is_prop→PathP}
 use Rattle.std.proofs.Props.{props}
 use Rattle.std.specs.List.{IsDistinct-prop}
-use Rattle.cg_disk.specs.Disk.{Image, Moment, IsImage}
+use Rattle.cg_disk.specs.Disk.{Image, Moment}
 use Rattle.cg_gate.specs.Gates.{IsOpen, IsClosed}
-use Rattle.cg_root.specs.Roots.{RootAt, HasOlder, IsNewest, CountingRoot, IsLawful, KeepsRoot}
+use Rattle.cg_root.specs.Roots.{RootAt, HasOlder, IsNewest, CountingRoot, IsLawful}
 use Rattle.cg_root.specs.Slots.{gate_of, other_slot}
 use Rattle.cg_root.specs.declared.root.Root.{Root}
 use Rattle.cg_root.specs.declared.slot.Slot.{Slot}

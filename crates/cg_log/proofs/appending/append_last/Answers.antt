@@ -3,9 +3,7 @@ use Rattle.cg_disk.specs.Disk.{Changes, Image, IsImage, LeavesOnly, present}
 use Rattle.cg_frame.specs.Frames.{body_sectors, next_gate}
 use Rattle.cg_frame.specs.Outcomes.{Appended, StandsLast}
 use Rattle.cg_frame.specs.declared.segment.Segment.{Segment}
-use Rattle.cg_gate.specs.Layout.{first_sector}
-use Rattle.cg_log.specs.Carried.{HoldsContent, appended}
-use Rattle.cg_log.specs.Ready.{AllClosed, IsReady, last_id}
+use Rattle.cg_log.specs.Ready.{last_id}
 use Rattle.cg_log.specs.Segments.{segment_of}
 use Rattle.cg_log.proofs.Moves.{IsReady-appended, append-images, append-stored}
 use Rattle.cg_log.proofs.appending.append_last.Goals as goal

@@ -4,7 +4,6 @@ use Rattle.cg_gate.specs.Layout.{segment_count}
 use Rattle.cg_root.specs.Roots.{IsLawful, KeepsRoot}
 use Rattle.cg_root.specs.Slots.{gate_of}
 use Rattle.cg_root.specs.declared.root.Root.{Root}
-use Rattle.cg_log.specs.Formatted.{first_root}
 use Rattle.cg_log.proofs.Moves.{IsLawful-first, KeepsLog-formatted, AllCarry-formatted}
 use Rattle.cg_log.proofs.formatted.format.Goals as goal
 

@@ -1,5 +1,5 @@
-use Rattle.std.proofs.Common.{◌≡◌, ◌∙◌, ◌++◌, ap, sym, arith, true, false, rules}
-use Rattle.cg_log.specs.Free.{free_below, is_among}
+use Rattle.std.proofs.Common.{◌≡◌, ◌++◌, sym, arith, true, false, rules}
+use Rattle.cg_log.specs.Free.{is_among}
 use Rattle.cg_log.proofs.Ids.{free_below-among, free_below-free, free_below-zero}
 use Rattle.cg_log.proofs.free.count_free.Goals as goal
 use Rattle.cg_log.proofs.free.count_free.Goals.{then-not-is_named, else-not-is_named}

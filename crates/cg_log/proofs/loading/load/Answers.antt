@@ -1,9 +1,7 @@
-use Rattle.std.proofs.Common.{◌∙◌, sym, subst}
+use Rattle.std.proofs.Common.{◌∙◌, sym}
 use Rattle.std.proofs.lemmas.Result.{err_from_is_err_and}
 use Rattle.cg_disk.specs.Disk.{present}
 use Rattle.cg_disk.proofs.Moments.{IsSynced-image, Stays-content, Stays-synced}
-use Rattle.cg_log.specs.Faults.{Tells}
-use Rattle.cg_log.specs.Loaded.{IsLoaded}
 use Rattle.cg_log.proofs.Images.{Tells-same, HoldsContent-loaded, IsReady-loaded}
 use Rattle.cg_log.proofs.loading.load.Goals as goal
 

@@ -1,8 +1,7 @@
-use Rattle.std.proofs.Common.{◌≡◌, ◌∙◌, sym, subst, ap, arith, Err, rules}
+use Rattle.std.proofs.Common.{◌∙◌, sym, ap, Err}
 use Rattle.std.proofs.lemmas.Result.{err_from_is_err_and}
 use Rattle.cg_disk.specs.Disk.{present}
 use Rattle.cg_disk.proofs.Moments.{Changes-then, Stays-content}
-use Rattle.cg_log.specs.Segments.{ids_of}
 use Rattle.cg_log.proofs.Filled.{AreStored-same}
 use Rattle.cg_log.proofs.Images.{Tells-reading, none-base, none-tail, IsLoaded-read, IsTailEnd-same}
 use Rattle.cg_log.proofs.loading.read_log.Goals as goal

@@ -1,9 +1,9 @@
-use Rattle.std.proofs.Common.{◌≡◌, ◌+◌, ◌≤◌, ◌∙◌, sym, subst, ap, arith, Err, rules}
+use Rattle.std.proofs.Common.{◌≡◌, ◌∙◌, sym, subst, ap, arith, Err}
 use Rattle.std.proofs.lemmas.Result.{err_from_is_err_and}
 use Rattle.cg_disk.specs.Disk.{present}
 use Rattle.cg_disk.proofs.Moments.{Stays-content}
 use Rattle.cg_frame.specs.Frames.{HasFrames}
-use Rattle.cg_log.specs.Segments.{ids_of, segment_of}
+use Rattle.cg_log.specs.Segments.{segment_of}
 use Rattle.cg_log.specs.Scanned.{IsExtent}
 use Rattle.cg_log.specs.declared.fault.LogFault.TheVariants as log_fault
 use Rattle.cg_gate.specs.Layout.{segment_count}

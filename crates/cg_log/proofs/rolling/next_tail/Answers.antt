@@ -1,4 +1,4 @@
-use Rattle.std.proofs.Common.{◌≡◌, ◌+◌, ◌<◌, ◌^◌, ◌++◌, subst, arith}
+use Rattle.std.proofs.Common.{◌++◌, subst, arith}
 use Rattle.cg_log.specs.Free.{IsLeastFree}
 use Rattle.cg_log.proofs.Moves.{IsLawful-rolled}
 use Rattle.cg_log.proofs.rolling.next_tail.Goals as goal

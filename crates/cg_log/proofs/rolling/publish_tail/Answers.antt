@@ -1,5 +1,5 @@
-use Rattle.std.proofs.Common.{◌≡◌, ◌+◌, ◌≤◌, ◌∙◌, inl, inr, ap, sym, subst, arith}
-use Rattle.cg_disk.specs.Disk.{AllBut, Changes, LeavesOnly, present}
+use Rattle.std.proofs.Common.{◌≡◌, ◌≤◌, ◌∙◌, inl, inr, ap, sym, subst, arith}
+use Rattle.cg_disk.specs.Disk.{AllBut, LeavesOnly, present}
 use Rattle.cg_disk.proofs.Moments.{LeavesOnly-present, LeavesOnly-weaker}
 use Rattle.cg_gate.specs.Layout.{first_sector}
 use Rattle.cg_root.specs.Roots.{CountingRoot, IsOldOrNew, KeepsRoot}

@@ -1,4 +1,4 @@
-use Rattle.std.proofs.Common.{◌≡◌, ◌<◌, ◌∙◌, sym, subst, refl, ap, arith, length, get_or, take, [], ◌∷◌, ◌++◌, Err, rules}
+use Rattle.std.proofs.Common.{◌≡◌, ◌<◌, ◌∙◌, sym, subst, refl, ap, length, get_or, take, [], ◌∷◌, ◌++◌, Err, rules}
 use Rattle.std.proofs.lemmas.Result.{err_from_is_err_and}
 use Rattle.std.proofs.lemmas.List.{take_more}
 use Rattle.cg_disk.specs.Disk.{present}

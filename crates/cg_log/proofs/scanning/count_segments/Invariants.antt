@@ -1,4 +1,4 @@
-use Rattle.std.proofs.Common.{◌≡◌, ◌-◌, ◌<◌, ℕ, List, take, true}
+use Rattle.std.proofs.Common.{◌≡◌, List, take, true}
 use Rattle.cg_disk.specs.Disk.{Stays, present}
 use Rattle.cg_log.specs.Scanned.{AreCounted}
 use Rattle.cg_log.specs.Segments.{Filled}

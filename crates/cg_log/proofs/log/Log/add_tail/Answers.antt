@@ -1,6 +1,5 @@
-use Rattle.std.proofs.Common.{◌≡◌, ◌∙◌, subst}
+use Rattle.std.proofs.Common.{◌∙◌}
 use Rattle.cg_disk.specs.Disk.{present}
-use Rattle.cg_log.specs.Carried.{HoldsContent, rolled}
 use Rattle.cg_log.proofs.Moves.{HoldsContent-rolled, roll-images}
 use Rattle.cg_log.proofs.log.Log.add_tail.Goals as goal
 

@@ -1,4 +1,4 @@
-use Rattle.std.proofs.Common.{◌≡◌, ◌∙◌, inl, refl, sym, ap}
+use Rattle.std.proofs.Common.{◌∙◌, inl, refl, sym, ap}
 use Rattle.cg_disk.specs.Disk.{present}
 use Rattle.cg_log.specs.Ready.{last_id}
 use Rattle.cg_log.proofs.Moves.{last_id-content, no_frames, still-images}
