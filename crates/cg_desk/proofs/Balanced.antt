@@ -119,7 +119,7 @@ replies_find_their_calls = record {
   tick = λ b now h. leave-served b [] Tick now h.owed (tick-keeps b.machine now);
   gone = λ b session now h. leave-served b [] (Gone session) now h.owed (gone-keeps b.machine session now);
   settle = λ b count h. leave-settled b count h.owed;
-  fail = λ b h. subst (AreRefusedOnce b.tokens) (by_tokens-order b h) (by_tokens-once b);
+  fail = λ b h. subst (AreRefusedOnce b.tokens) (by_tokens-order b h.owed) (by_tokens-once b);
 }
 
 pub desks_have_distinct_members : DesksHaveDistinctMembers

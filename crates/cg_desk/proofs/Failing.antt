@@ -1,19 +1,17 @@
 -- What a failure of a desk sends.
-use Rattle.std.proofs.Common.{◌≡◌, ℕ, ◌+◌, Bool, true, false, List, [], ◌∷◌, ◌++◌, length, map, take, refl, ap, sym, ◌∙◌, arith}
+use Rattle.std.proofs.Common.{◌≡◌, ℕ, Bool, true, false, List, [], ◌∷◌, ◌++◌, length, map, take, refl, ap, sym, ◌∙◌, arith}
 use Rattle.std.specs.Prelude.{if◌then◌else◌}
 use Rattle.std.specs.List.{sum_by}
 use Rattle.std.proofs.lemmas.List.{map-append}
 use Rattle.std.proofs.lemmas.List.Sums.{sum_by-cons}
-use Rattle.cg_member.specs.declared.reply.Reply.{Reply}
 use Rattle.cg_request.specs.declared.ticket.Ticket.{Ticket}
 use Rattle.cg_member.specs.Waiting.{waiting_calls}
 use Rattle.cg_desk.specs.Answering.{after_answering, answering, answering_one, refusal, refused, refused_call}
-use Rattle.cg_desk.specs.Balanced.{IsBalanced}
 use Rattle.cg_desk.specs.Books.{Books, failing}
 use Rattle.cg_desk.specs.Held.{calls_of, replies_of}
-use Rattle.cg_desk.specs.Laws.{AreKept, AreRefusedOnce, weight_of, weight_out}
+use Rattle.cg_desk.specs.Laws.{AreKept, AreRefusedOnce, weight_out}
 use Rattle.cg_desk.specs.Outgoings.{answer, ticket_of}
-use Rattle.cg_desk.specs.Owed.{sent}
+use Rattle.cg_desk.specs.Owed.{IsOwed, sent}
 use Rattle.cg_desk.specs.Tokens.{call_of, has_token, without}
 use Rattle.cg_desk.specs.declared.outgoing.Outgoing.{Outgoing}
 use Rattle.cg_desk.specs.declared.token.ReplyToken.{ReplyToken}
@@ -80,9 +78,9 @@ sent-refusals [] = refl
 sent-refusals (t ∷ calls) = ap (λ (l : List Outgoing). refused_call t ∷ l) (sent-refusals calls)
 
 -- each token is that of a held reply or of a parked request
-pub by_tokens-order : (b : Books) → IsBalanced b → by_tokens b ≡ failing b
+pub by_tokens-order : (b : Books) → IsOwed b → by_tokens b ≡ failing b
 unfolding failing
-by_tokens-order b h = failed b h.owed ∙ sent-refusals (calls_of (replies_of b.held) ++ waiting_calls b.machine.groups)
+by_tokens-order b owed = failed b owed ∙ sent-refusals (calls_of (replies_of b.held) ++ waiting_calls b.machine.groups)
 
 -- no request is pending
 pub none_refused : AreRefusedOnce [] []

@@ -1,5 +1,5 @@
 -- Each pending request has one token throughout the life of a desk, so each reply that leaves finds its token.
-use Rattle.std.specs.Prelude.{◌≡◌, ◌+◌, ℕ, List, [], ◌∷◌, ◌++◌, map, Option}
+use Rattle.std.specs.Prelude.{◌≡◌, ◌+◌, ℕ, List, [], ◌∷◌, map, Option}
 use Rattle.cg_fold.specs.Durable.{State as Durable}
 use Rattle.cg_request.specs.declared.asking.Request.{Request}
 use Rattle.cg_request.specs.declared.event.Event.{Event}
@@ -28,6 +28,12 @@ abbrev pub IsBalancedAt : State → Type 0
 IsBalancedAt Loading = Unit {0}
 IsBalancedAt (Failed numbered settled) = Unit {0}
 IsBalancedAt (Serving b) = IsBalanced b
+
+-- the tokens are those of the pending requests
+abbrev pub IsOwedAt : State → Type 0
+IsOwedAt Loading = Unit {0}
+IsOwedAt (Failed numbered settled) = Unit {0}
+IsOwedAt (Serving b) = IsOwed b
 
 -- a desk that has just recovered is balanced, and each of its calls keeps it balanced
 pub record DesksStayBalanced : Type 0 where

@@ -2,8 +2,6 @@
 use Rattle.std.specs.Prelude.{◌≡◌, ◌+◌, ◌-◌, ◌*◌, ℕ, Bool, List, [], ◌++◌, length, map, take, drop, nat_lt, true, false, Option, Some, None}
 use Rattle.cg_member.specs.declared.effects.Effects.{Effects}
 use Rattle.cg_request.specs.declared.event.Event.{Event}
-use Rattle.cg_request.specs.declared.ticket.Ticket.{Ticket}
-use Rattle.cg_member.specs.declared.reply.Reply.{Reply}
 use Rattle.cg_group.specs.Machine.{step}
 use Rattle.cg_held.specs.Held.{Machine, Outcome}
 use Rattle.cg_member.specs.Waiting.{waiting_calls}

@@ -56,7 +56,7 @@ impl Desk {
     ghost use Rattle.cg_held.specs.Reviving.{revive};
     ghost use Rattle.cg_store.specs.Receipts.{batch_of};
     ghost use Rattle.cg_desk.specs.Desks.{IsOut, IsReasonAt, IsTakenFrom, failing_on, gone_on, is_out, numbered_of, opened, request_on, return_to, settle_on, settled_of, state_of, tick_on};
-    ghost use Rattle.cg_desk.specs.Balanced.{IsBalancedAt};
+    ghost use Rattle.cg_desk.specs.Balanced.{IsOwedAt};
     ghost use Rattle.cg_desk.specs.Laws.{AreRefusedOnce, tokens_of};
     ghost use Rattle.cg_desk.specs.Desks as state;
 
@@ -244,7 +244,7 @@ impl Desk {
     #[tactic(auto, using(crate::proofs::Failing::none_refused), unfolding(crate::specs::Desks::failing_on))]
     pub fn fail(&mut self) -> Vec<Outgoing>
         ensures once { AreRefusedOnce (tokens_of (state_of self.old)) result.items }
-        ensures order { IsBalancedAt (state_of self.old) → result.items ≡ failing_on (state_of self.old) }
+        ensures order { IsOwedAt (state_of self.old) → result.items ≡ failing_on (state_of self.old) }
         ensures state { state_of self.new ≡ state.Failed (numbered_of (state_of self.old)) (settled_of (state_of self.old)) }
     {
         let failed = Phase::Failed(self.numbered(), self.settled());
@@ -259,7 +259,7 @@ impl Desk {
     #[tactic(auto, using(crate::proofs::Failing::none_refused), unfolding(crate::specs::Desks::failing_on))]
     pub fn close(self) -> Vec<Outgoing>
         ensures once { AreRefusedOnce (tokens_of (state_of self)) result.items }
-        ensures order { IsBalancedAt (state_of self) → result.items ≡ failing_on (state_of self) }
+        ensures order { IsOwedAt (state_of self) → result.items ≡ failing_on (state_of self) }
     {
         let Desk { alloc, phase } = self;
         match phase {

@@ -45,7 +45,7 @@ pub struct Serving {
 impl Serving {
     ghost use Rattle.cg_request.specs.Asking.{asked};
     ghost use Rattle.cg_request.specs.declared.event.Event.TheVariants as event;
-    ghost use Rattle.cg_desk.specs.Balanced.{IsBalanced};
+    ghost use Rattle.cg_desk.specs.Owed.{IsOwed};
     ghost use Rattle.cg_desk.specs.Laws.{AreRefusedOnce};
     ghost use Rattle.cg_desk.specs.Books.{Books, failing, is_short, letting_go, numbering, served};
     ghost use Rattle.cg_desk.specs.Held.{is_waiting};
@@ -188,7 +188,7 @@ impl Serving {
     /// by group and joining order. Does not allocate.
     pub fn fail(self) -> Vec<Outgoing>
         ensures once { AreRefusedOnce (books self).tokens result.items }
-        ensures order { IsBalanced (books self) → result.items ≡ failing (books self) }
+        ensures order { IsOwed (books self) → result.items ≡ failing (books self) }
     {
         let Serving {
             alloc: _alloc,

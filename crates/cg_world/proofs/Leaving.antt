@@ -1,8 +1,9 @@
 -- Replies leave in the first step after which their sequence number is settled.
 use Rattle.std.proofs.Common.{◌≡◌, ℕ, ◌+◌, ◌≤◌, Bool, true, false, List, [], ◌∷◌, ◌++◌, append_assoc, append-nil, length, map, Option, None, Some, refl, sym, ap, ◌∙◌, subst, arith}
-use Rattle.std.specs.Prelude.{if◌then◌else◌, is_some}
+use Rattle.std.specs.Prelude.{if◌then◌else◌, is_some, Result, Ok, Err, IfOk, OnOk, OnErr}
+use Rattle.std.proofs.Math.Logic.{∥∥₁_elim}
+use Rattle.std.proofs.Math.Nat.{ℕ_set}
 use Rattle.std.proofs.lemmas.Bool.{false≢true}
-use Rattle.cg_disk.specs.Disk.{Image}
 use Rattle.cg_fold.specs.Durable.{State as Durable}
 use Rattle.cg_request.specs.declared.asking.Request.{Request as Asked}
 use Rattle.cg_request.specs.declared.event.Event.{Event}
@@ -13,13 +14,15 @@ use Rattle.cg_request.specs.Asking.{asked}
 use Rattle.cg_group.specs.Machine.{step}
 use Rattle.cg_held.specs.Reviving.{revive}
 use Rattle.cg_names.specs.declared.code.Code.TheVariants.{CoordinatorNotAvailable}
-use Rattle.cg_store.specs.Carried.{Carries}
-use Rattle.cg_desk.specs.Balanced.{IsBalanced}
-use Rattle.cg_desk.specs.Books.{Books, is_short, letting_go, returning, served, settling, taking}
-use Rattle.cg_desk.specs.Desks.{Answer, State, Loading, Serving, Failed, at_rest, gone_on, opened, request_on, serving, settle_on, settled_of, tick_on}
+use Rattle.cg_store.specs.Carried.{AreCommandsTo}
+use Rattle.cg_desk.specs.Balanced.{IsBalanced, IsOwedAt}
+use Rattle.cg_desk.specs.Books.{Books, IsTake, is_short, letting_go, returning, served, settling, taking}
+use Rattle.cg_desk.specs.Desks.{Answer, State, Loading, Serving, Failed, IsTakenFrom, at_rest, gone_on, opened, request_on, return_to, serving, settle_on, settled_of, tick_on}
 use Rattle.cg_desk.specs.Held.{holding, replies_of}
 use Rattle.cg_desk.specs.Outgoings.{answer}
 use Rattle.cg_desk.specs.Owed.{KeepsCalls, sent}
+use Rattle.cg_desk.specs.Tokens.{call_of}
+use Rattle.cg_store.specs.declared.batch.Batch.{Batch}
 use Rattle.cg_desk.specs.declared.held.HeldStep.{HeldStep}
 use Rattle.cg_desk.specs.declared.outgoing.Outgoing.{Outgoing}
 use Rattle.cg_desk.specs.declared.token.ReplyToken.{ReplyToken}
@@ -28,8 +31,9 @@ use Rattle.cg_desk.proofs.CalledEverywhere.{gone-keeps, tick-keeps}
 use Rattle.cg_desk.proofs.Living.{events_keep_calls, made-step}
 use Rattle.cg_desk.proofs.Owing.{leave-served, leave-settled, owed-served, owed-settled}
 use Rattle.cg_world.specs.Agreeing.{is_serving}
-use Rattle.cg_world.specs.Replying.{AreInOrder, IsOrderly, IsOrderlyAt, IsOrderlyDesk, RepliesLeaveWhenSettled, due, held_in, left_by, replies_by, replies_in, replies_to}
-use Rattle.cg_world.specs.Runs.{AreNotes, after_run}
+use Rattle.cg_world.specs.Orderly.{AreInOrder, IsOrderlyAt, IsOrderlyDesk, due}
+use Rattle.cg_world.specs.Replying.{IsOrderly, LeavesWhenSettled, RepliesLeaveWhenSettled, held_in, left_by, replies_at}
+use Rattle.cg_world.specs.Runs.{AreNotes, after_run, events_of}
 use Rattle.cg_world.specs.Sights.{Sight}
 use Rattle.cg_world.specs.Turns.{Turn, answered, in_flight, settled, turn}
 use Rattle.cg_world.specs.declared.step.Step.{Step}
@@ -37,7 +41,9 @@ use Rattle.cg_world.specs.declared.step.Step.TheVariants.{Request, Gone, Tick, T
 use Rattle.cg_world.specs.declared.step.StepNote.{StepNote}
 use Rattle.cg_world.specs.declared.step.StepNote.TheVariants.{Done, Nothing, InFlight, Full, Device}
 use Rattle.cg_world.proofs.Ordered.{all-later, chain, due-front, later, later-back, none-left-due, order-holding, order-later}
-use Rattle.cg_world.proofs.Recorded.{carried-records}
+use Rattle.cg_world.proofs.Histories.{replies-made}
+use Rattle.cg_world.proofs.Recorded.{made-records}
+use Rattle.cg_world.proofs.Replied.{replies_by, replies_in, replies_to}
 use Rattle.cg_world.proofs.Resting.{turn-stays-failed}
 
 -- what one step does to the replies
@@ -180,7 +186,7 @@ turn-orderly s note w h = by-state w.desk refl
     by-state (Failed n m) is = rests-orderly (turn s note w).after.desk (turn-stays-failed s note w (ap is_serving is))
     by-state (Serving b) is = by-after b is (is_serving (turn s note w).after.desk) refl
 
-stays : (ps : List (Step × StepNote)) (w : Sight) → IsOrderly w → AreNotes ps w → IsOrderly (after_run ps w)
+pub stays : (ps : List (Step × StepNote)) (w : Sight) → IsOrderly w → AreNotes ps w → IsOrderly (after_run ps w)
 unfolding after_run AreNotes
 stays [] w h noted = h
 stays (p ∷ ps) w h noted = stays ps (turn p.0 p.1 w).after (turn-orderly p.0 p.1 w h) noted.1
@@ -236,9 +242,107 @@ leave (p ∷ ps) w h noted serves =
     ∙ chain (settled_of next.desk) last 0 one.top hs (replies_by ps next) (grows ps next one.orderly serves) one.in_order
     ∙ ap (λ (l : List HeldStep). map sent (replies_of (due last l))) (append_assoc (held_in w.desk) (replies_in p.0 w.desk) (replies_by ps next))
 
-opened-orderly : (image : Image) (n : ℕ) (state : Durable) (now : ℕ) → Carries image n state → IsOrderlyAt (Serving (opened n (revive state now)))
+pub opened-orderly : (n : ℕ) (state : Durable) (now : ℕ) → AreCommandsTo n state → IsOrderlyAt (Serving (opened n (revive state now)))
 unfolding AreInOrder
-opened-orderly image n state now carries = record { balanced = desks_stay_balanced.loaded n state now (carried-records image n state carries); in_order = tt; none_due = refl }
+opened-orderly n state now made = record { balanced = desks_stay_balanced.loaded n state now (made-records n state made); in_order = tt; none_due = refl }
+
+pub leaves : (ps : List (Step × StepNote)) (w : Sight) → IsOrderly w → AreNotes ps w → LeavesWhenSettled ps w
+leaves ps w h noted serves =
+    leave ps w h noted serves ∙ ap (λ (l : List HeldStep). map sent (replies_of (due (settled_of (after_run ps w).desk) (held_in w.desk ++ l)))) (replies-made ps w)
 
 pub replies_leave_when_settled : RepliesLeaveWhenSettled
-replies_leave_when_settled = record { opened = opened-orderly; stays = stays; leave = leave }
+replies_leave_when_settled = record { opened = opened-orderly; stays = stays; leave = leaves }
+
+-- Each call of an orderly desk leaves it orderly.
+
+orderly-owed : (s : State) → IsOrderlyAt s → IsOwedAt s
+orderly-owed Loading h = tt
+orderly-owed (Failed n m) h = tt
+orderly-owed (Serving b) h = h.balanced.owed
+
+owed-prop : (s : State) → IsProp (IsOwedAt s)
+owed-prop Loading = hlevel
+owed-prop (Failed n m) = hlevel
+owed-prop (Serving b) = hlevel ℕ_set
+
+pub owed-now : (s : State) → ∥ IsOrderlyAt s ∥₁ → IsOwedAt s
+owed-now s h = ∥∥₁_elim h (owed-prop s) (orderly-owed s)
+
+asked-orderly : (short : Bool) (b : Books) (token : ReplyToken) (e : Event) (now : ℕ) → KeepsCalls b.machine (token ∷ []) e now → IsOrderlyDesk b
+    → let a : Answer = if short then record { after = Serving b; out = answer (call_of token) (Refused CoordinatorNotAvailable) ∷ [] } else serving (served b (token ∷ []) e now) in IsOrderlyAt a.after
+asked-orderly true b token e now keeps h = h
+asked-orderly false b token e now keeps h = (served-leaves b (token ∷ []) e now keeps h).orderly
+
+request-orderly : (s : State) (r : Asked) (token : ReplyToken) (fresh : List ℕ) (now : ℕ) → IsOrderlyAt s → IsOrderlyAt (request_on s token (asked r (call_of token) fresh) now).after
+unfolding request_on
+request-orderly Loading r token fresh now h = tt
+request-orderly (Failed n m) r token fresh now h = tt
+request-orderly (Serving b) r token fresh now h = asked-orderly (is_short b) b token (asked r (call_of token) fresh) now (events_keep_calls.request b.machine r token fresh now h.balanced.made) h
+
+ticked-orderly : (short : Bool) (b : Books) (now : ℕ) → IsOrderlyDesk b
+    → let a : Answer = if short then at_rest (Serving b) else serving (served b [] event.Tick now) in IsOrderlyAt a.after
+ticked-orderly true b now h = h
+ticked-orderly false b now h = (served-leaves b [] event.Tick now (tick-keeps b.machine now) h).orderly
+
+tick-orderly : (s : State) (now : ℕ) → IsOrderlyAt s → IsOrderlyAt (tick_on s now).after
+unfolding tick_on
+tick-orderly Loading now h = tt
+tick-orderly (Failed n m) now h = tt
+tick-orderly (Serving b) now h = ticked-orderly (is_short b) b now h
+
+gone-orderly : (s : State) (session now : ℕ) → IsOrderlyAt s → IsOrderlyAt (gone_on s session now).after
+unfolding gone_on
+gone-orderly Loading session now h = tt
+gone-orderly (Failed n m) session now h = tt
+gone-orderly (Serving b) session now h = (served-leaves b [] (event.Gone session) now (gone-keeps b.machine session now) h).orderly
+
+settle-orderly : (s : State) (count : ℕ) → IsOrderlyAt s → IsOrderlyAt (settle_on s count).after
+unfolding settle_on
+settle-orderly Loading count h = tt
+settle-orderly (Failed n m) count h = tt
+settle-orderly (Serving b) count h = (settled-leaves b count h).orderly
+
+pub return-orderly : (s : State) → IsOrderlyAt s → IsOrderlyAt (return_to s)
+return-orderly Loading h = tt
+return-orderly (Failed n m) h = tt
+return-orderly (Serving b) h = (returning-leaves b h).orderly
+
+taken-orderly : (b c : Books) (o : Option Batch) → IsTake b o c → IsOrderlyDesk b → IsOrderlyAt (Serving c)
+taken-orderly b c None is h = subst IsOrderlyDesk (sym is.2) h
+taken-orderly b c (Some batch) is h = subst IsOrderlyDesk (sym is.2) (taking-leaves b h).orderly
+
+pub take-orderly : (s after : State) (o : Option Batch) → IsTakenFrom s o after → IsOrderlyAt s → IsOrderlyAt after
+take-orderly Loading after o is h = subst IsOrderlyAt (sym is.1) h
+take-orderly (Failed n m) after o is h = subst IsOrderlyAt (sym is.1) h
+take-orderly (Serving b) Loading o is h = tt
+take-orderly (Serving b) (Failed n m) o is h = tt
+take-orderly (Serving b) (Serving c) o is h = taken-orderly b c o is h
+
+-- a batch was given back, or not
+pub returned-kept : {V E : Type 0} (r : Result V E) (s after : State) → OnOk r (after ≡ return_to s) → OnErr r (after ≡ s) → IsOrderlyAt s → IsOrderlyAt after
+returned-kept (Ok v) s after ok err h = subst IsOrderlyAt (sym ok) (return-orderly s h)
+returned-kept (Err e) s after ok err h = subst IsOrderlyAt (sym err) h
+
+pub failed-orderly : (s : State) (n m : ℕ) → s ≡ Failed n m → IsOrderlyAt s
+failed-orderly s n m is = subst IsOrderlyAt (sym is) tt
+
+-- a call of the desk returned this answer, or failed and changed nothing
+module _ {V E : Type 0} (items : V → List Outgoing) (s after : State) (r : Result V E) (h : IsOrderlyAt s) where
+  kept : (a : Answer) → IfOk r (λ v. a ≡ record { after = after; out = items v }) → OnErr r (after ≡ s) → IsOrderlyAt a.after → IsOrderlyAt after
+  kept a ok err is = by-result r ok err
+    where
+      by-result : (q : Result V E) → IfOk q (λ v. a ≡ record { after = after; out = items v }) → OnErr q (after ≡ s) → IsOrderlyAt after
+      by-result (Ok v) ok err = subst (λ (x : Answer). IsOrderlyAt x.after) ok is
+      by-result (Err e) ok err = subst IsOrderlyAt (sym err) h
+
+  pub request-kept : (token : ReplyToken) (q : Asked) (fresh : List ℕ) (now : ℕ) → IfOk r (λ v. request_on s token (asked q (call_of token) fresh) now ≡ record { after = after; out = items v }) → OnErr r (after ≡ s) → IsOrderlyAt after
+  request-kept token q fresh now ok err = kept (request_on s token (asked q (call_of token) fresh) now) ok err (request-orderly s q token fresh now h)
+
+  pub tick-kept : (now : ℕ) → IfOk r (λ v. tick_on s now ≡ record { after = after; out = items v }) → OnErr r (after ≡ s) → IsOrderlyAt after
+  tick-kept now ok err = kept (tick_on s now) ok err (tick-orderly s now h)
+
+  pub gone-kept : (session now : ℕ) → IfOk r (λ v. gone_on s session now ≡ record { after = after; out = items v }) → OnErr r (after ≡ s) → IsOrderlyAt after
+  gone-kept session now ok err = kept (gone_on s session now) ok err (gone-orderly s session now h)
+
+pub settle-kept : (s after : State) (count : ℕ) (out : List Outgoing) → IsOrderlyAt s → settle_on s count ≡ record { after = after; out = out } → IsOrderlyAt after
+settle-kept s after count out h is = subst (λ (x : Answer). IsOrderlyAt x.after) is (settle-orderly s count h)

@@ -5,9 +5,12 @@ pub mod Carrying
 pub mod Steps
 pub mod Going
 pub mod Resting
-pub mod Runs
-pub mod Opened
+pub mod Settling
 pub mod Ordered
-pub mod Leaving
+pub mod Replied
 pub mod Histories
 pub mod Recorded
+pub mod Leaving
+pub mod Runs
+pub mod Opened
+pub mod Lives

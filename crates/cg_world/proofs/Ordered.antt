@@ -12,7 +12,7 @@ use Rattle.cg_request.specs.declared.ticket.Ticket.{Ticket}
 use Rattle.cg_desk.specs.Held.{holding, ready, replies_of}
 use Rattle.cg_desk.specs.Owed.{sent}
 use Rattle.cg_desk.specs.declared.held.HeldStep.{HeldStep}
-use Rattle.cg_world.specs.Replying.{AreInOrder, due, is_due}
+use Rattle.cg_world.specs.Orderly.{AreInOrder, due, is_due}
 
 -- the replies that are not due yet
 abbrev pub later : ℕ → List HeldStep → List HeldStep

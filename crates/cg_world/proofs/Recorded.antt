@@ -1,11 +1,10 @@
 -- Lawful commands make lawful records.
-use Rattle.std.proofs.Common.{◌≡◌, ℕ, Bool, true, false, ◌&&◌, cond, not, List, [], ◌∷◌, ◌++◌, map, Option, None, Some, IfSome, refl, sym, ap, subst}
-use Rattle.std.specs.List.{AllByRecursion, list_any}
+use Rattle.std.proofs.Common.{◌≡◌, ℕ, Bool, true, false, ◌&&◌, cond, not, List, [], ◌∷◌, map, Option, None, Some, IfSome, refl, sym, ap, subst}
+use Rattle.std.specs.List.{list_any}
 use Rattle.std.specs.Option.{option_map}
 use Rattle.std.specs.Ordering.{eq_by_cmp}
 use Rattle.std.specs.FinMap as finmap
 use Rattle.std.proofs.lemmas.Bool.{false≢true}
-use Rattle.cg_disk.specs.Disk.{Image}
 use Rattle.cg_fold.specs.declared.record.GroupRecord.{GroupRecord}
 use Rattle.cg_fold.specs.Durable.{State, after, effect, empty, with_member, with_record}
 use Rattle.cg_fold.specs.Grouped.{is_another}
@@ -19,7 +18,9 @@ use Rattle.cg_record.specs.declared.member.Member.{Member}
 use Rattle.cg_record.specs.Lawful.{AreCommands, IsCommand}
 use Rattle.cg_record.specs.Rosters.{IsRoster, RosterParts, has_id_of_other, leader_after, may_replace, replaced_in, roster_of, seated, takes_place_of}
 use Rattle.cg_record.proofs.Replacing.{seated_roster}
-use Rattle.cg_store.specs.Carried.{Carries, joined}
+use Rattle.cg_store.specs.Carried.{AreCommandsTo}
+use Rattle.cg_store.proofs.Whole.{Carries-commands}
+use Rattle.cg_world.specs.Opening.{LoadingsAreLawful}
 
 -- a member may replace another
 roster-at : (may : Bool) (new : Member) (roster : RosterParts) → may_replace new roster.members ≡ may → IsRoster roster
@@ -82,14 +83,8 @@ after-lawful (c ∷ cs) state lawful h = after-lawful cs (effect state c) lawful
 empty-lawful : AreRecords empty
 empty-lawful q = subst (λ (o : Option GroupRecord). IfSome o IsRecord) (sym (finmap.get-empty name_cmp q)) tt
 
-both-lawful : (xs ys : List Command) → AreCommands xs → AreCommands ys → AreCommands (xs ++ ys)
-both-lawful [] ys a b = b
-both-lawful (x ∷ xs) ys a b = (a.0, both-lawful xs ys a.1 b)
+pub made-records : (n : ℕ) (state : State) → AreCommandsTo n state → AreRecords state
+made-records n state made = subst AreRecords (sym made.state_is) (after-lawful made.commands empty made.lawful empty-lawful)
 
-joined-lawful : (batches : List (List Command)) → AllByRecursion AreCommands batches → AreCommands (joined batches)
-joined-lawful [] lawful = tt
-joined-lawful (b ∷ bs) lawful = both-lawful b (joined bs) lawful.0 (joined-lawful bs lawful.1)
-
-pub carried-records : (image : Image) (n : ℕ) (state : State) → Carries image n state → AreRecords state
-carried-records image n state carries =
-    subst AreRecords (sym carries.spelled.state_is) (after-lawful (joined carries.spelled.batches) empty (joined-lawful carries.spelled.batches carries.spelled.lawful) empty-lawful)
+pub loadings_are_lawful : LoadingsAreLawful
+loadings_are_lawful = record { made = made-records; carried = λ image n state carries. made-records n state (Carries-commands image n state carries) }

@@ -8,7 +8,7 @@ use Rattle.cg_desk.specs.Desks.{Answer, State, Loading, Serving, Failed, gone_on
 use Rattle.cg_desk.specs.declared.token.ReplyToken.{ReplyToken}
 use Rattle.cg_world.specs.Agreeing.{is_serving}
 use Rattle.cg_world.specs.Sights.{Sight}
-use Rattle.cg_world.specs.Turns.{answered, appended, event_at, in_flight, settled, take_from, taken, turn}
+use Rattle.cg_world.specs.Turns.{IsNoteOf, answered, appended, event_at, in_flight, settled, take_from, taken, turn}
 use Rattle.cg_world.specs.declared.step.Step.{Step}
 use Rattle.cg_world.specs.declared.step.Step.TheVariants.{Request, Gone, Tick, Take, Append, Settle}
 use Rattle.cg_world.specs.declared.step.StepNote.{StepNote}
@@ -79,3 +79,13 @@ turn-stays-failed Settle note w is = by-note note
     by-note InFlight = is
     by-note Full = is
     by-note Device = is
+
+-- a desk fails in a step in which the disk fails
+pub device-fails : (s : Step) (w : Sight) → IsNoteOf s w Device → is_serving (turn s Device w).after.desk ≡ false
+unfolding turn IsNoteOf
+device-fails (Request ticket r now fresh) w noted = absurd (cc noted)
+device-fails (Gone session now) w noted = absurd (cc noted)
+device-fails (Tick now) w noted = absurd (cc noted)
+device-fails Take w noted = absurd noted
+device-fails Append w noted = refl
+device-fails Settle w noted = absurd noted

@@ -2,7 +2,7 @@
 use Rattle.std.proofs.Common.{◌≡◌, ◌≢◌, ℕ, ◌+◌, ◌≤◌, Bool, true, false, List, [], ◌∷◌, ◌++◌, append_assoc, length, length-append, drop, Option, None, Some, refl, sym, ap, ◌∙◌, subst, arith}
 use Rattle.std.specs.List.{list_any, zip}
 use Rattle.std.proofs.lemmas.Bool.{false≢true}
-use Rattle.cg_disk.specs.Disk.{History, LeavesOnly}
+use Rattle.cg_disk.specs.Disk.{History, Image, LeavesOnly}
 use Rattle.cg_disk.proofs.Moments.{LeavesOnly-then, LeavesOnly-weaker}
 use Rattle.cg_fold.specs.Durable.{State as Durable, after}
 use Rattle.cg_record.specs.declared.command.Command.{Command}
@@ -13,7 +13,8 @@ use Rattle.cg_desk.specs.declared.outgoing.Outgoing.{Outgoing}
 use Rattle.cg_world.specs.Agreeing.{is_serving}
 use Rattle.cg_world.specs.Carrying.{CarriesAtLeast, CarriesFront, HasStored, HoldsAtLeast}
 use Rattle.cg_world.specs.Faults.{is_failure}
-use Rattle.cg_world.specs.Running.{IsRun, refusal_of_first}
+use Rattle.cg_world.specs.Replying.{IsOrderly}
+use Rattle.cg_world.specs.Running.{IsRun, KeepsSettled, refusal_of_first}
 use Rattle.cg_world.specs.Runs.{AreNotes, after_run, made_in, outs_of, to_store, unstored}
 use Rattle.cg_world.specs.Sights.{Sight, sight, store_of}
 use Rattle.cg_world.specs.Steps.{IsTaken}
@@ -26,8 +27,10 @@ use Rattle.cg_world.specs.declared.trace.Trace.{Trace}
 use Rattle.cg_world.specs.declared.world.World.{World}
 use Rattle.cg_world.proofs.Carrying.{holds-at, images-stay}
 use Rattle.cg_world.proofs.Going.{after-snoc, all-taken, carries-behind, carries-more, drop-snoc, few-snoc, notes-snoc, nothing-yet, outs-snoc, pair-moves, sound-snoc, stored-grows, stored-parts, zip-none, zip-snoc}
+use Rattle.cg_world.proofs.Leaving.{leaves, stays}
 use Rattle.cg_world.proofs.Moving.{failed-rests}
-use Rattle.cg_world.proofs.Resting.{turn-stays-failed}
+use Rattle.cg_world.proofs.Resting.{device-fails, turn-stays-failed}
+use Rattle.cg_world.proofs.Settling.{run-grows, settled-snoc, settled-start}
 
 module _ {D : Type 0} {g : _} (honest : D → Bool) (history : D → History) where
   -- what holds after some steps, while the disk has not failed
@@ -40,6 +43,7 @@ module _ {D : Type 0} {g : _} (honest : D → Bool) (history : D → History) wh
     pub sound : list_any is_failure notes ≡ false
     pub images : (n : ℕ) (state : Durable) → StandsAt honest history (store_of old) n state → LeavesOnly (history (disk_of (store_of old))) (history (disk_of (store_of now))) (CarriesFront n state (to_store (zip steps notes) (sight old)))
     pub stored : (n : ℕ) (state : Durable) → StandsAt honest history (store_of old) n state → HasStored honest history (store_of now) n state (to_store (zip steps notes) (sight old)) (unstored (sight now))
+    pub steps_keep : (n : ℕ) (state : Durable) → StandsAt honest history (store_of old) n state → KeepsSettled (history (disk_of (store_of now))) (zip steps notes) (sight old) (history (disk_of (store_of old))).now
     pub failed : is_serving (sight old).desk ≡ false → (disk_of (store_of now) ≡ disk_of (store_of old)) × (is_serving (sight now).desk ≡ false)
 
   pub going-start : (steps : List Step) (old : World D g) → Going steps steps [] [] old old
@@ -57,8 +61,14 @@ module _ {D : Type 0} {g : _} (honest : D → Bool) (history : D → History) wh
       whole = ap (λ ps. to_store ps (sight old)) (zip-none steps) ∙ nothing-yet (sight old);
       stands = subst (λ (k : ℕ). StandsAt honest history (store_of old) k state) (sym (omega arith)) stands;
     };
+    steps_keep = λ n state stands. subst (λ ps. KeepsSettled (history (disk_of (store_of old))) ps (sight old) (history (disk_of (store_of old))).now) (sym (zip-none steps))
+        (settled-start (history (disk_of (store_of old))) (sight old) (holds-at honest history (store_of old) (settled_of (sight old).desk) n state old.agree.enough stands));
     failed = λ is. (refl, is);
   }
+
+  -- what the store has, is settled and more
+  at-entry : (old : World D g) (n : ℕ) (state : Durable) (commands : List Command) → StandsAt honest history (store_of old) n state → (image : Image) → CarriesFront n state commands image → CarriesAtLeast (settled_of (sight old).desk) image
+  at-entry old n state commands stands image carries = record { number = n + length carries.front; state = after state carries.front; enough = omega (arith, old.agree.enough, stands.front_is); carried = carries.carried }
 
   -- one more step
   module _ (steps rest : List Step) (s : Step) (notes : List StepNote) (outs : List (List Outgoing)) (old now new : World D g) (note : StepNote) (out : List Outgoing)
@@ -127,6 +137,19 @@ module _ {D : Type 0} {g : _} (honest : D → Bool) (history : D → History) wh
             stands = pair-moves (λ k st. StandsAt honest history (store_of new) k st) n state before.front then.front then.stands;
           }
 
+      pub more-steps : KeepsSettled (history (disk_of (store_of new))) (zip steps (notes ++ note ∷ [])) (sight old) (history (disk_of (store_of old))).now
+      unfolding ps
+      more-steps =
+          subst (λ qs. KeepsSettled (history (disk_of (store_of new))) qs (sight old) (history (disk_of (store_of old))).now) (sym longer)
+          (settled-snoc (history (disk_of (store_of now))) (history (disk_of (store_of new))) ps (s, note) (sight old) (history (disk_of (store_of old))).now
+          (subst (λ (w : Sight). LeavesOnly (history (disk_of (store_of now))) (history (disk_of (store_of new))) (CarriesAtLeast (settled_of w.desk))) so_far.after
+          (LeavesOnly-weaker (history (disk_of (store_of now))) (history (disk_of (store_of new))) (CarriesFront (n + length before.front) (after state before.front) (to_store ((s, note) ∷ []) (sight now))) (CarriesAtLeast (settled_of (sight now).desk))
+          (at-entry now (n + length before.front) (after state before.front) (to_store ((s, note) ∷ []) (sight now)) before.stands)
+          (step.images (n + length before.front) (after state before.front) before.stands)))
+          (step.clock before.stands.is_honest)
+          (subst (λ (w : Sight). HoldsAtLeast (settled_of w.desk) (history (disk_of (store_of new)))) (sym step.after ∙ ap (λ (w : Sight). (turn s note w).after) so_far.after) (step.holds (n + length before.front) (after state before.front) before.stands))
+          (so_far.steps_keep n state stands))
+
       pub more-left : HoldsAtLeast (settled_of (sight new).desk) (history (disk_of (store_of new)))
       more-left = step.holds (n + length before.front) (after state before.front) before.stands
 
@@ -149,6 +172,7 @@ module _ {D : Type 0} {g : _} (honest : D → Bool) (history : D → History) wh
     sound = sound-snoc notes note so_far.sound sound;
     images = more-images steps rest s notes outs old now new note out so_far step idle;
     stored = λ n state stands. more-stored steps rest s notes outs old now new note out so_far step idle n state stands (λ is. false≢true (sym sound ∙ ap is_failure is));
+    steps_keep = more-steps steps rest s notes outs old now new note out so_far step idle;
     failed = more-failed steps rest s notes outs old now new note out so_far step idle;
   }
 
@@ -156,9 +180,7 @@ module _ {D : Type 0} {g : _} (honest : D → Bool) (history : D → History) wh
   entered : (old now : World D g) (commands : List Command) → ((n : ℕ) (state : Durable) → StandsAt honest history (store_of old) n state → LeavesOnly (history (disk_of (store_of old))) (history (disk_of (store_of now))) (CarriesFront n state commands))
       → (n : ℕ) (state : Durable) → StandsAt honest history (store_of old) n state → LeavesOnly (history (disk_of (store_of old))) (history (disk_of (store_of now))) (CarriesAtLeast (settled_of (sight old).desk))
   entered old now commands images n state stands =
-      LeavesOnly-weaker (history (disk_of (store_of old))) (history (disk_of (store_of now))) (CarriesFront n state commands) (CarriesAtLeast (settled_of (sight old).desk))
-      (λ image carries. record { number = n + length carries.front; state = after state carries.front; enough = omega (arith, old.agree.enough, stands.front_is); carried = carries.carried })
-      (images n state stands)
+      LeavesOnly-weaker (history (disk_of (store_of old))) (history (disk_of (store_of now))) (CarriesFront n state commands) (CarriesAtLeast (settled_of (sight old).desk)) (at-entry old n state commands stands) (images n state stands)
 
   held-now : (old now : World D g) (commands rest : List Command) → ((n : ℕ) (state : Durable) → StandsAt honest history (store_of old) n state → HasStored honest history (store_of now) n state commands rest)
       → (n : ℕ) (state : Durable) → StandsAt honest history (store_of old) n state → HoldsAtLeast (settled_of (sight now).desk) (history (disk_of (store_of now)))
@@ -170,17 +192,28 @@ module _ {D : Type 0} {g : _} (honest : D → Bool) (history : D → History) wh
   pub run-done : (steps : List Step) (notes : List StepNote) (outs : List (List Outgoing)) (old now : World D g) (trace : Trace) → Going steps [] notes outs old now
       → trace ≡ record { out = outs; notes = notes; last = None; stopped = None } → IsRun honest history steps old now trace
   run-done steps notes outs old now trace going is = subst (λ (t : Trace). IsRun honest history steps old now t) (sym is) (record {
-    noted = going.noted;
-    out = going.out;
-    after = going.after;
-    ends = (going.sound, all-taken steps notes going.rest_is going.few);
-    last = refl;
-    images = going.images;
-    stored = λ n state stands _. going.stored n state stands;
-    entered = entered old now (to_store (zip steps notes) (sight old)) going.images;
-    left = held-now old now (to_store (zip steps notes) (sight old)) (unstored (sight now)) going.stored;
+    traced = record {
+      notes = going.noted;
+      out = going.out;
+      world = going.after;
+      ends = (going.sound, all-taken steps notes going.rest_is going.few);
+      last = refl;
+      released = λ h. leaves (zip steps notes) (sight old) h going.noted;
+      orderly = λ h. subst IsOrderly (sym going.after) (stays (zip steps notes) (sight old) h going.noted);
+      fails = λ broken. absurd (false≢true broken);
+    };
+    kept = λ n state stands. record {
+      disk = record {
+        prefix = going.images n state stands;
+        at_entry = entered old now (to_store (zip steps notes) (sight old)) going.images n state stands;
+        at_exit = subst (λ (w : Sight). HoldsAtLeast (settled_of w.desk) (history (disk_of (store_of now)))) going.after (held-now old now (to_store (zip steps notes) (sight old)) (unstored (sight now)) going.stored n state stands);
+        at_steps = going.steps_keep n state stands;
+      };
+      store = λ _. going.stored n state stands;
+    };
     settled = now.agree.enough;
-    failed = λ f. (going.failed f).0;
+    grows = subst (λ (w : Sight). settled_of (sight old).desk ≤ settled_of w.desk) (sym going.after) (run-grows (zip steps notes) (sight old));
+    rests = λ f. (going.failed f).0;
   })
 
   -- an allocation failed for the next step
@@ -198,17 +231,28 @@ module _ {D : Type 0} {g : _} (honest : D → Bool) (history : D → History) wh
       let images-new : (n : ℕ) (state : Durable) → StandsAt honest history (store_of old) n state → LeavesOnly (history (disk_of (store_of old))) (history (disk_of (store_of new))) (CarriesFront n state (to_store (zip steps notes) (sight old))) = λ n state stands.
       subst (λ (d : D). LeavesOnly (history (disk_of (store_of old))) (history d) (CarriesFront n state (to_store (zip steps notes) (sight old)))) (sym store.disk) (going.images n state stands) in
       subst (λ (t : Trace). IsRun honest history steps old new t) (sym is) (record {
-        noted = going.noted;
-        out = going.out;
-        after = same ∙ going.after;
-        ends = (going.sound, omega (arith, length-append notes (Done ∷ []), few-snoc steps rest s notes Done going.rest_is));
-        last = told ∙ ap refusal_of_first going.rest_is;
-        images = images-new;
-        stored = λ n state stands _. stored-new n state stands;
-        entered = entered old new (to_store (zip steps notes) (sight old)) images-new;
-        left = held-now old new (to_store (zip steps notes) (sight old)) (unstored (sight new)) stored-new;
+        traced = record {
+          notes = going.noted;
+          out = going.out;
+          world = same ∙ going.after;
+          ends = (going.sound, omega (arith, length-append notes (Done ∷ []), few-snoc steps rest s notes Done going.rest_is));
+          last = told ∙ ap refusal_of_first going.rest_is;
+          released = λ h. leaves (zip steps notes) (sight old) h going.noted;
+          orderly = λ h. subst IsOrderly (sym (same ∙ going.after)) (stays (zip steps notes) (sight old) h going.noted);
+          fails = λ broken. absurd (false≢true broken);
+        };
+        kept = λ n state stands. record {
+          disk = record {
+            prefix = images-new n state stands;
+            at_entry = entered old new (to_store (zip steps notes) (sight old)) images-new n state stands;
+            at_exit = subst (λ (w : Sight). HoldsAtLeast (settled_of w.desk) (history (disk_of (store_of new)))) (same ∙ going.after) (held-now old new (to_store (zip steps notes) (sight old)) (unstored (sight new)) stored-new n state stands);
+            at_steps = subst (λ (d : D). KeepsSettled (history d) (zip steps notes) (sight old) (history (disk_of (store_of old))).now) (sym store.disk) (going.steps_keep n state stands);
+          };
+          store = λ _. stored-new n state stands;
+        };
         settled = new.agree.enough;
-        failed = λ f. store.disk ∙ (going.failed f).0;
+        grows = subst (λ (w : Sight). settled_of (sight old).desk ≤ settled_of w.desk) (sym (same ∙ going.after)) (run-grows (zip steps notes) (sight old));
+        rests = λ f. store.disk ∙ (going.failed f).0;
       })
 
   -- the disk failed in a step
@@ -216,19 +260,37 @@ module _ {D : Type 0} {g : _} (honest : D → Bool) (history : D → History) wh
       → Going steps (s ∷ rest) notes outs old now → IsTaken honest history s note out now new → (is_taken (sight now) ≡ false → store_of new ≡ store_of now) → is_failure note ≡ true
       → trace ≡ record { out = outs ++ out ∷ []; notes = notes ++ note ∷ []; last = None; stopped = Some cause.Device } → IsRun honest history steps old new trace
   run-broken steps rest s notes outs old now new note out trace going step idle broken is = subst (λ (t : Trace). IsRun honest history steps old new t) (sym is) (record {
-    noted = more-noted steps rest s notes outs old now new note out going step idle;
-    out = more-out steps rest s notes outs old now new note out going step idle;
-    after = more-after steps rest s notes outs old now new note out going step idle;
-    ends = (record { front = notes; sound = going.sound; is = ap (λ (k : StepNote). notes ++ k ∷ []) (device note broken) }, few-snoc steps rest s notes note going.rest_is);
-    last = refl;
-    images = more-images steps rest s notes outs old now new note out going step idle;
-    stored = λ n state stands serves. absurd (false≢true (sym serves));
-    entered = entered old new (to_store (zip steps (notes ++ note ∷ [])) (sight old)) (more-images steps rest s notes outs old now new note out going step idle);
-    left = more-left steps rest s notes outs old now new note out going step idle;
+    traced = record {
+      notes = noted-now;
+      out = more-out steps rest s notes outs old now new note out going step idle;
+      world = after-now;
+      ends = (record { front = notes; sound = going.sound; is = ap (λ (k : StepNote). notes ++ k ∷ []) (device note broken) }, few-snoc steps rest s notes note going.rest_is);
+      last = refl;
+      released = λ h. leaves (zip steps (notes ++ note ∷ [])) (sight old) h noted-now;
+      orderly = λ h. subst IsOrderly (sym after-now) (stays (zip steps (notes ++ note ∷ [])) (sight old) h noted-now);
+      fails = λ _. ap (λ (w : Sight). is_serving w.desk) (sym step.after) ∙ ap (λ (k : StepNote). is_serving (turn s k (sight now)).after.desk) (device note broken)
+          ∙ device-fails s (sight now) (subst (λ (k : StepNote). IsNoteOf s (sight now) k) (device note broken) step.noted);
+    };
+    kept = λ n state stands. record {
+      disk = record {
+        prefix = more-images steps rest s notes outs old now new note out going step idle n state stands;
+        at_entry = entered old new (to_store (zip steps (notes ++ note ∷ [])) (sight old)) (more-images steps rest s notes outs old now new note out going step idle) n state stands;
+        at_exit = subst (λ (w : Sight). HoldsAtLeast (settled_of w.desk) (history (disk_of (store_of new)))) after-now (more-left steps rest s notes outs old now new note out going step idle n state stands);
+        at_steps = more-steps steps rest s notes outs old now new note out going step idle n state stands;
+      };
+      store = λ serves. absurd (false≢true (sym serves));
+    };
     settled = new.agree.enough;
-    failed = λ f. (more-failed steps rest s notes outs old now new note out going step idle f).0;
+    grows = subst (λ (w : Sight). settled_of (sight old).desk ≤ settled_of w.desk) (sym after-now) (run-grows (zip steps (notes ++ note ∷ [])) (sight old));
+    rests = λ f. (more-failed steps rest s notes outs old now new note out going step idle f).0;
   })
     where
+      noted-now : AreNotes (zip steps (notes ++ note ∷ [])) (sight old)
+      noted-now = more-noted steps rest s notes outs old now new note out going step idle
+
+      after-now : sight new ≡ after_run (zip steps (notes ++ note ∷ [])) (sight old)
+      after-now = more-after steps rest s notes outs old now new note out going step idle
+
       device : (k : StepNote) → is_failure k ≡ true → k ≡ Device
       device Done is = absurd (false≢true is)
       device Nothing is = absurd (false≢true is)

@@ -39,6 +39,7 @@ module _ {D : Type 0} {g : _} (honest : D → Bool) (history : D → History) (o
     stored = λ n state stands _. stored-none honest history (store_of new) (to_store ((step, note) ∷ []) (sight old)) (unstored (sight new)) (rest ∙ ap unstored now) n state
         (StandsAt-unchanged honest history (store_of old) (store_of new) n state same stands);
     holds = λ n state stands. holds-at honest history (store_of new) (settled_of (sight new).desk) n state new.agree.enough (StandsAt-unchanged honest history (store_of old) (store_of new) n state same stands);
+    clock = λ _. omega (arith, ap (λ (d : D). (history d).now) same.disk);
   }
 
   unchanged : store_of new ≡ store_of old → IsUnchanged (store_of old) (store_of new)
@@ -97,7 +98,8 @@ module _ {D : Type 0} {g : _} (honest : D → Bool) (history : D → History) (o
       (at-rest Settle note out noted (ap (λ (t : Turn). t.after) now) (ap out_of now) (unchanged store) (after-settle (sight old) note noted))
 
   -- the batch that was taken goes to the disk
-  module _ (images : (n : ℕ) (state : Durable) → StandsAt honest history (store_of old) n state → LeavesOnly (history (disk_of (store_of old))) (history (disk_of (store_of new))) (CarriesBeforeOrAfter n state (in_flight (sight old).desk))) where
+  module _ (images : (n : ℕ) (state : Durable) → StandsAt honest history (store_of old) n state → LeavesOnly (history (disk_of (store_of old))) (history (disk_of (store_of new))) (CarriesBeforeOrAfter n state (in_flight (sight old).desk)))
+      (clock : honest (disk_of (store_of old)) ≡ true → (history (disk_of (store_of new))).now ≤ (history (disk_of (store_of old))).now + 4) where
     goes-to : (note : StepNote) → is_taken (sight old) ≡ true → (n : ℕ) (state : Durable) → StandsAt honest history (store_of old) n state
         → LeavesOnly (history (disk_of (store_of old))) (history (disk_of (store_of new))) (CarriesFront n state (to_store ((Append, note) ∷ []) (sight old)))
     goes-to note taken n state stands =
@@ -120,6 +122,7 @@ module _ {D : Type 0} {g : _} (honest : D → Bool) (history : D → History) (o
         stands = stands-now n state stands;
       };
       holds = λ n state stands. holds-at honest history (store_of new) (settled_of (sight new).desk) (n + length (in_flight (sight old).desk)) (after state (in_flight (sight old).desk)) new.agree.enough (stands-now n state stands);
+      clock = clock;
     }
 
     failed-step : (out : List Outgoing) → IsAppendNote (sight old) Device → appended Device (sight old) ≡ record { after = sight new; at_once = out; left = [] } → IsTaken honest history Append Device out old new
@@ -133,6 +136,7 @@ module _ {D : Type 0} {g : _} (honest : D → Bool) (history : D → History) (o
       holds = λ n state stands image left. at-least n state (settled_of (sight new).desk) image
           (subst (λ (k : ℕ). k ≤ n) (ap (λ (t : Turn). settled_of t.after.desk) now) (omega (arith, old.agree.enough, stands.front_is)))
           (LeavesOnly-present (history (disk_of (store_of old))) (history (disk_of (store_of new))) (CarriesBeforeOrAfter n state (in_flight (sight old).desk)) (images n state stands) image left);
+      clock = clock;
     }
       where
         at-least : (n : ℕ) (state : Durable) (count : ℕ) (image : Image) → count ≤ n → CarriesBeforeOrAfter n state (in_flight (sight old).desk) image → CarriesAtLeast count image

@@ -30,3 +30,7 @@ pub record CarriesAtLeast (count : ℕ) (image : Image) : Type 0 where
 -- every image that a crash may leave now carries at least this many commands
 abbrev pub HoldsAtLeast : ℕ → History → Type 0
 HoldsAtLeast count history = (image : Image) → IsImage (present history) image → CarriesAtLeast count image
+
+-- from this moment on, each image that a crash may leave carries at least this many commands
+abbrev pub CarriesSince : History → ℕ → ℕ → Type 0
+CarriesSince history since count = (k : ℕ) → since ≤ k → k ≤ history.now → (image : Image) → IsImage (history.at k) image → CarriesAtLeast count image

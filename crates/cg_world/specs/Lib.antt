@@ -1,4 +1,5 @@
 pub mod Transits
+pub mod Orderly
 pub mod Agreeing
 pub mod Sights
 pub mod Turns
@@ -9,3 +10,4 @@ pub mod Steps
 pub mod Running
 pub mod Opening
 pub mod Replying
+pub mod Lives

@@ -4,16 +4,17 @@ use Rattle.cg_disk.specs.Disk.{History, Image}
 use Rattle.cg_fold.specs.Durable.{State, counts_of}
 use Rattle.cg_held.specs.Kept.{AreRecords}
 use Rattle.cg_held.specs.Reviving.{revive}
-use Rattle.cg_store.specs.Carried.{Carries}
+use Rattle.cg_store.specs.Carried.{AreCommandsTo, Carries}
 use Rattle.cg_store.specs.Store.{StandsAt, disk_of}
 use Rattle.cg_store.specs.declared.fault.OpenFault.{OpenFault}
 use Rattle.cg_desk.specs.Desks.{Serving, opened}
 use Rattle.cg_world.specs.Sights.{opening_of, sight, store_of}
 use Rattle.cg_world.specs.declared.world.World.{World}
 
--- a world that was opened at this moment found n commands, which make the state: its desk serves the groups that this
--- state recovers
+-- a world that was opened at this moment found n lawful commands, which make the state: its desk serves the groups that
+-- this state recovers. On an honest disk every crash image has these commands.
 pub record IsOpened {D : Type 0} {g : _} (honest : D → Bool) (history : D → History) (now : ℕ) (world : World D g) (n : ℕ) (state : State) : Type 0 where
+  pub made : AreCommandsTo n state
   pub desk : (sight world).desk ≡ Serving (opened n (revive state now))
   pub fresh : (sight world).appended ≡ false
   pub found : opening_of world ≡ (n, (counts_of state).0, (counts_of state).1)
@@ -24,6 +25,7 @@ abbrev pub disk_after : {D : Type 0} {g : _} → Result (World D g) (OpenFault �
 disk_after (Ok world) = disk_of (store_of world)
 disk_after (Err refused) = refused.1
 
--- the records of what an image carries are lawful, as commands make them
-abbrev pub LoadingsAreLawful : Type 0
-LoadingsAreLawful = (image : Image) (n : ℕ) (state : State) → Carries image n state → AreRecords state
+-- Lawful commands make lawful records, and so does what an image carries.
+pub record LoadingsAreLawful : Type 0 where
+  pub made : (n : ℕ) (state : State) → AreCommandsTo n state → AreRecords state
+  pub carried : (image : Image) (n : ℕ) (state : State) → Carries image n state → AreRecords state

@@ -1,5 +1,5 @@
 -- What a run guarantees to its callers and on the disk.
-use Rattle.std.specs.Prelude.{◌≡◌, ◌<◌, ◌≤◌, ℕ, Bool, false, ◌++◌, List, [], ◌∷◌, length, drop, Option, None, Some}
+use Rattle.std.specs.Prelude.{◌≡◌, ◌+◌, ◌<◌, ◌≤◌, ℕ, Bool, true, false, ◌++◌, List, [], ◌∷◌, length, drop, Option, None, Some}
 use Rattle.std.specs.List.{list_any, zip}
 use Rattle.cg_disk.specs.Disk.{History, LeavesOnly}
 use Rattle.cg_fold.specs.Durable.{State}
@@ -7,11 +7,14 @@ use Rattle.cg_store.specs.Store.{StandsAt, disk_of, front_of}
 use Rattle.cg_desk.specs.Desks.{settled_of}
 use Rattle.cg_desk.specs.declared.outgoing.Outgoing.{Outgoing}
 use Rattle.cg_world.specs.Agreeing.{is_serving}
-use Rattle.cg_world.specs.Carrying.{CarriesAtLeast, CarriesFront, HasStored, HoldsAtLeast}
+use Rattle.cg_world.specs.Carrying.{CarriesAtLeast, CarriesFront, CarriesSince, HasStored, HoldsAtLeast}
 use Rattle.cg_world.specs.Faults.{is_failure, refusal_of, stopped_by_device}
+use Rattle.cg_world.specs.Replying.{IsOrderly, LeavesWhenSettled}
 use Rattle.cg_world.specs.Runs.{AreNotes, after_run, outs_of, to_store, unstored}
-use Rattle.cg_world.specs.Sights.{sight, store_of}
+use Rattle.cg_world.specs.Sights.{Sight, sight, store_of}
+use Rattle.cg_world.specs.Turns.{turn}
 use Rattle.cg_world.specs.declared.step.Step.{Step}
+use Rattle.cg_world.specs.declared.step.Step.TheVariants.{Request, Gone, Tick, Take, Append, Settle}
 use Rattle.cg_world.specs.declared.step.StepNote.{StepNote}
 use Rattle.cg_world.specs.declared.step.StepNote.TheVariants.{Device}
 use Rattle.cg_world.specs.declared.step.StopCause.{StopCause}
@@ -51,25 +54,57 @@ refusal_at steps notes None = None
 refusal_at steps notes (Some cause.Memory) = refusal_of_first (drop (length notes) steps)
 refusal_at steps notes (Some cause.Device) = None
 
-pub record IsRun {D : Type 0} {g : _} (honest : D → Bool) (history : D → History) (steps : List Step) (old new : World D g) (trace : Trace) : Type 0 where
-  -- the notes, what left in each step, and the world afterwards are those of the steps
-  pub noted : AreNotes (went steps trace) (sight old)
+-- what the trace of a run says
+pub record IsTraced {D : Type 0} {g : _} (steps : List Step) (old new : World D g) (trace : Trace) : Type 0 where
+  -- the notes are possible, and what left in each step and the world afterwards are those of the noted steps
+  pub notes : AreNotes (went steps trace) (sight old)
   pub out : trace.out ≡ outs_of (went steps trace) (sight old)
-  pub after : sight new ≡ after_run (went steps trace) (sight old)
+  pub world : sight new ≡ after_run (went steps trace) (sight old)
   pub ends : Ends steps trace.notes trace.stopped
   pub last : trace.last ≡ refusal_at steps trace.notes trace.stopped
-  -- the prefix law: each image since the run began carries the pair plus a prefix of the commands that the run may
-  -- store; unless the disk failed, so does the store, and the rest are the commands that it does not have
-  pub images : (n : ℕ) (state : State) → StandsAt honest history (store_of old) n state
-      → LeavesOnly (history (disk_of (store_of old))) (history (disk_of (store_of new))) (CarriesFront n state (to_store (went steps trace) (sight old)))
-  pub stored : (n : ℕ) (state : State) → StandsAt honest history (store_of old) n state → stopped_by_device trace.stopped ≡ false
-      → HasStored honest history (store_of new) n state (to_store (went steps trace) (sight old)) (unstored (sight new))
-  -- the durability law: each image since the run began has all commands that were settled then, and each that a crash
-  -- may leave now has all that are settled now
-  pub entered : (n : ℕ) (state : State) → StandsAt honest history (store_of old) n state
-      → LeavesOnly (history (disk_of (store_of old))) (history (disk_of (store_of new))) (CarriesAtLeast (settled_of (sight old).desk))
-  pub left : (n : ℕ) (state : State) → StandsAt honest history (store_of old) n state → HoldsAtLeast (settled_of (sight new).desk) (history (disk_of (store_of new)))
-  -- no more is settled than the store has
+  -- the release law, whatever the disk gives; a world that was opened is orderly, and a run leaves it so
+  pub released : IsOrderly (sight old) → LeavesWhenSettled (went steps trace) (sight old)
+  pub orderly : IsOrderly (sight old) → IsOrderly (sight new)
+  -- after a failure of the disk the desk has failed
+  pub fails : stopped_by_device trace.stopped ≡ true → is_serving (sight new).desk ≡ false
+
+-- the most calls of the disk that a step makes
+abbrev pub calls_in : Step → ℕ
+calls_in (Request ticket r now fresh) = 0
+calls_in (Gone session now) = 0
+calls_in (Tick now) = 0
+calls_in Take = 0
+calls_in Append = 4
+calls_in Settle = 0
+
+-- from the moment after each step on, every image carries at least the commands that were settled then
+unfoldable pub KeepsSettled : History → List (Step × StepNote) → Sight → ℕ → Type 0
+KeepsSettled history [] w since = (since ≡ history.now) × CarriesSince history since (settled_of w.desk)
+KeepsSettled history (p ∷ ps) w since =
+    CarriesSince history since (settled_of w.desk) × ((next : ℕ) × (since ≤ next) × (next ≤ since + calls_in p.0) × KeepsSettled history ps (turn p.0 p.1 w).after next)
+
+-- what the disk keeps in a run whose store has n commands and this state when it begins, from its entry to its exit
+pub record DiskKeeps (n : ℕ) (state : State) (ps : List (Step × StepNote)) (w : Sight) (entry exit : History) : Type 0 where
+  -- the prefix law: each image since the entry carries the pair plus a prefix of the commands that the run may store
+  pub prefix : LeavesOnly entry exit (CarriesFront n state (to_store ps w))
+  -- the durability law: each image since the entry has all commands that were settled then; each that a crash may leave at
+  -- the exit has all that are settled then; and so it is at each step
+  pub at_entry : LeavesOnly entry exit (CarriesAtLeast (settled_of w.desk))
+  pub at_exit : HoldsAtLeast (settled_of (after_run ps w).desk) exit
+  pub at_steps : KeepsSettled exit ps w entry.now
+
+-- what a run keeps whose store has n commands and this state when it begins
+pub record RunKeeps {D : Type 0} {g : _} (honest : D → Bool) (history : D → History) (n : ℕ) (state : State) (ps : List (Step × StepNote)) (old new : World D g) (failed : Bool) : Type 0 where
+  pub disk : DiskKeeps n state ps (sight old) (history (disk_of (store_of old))) (history (disk_of (store_of new)))
+  -- unless the disk failed, the store has a prefix of the commands that the run may store, and the rest are the commands
+  -- that it does not have
+  pub store : failed ≡ false → HasStored honest history (store_of new) n state (to_store ps (sight old)) (unstored (sight new))
+
+pub record IsRun {D : Type 0} {g : _} (honest : D → Bool) (history : D → History) (steps : List Step) (old new : World D g) (trace : Trace) : Type 0 where
+  pub traced : IsTraced steps old new trace
+  pub kept : (n : ℕ) (state : State) → StandsAt honest history (store_of old) n state → RunKeeps honest history n state (went steps trace) old new (stopped_by_device trace.stopped)
+  -- no more is settled than the store has, and what is settled never falls
   pub settled : settled_of (sight new).desk ≤ front_of (store_of new)
+  pub grows : settled_of (sight old).desk ≤ settled_of (sight new).desk
   -- a world that has failed leaves its disk alone
-  pub failed : is_serving (sight old).desk ≡ false → disk_of (store_of new) ≡ disk_of (store_of old)
+  pub rests : is_serving (sight old).desk ≡ false → disk_of (store_of new) ≡ disk_of (store_of old)

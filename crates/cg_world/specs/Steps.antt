@@ -1,11 +1,12 @@
 -- One step of a world, and what the disk holds after it.
-use Rattle.std.specs.Prelude.{◌≡◌, ◌≢◌, ℕ, Bool, List, [], ◌∷◌}
+use Rattle.std.specs.Prelude.{◌≡◌, ◌≢◌, ◌+◌, ◌≤◌, ℕ, Bool, true, List, [], ◌∷◌}
 use Rattle.cg_disk.specs.Disk.{History, LeavesOnly}
 use Rattle.cg_fold.specs.Durable.{State}
 use Rattle.cg_store.specs.Store.{StandsAt, disk_of}
 use Rattle.cg_desk.specs.Desks.{settled_of}
 use Rattle.cg_desk.specs.declared.outgoing.Outgoing.{Outgoing}
 use Rattle.cg_world.specs.Carrying.{CarriesFront, HasStored, HoldsAtLeast}
+use Rattle.cg_world.specs.Running.{calls_in}
 use Rattle.cg_world.specs.Runs.{to_store, unstored}
 use Rattle.cg_world.specs.Sights.{sight, store_of}
 use Rattle.cg_world.specs.Turns.{IsNoteOf, out_of, turn}
@@ -26,3 +27,5 @@ pub record IsTaken {D : Type 0} {g : _} (honest : D → Bool) (history : D → H
   pub stored : (n : ℕ) (state : State) → StandsAt honest history (store_of old) n state → note ≢ Device
       → HasStored honest history (store_of new) n state (to_store ((step, note) ∷ []) (sight old)) (unstored (sight new))
   pub holds : (n : ℕ) (state : State) → StandsAt honest history (store_of old) n state → HoldsAtLeast (settled_of (sight new).desk) (history (disk_of (store_of new)))
+  -- the disk is called only as often as the step allows
+  pub clock : honest (disk_of (store_of old)) ≡ true → (history (disk_of (store_of new))).now ≤ (history (disk_of (store_of old))).now + calls_in step

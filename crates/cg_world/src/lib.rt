@@ -16,7 +16,9 @@ mod transit;
 mod wanting;
 mod world;
 
-pub use laws::{loadings_are_lawful, replies_leave_when_settled, runs_make_histories};
+pub use laws::{
+    loadings_are_lawful, nothing_settled_is_lost, replies_leave_when_settled, runs_make_histories,
+};
 pub use schedule::run;
 pub use step::{Step, StepNote, StopCause};
 pub use trace::Trace;

@@ -1,5 +1,5 @@
 //! The steps between the desk and the store: take, append, settle.
-ghost use Rattle.std.specs.Prelude.{◌≡◌, ◌≢◌, ◌+◌, ℕ, [], false, length, None, OnErr, IfOk, IfErr};
+ghost use Rattle.std.specs.Prelude.{◌≡◌, ◌≢◌, ◌+◌, ◌≤◌, ℕ, [], true, false, length, None, OnErr, IfOk, IfErr};
 ghost use Rattle.cg_disk.specs.Disk.{Counts, LeavesOnly};
 ghost use Rattle.cg_fold.specs.Durable.{State, after};
 ghost use Rattle.cg_store.specs.Carried.{CarriesBeforeOrAfter};
@@ -50,6 +50,7 @@ impl<D: SectorDisk> World<D> {
             → IfOk result (λ told. told.0 ≡ StepNote.Done → StandsAt D.is_honest D.history (store_of self.new) (n + length (in_flight (sight self.old).desk)) (after state (in_flight (sight self.old).desk))) }
         ensures unchanged { IfOk result (λ told. told.0 ≢ StepNote.Done → told.0 ≢ StepNote.Device → IsUnchanged (store_of self.old) (store_of self.new)) }
         ensures wanting { OnErr result (IsUnchanged (store_of self.old) (store_of self.new)) }
+        ensures clock { D.is_honest (disk_of (store_of self.old)) ≡ true → (D.history (disk_of (store_of self.new))).now ≤ (D.history (disk_of (store_of self.old))).now + 4 }
         ensures nothing { is_taken (sight self.old) ≡ false → store_of self.new ≡ store_of self.old }
         ensures device { Counts (D.failures (disk_of (store_of self.old))) (D.failures (disk_of (store_of self.new))) (failed_append result) }
         ensures same_size { D.size (disk_of (store_of self.new)) ≡ D.size (disk_of (store_of self.old)) }

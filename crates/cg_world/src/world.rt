@@ -11,6 +11,7 @@ ghost use Rattle.cg_store.specs.declared.segment.TheConstants.{FIRST_SEGMENT_SEC
 ghost use Rattle.cg_desk.specs.Desks.{failing_on, opened, state_of};
 ghost use Rattle.cg_desk.specs.Desks as state;
 ghost use Rattle.cg_world.specs.Agreeing.{Agree};
+ghost use Rattle.cg_world.specs.Orderly.{IsOrderlyAt};
 
 use crate::transit::Transit;
 use cg_desk::{Desk, Outgoing};
@@ -27,6 +28,8 @@ pub struct World<D: SectorDisk> {
     pub(crate) store: Store<D>,
     pub(crate) transit: Transit,
     pub(crate) opening: (u64, u64, u64),
+    // Whatever the disk gives, each pending request has its token, and the replies wait in order.
+    ghost orderly: { ∥ IsOrderlyAt (state_of desk) ∥₁ },
     ghost agree: { Agree (state_of desk) transit (front_of store) (has_failed store) },
 }
 
@@ -46,6 +49,7 @@ fn serve(alloc: Global, number: u64, durable: Durable, now: Moment) -> Result<De
 
 impl<D: SectorDisk> World<D> {
     ghost use Rattle.cg_world.specs.Opening.{IsOpened, disk_after};
+    ghost use Rattle.cg_world.specs.Replying.{IsOrderly};
     ghost use Rattle.cg_world.specs.Sights.{opening_of, sight, store_of};
 
     /// Opens the store of a disk and serves its groups from the moment `now`, which counts as the last heartbeat of
@@ -54,6 +58,8 @@ impl<D: SectorDisk> World<D> {
     pub fn open(alloc: Global, disk: D, now: Moment) -> Result<Self, (OpenFault, D)>
         requires { FIRST_SEGMENT_SECTOR + SEGMENT_SECTORS ≤ D.size disk }
         ensures opened { IfOk result (λ world. (n : ℕ) × (state : State) × IsOpened D.is_honest D.history now world n state) }
+        // Whatever the disk gives, each pending request has its token, and the replies wait in order.
+        ensures orderly { IfOk result (λ world. IsOrderly (sight world)) }
         // If the content carries a pair, the world serves that pair, unless an allocation or the disk fails.
         ensures carried { D.is_honest disk ≡ true → (n : ℕ) (state : State) → Carries (present (D.history disk)).content n state
             → MatchResult result

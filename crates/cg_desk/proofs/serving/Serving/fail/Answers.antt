@@ -17,8 +17,8 @@ returns-clause-once c =
     subst (AreRefusedOnce (books c.args.self).tokens) (sym is) (by_tokens-once (books c.args.self))
 
 pub returns-clause-order : goal.returns-clause-order
-returns-clause-order c balanced =
+returns-clause-order c owed =
     let empty : c.args.self.leaving.items ≡ [] = nil_from_length _ (search rules) in
     let is : c.refuse_rest.new.out.items ≡ by_tokens (books c.args.self) =
     all_refused (calls_of (replies_of c.args.self.held.items)) (waiting_calls c.args.self.groups.groups) _ _ _ _ _ _ _ _ empty c.refuse_held.ensures.out c.refuse_held.ensures.tokens c.refuse_waiting.ensures.out c.refuse_waiting.ensures.tokens refl c.refuse_rest.ensures.out in
-    is ∙ by_tokens-order (books c.args.self) balanced
+    is ∙ by_tokens-order (books c.args.self) owed

@@ -1,6 +1,8 @@
-use Rattle.std.proofs.Common.{◌∙◌, sym}
+use Rattle.std.proofs.Common.{◌∙◌, sym, rules}
+use Rattle.std.proofs.Math.Logic.{∥∥₁_map}
 use Rattle.cg_store.specs.Store.{end_of, front_of, has_failed}
 use Rattle.cg_desk.specs.Desks.{state_of}
+use Rattle.cg_world.proofs.Leaving.{owed-now, returned-kept}
 use Rattle.cg_world.proofs.Moving.{batch-out, failed-turn, full-for, its-commands, never-failed, never-out-of-order, not-appended, room-for}
 use Rattle.cg_world.proofs.world.World.append.Goals as goal
 
@@ -32,4 +34,10 @@ pub returns-in-Err-Device-default-clause-after : goal.returns-in-Err-Device-defa
 returns-in-Err-Device-default-clause-after g c =
     failed-turn (state_of c.args.self.now.desk) (state_of c.fail.new.self) c.args.self.now.transit c.take_batch.new.self (end_of c.args.self.now.store) (end_of c.append.new.self) c.fail.result.items
     (not-appended (state_of c.args.self.now.desk) c.args.self.now.transit c.in-Some.batch (end_of c.args.self.now.store) (front_of c.args.self.now.store) (has_failed c.args.self.now.store) (sym c.take_batch.ensures.value ∙ c.in-Some.is) c.args.self.now.agree)
-    (batch-out c.args.self.now.transit c.take_batch.new.self c.in-Some.batch (sym c.take_batch.ensures.value ∙ c.in-Some.is) c.take_batch.ensures.rest) c.fail.ensures.state c.in-Err-Device-default.ensures.same_end c.fail.ensures.out
+    (batch-out c.args.self.now.transit c.take_batch.new.self c.in-Some.batch (sym c.take_batch.ensures.value ∙ c.in-Some.is) c.take_batch.ensures.rest) c.fail.ensures.state c.in-Err-Device-default.ensures.same_end (c.fail.ensures.order (owed-now (state_of c.args.self.now.desk) c.args.self.now.orderly))
+
+pub invariant_of-self-in-Err-Full-default : goal.invariant_of-self-in-Err-Full-default
+invariant_of-self-in-Err-Full-default g c = record {
+  orderly = ∥∥₁_map c.args.self.now.orderly (returned-kept c.give_back.result (state_of c.args.self.now.desk) (state_of c.give_back.new.self) c.give_back.ensures.state c.give_back.ensures.unchanged);
+  agree = search rules;
+}
