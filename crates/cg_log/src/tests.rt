@@ -3,8 +3,9 @@ ghost use Rattle.std.specs.Prelude.{◌≡◌, ◌≤◌, IfOk};
 ghost use Rattle.cg_disk.specs.Fuse.{inner_of};
 ghost use Rattle.cg_disk.specs.Mem.{mem_size};
 
-use crate::{Log, LogFault, format};
+use crate::{Cursor, Log, LogFault, format};
 use cg_disk::{Crash, FuseDisk, MemDisk, SectorDisk};
+use cg_root::SegmentId;
 use std::alloc::{AllocError, Global};
 use std::process::Abort;
 use std::test::Fail;
@@ -206,5 +207,45 @@ fn damage_is_reported(rt: HostRuntime) -> Result<(), Fail> {
     }
     let short = MemDisk::new(rt.alloc(), 3)?;
     assert_eq!(rt; opened(rt.alloc(), short).err(), Some(LogFault::NoRoot));
+    Ok(())
+}
+
+// The counts of the frames that are read, before a tail or all.
+fn counts_before<D: SectorDisk>(
+    alloc: Global,
+    log: &mut Log<D>,
+    until: Option<SegmentId>,
+) -> Result<Vec<u64>, Fail> {
+    let mut counts = Vec::new(alloc);
+    let mut cursor = Cursor::start();
+    for _ in 0..4 {
+        let Some((frame, next)) = log.sealed_read(cursor, until)? else {
+            break;
+        };
+        counts.push(frame.count)?;
+        cursor = next;
+    }
+    Ok(counts)
+}
+
+#[test]
+fn frames_are_read_in_order(rt: HostRuntime) -> Result<(), Fail> {
+    let alloc = rt.alloc();
+    let mut log = opened(alloc, with_a_frame(alloc)?)?;
+    log.append(4, &[8; 496])?;
+    let cut = log.roll()?;
+    log.append(5, &[])?;
+    assert_eq!(rt;
+        counts_before(alloc, &mut log, None)?.as_slice(),
+        [3, 4, 5].as_slice()
+    );
+    assert_eq!(rt;
+        counts_before(alloc, &mut log, Some(cut))?.as_slice(),
+        [3, 4].as_slice()
+    );
+    assert_eq!(rt;
+        counts_before(alloc, &mut log, Some(SegmentId::new(0)))?.len(),
+        0
+    );
     Ok(())
 }
