@@ -173,6 +173,9 @@ stored_for : (o : Option GroupRecord) (id bytes : List ℕ) → is_kept_for o id
 stored_for None id bytes h = absurd (false≢true h)
 stored_for (Some r) id bytes h = stored_in r r.roster id bytes refl h
 
+sent_as : (events : List (Event × ℕ)) (m : ℕ) (a b : Event) → a ≡ b → Contains events (a, m) → Contains events (b, m)
+sent_as events m a b e h = let P : Event → Type 0 = λ x. Contains events (x, m) in subst P e h
+
 pub earned_is : (events : List (Event × ℕ)) (groups : List Group) (kept : Kept) (t : Ticket) (bytes : List ℕ) → is_earned events groups kept (t, reply.Synced bytes) ≡ true → IsEarnedAssignment events groups kept t bytes
 earned_is events groups kept t bytes e =
     let g = contained (λ (g : Group). is_earned_in events g (kept g.id) (t, reply.Synced bytes)) groups e in
@@ -181,7 +184,6 @@ earned_is events groups kept t bytes e =
     let sent = contained (λ (x : Event × ℕ). is_sync_of g.0.id g.0.generation m.0.id t x.0) events parts.0 in
     let asked = asked_by g.0.id g.0.generation m.0.id t sent.0.0 sent.2 in
     let own = stored_for (kept g.0.id) m.0.id bytes parts.1 in
-    let at : Event → Event × ℕ = λ x. (x, sent.0.1) in
     record {
       group = g.0;
       loaded = g.1;
@@ -189,7 +191,7 @@ earned_is events groups kept t bytes e =
       joined = m.1;
       request = asked.request;
       moment = sent.0.1;
-      sent = subst (λ (x : Event). Contains events (at x)) asked.is sent.1;
+      sent = sent_as events sent.0.1 sent.0.0 (event.Sync t asked.request) asked.is sent.1;
       addressed = asked.addressed;
       given = asked.given;
       dated = asked.dated;

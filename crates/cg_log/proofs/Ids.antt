@@ -106,11 +106,11 @@ AreApart-segment id at n (s ∷ segments) low high none =
 module _ (ids : List ℕ) (n : ℕ) where
   pub free_below-among : is_among n ids ≡ true → free_below (n + 1) ids ≡ free_below n ids
   unfolding free_below
-  free_below-among is = rw (add-one, is) refl
+  free_below-among is = rw (add-one n, is) refl
 
   pub free_below-free : is_among n ids ≡ false → free_below (n + 1) ids ≡ free_below n ids + 1
   unfolding free_below
-  free_below-free is = rw (add-one, is) refl
+  free_below-free is = rw (add-one n, is) refl
 
 pub free_below-zero : (ids : List ℕ) → free_below 0 ids ≡ 0
 unfolding free_below

@@ -3,3 +3,4 @@ pub mod Filled
 pub mod Ids
 pub mod Images
 pub mod Moves
+pub mod Reading

@@ -15,3 +15,4 @@ pub mod Faults
 pub mod Scanned
 pub mod Loaded
 pub mod Log
+pub mod Cursors

@@ -31,7 +31,7 @@ pub record IsExtent (image : Image) (id : ℕ) (extent : Extent) : Type 0 where
   pub has : HasFramesTo image (segment_of id) frames extent.end
   pub count_is : extent.count ≡ counted_in_64_bits frames
 
--- these segments, of these ids, have so many commands
+-- these segments, of these ids, have this many commands
 pub record AreCounted (image : Image) (ids : List ℕ) (segments : List Filled) (count : ℕ) : Type 0 where
   pub ids_are : ids ≡ ids_of segments
   pub stored : AreStored image segments

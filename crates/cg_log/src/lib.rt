@@ -4,19 +4,24 @@
 #![tactic(auto)]
 
 mod appending;
+mod cursor;
 mod fault;
 mod formatted;
 mod free;
+mod laws;
 mod loading;
 mod log;
 mod numbers;
 mod rolling;
 mod scanning;
+mod sealed_read;
 mod segment;
 #[cfg(test)]
 mod tests;
 
+pub use cursor::Cursor;
 pub use fault::LogFault;
 pub use formatted::format;
+pub use laws::log_laws;
 pub use log::Log;
 pub use numbers::{COMMAND_NUMBER_MAX, log_numbers};

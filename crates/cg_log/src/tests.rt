@@ -3,8 +3,9 @@ ghost use Rattle.std.specs.Prelude.{◌≡◌, ◌≤◌, IfOk};
 ghost use Rattle.cg_disk.specs.Fuse.{inner_of};
 ghost use Rattle.cg_disk.specs.Mem.{mem_size};
 
-use crate::{Log, LogFault, format};
+use crate::{Cursor, Log, LogFault, format};
 use cg_disk::{Crash, FuseDisk, MemDisk, SectorDisk};
+use cg_root::SegmentId;
 use std::alloc::{AllocError, Global};
 use std::process::Abort;
 use std::test::Fail;
@@ -206,5 +207,32 @@ fn damage_is_reported(rt: HostRuntime) -> Result<(), Fail> {
     }
     let short = MemDisk::new(rt.alloc(), 3)?;
     assert_eq!(rt; opened(rt.alloc(), short).err(), Some(LogFault::NoRoot));
+    Ok(())
+}
+
+// Reads the next frame. Returns its count, and the position after it.
+fn next_count<D: SectorDisk>(
+    log: &mut Log<D>,
+    cursor: Cursor,
+    until: Option<SegmentId>,
+) -> Result<Option<(u64, Cursor)>, LogFault> {
+    match log.sealed_read(cursor, until)? {
+        Some((frame, next)) => Ok(Some((frame.count, next))),
+        None => Ok(None),
+    }
+}
+
+#[test]
+fn frames_are_read_in_order(rt: HostRuntime) -> Result<(), Fail> {
+    let alloc = rt.alloc();
+    let mut log = opened(alloc, with_a_frame(alloc)?)?;
+    let cut = log.roll()?;
+    log.append(5, &[])?;
+    let (first, next) = next_count(&mut log, Cursor::start(), None)?.ok_or("a frame")?;
+    assert_eq!(rt; first, 3);
+    let (second, end) = next_count(&mut log, next, None)?.ok_or("a frame")?;
+    assert_eq!(rt; second, 5);
+    assert!(rt; next_count(&mut log, end, None)?.is_none());
+    assert!(rt; next_count(&mut log, next, Some(cut))?.is_none());
     Ok(())
 }

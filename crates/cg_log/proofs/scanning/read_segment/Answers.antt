@@ -1,4 +1,4 @@
-use Rattle.std.proofs.Common.{◌≡◌, ◌<◌, ◌∙◌, sym, subst, refl, length, Ok, Err, Some, None, rules}
+use Rattle.std.proofs.Common.{◌≡◌, ◌<◌, ◌∙◌, sym, subst, refl, length, false, Ok, Err, Some, None, rules}
 use Rattle.std.specs.Prelude.{IfSome}
 use Rattle.std.proofs.lemmas.Result.{err_from_is_err_and}
 use Rattle.cg_disk.specs.Disk.{present}
@@ -36,7 +36,7 @@ loop-frame-preserved g c =
           (subst (λ o. Finds now c.args.id c.loop-frame.extent.end (Ok o)) c.in-Some.is (c.in_ok-frame.ensures.found (inv.same_honesty ∙ honest))) in
           Progress-goes_on first c.args.id c.loop-frame.extent record { end = c.in-Some.frame.next; count = c.saturating_add.result } c.in-Some.frame.count c.in-Some.frame.payload.items (inv.progress honest) found next_is (search rules);
       time = λ honest. Changes-then 0 0 _ _ _ (inv.time honest) (c.next_frame.ensures.time (inv.same_honesty ∙ honest));
-      same_failures = c.in_ok-frame.ensures.device.stays refl ∙ inv.same_failures;
+      same_failures = c.in_ok-frame.ensures.device.stays (refl {a = false}) ∙ inv.same_failures;
       same_size = c.next_frame.ensures.same_size ∙ inv.same_size;
       same_honesty = c.next_frame.ensures.same_honesty ∙ inv.same_honesty;
       inside = moves.1;
