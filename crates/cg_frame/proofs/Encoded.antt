@@ -6,7 +6,7 @@ use Rattle.cg_frame.specs.Staged.{IsStagedFrame}
 use Rattle.cg_frame.proofs.Laid.{IsStaged}
 use Rattle.cg_frame.proofs.Words.{length-word}
 
--- it is after the two words
+-- the payload is what follows the two words
 pub payload-staged : (sectors : List ℕ) (count : ℕ) (payload : List ℕ) → take (16 + length payload) sectors ≡ body count payload → take (length payload) (drop 16 sectors) ≡ payload
 payload-staged sectors count payload is =
     sym (drop-take 16 (length payload) sectors) ∙ ap (drop 16) is
