@@ -9,7 +9,8 @@ use Rattle.cg_member.specs.Waiting.{waiting_calls}
 use Rattle.cg_desk.specs.Answering.{after_answering, answering, answering_one, refusal, refused, refused_call}
 use Rattle.cg_desk.specs.Books.{Books, failing}
 use Rattle.cg_desk.specs.Held.{calls_of, replies_of}
-use Rattle.cg_desk.specs.Laws.{AreKept, AreRefusedOnce, weight_out}
+use Rattle.cg_desk.specs.Laws.{AreKept, AreRefusedOnce}
+use Rattle.cg_desk.proofs.Sums.{weight_out}
 use Rattle.cg_desk.specs.Outgoings.{answer, ticket_of}
 use Rattle.cg_desk.specs.Owed.{IsOwed, sent}
 use Rattle.cg_desk.specs.Tokens.{call_of, has_token, without}

@@ -4,6 +4,7 @@ pub mod FrontLaws
 pub mod FullTexts
 pub mod Taken
 pub mod Parting
+pub mod Sums
 pub mod Alike
 pub mod Weights
 pub mod Owing

@@ -18,7 +18,7 @@ use Rattle.cg_desk.specs.Books.{Books, letting_go, served, settling, stepped}
 use Rattle.cg_desk.specs.Desks.{opened}
 use Rattle.cg_desk.specs.Flights.{Idle}
 use Rattle.cg_desk.specs.Held.{calls_of, holding, ready, released, replies_of, still_held}
-use Rattle.cg_desk.specs.Laws.{weight_of, weight_out}
+use Rattle.cg_desk.proofs.Sums.{weight_of, weight_out}
 use Rattle.cg_desk.specs.Owed.{IsOwed, KeepsCalls, sent, weight_calls}
 use Rattle.cg_desk.specs.Tokens.{call_of, has_token, is_for, without}
 use Rattle.cg_desk.specs.declared.held.HeldStep.{HeldStep}

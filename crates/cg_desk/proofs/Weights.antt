@@ -18,7 +18,8 @@ use Rattle.cg_desk.specs.Answering.{after_answering, answering, answering_one, r
 use Rattle.cg_desk.specs.Books.{Books, is_short, letting_go, served, settling, stepped}
 use Rattle.cg_desk.specs.Desks.{Answer, State, Loading, Serving, Failed, at_rest, gone_on, request_on, serving, settle_on, tick_on}
 use Rattle.cg_desk.specs.Held.{calls_of, released, replies_of}
-use Rattle.cg_desk.specs.Laws.{AreKept, TicketsAreKept, tokens_of, weight_of, weight_out}
+use Rattle.cg_desk.specs.Laws.{AreKept, TicketsAreKept, tokens_of}
+use Rattle.cg_desk.proofs.Sums.{weight_of, weight_out}
 use Rattle.cg_desk.specs.Flights.{Idle}
 use Rattle.cg_desk.specs.Outgoings.{answer, ticket_of}
 use Rattle.cg_desk.specs.Tokens.{call_of, has_token, is_for, without, without_place}

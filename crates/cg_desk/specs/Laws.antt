@@ -1,16 +1,14 @@
 -- The laws of the desk.
-use Rattle.std.specs.Prelude.{◌≡◌, ◌+◌, ◌≤◌, ◌<◌, ℕ, List, [], ◌∷◌, length, map, take}
-use Rattle.std.specs.List.{sum_by}
+use Rattle.std.specs.Prelude.{◌≡◌, ◌≤◌, ◌<◌, ℕ, List, [], ◌∷◌, length, map, take}
 use Rattle.cg_frame.specs.declared.segment.TheConstants.{LARGEST_PAYLOAD_BYTES}
 use Rattle.cg_request.specs.declared.event.Event.{Event}
 use Rattle.cg_request.specs.declared.ticket.Ticket.{Ticket}
 use Rattle.cg_record.specs.declared.command.Command.{Command}
 use Rattle.cg_record.specs.Spelling.{spelling}
 use Rattle.cg_desk.specs.Answering.{refused_call}
+use Rattle.cg_desk.specs.Bags.{AreSameTickets, bag_of, bag_of_replies, bag_of_tokens, together}
 use Rattle.cg_desk.specs.Desks.{State, Loading, Serving, Failed, gone_on, request_on, settle_on, tick_on}
 use Rattle.cg_desk.specs.Fronts.{in_frame}
-use Rattle.cg_desk.specs.Outgoings.{ticket_of}
-use Rattle.cg_desk.specs.Tokens.{call_of}
 use Rattle.cg_desk.specs.declared.outgoing.Outgoing.{Outgoing}
 use Rattle.cg_desk.specs.declared.token.ReplyToken.{ReplyToken}
 
@@ -22,19 +20,11 @@ tokens_of Loading = []
 tokens_of (Failed numbered settled) = []
 tokens_of (Serving b) = b.tokens
 
--- the sum of the weights of the tickets of tokens
-abbrev pub weight_of : (Ticket → ℕ) → List ReplyToken → ℕ
-weight_of weight tokens = sum_by (λ (token : ReplyToken). weight (call_of token)) tokens
-
-abbrev pub weight_out : (Ticket → ℕ) → List Outgoing → ℕ
-weight_out weight out = sum_by (λ (outgoing : Outgoing). weight (ticket_of outgoing)) out
-
--- counted with repeats, the tickets that were pending before a call and the one that it took are those of the replies
--- that left in it and those that are pending after it; "counted with repeats" says that both sums agree for every
--- weight of tickets
+-- the tickets that were pending before a call and the one that it took are those of the replies that left in it and
+-- those that are pending after it
 abbrev pub AreKept : List ReplyToken → List ReplyToken → List Outgoing → List ReplyToken → Type 0
 AreKept before taken out after =
-    (weight : Ticket → ℕ) → weight_out weight out + weight_of weight after ≡ weight_of weight before + weight_of weight taken
+    AreSameTickets (together (bag_of_replies out) (bag_of_tokens after)) (together (bag_of_tokens before) (bag_of_tokens taken))
 
 pub record TicketsAreKept : Type 0 where
   pub request : (s : State) (token : ReplyToken) (e : Event) (now : ℕ) → AreKept (tokens_of s) (token ∷ []) (request_on s token e now).out (tokens_of (request_on s token e now).after)
@@ -46,7 +36,7 @@ pub record TicketsAreKept : Type 0 where
 pub record AreRefusedOnce (tokens : List ReplyToken) (out : List Outgoing) : Type 0 where
   pub calls : List Ticket
   pub refused : out ≡ map refused_call calls
-  pub once : (weight : Ticket → ℕ) → sum_by weight calls ≡ weight_of weight tokens
+  pub once : AreSameTickets (bag_of calls) (bag_of_tokens tokens)
 
 -- A batch is as long as one frame allows.
 

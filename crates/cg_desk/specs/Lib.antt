@@ -2,6 +2,7 @@ pub mod Permits
 pub mod Outgoings
 pub mod Refusals
 pub mod Tokens
+pub mod Bags
 pub mod Answering
 pub mod Held
 pub mod Queues

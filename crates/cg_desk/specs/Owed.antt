@@ -1,5 +1,5 @@
 -- Each pending request has one token: its reply is held, or it is parked in the machine.
-use Rattle.std.specs.Prelude.{◌≡◌, ◌+◌, ℕ, List}
+use Rattle.std.specs.Prelude.{ℕ, List}
 use Rattle.std.specs.List.{sum_by}
 use Rattle.cg_request.specs.declared.event.Event.{Event}
 use Rattle.cg_member.specs.declared.reply.Reply.{Reply}
@@ -9,7 +9,7 @@ use Rattle.cg_held.specs.Held.{Machine}
 use Rattle.cg_member.specs.Waiting.{waiting_calls}
 use Rattle.cg_desk.specs.Books.{Books}
 use Rattle.cg_desk.specs.Held.{calls_of, replies_of}
-use Rattle.cg_desk.specs.Laws.{weight_of}
+use Rattle.cg_desk.specs.Bags.{AreSameTickets, bag_of, bag_of_tokens, together}
 use Rattle.cg_desk.specs.Outgoings.{answer}
 use Rattle.cg_desk.specs.declared.outgoing.Outgoing.{Outgoing}
 use Rattle.cg_desk.specs.declared.token.ReplyToken.{ReplyToken}
@@ -18,16 +18,15 @@ use Rattle.cg_desk.specs.declared.token.ReplyToken.{ReplyToken}
 abbrev pub weight_calls : (Ticket → ℕ) → List Ticket → ℕ
 weight_calls weight calls = sum_by weight calls
 
--- counted with repeats, the tokens are those of the requests with a held reply and of the parked requests
+-- the tokens are those of the requests with a held reply and of the parked requests
 abbrev pub IsOwed : Books → Type 0
-IsOwed b =
-    (weight : Ticket → ℕ) → weight_of weight b.tokens ≡ weight_calls weight (calls_of (replies_of b.held)) + weight_calls weight (waiting_calls b.machine.groups)
+IsOwed b = AreSameTickets (bag_of_tokens b.tokens) (together (bag_of (calls_of (replies_of b.held))) (bag_of (waiting_calls b.machine.groups)))
 
--- counted with repeats, the requests that were parked before an event and the one that it comes from are those that it
--- answers and those that are parked after it
+-- the requests that were parked before an event and the one that it comes from are those that it answers and those that
+-- are parked after it
 abbrev pub KeepsCalls : Machine → List ReplyToken → Event → ℕ → Type 0
 KeepsCalls s handed e now =
-    (weight : Ticket → ℕ) → weight_calls weight (calls_of (step s e now).effects.replies) + weight_calls weight (waiting_calls (step s e now).after.groups) ≡ weight_calls weight (waiting_calls s.groups) + weight_of weight handed
+    AreSameTickets (together (bag_of (calls_of (step s e now).effects.replies)) (bag_of (waiting_calls (step s e now).after.groups))) (together (bag_of (waiting_calls s.groups)) (bag_of_tokens handed))
 
 -- a reply as it leaves
 abbrev pub sent : Ticket × Reply → Outgoing

@@ -40,14 +40,13 @@ told_of weight replies = weight_calls weight (calls_of replies)
 abbrev pub total : (Ticket → ℕ) → Turn → ℕ
 total weight t = told_of weight t.replies + waits_of weight t.group.members
 
--- counted with repeats, what a step has answered and what is parked after it are what was parked before it and the
--- request that it comes from
+-- what a step has answered and what is parked after it are what was parked before it and the request that it comes from
 abbrev pub TakesIn : Group → Ticket → Turn → Type 0
-TakesIn g ticket t = (weight : Ticket → ℕ) → total weight t ≡ waits_of weight g.members + weight ticket
+TakesIn g ticket t = AreSameTickets (λ weight. total weight t) (λ weight. waits_of weight g.members + weight ticket)
 
 -- the same for an event that comes from no request
 abbrev pub TakesNone : Group → Turn → Type 0
-TakesNone g t = (weight : Ticket → ℕ) → total weight t ≡ waits_of weight g.members
+TakesNone g t = AreSameTickets (λ weight. total weight t) (λ weight. waits_of weight g.members)
 
 -- every step of a group keeps its requests
 pub record TurnsKeepTheirCalls : Type 0 where

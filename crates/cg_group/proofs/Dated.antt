@@ -1,7 +1,6 @@
 -- The machine makes no record of generation 0.
-use Rattle.std.proofs.Common.{◌≡◌, ◌≤◌, ℕ, true, false, List, [], ◌∷◌, ◌++◌, max, refl, sym, subst, Option, Some, None, Result, Ok, Err}
+use Rattle.std.proofs.Common.{◌≤◌, ℕ, true, false, List, [], ◌∷◌, max, sym, subst, Option, Some, None, Result, Ok, Err}
 use Rattle.std.specs.Prelude.{IfSome, if◌then◌else◌}
-use Rattle.std.specs.List.{flat_map}
 use Rattle.cg_names.specs.declared.code.Code.{Code}
 use Rattle.cg_record.specs.declared.command.Command.{Command}
 use Rattle.cg_record.specs.declared.command.Command.TheVariants as command
@@ -26,7 +25,7 @@ use Rattle.cg_held.specs.Held.{Machine, everywhere}
 use Rattle.cg_held.specs.Kept.{Each, Kept, kept_in}
 use Rattle.cg_held.proofs.Framed.{each-append}
 use Rattle.cg_held.proofs.Kept.{effect, group_of, kept-after, kept_after, left_by}
-use Rattle.cg_group.specs.Laws.{AreCompleted, after_all, commands_of, state_after}
+use Rattle.cg_group.specs.Laws.{AreCompleted, commands_of}
 use Rattle.cg_group.specs.Machine.{beat, commit, concluded, deleted, deleting, join, leave, met, step, sync}
 use Rattle.cg_group.proofs.Making.{makes-all, makes-beat_taken, makes-gone_in, makes-join_known, makes-join_new, makes-leave_taken, makes-rejoined, makes-sync_taken, makes-ticked}
 use Rattle.cg_group.proofs.Requests.{Fine, fine-beat, fine-commit, fine-join, fine-leave, fine-sync}

@@ -1,5 +1,5 @@
 -- The checks that a COMMIT passed.
-use Rattle.std.proofs.Common.{◌≡◌, ℕ, true, false, not, List, [], ◌∷◌, is_some, refl, sym, ap, subst, max, inl, inr, Option, Some, None, Result, Ok, Err, ok_or, nat_le, length, pos}
+use Rattle.std.proofs.Common.{◌≡◌, ℕ, true, false, not, List, [], ◌∷◌, is_some, refl, ap, max, inl, inr, Option, Some, None, Result, Ok, Err, nat_le, length, pos}
 use Rattle.std.specs.Prelude.{◌⊎◌, if◌then◌else◌}
 use Rattle.std.specs.Ordering.{int_eq}
 use Rattle.std.proofs.lemmas.Bool.{not-false}

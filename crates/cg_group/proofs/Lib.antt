@@ -24,3 +24,5 @@ pub mod Telling
 pub mod Founded
 pub mod Dated
 pub mod Asked
+pub mod TightIndex
+pub mod Committers

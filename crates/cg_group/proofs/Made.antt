@@ -47,3 +47,8 @@ not_held (Some g) e = cc
 
 pub err_is : (id : List ℕ) (groups : List Group) → named_group (Some id) groups ≡ Err UnknownMemberId → find_group id groups ≡ None
 err_is id groups e = not_held (find_group id groups) e
+
+-- a new group has the id that it was given
+pub own_id_new : (id : List ℕ) → (new_group id).id ≡ id
+unfolding new_group
+own_id_new id = refl

@@ -10,7 +10,7 @@ use Rattle.cg_request.specs.declared.ticket.Ticket.{Ticket}
 use Rattle.cg_member.specs.declared.turn.Turn.{Turn}
 use Rattle.cg_turn.specs.Beating.{beat_held, beat_reply, beat_taken}
 use Rattle.cg_group.specs.Machine.{concluded}
-use Rattle.cg_held.specs.Held.{at_moment, find_group, outcome}
+use Rattle.cg_held.specs.Held.{at_moment, find_group, outcome, with_group}
 use Rattle.cg_held.specs.Sessions.{AreKnown}
 use Rattle.cg_member.specs.declared.effects.Effects.{Effects}
 use Rattle.cg_member.specs.Syncing.{sync_current, sync_held}
@@ -43,6 +43,16 @@ pub record IsSyncIn (r : SyncRequest) (groups : List Group) (own id bytes : List
 abbrev pub group_of : Result Turn Code → Option (List ℕ)
 group_of (Err code) = None
 group_of (Ok t) = Some t.group.id
+
+-- the groups after the step; a refusal is no step
+abbrev pub groups_of : Result Turn Code → List Group → List Group
+groups_of (Err code) groups = groups
+groups_of (Ok t) groups = with_group t.group groups
+
+-- the group that the step replaces
+abbrev pub replaced_by : Result Turn Code → List Group → Option Group
+replaced_by (Err code) groups = None
+replaced_by (Ok t) groups = find_group t.group.id groups
 
 -- if the index has the group of the step for the session of the call, it has every call that is parked after the step
 abbrev pub ParksKnown : ℕ → List Group → Ticket → Result Turn Code → Type 0

@@ -1,5 +1,5 @@
 -- Laws of the machine, for every list of events after recovery from any durable state.
-use Rattle.std.specs.Prelude.{◌≡◌, ◌⊎◌, ◌≤◌, ℕ, Bool, true, false, pos, ◌&&◌, ◌==◌, List, [], ◌∷◌, ◌++◌, map, Option, Some, None, Ok, Contains, IfSome, is_some}
+use Rattle.std.specs.Prelude.{◌≡◌, ◌⊎◌, ◌≤◌, ℕ, Bool, true, pos, List, [], ◌∷◌, ◌++◌, map, Option, Some, None, Ok, Contains, IfSome, is_some}
 use Rattle.std.specs.List.{list_any, flat_map}
 use Rattle.std.specs.Ordering.{int_eq}
 use Rattle.std.specs.FinMap as finmap
@@ -31,7 +31,7 @@ use Rattle.cg_member.specs.Members.{AreDistinct}
 use Rattle.cg_member.specs.Offsets.{OffsetMap}
 use Rattle.cg_group.specs.Machine.{at_event, met, reply_alone, step}
 use Rattle.cg_held.specs.Held.{Machine, Outcome, find_group}
-use Rattle.cg_member.specs.Membership.{find_member, has_instance, is_named, is_same}
+use Rattle.cg_member.specs.Membership.{find_member, has_instance}
 use Rattle.cg_held.specs.Reviving.{revive}
 use Rattle.cg_member.specs.Syncing.{kept_member}
 use Rattle.cg_member.specs.Ticking.{ticked}

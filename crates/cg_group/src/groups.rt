@@ -1,6 +1,7 @@
 //! The group machine: the loaded groups, and the step function.
 ghost use Rattle.std.specs.Prelude.{◌≡◌, true, IfOk, IfErr, OnErr, length, slice_get};
-ghost use Rattle.cg_held.specs.Sessions.{AreKnown, AreKnown-prop, is_home};
+ghost use Rattle.cg_held.specs.Props.{AreKnown-prop, IsTight-prop};
+ghost use Rattle.cg_held.specs.Sessions.{AreKnown, IsTight, is_home};
 ghost use Rattle.cg_member.specs.Waiting.{waiting_calls};
 ghost use Rattle.cg_held.specs.Held.{outcome};
 ghost use Rattle.cg_group.specs.Machine.{at_event, is_taken, step};
@@ -28,7 +29,9 @@ pub struct Groups {
     last: Moment,
     /// Session index: the groups in which the calls of each session may be parked.
     homes: Homes,
+    // The index has every parked call, and no more.
     ghost known: { AreKnown (is_home homes) held } by { AreKnown-prop (is_home homes) held },
+    ghost tight: { IsTight homes held } by { IsTight-prop homes held },
 }
 
 impl Model for Groups {

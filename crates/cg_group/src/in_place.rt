@@ -8,7 +8,7 @@ ghost use Rattle.cg_held.specs.Held.{InOrder, at_moment, find_group, outcome, wi
 ghost use Rattle.std.specs.Option.{option_copied};
 ghost use Rattle.cg_member.specs.Membership.{hearing};
 ghost use Rattle.cg_member.specs.Offsets.{offsets_after};
-ghost use Rattle.cg_held.specs.Sessions.{AreKnown};
+ghost use Rattle.cg_held.specs.Sessions.{AreKnown, StayParked};
 ghost use Rattle.cg_member.specs.Syncing.{sync_current, sync_held};
 
 use crate::naming::named;
@@ -74,7 +74,8 @@ fn beating<'a>(
 
 /// Processes a BEAT. Two look-ups of the group, linear in its members, no allocation.
 pub fn meet_beat(now: Moment, held: &mut Held, ticket: Ticket, r: &BeatRequest) -> Effects
-    ensures { concluded (at_moment now held.old) ticket (beat now r.now ticket held.old) ≡ outcome (at_moment now held.new) result }
+    ensures met { concluded (at_moment now held.old) ticket (beat now r.now ticket held.old) ≡ outcome (at_moment now held.new) result }
+    ensures parked { StayParked held.old held.new }
 {
     match beating(r, held) {
         Err(code) => reply_alone(held.allocator(), ticket, Reply::Refused(code)),
@@ -137,6 +138,7 @@ pub fn sync_in(
     ensures met { (r : SyncRequest) → IsSyncIn r held.old own.now id.now assignment
         → concluded (at_moment now held.old) ticket (sync now r ticket held.old) ≡ outcome (at_moment now held.new) result }
     ensures known { (r : SyncRequest) (homes : ℕ → List ℕ → Bool) → IsSyncIn r held.old own.now id.now assignment → AreKnown homes held.old → AreKnown homes held.new }
+    ensures parked { (r : SyncRequest) → IsSyncIn r held.old own.now id.now assignment → StayParked held.old held.new }
 {
     hear_in(now, held, own, id, ticket, Reply::Synced(assignment))
 }
@@ -167,6 +169,7 @@ pub fn commit_in(
     requires { InOrder held.old }
     ensures ok { IfOk result (λ e. (g : Group) → find_group id held.old ≡ Some g
         → concluded (at_moment now held.old) ticket (commit_by now (option_copied who.entry) entries ticket g) ≡ outcome (at_moment now held.new) e) }
+    ensures parked { (g : Group) → find_group id held.old ≡ Some g → StayParked held.old held.new }
     ensures offsets { IfOk result (λ e. offsets.new ≡ offsets_after offsets.old e.commands) }
     ensures err { OnErr result ((held.new ≡ held.old) × (offsets.new ≡ offsets.old)) }
     ensures taken { OnErr result ((g : Group) → is_ok (commit_by now (option_copied who.entry) entries ticket g) ≡ true) }

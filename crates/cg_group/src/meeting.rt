@@ -1,12 +1,10 @@
 //! The processing of each event on the loaded groups.
-ghost use Rattle.std.specs.Prelude.{◌≡◌, Ok, Err, None, true, is_ok, is_some, length, IfOk, OnErr, OnOk, MatchResult};
-ghost use Rattle.std.specs.BTreeMap.{get};
-ghost use Rattle.std.specs.Ordering.{nat_cmp};
+ghost use Rattle.std.specs.Prelude.{◌≡◌, ℕ, false, Ok, Err, None, true, is_ok, is_some, length, IfOk, OnErr, OnOk, MatchResult};
 ghost use Rattle.cg_member.specs.Leaving.{gone_in};
 ghost use Rattle.cg_turn.specs.Committing.{commit_unheld, keeping_entries};
 ghost use Rattle.cg_member.specs.Joining.{new_group};
 ghost use Rattle.cg_member.specs.Offsets.{offsets_after};
-ghost use Rattle.cg_held.specs.Sessions.{AreKnown, is_home};
+ghost use Rattle.cg_held.specs.Sessions.{AreKnown, IsTight, StayParked, is_home, is_parked};
 ghost use Rattle.cg_member.specs.Ticking.{ticked};
 ghost use Rattle.cg_group.specs.Machine.{concluded, commit, deleting, deleted, deleted_alone, describe, is_taken, met};
 ghost use Rattle.cg_held.specs.Held.{at_moment, everywhere, find_group, outcome, standing};
@@ -14,12 +12,12 @@ ghost use Rattle.cg_held.specs.Held.{at_moment, everywhere, find_group, outcome,
 use crate::in_place::{commit_in, meet_beat, reply_alone};
 use crate::parking::{meet_join, meet_leave, meet_sync};
 use cg_fold::Offsets;
-use cg_held::changes::{Changes, put_all};
+use cg_held::changes::{Changes, swap_all};
 use cg_held::describing::{description, listings};
 use cg_held::everywhere::{Going, Ticking, everywhere};
 use cg_held::held::Held;
 use cg_held::homes::turn_there;
-use cg_held::sessions::{Homes, forget};
+use cg_held::sessions::Homes;
 use cg_held::settling::settle_all;
 use cg_member::effects::Effects;
 use cg_member::fetching::fetched;
@@ -67,6 +65,7 @@ fn commit_new(
     requires { find_group id held.old ≡ None }
     ensures ok { IfOk result
         (λ e. concluded (at_moment now held.old) ticket (Ok (keeping_entries entries ticket (new_group id))) ≡ outcome (at_moment now held.new) e) }
+    ensures parked { StayParked held.old held.new }
     ensures offsets { IfOk result (λ e. offsets.new ≡ offsets_after offsets.old e.commands) }
     ensures err { OnErr result ((held.new ≡ held.old) × (offsets.new ≡ offsets.old)) }
 {
@@ -96,6 +95,7 @@ fn commit_apart(
     requires { find_group id held.old ≡ None }
     ensures ok { IfOk result
         (λ e. concluded (at_moment now held.old) ticket (commit_unheld generation entries ticket (length held.old) id) ≡ outcome (at_moment now held.new) e) }
+    ensures parked { StayParked held.old held.new }
     ensures offsets { IfOk result (λ e. offsets.new ≡ offsets_after offsets.old e.commands) }
     ensures err { OnErr result ((held.new ≡ held.old) × (offsets.new ≡ offsets.old)) }
     ensures taken { OnErr result (is_ok (commit_unheld generation entries ticket (length held.old) id) ≡ true) }
@@ -120,6 +120,7 @@ fn meet_commit(
 ) -> Result<Effects, AllocError>
     ensures ok { IfOk result
         (λ e. concluded (at_moment now held.old) ticket (commit now r ticket held.old) ≡ outcome (at_moment now held.new) e) }
+    ensures parked { StayParked held.old held.new }
     ensures offsets { IfOk result (λ e. offsets.new ≡ offsets_after offsets.old e.commands) }
     ensures err { OnErr result ((held.new ≡ held.old) × (offsets.new ≡ offsets.old)) }
     ensures taken { OnErr result (is_ok (commit now r ticket held.old) ≡ true) }
@@ -151,9 +152,10 @@ fn meet_commit(
 // Returns the group that a DELETE removes. Reports 69 if it is not loaded, and 68 if it has members.
 #[tactic(auto, unfolding(crate::specs::Machine::deleting))]
 fn deleting<'a>(id: &'a Option<GroupId>, groups: &Held) -> Result<&'a GroupId, Code>
-    ensures { MatchResult result
+    ensures deleted { MatchResult result
         (λ own. deleting id.now groups.now ≡ Ok own.now)
         (λ code. deleting id.now groups.now ≡ Err code) }
+    ensures idle { IfOk result (λ own. (q : ℕ) → is_parked q (find_group own.now groups.now) ≡ false) }
 {
     let Some(own) = id else {
         return Err(Code::InvalidGroupId);
@@ -188,6 +190,7 @@ fn meet_delete(
 ) -> Result<Effects, AllocError>
     ensures ok { IfOk result
         (λ e. deleted (at_moment now held.old) ticket (deleting id.now held.old) ≡ outcome (at_moment now held.new) e) }
+    ensures parked { StayParked held.old held.new }
     ensures offsets { IfOk result (λ e. offsets.new ≡ offsets_after offsets.old e.commands) }
     ensures err { OnErr result ((held.new ≡ held.old) × (offsets.new ≡ offsets.old)) }
     ensures taken { OnErr result (is_ok (deleting id.now held.old) ≡ true) }
@@ -208,20 +211,22 @@ fn meet_delete(
 // Processes a tick. Visits every loaded group, and copies only those that it changes.
 #[tactic(auto, unfolding(cg_held::specs::Held::everywhere))]
 fn meet_tick(now: Moment, held: &mut Held, homes: &mut Homes) -> Result<Effects, AllocError>
-    requires { AreKnown (is_home homes.old) held.old }
+    requires known { AreKnown (is_home homes.old) held.old }
+    requires tight { IsTight homes.old held.old }
     ensures known { AreKnown (is_home homes.new) held.new }
+    ensures tight { IsTight homes.new held.new }
     ensures ok { IfOk result
         (λ e. everywhere (ticked now) (at_moment now held.old) ≡ outcome (at_moment now held.new) e) }
     ensures err { OnErr result (held.new ≡ held.old) }
 {
     let alloc = held.allocator();
     let Changes {
-        groups,
-        answered,
+        mut groups,
         effects,
     } = everywhere(alloc, &Ticking(now), held)?;
-    put_all(held, groups);
-    settle_all(homes, held, answered.as_slice(), effects.replies.as_slice());
+    let changed = groups.as_mut_slice();
+    swap_all(held, changed);
+    settle_all(homes, held, changed);
     Ok(effects)
 }
 
@@ -233,22 +238,23 @@ fn meet_gone(
     homes: &mut Homes,
     session: u64,
 ) -> Result<Effects, AllocError>
-    requires { AreKnown (is_home homes.old) held.old }
+    requires known { AreKnown (is_home homes.old) held.old }
+    requires tight { IsTight homes.old held.old }
     ensures known { AreKnown (is_home homes.new) held.new }
+    ensures tight { IsTight homes.new held.new }
     ensures ok { IfOk result
         (λ e. everywhere (gone_in now session) (at_moment now held.old) ≡ outcome (at_moment now held.new) e) }
     ensures err { OnErr result (held.new ≡ held.old) }
-    ensures gone { OnOk result (get nat_cmp homes.new session ≡ None) }
 {
     let alloc = held.allocator();
     let going = Going { now, session };
     let Changes {
-        groups,
+        mut groups,
         effects,
-        ..
     } = turn_there(alloc, &going, held, homes, session)?;
-    put_all(held, groups);
-    forget(homes, session);
+    let left = groups.as_mut_slice();
+    swap_all(held, left);
+    settle_all(homes, held, left);
     Ok(effects)
 }
 
@@ -262,8 +268,10 @@ pub fn met(
     homes: &mut Homes,
     event: Event,
 ) -> Result<Effects, AllocError>
-    requires { AreKnown (is_home homes.old) held.old }
+    requires known { AreKnown (is_home homes.old) held.old }
+    requires tight { IsTight homes.old held.old }
     ensures known { AreKnown (is_home homes.new) held.new }
+    ensures tight { IsTight homes.new held.new }
     ensures ok { IfOk result (λ e. met (standing now held.old offsets.old) event ≡ outcome (standing now held.new offsets.old) e) }
     ensures offsets { IfOk result (λ e. offsets.new ≡ offsets_after offsets.old e.commands) }
     ensures err { OnErr result ((held.new ≡ held.old) × (offsets.new ≡ offsets.old)) }

@@ -1,20 +1,27 @@
 //! The requests that may park a call, or that may complete a rebalance: JOIN, SYNC and LEAVE.
-ghost use Rattle.std.specs.Prelude.{◌≡◌, ℕ, List, Some, true, false, is_ok, is_some, IfOk, OnErr, OnOk};
+ghost use Rattle.std.specs.Prelude.{◌≡◌, ◌⊎◌, ℕ, List, Some, true, false, is_ok, is_some, IfOk, OnErr, OnOk};
 ghost use Rattle.cg_member.specs.Joining.{is_session_refused};
 ghost use Rattle.cg_group.specs.InPlace.{ParksKnown, group_of};
 ghost use Rattle.cg_group.specs.Machine.{concluded, join, leave, sync};
 ghost use Rattle.cg_held.specs.Held.{at_moment, outcome};
-ghost use Rattle.cg_held.specs.Sessions.{AreKnown, HaveLetGo, is_home};
+ghost use Rattle.cg_held.specs.Sessions.{AreKnown, IsFilled, IsLetGo, IsTight, is_home, is_parked};
+ghost use Rattle.cg_member.specs.Waiting.{is_waiting};
+ghost use Rattle.cg_member.specs.declared.group.Group.{Group};
+ghost use Rattle.cg_member.specs.declared.calls.Calls.TheVariants.{OfSession};
+ghost use Rattle.std.specs.BTreeMap.{get};
+ghost use Rattle.std.specs.List.{list_any};
+ghost use Rattle.std.specs.Ordering.{nat_cmp};
 
-use crate::concluding::conclude;
+use crate::concluding::{Concluded, conclude};
 use crate::in_place::{sync_in, syncing};
 use crate::naming::named;
 use cg_held::held::Held;
 use cg_held::sessions::{Homes, note};
-use cg_held::settling::settle_named;
+use cg_held::settling::{settle, settle_request};
 use cg_member::checked::CheckedJoin;
 use cg_member::effects::Effects;
-use cg_member::reply::Reply;
+use cg_member::group::Group;
+use cg_member::member::Member;
 use cg_member::turn::Turn;
 use cg_names::{Code, GroupId, Moment};
 use cg_request::request::{JoinRequest, LeaveRequest, SyncRequest};
@@ -148,6 +155,9 @@ fn note_named(
     ensures kept { (q : ℕ) (x : List ℕ) → is_home homes.old q x ≡ true → is_home homes.new q x ≡ true }
     ensures here { OnOk result ((x : List ℕ) → id.now ≡ Some x → is_home homes.new session x ≡ true) }
     ensures taken { OnErr result (is_some id.now ≡ true) }
+    ensures fewer { (q : ℕ) (x : List ℕ) → is_home homes.new q x ≡ true → (is_home homes.old q x ≡ true) ⊎ ((session ≡ q) × (id.now ≡ Some x)) }
+    ensures filled { (q : ℕ) → IsFilled (get nat_cmp homes.old q) → IsFilled (get nat_cmp homes.new q) }
+    ensures err { OnErr result ((q : ℕ) (x : List ℕ) → is_home homes.new q x ≡ true → is_home homes.old q x ≡ true) }
 {
     let Some(id) = id else {
         return Ok(());
@@ -156,12 +166,33 @@ fn note_named(
     note(alloc, homes, session, id)
 }
 
-// Drops the group from the session index again, if no call of the ticket's session is parked there.
-fn let_go(homes: &mut Homes, held: &Held, id: &Option<GroupId>, ticket: Ticket)
-    ensures { AreKnown (is_home homes.old) held.now → AreKnown (is_home homes.new) held.now }
+// The members of a group, if there is one.
+fn members_of(group: &Option<Group>) -> &[Member]
+    ensures { (q : ℕ) → list_any (is_waiting (OfSession q)) result.now ≡ is_parked q group.now }
 {
-    let unparked = [(ticket, Reply::Done)];
-    settle_named(homes, held, id, &unparked);
+    match group {
+        None => &[],
+        Some(group) => group.members.as_slice(),
+    }
+}
+
+// Updates the session index after a request of this session in the group with this id, if there is one.
+fn settle_named(
+    homes: &mut Homes,
+    held: &Held,
+    id: &Option<GroupId>,
+    before: &Option<Group>,
+    session: u64,
+)
+    ensures known { AreKnown (is_home homes.old) held.now → AreKnown (is_home homes.new) held.now }
+    ensures gone { (q : ℕ) (x : List ℕ) → id.now ≡ Some x → is_parked q before.now ≡ true → IsLetGo homes.new held.now x q }
+    ensures asked { (x : List ℕ) → id.now ≡ Some x → IsLetGo homes.new held.now x session }
+    ensures fewer { (q : ℕ) (x : List ℕ) → is_home homes.new q x ≡ true → is_home homes.old q x ≡ true }
+    ensures filled { (q : ℕ) → IsFilled (get nat_cmp homes.old q) → IsFilled (get nat_cmp homes.new q) }
+{
+    if let Some(id) = id {
+        settle_request(homes, held, id, members_of(before), session);
+    }
 }
 
 // Replaces the group by that of a step that may park the call, or replies with the error code.
@@ -174,22 +205,23 @@ fn park(
 ) -> Result<Effects, AllocError>
     requires known { AreKnown (is_home homes.old) held.old }
     requires parks { ParksKnown now held.old ticket concluding }
+    requires tight { IsTight homes.old held.old }
     ensures known { AreKnown (is_home homes.new) held.new }
+    ensures tight { IsTight homes.new held.new }
     ensures ok { IfOk result (λ e. concluded (at_moment now held.old) ticket concluding ≡ outcome (at_moment now held.new) e) }
     ensures err { OnErr result (held.new ≡ held.old) }
     ensures taken { OnErr result (is_ok concluding ≡ true) }
-    ensures let_go { IfOk result (λ e. (id : List ℕ) → group_of concluding ≡ Some id → HaveLetGo homes.new held.new id e.replies) }
 {
     let alloc = held.allocator();
     let own = group_of(&concluding)?;
     note_named(alloc, homes, ticket.session, &own)?;
     match conclude(alloc, now, held, ticket, concluding) {
-        Ok(effects) => {
-            settle_named(homes, held, &own, effects.replies.as_slice());
+        Ok(Concluded { effects, replaced }) => {
+            settle_named(homes, held, &own, &replaced, ticket.session);
             Ok(effects)
         }
         Err(wanting) => {
-            let_go(homes, held, &own, ticket);
+            settle_named(homes, held, &own, &None, ticket.session);
             Err(wanting)
         }
     }
@@ -204,8 +236,10 @@ pub fn meet_join(
     r: JoinRequest,
     fresh: Uuid,
 ) -> Result<Effects, AllocError>
-    requires { AreKnown (is_home homes.old) held.old }
+    requires known { AreKnown (is_home homes.old) held.old }
+    requires tight { IsTight homes.old held.old }
     ensures known { AreKnown (is_home homes.new) held.new }
+    ensures tight { IsTight homes.new held.new }
     ensures ok { IfOk result
         (λ e. concluded (at_moment now held.old) ticket (join now r fresh ticket held.old) ≡ outcome (at_moment now held.new) e) }
     ensures err { OnErr result (held.new ≡ held.old) }
@@ -224,8 +258,10 @@ fn meet_sync_apart(
     ticket: Ticket,
     r: &SyncRequest,
 ) -> Result<Effects, AllocError>
-    requires { AreKnown (is_home homes.old) held.old }
+    requires known { AreKnown (is_home homes.old) held.old }
+    requires tight { IsTight homes.old held.old }
     ensures known { AreKnown (is_home homes.new) held.new }
+    ensures tight { IsTight homes.new held.new }
     ensures ok { IfOk result
         (λ e. concluded (at_moment now held.old) ticket (sync now r.now ticket held.old) ≡ outcome (at_moment now held.new) e) }
     ensures err { OnErr result (held.new ≡ held.old) }
@@ -244,8 +280,10 @@ pub fn meet_sync(
     ticket: Ticket,
     r: &SyncRequest,
 ) -> Result<Effects, AllocError>
-    requires { AreKnown (is_home homes.old) held.old }
+    requires known { AreKnown (is_home homes.old) held.old }
+    requires tight { IsTight homes.old held.old }
     ensures known { AreKnown (is_home homes.new) held.new }
+    ensures tight { IsTight homes.new held.new }
     ensures ok { IfOk result
         (λ e. concluded (at_moment now held.old) ticket (sync now r.now ticket held.old) ≡ outcome (at_moment now held.new) e) }
     ensures err { OnErr result (held.new ≡ held.old) }
@@ -260,6 +298,18 @@ pub fn meet_sync(
     }
 }
 
+// Updates the session index after a step that parks no call: `replaced` is its group as it was.
+fn settle_replaced(homes: &mut Homes, held: &Held, replaced: &Option<Group>)
+    ensures known { AreKnown (is_home homes.old) held.now → AreKnown (is_home homes.new) held.now }
+    ensures gone { (g : Group) → replaced.now ≡ Some g → (q : ℕ) → is_parked q (Some g) ≡ true → IsLetGo homes.new held.now g.id q }
+    ensures fewer { (q : ℕ) (x : List ℕ) → is_home homes.new q x ≡ true → is_home homes.old q x ≡ true }
+    ensures filled { (q : ℕ) → IsFilled (get nat_cmp homes.old q) → IsFilled (get nat_cmp homes.new q) }
+{
+    if let Some(group) = replaced {
+        settle(homes, held, &group.id, group.members.as_slice());
+    }
+}
+
 /// Processes a LEAVE. Copies the group. Only a LEAVE that is not refused needs an allocation.
 pub fn meet_leave(
     now: Moment,
@@ -268,17 +318,18 @@ pub fn meet_leave(
     ticket: Ticket,
     r: &LeaveRequest,
 ) -> Result<Effects, AllocError>
-    requires { AreKnown (is_home homes.old) held.old }
+    requires known { AreKnown (is_home homes.old) held.old }
+    requires tight { IsTight homes.old held.old }
     ensures known { AreKnown (is_home homes.new) held.new }
+    ensures tight { IsTight homes.new held.new }
     ensures ok { IfOk result
         (λ e. concluded (at_moment now held.old) ticket (leave now r.now ticket held.old) ≡ outcome (at_moment now held.new) e) }
     ensures err { OnErr result (held.new ≡ held.old) }
     ensures taken { OnErr result (is_ok (leave now r.now ticket held.old) ≡ true) }
-    ensures let_go { IfOk result (λ e. (id : List ℕ) → r.now.group ≡ Some id → HaveLetGo homes.new held.new id e.replies) }
 {
     let alloc = held.allocator();
     let concluding = leave(alloc, now, r, ticket, held)?;
-    let effects = conclude(alloc, now, held, ticket, concluding)?;
-    settle_named(homes, held, &r.group, effects.replies.as_slice());
+    let Concluded { effects, replaced } = conclude(alloc, now, held, ticket, concluding)?;
+    settle_replaced(homes, held, &replaced);
     Ok(effects)
 }

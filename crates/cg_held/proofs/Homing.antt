@@ -2,22 +2,22 @@
 use Rattle.std.proofs.Common.{◌≡◌, ℕ, zero, suc, ◌+◌, ◌<◌, ◌≤◌, Bool, true, false, cond, List, [], ◌∷◌, length, get_or, is_some, inl, inr, Option, Some, None, refl, sym, ap, ◌∙◌, subst, arith}
 use Rattle.std.proofs.lemmas.Bool.{cases_lt, eqb-false, eqb-true, false≢true, or_left, or_right}
 use Rattle.std.specs.List.{list_any}
-use Rattle.std.specs.Prelude.{◌⊎◌, ◌==◌}
+use Rattle.std.specs.Prelude.{◌⊎◌, ◌==◌, nat_lt}
+use Rattle.std.specs.declared.cmp.Ordering.TheVariants.{Less, Equal, Greater}
 use Rattle.std.specs.BTreeMap.{BTreeMap, get, is_at}
 use Rattle.std.specs.Cmp.Lexicographic.{slice_cmp}
 use Rattle.std.proofs.lemmas.Map.Text.{is_eq-slice_cmp}
 use Rattle.std.specs.Ordering.{nat_cmp, is_eq}
-use Rattle.cg_member.specs.declared.calls.Calls.TheVariants.{OfSession}
 use Rattle.cg_member.specs.declared.group.Group.{Group}
 use Rattle.cg_member.specs.declared.member.Member.{Member}
 use Rattle.cg_member.specs.declared.member.Waits.{Waits}
 use Rattle.cg_member.specs.declared.member.Waits.TheVariants.{Nothing, Join, Sync}
 use Rattle.cg_held.specs.declared.sessions.Home.{Home}
+use Rattle.cg_held.specs.declared.sessions.Home.TheVariants.{Certain}
 use Rattle.cg_held.specs.Kept.{Each}
 use Rattle.cg_held.specs.Held.{InOrder, find_group}
-use Rattle.cg_member.specs.Waiting.{is_waiting}
 use Rattle.cg_request.specs.Names.{is_same}
-use Rattle.cg_held.specs.Sessions.{AreKnown, HasLetGo, IsFilled, IsSettled, IsSettledIn, Known, is_certain, is_certain_in, is_parked, is_known, is_lived_in, is_noted}
+use Rattle.cg_held.specs.Sessions.{AreKnown, IsFilled, IsSettled, IsSettledIn, Known, is_certain_in, is_known, is_lived_in, is_noted}
 use Rattle.cg_held.proofs.InOrder.{found_alone, found_named, none_found}
 use Rattle.cg_held.proofs.KeptLists.{same_names, same_self}
 
@@ -161,13 +161,53 @@ still_settled id old new session q own apart h =
           subst P (sym (apart (λ same. eqb-false session q e (cc)))) h
     ]) refl
 
--- after an update of the index for a loaded group
-pub let_go_held : (doubted sure final : BTreeMap ℕ (BTreeMap (List ℕ) Home)) (groups : List Group) (id : List ℕ) (g : Group) → find_group id groups ≡ Some g
-    → ((q : ℕ) → is_certain final q id ≡ true → is_certain sure q id ≡ true)
-    → ((q : ℕ) → is_certain sure q id ≡ true → (is_certain doubted q id ≡ true) ⊎ (list_any (is_waiting (OfSession q)) g.members ≡ true))
-    → (q : ℕ) → is_certain doubted q id ≡ false → IsSettled final q id → HasLetGo final groups id q
-let_go_held doubted sure final groups id g found stays waits q doubtful settled = record { parked = λ here. parked (waits q (stays q (settled.0 here))); filled = settled.1 }
+-- the parked calls of the group are still in the index, if it is loaded
+pub settled_any : (before after : ℕ → List ℕ → Bool) (id : List ℕ) → ((q : ℕ) (x : List ℕ) → (x ≡ id → ⊥) → before q x ≡ true → after q x ≡ true) → (gs : List Group) → InOrder gs
+    → ((g : Group) → find_group id gs ≡ Some g → Known (λ q. before q id) g → Known (λ q. after q id) g) → AreKnown before gs → AreKnown after gs
+settled_any before after id others gs o stays h = go (find_group id gs) refl
   where
-    parked : (is_certain doubted q id ≡ true) ⊎ (list_any (is_waiting (OfSession q)) g.members ≡ true) → is_parked q (find_group id groups) ≡ true
-    parked (inl before) = absurd (false≢true (sym doubtful ∙ before))
-    parked (inr w) = ap (is_parked q) found ∙ w
+    go : (found : Option Group) → find_group id gs ≡ found → AreKnown after gs
+    go None e = settled_unheld before after id others gs e h
+    go (Some g) e = settled_held before after id others gs g o e (stays g e) h
+
+-- a value that is written at a key adds no key
+pub written_adds_none : (id x : List ℕ) (before after first : Option Home) (home : Home) → after ≡ cond (is_at (slice_cmp nat_cmp id) x) (Some home) before → (x ≡ id → before ≡ first) → is_some first ≡ true → is_some after ≡ true → is_some before ≡ true
+written_adds_none id x before after first home is same there h =
+    (elim (is_same id x) as (λ b. is_same id x ≡ b → is_some before ≡ true) [
+      | true ↦ λ e. ap is_some (same (sym (same_names id x e))) ∙ there
+      | false ↦ λ e. sym (ap is_some (is ∙ ap (λ b. cond b (Some home) before) (is_eq-slice_cmp id x ∙ e))) ∙ h
+    ]) refl
+
+-- an entry that is inserted is the only new one
+pub inserted_alone : (id x : List ℕ) (before after : Option Home) (home : Home) → after ≡ cond (is_at (slice_cmp nat_cmp id) x) (Some home) before → is_some after ≡ true → (is_some before ≡ true) ⊎ (x ≡ id)
+inserted_alone id x before after home is h =
+    (elim (is_same id x) as (λ b. is_same id x ≡ b → (is_some before ≡ true) ⊎ (x ≡ id)) [
+      | true ↦ λ e. inr (sym (same_names id x e))
+      | false ↦ λ e. inl (sym (ap is_some (is ∙ ap (λ b. cond b (Some home) before) (is_eq-slice_cmp id x ∙ e))) ∙ h)
+    ]) refl
+
+-- numbers that compare as equal are equal
+same_number : (a b : ℕ) → is_eq (nat_cmp a b) ≡ true → a ≡ b
+same_number a b =
+    elim (nat_lt a b) as (λ l. is_eq (cond l Less (cond (a == b) Equal Greater)) ≡ true → a ≡ b) [
+      | true ↦ λ e. absurd (false≢true e)
+      | false ↦
+          (elim (a == b) as (λ s. (a == b) ≡ s → is_eq (cond s Equal Greater) ≡ true → a ≡ b) [
+            | true ↦ λ s _. eqb-true a b s
+            | false ↦ λ _ e. absurd (false≢true e)
+          ]) refl
+    ]
+
+-- the first group of a session
+pub noted_first : (session q : ℕ) (id x : List ℕ) (before after : Option (BTreeMap (List ℕ) Home)) (groups : BTreeMap (List ℕ) Home)
+    → after ≡ cond (is_at (nat_cmp session) q) (Some groups) before → get (slice_cmp nat_cmp) groups x ≡ cond (is_at (slice_cmp nat_cmp id) x) (Some Certain) None
+    → is_noted x after ≡ true → (is_noted x before ≡ true) ⊎ ((session ≡ q) × (x ≡ id))
+noted_first session q id x before after groups is own h =
+    (elim (is_at (nat_cmp session) q) as (λ b. is_at (nat_cmp session) q ≡ b → (is_noted x before ≡ true) ⊎ ((session ≡ q) × (x ≡ id))) [
+      | true ↦ λ e. here (same_number session q e) (inserted_alone id x None (get (slice_cmp nat_cmp) groups x) Certain own (sym (ap (is_noted x) (is ∙ ap (λ b. cond b (Some groups) before) e)) ∙ h))
+      | false ↦ λ e. inl (sym (ap (is_noted x) (is ∙ ap (λ b. cond b (Some groups) before) e)) ∙ h)
+    ]) refl
+  where
+    here : session ≡ q → (false ≡ true) ⊎ (x ≡ id) → (is_noted x before ≡ true) ⊎ ((session ≡ q) × (x ≡ id))
+    here s (inl none) = absurd (false≢true none)
+    here s (inr own) = inr (s, own)

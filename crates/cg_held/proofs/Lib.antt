@@ -9,3 +9,5 @@ pub mod KeptLists
 pub mod Removing
 pub mod Revived
 pub mod Untouched
+pub mod Finding
+pub mod Tight

@@ -4,3 +4,4 @@ pub mod Sessions
 pub mod Held
 pub mod Changes
 pub mod Reviving
+pub mod Props

@@ -1,17 +1,14 @@
 -- The session index: which groups may have a parked call of which session.
-use Rattle.std.specs.Prelude.{◌≡◌, ℕ, Bool, true, false, List, [], ◌∷◌, Option, Some, None, is_some}
+use Rattle.std.specs.Prelude.{◌≡◌, ℕ, Bool, true, false, List, Option, Some, None, is_some, ◌&&◌}
+use Rattle.std.specs.List.{list_any}
+use Rattle.cg_member.specs.Membership.{is_same}
 use Rattle.std.specs.BTreeMap as map
 use Rattle.std.specs.BTreeMap.{BTreeMap}
 use Rattle.std.specs.Ordering.{nat_cmp}
 use Rattle.std.specs.Cmp.Lexicographic.{slice_cmp}
-use mathlib.Core.Bool.{Bool-set}
-use mathlib.Core.HLevel.{Unit-prop, ×_prop}
 use Rattle.cg_request.specs.declared.event.Event.{Event}
 use Rattle.cg_request.specs.declared.event.Event.TheVariants as event
 use Rattle.cg_member.specs.declared.group.Group.{Group}
-use Rattle.cg_member.specs.declared.member.Member.{Member}
-use Rattle.cg_member.specs.declared.reply.Reply.{Reply}
-use Rattle.cg_request.specs.declared.ticket.Ticket.{Ticket}
 use Rattle.cg_member.specs.declared.member.Waits.{Waits}
 use Rattle.cg_member.specs.declared.member.Waits.TheVariants.{Nothing, Join, Sync}
 use Rattle.cg_held.specs.declared.sessions.Home.{Home}
@@ -33,16 +30,6 @@ Known sessions g = Each (λ m. is_known sessions m.waits ≡ true) g.members
 -- the index has each parked call: its session with its group
 abbrev pub AreKnown : (ℕ → List ℕ → Bool) → List Group → Type 0
 AreKnown homes groups = Each (λ g. Known (λ session. homes session g.id) g) groups
-
--- two proofs of this fact are equal
-Each-prop : {X : Type 0} (P : X → Type 0) → ((x : X) → IsProp (P x)) → (xs : List X) → IsProp (Each P xs)
-Each-prop P h [] = Unit-prop
-Each-prop P h (x ∷ xs) = ×_prop (h x) (Each-prop P h xs)
-
-pub AreKnown-prop : (homes : ℕ → List ℕ → Bool) (groups : List Group) → IsProp (AreKnown homes groups)
-AreKnown-prop homes groups =
-    Each-prop (λ g. Known (λ session. homes session g.id) g)
-    (λ g. Each-prop (λ (m : Member). is_known (λ session. homes session g.id) m.waits ≡ true) (λ m. Bool-set (is_known (λ session. homes session g.id) m.waits) true) g.members) groups
 
 -- if the event's call may be parked, the index has its session with the group that it names
 abbrev pub Owns : (ℕ → List ℕ → Bool) → Event → Type 0
@@ -100,12 +87,25 @@ abbrev pub is_parked : ℕ → Option Group → Bool
 is_parked session None = false
 is_parked session (Some g) = gone_touches session g
 
--- the index has the group for the session only if a call of the session is parked there, and the session only with a
--- group
-pub record HasLetGo (homes : BTreeMap ℕ (BTreeMap (List ℕ) Home)) (groups : List Group) (id : List ℕ) (session : ℕ) : Type 0 where
-  pub parked : is_home homes session id ≡ true → is_parked session (find_group id groups) ≡ true
-  pub filled : IsFilled (map.get nat_cmp homes session)
+-- if the index has the group for the session, a call of the session is parked there
+abbrev pub IsLetGo : BTreeMap ℕ (BTreeMap (List ℕ) Home) → List Group → List ℕ → ℕ → Type 0
+IsLetGo homes groups id session = is_home homes session id ≡ true → is_parked session (find_group id groups) ≡ true
 
--- the same for each session that got one of these replies
-abbrev pub HaveLetGo : BTreeMap ℕ (BTreeMap (List ℕ) Home) → List Group → List ℕ → List (Ticket × Reply) → Type 0
-HaveLetGo homes groups id replies = Each (λ r. HasLetGo homes groups id r.0.session) replies
+-- the session of the parked call, if there is one, has this property
+abbrev pub IfParked : (ℕ → Type 0) → Waits → Type 0
+IfParked P Nothing = Unit {0}
+IfParked P (Join t) = P t.session
+IfParked P (Sync t) = P t.session
+
+-- the index has no more than it needs: for each session the groups in which a call of it is parked, and only sessions
+-- with a group
+abbrev pub IsTight : BTreeMap ℕ (BTreeMap (List ℕ) Home) → List Group → Type 0
+IsTight homes groups = ((session : ℕ) (id : List ℕ) → IsLetGo homes groups id session) × ((session : ℕ) → IsFilled (map.get nat_cmp homes session))
+
+-- each call that was parked in one of these groups is parked in it in the others too
+abbrev pub StayParked : List Group → List Group → Type 0
+StayParked groups others = (session : ℕ) (id : List ℕ) → is_parked session (find_group id groups) ≡ true → is_parked session (find_group id others) ≡ true
+
+-- a call of the session is parked in a group with this id, among these
+abbrev pub were_parked : List Group → ℕ → List ℕ → Bool
+were_parked groups session id = list_any (λ (g : Group). is_same g.id id && gone_touches session g) groups

@@ -1,27 +1,19 @@
 //! The changes of an event, all built before the first one is applied, so that an allocation failure changes nothing.
-ghost use Rattle.std.specs.Prelude.{◌≡◌, []};
+ghost use Rattle.std.specs.Prelude.{◌≡◌, ◌⊎◌, ℕ, List, [], true};
 ghost use Rattle.cg_held.specs.Changes.{AreHeld, changed};
+ghost use Rattle.cg_held.specs.Held.{find_group};
+ghost use Rattle.cg_held.specs.Sessions.{is_parked, were_parked};
 
 use crate::held::Held;
 use cg_member::effects::Effects;
 use cg_member::few::Few;
 use cg_member::group::Group;
-use cg_names::GroupId;
 use std::alloc::Global;
-
-/// A group in which an event replied to calls.
-#[derive(Drop)]
-pub struct Answered {
-    pub group: GroupId,
-    /// Total number of replies after those of this group.
-    pub until: usize,
-}
 
 /// The changes of an event so far: groups, and effects.
 #[derive(Drop)]
 pub struct Changes {
     pub groups: Vec<Group>,
-    pub answered: Vec<Answered>,
     pub effects: Effects,
 }
 
@@ -34,7 +26,6 @@ impl Changes {
     {
         Changes {
             groups: Vec::new(alloc),
-            answered: Vec::new(alloc),
             effects: Effects {
                 commands: Few::new(alloc),
                 replies: Few::new(alloc),
@@ -43,12 +34,14 @@ impl Changes {
     }
 }
 
-/// Replaces the changed groups. No allocation.
-pub fn put_all(held: &mut Held, changes: Vec<Group>)
-    requires { AreHeld held.old changes.items }
-    ensures { held.new ≡ changed changes.items held.old }
+/// Replaces the loaded groups by the changed ones, which become the groups as they were. No allocation.
+pub fn swap_all(held: &mut Held, groups: &mut [Group])
+    requires { AreHeld held.old groups.old }
+    ensures after { held.new ≡ changed groups.old held.old }
+    ensures before { (q : ℕ) (x : List ℕ) → is_parked q (find_group x held.old) ≡ true
+        → (is_parked q (find_group x held.new) ≡ true) ⊎ (were_parked groups.new q x ≡ true) }
 {
-    for group in changes {
-        held.replace(group);
+    for group in groups.iter_mut() {
+        held.swap(group);
     }
 }

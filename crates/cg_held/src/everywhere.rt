@@ -5,7 +5,7 @@ ghost use Rattle.cg_held.specs.Changes.{AreHeld, HaveTurned, KeepIds, changed};
 ghost use Rattle.cg_held.specs.Kept.{ComeBefore};
 ghost use Rattle.cg_held.specs.Held.{InOrder, find_group, groups_after, effects_of};
 
-use crate::changes::{Answered, Changes};
+use crate::changes::Changes;
 use crate::held::Held;
 use cg_member::group::Group;
 use cg_member::turn::Turn;
@@ -88,7 +88,6 @@ pub fn turn_one<T: Turning>(
     if !turning.touches(group) {
         return Ok(());
     }
-    let id = group.id.clone()?;
     let Turn {
         group,
         replies,
@@ -97,8 +96,6 @@ pub fn turn_one<T: Turning>(
     done.groups.push(group)?;
     done.effects.commands.append(commands)?;
     done.effects.replies.append(replies)?;
-    let until = done.effects.replies.len();
-    done.answered.push(Answered { group: id, until })?;
     Ok(())
 }
 

@@ -1,5 +1,5 @@
 //! The loaded groups, in a map by their ids.
-ghost use Rattle.std.specs.Prelude.{◌≡◌, ℕ, Some, None, [], length, is_some, slice_get, true, OnErr, OnOk};
+ghost use Rattle.std.specs.Prelude.{◌≡◌, ℕ, Some, None, [], length, is_some, slice_get, true, IfOk, OnErr, OnOk};
 ghost use Rattle.std.specs.BTreeMap.{get, is_at};
 ghost use Rattle.std.specs.Cmp.Lexicographic.{slice_cmp};
 ghost use Rattle.std.specs.Map.{set_value};
@@ -19,6 +19,7 @@ use std::alloc::{AllocError, Global};
 use std::collections::BTreeMap;
 use std::collections::btree_map::Values;
 use std::marker::Model;
+use std::mem;
 
 /// The loaded groups by the bytes of their ids. Contracts see the list of groups.
 #[derive(Debug, Drop)]
@@ -47,12 +48,14 @@ fn hear_in(now: Moment, id: &MemberId, group: &mut Group)
     group.members.hear(id, now);
 }
 
-fn replace_in(groups: &mut BTreeMap<GroupId, Group>, group: Group)
-    requires { is_some (get (slice_cmp nat_cmp) groups.old group.id) ≡ true }
-    ensures { groups.new.entries ≡ set_value (is_at (slice_cmp nat_cmp group.id)) groups.old.entries group }
+// Exchanges the group with this id for the given one, which becomes the group as it was.
+fn swap_in(groups: &mut BTreeMap<GroupId, Group>, group: &mut Group)
+    requires { is_some (get (slice_cmp nat_cmp) groups.old group.old.id) ≡ true }
+    ensures after { groups.new.entries ≡ set_value (is_at (slice_cmp nat_cmp group.old.id)) groups.old.entries group.old }
+    ensures before { get (slice_cmp nat_cmp) groups.old group.old.id ≡ Some group.new }
 {
     if let Some(place) = groups.get_mut(&group.id) {
-        *place = group;
+        mem::swap(place, group);
     }
 }
 
@@ -128,25 +131,29 @@ impl Held {
         Ok(())
     }
 
-    /// Inserts or replaces the group with this id. Allocates only if the id is not loaded.
-    pub fn put(&mut self, group: Group) -> Result<(), AllocError>
+    /// Inserts or replaces the group with this id. Returns the group that it replaced. Allocates only if the id is not
+    /// loaded.
+    pub fn put(&mut self, group: Group) -> Result<Option<Group>, AllocError>
         ensures ok { OnOk result (self.new ≡ with_group group self.old) }
+        ensures before { IfOk result (λ o. o ≡ find_group group.id self.old) }
         ensures err { OnErr result (self.new ≡ self.old) }
     {
         if self.groups.contains_key(&group.id) {
-            self.replace(group);
-            return Ok(());
+            let mut group = group;
+            self.swap(&mut group);
+            return Ok(Some(group));
         }
         self.add(group)?;
-        Ok(())
+        Ok(None)
     }
 
-    /// Replaces the group with this id. No allocation.
-    pub fn replace(&mut self, group: Group)
-        requires { IsHeld self.old group.id }
-        ensures { self.new ≡ with_group group self.old }
+    /// Exchanges the group with this id for the given one, which becomes the group as it was. No allocation.
+    pub fn swap(&mut self, group: &mut Group)
+        requires { IsHeld self.old group.old.id }
+        ensures after { self.new ≡ with_group group.old self.old }
+        ensures before { find_group group.old.id self.old ≡ Some group.new }
     {
-        replace_in(&mut self.groups, group);
+        swap_in(&mut self.groups, group);
     }
 
     /// Removes the group with this id, if it is loaded.

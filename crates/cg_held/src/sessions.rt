@@ -1,6 +1,6 @@
 //! The session index: for each session, the groups in which its calls may be parked. A closed session visits only
 //! these.
-ghost use Rattle.std.specs.Prelude.{◌≡◌, ◌⊎◌, ℕ, List, Some, None, true, false, OnOk};
+ghost use Rattle.std.specs.Prelude.{◌≡◌, ◌⊎◌, ℕ, List, Some, None, true, false, OnErr, OnOk};
 ghost use Rattle.std.specs.BTreeMap.{get};
 ghost use Rattle.std.specs.Ordering.{nat_cmp};
 ghost use Rattle.std.specs.Cmp.Lexicographic.{slice_cmp};
@@ -27,6 +27,9 @@ fn note_first(alloc: Global, homes: &mut Homes, session: u64, id: GroupId) -> Re
     requires { get nat_cmp homes.old session ≡ None }
     ensures kept { (q : ℕ) (x : List ℕ) → is_home homes.old q x ≡ true → is_home homes.new q x ≡ true }
     ensures here { OnOk result (is_home homes.new session id ≡ true) }
+    ensures fewer { (q : ℕ) (x : List ℕ) → is_home homes.new q x ≡ true → (is_home homes.old q x ≡ true) ⊎ ((session ≡ q) × (x ≡ id)) }
+    ensures filled { (q : ℕ) → IsFilled (get nat_cmp homes.old q) → IsFilled (get nat_cmp homes.new q) }
+    ensures err { OnErr result ((q : ℕ) (x : List ℕ) → is_home homes.new q x ≡ true → is_home homes.old q x ≡ true) }
 {
     let mut groups = BTreeMap::new(alloc);
     groups.insert(id, Home::Certain)?;
@@ -38,6 +41,9 @@ fn note_first(alloc: Global, homes: &mut Homes, session: u64, id: GroupId) -> Re
 fn note_in(groups: &mut BTreeMap<GroupId, Home>, id: GroupId) -> Result<(), AllocError>
     ensures kept { (x : List ℕ) → is_noted x (Some groups.old) ≡ true → is_noted x (Some groups.new) ≡ true }
     ensures here { OnOk result (is_noted id (Some groups.new) ≡ true) }
+    ensures fewer { (x : List ℕ) → is_noted x (Some groups.new) ≡ true → (is_noted x (Some groups.old) ≡ true) ⊎ (x ≡ id) }
+    ensures err { OnErr result ((x : List ℕ) → is_noted x (Some groups.new) ≡ true → is_noted x (Some groups.old) ≡ true) }
+    ensures filled { IsFilled (Some groups.old) → IsFilled (Some groups.new) }
 {
     groups.insert(id, Home::Certain)?;
     Ok(())
@@ -47,6 +53,9 @@ fn note_in(groups: &mut BTreeMap<GroupId, Home>, id: GroupId) -> Result<(), Allo
 pub fn note(alloc: Global, homes: &mut Homes, session: u64, id: GroupId) -> Result<(), AllocError>
     ensures kept { (q : ℕ) (x : List ℕ) → is_home homes.old q x ≡ true → is_home homes.new q x ≡ true }
     ensures here { OnOk result (is_home homes.new session id ≡ true) }
+    ensures fewer { (q : ℕ) (x : List ℕ) → is_home homes.new q x ≡ true → (is_home homes.old q x ≡ true) ⊎ ((session ≡ q) × (x ≡ id)) }
+    ensures filled { (q : ℕ) → IsFilled (get nat_cmp homes.old q) → IsFilled (get nat_cmp homes.new q) }
+    ensures err { OnErr result ((q : ℕ) (x : List ℕ) → is_home homes.new q x ≡ true → is_home homes.old q x ≡ true) }
 {
     let Some(groups) = homes.get_mut(&session) else {
         return note_first(alloc, homes, session, id);
@@ -58,6 +67,8 @@ pub fn note(alloc: Global, homes: &mut Homes, session: u64, id: GroupId) -> Resu
 fn doubt_in(groups: &mut BTreeMap<GroupId, Home>, id: &GroupId)
     ensures kept { (x : List ℕ) → is_noted x (Some groups.old) ≡ true → is_noted x (Some groups.new) ≡ true }
     ensures here { is_certain_in id.now (Some groups.new) ≡ false }
+    ensures fewer { (x : List ℕ) → is_noted x (Some groups.new) ≡ true → is_noted x (Some groups.old) ≡ true }
+    ensures filled { IsFilled (Some groups.old) → IsFilled (Some groups.new) }
 {
     if let Some(home) = groups.get_mut(id) {
         *home = Home::Doubtful;
@@ -69,6 +80,8 @@ pub fn doubt(homes: &mut Homes, session: u64, id: &GroupId)
     ensures kept { (q : ℕ) (x : List ℕ) → is_home homes.old q x ≡ true → is_home homes.new q x ≡ true }
     ensures here { is_certain homes.new session id.now ≡ false }
     ensures doubtful { (q : ℕ) → is_certain homes.old q id.now ≡ false → is_certain homes.new q id.now ≡ false }
+    ensures fewer { (q : ℕ) (x : List ℕ) → is_home homes.new q x ≡ true → is_home homes.old q x ≡ true }
+    ensures filled { (q : ℕ) → IsFilled (get nat_cmp homes.old q) → IsFilled (get nat_cmp homes.new q) }
 {
     if let Some(groups) = homes.get_mut(&session) {
         doubt_in(groups, id);
@@ -79,6 +92,8 @@ fn affirm_in(groups: &mut BTreeMap<GroupId, Home>, id: &GroupId)
     ensures kept { (x : List ℕ) → is_noted x (Some groups.old) ≡ true → is_noted x (Some groups.new) ≡ true }
     ensures certain { (x : List ℕ) → is_certain_in x (Some groups.old) ≡ true → is_certain_in x (Some groups.new) ≡ true }
     ensures here { is_noted id.now (Some groups.old) ≡ true → is_certain_in id.now (Some groups.new) ≡ true }
+    ensures fewer { (x : List ℕ) → is_noted x (Some groups.new) ≡ true → is_noted x (Some groups.old) ≡ true }
+    ensures filled { IsFilled (Some groups.old) → IsFilled (Some groups.new) }
 {
     if let Some(home) = groups.get_mut(id) {
         *home = Home::Certain;
@@ -91,6 +106,8 @@ pub fn affirm(homes: &mut Homes, session: u64, id: &GroupId)
     ensures certain { (q : ℕ) (x : List ℕ) → is_certain homes.old q x ≡ true → is_certain homes.new q x ≡ true }
     ensures here { is_home homes.old session id.now ≡ true → is_certain homes.new session id.now ≡ true }
     ensures others { (q : ℕ) → (Some session ≡ Some q → ⊥) → is_certain homes.new q id.now ≡ is_certain homes.old q id.now }
+    ensures fewer { (q : ℕ) (x : List ℕ) → is_home homes.new q x ≡ true → is_home homes.old q x ≡ true }
+    ensures filled { (q : ℕ) → IsFilled (get nat_cmp homes.old q) → IsFilled (get nat_cmp homes.new q) }
 {
     if let Some(groups) = homes.get_mut(&session) {
         affirm_in(groups, id);
@@ -113,6 +130,7 @@ fn leave_in(groups: &mut BTreeMap<GroupId, Home>, id: &GroupId)
     ensures certain { (x : List ℕ) → is_certain_in x (Some groups.old) ≡ true → is_certain_in x (Some groups.new) ≡ true }
     ensures settled { IsSettledIn id.now (Some groups.new) }
     ensures sure { is_certain_in id.now (Some groups.new) ≡ true → is_certain_in id.now (Some groups.old) ≡ true }
+    ensures fewer { (x : List ℕ) → is_noted x (Some groups.new) ≡ true → is_noted x (Some groups.old) ≡ true }
 {
     if is_doubtful(groups, id) {
         groups.remove(id);
@@ -129,6 +147,7 @@ fn leave_one(homes: &mut Homes, session: u64, id: &GroupId) -> bool
     ensures bare { result ≡ true → (x : List ℕ) → is_home homes.new session x ≡ false }
     ensures calm { result ≡ true → (x : List ℕ) → is_certain homes.new session x ≡ false }
     ensures filled { result ≡ false → IsFilled (get nat_cmp homes.new session) }
+    ensures fewer { (q : ℕ) (x : List ℕ) → is_home homes.new q x ≡ true → is_home homes.old q x ≡ true }
 {
     let Some(groups) = homes.get_mut(&session) else {
         return false;
@@ -144,16 +163,11 @@ pub fn leave(homes: &mut Homes, session: u64, id: &GroupId)
     ensures settled { IsSettled homes.new session id.now }
     ensures sure { (q : ℕ) → is_certain homes.new q id.now ≡ true → is_certain homes.old q id.now ≡ true }
     ensures apart { (q : ℕ) → (Some session ≡ Some q → ⊥) → get nat_cmp homes.new q ≡ get nat_cmp homes.old q }
+    ensures calm { (q : ℕ) → IsSettled homes.old q id.now → IsSettled homes.new q id.now }
+    ensures fewer { (q : ℕ) (x : List ℕ) → is_home homes.new q x ≡ true → is_home homes.old q x ≡ true }
+    ensures filled { (q : ℕ) → IsFilled (get nat_cmp homes.old q) → IsFilled (get nat_cmp homes.new q) }
 {
     if leave_one(homes, session, id) {
         let _left = homes.remove(&session);
     }
-}
-
-/// Removes the session, once it is closed.
-pub fn forget(homes: &mut Homes, session: u64)
-    ensures gone { get nat_cmp homes.new session ≡ None }
-    ensures others { (q : ℕ) (x : List ℕ) → (Some session ≡ Some q → ⊥) → is_home homes.old q x ≡ true → is_home homes.new q x ≡ true }
-{
-    let _closed = homes.remove(&session);
 }

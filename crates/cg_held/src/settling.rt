@@ -1,30 +1,46 @@
 //! After an event: drops from the session index the groups in which no call of a session is parked any more.
 ghost use Rattle.std.specs.Prelude.{◌≡◌, ◌⊎◌, ℕ, List, Some, true, false};
+ghost use Rattle.std.specs.BTreeMap.{get};
 ghost use Rattle.std.specs.List.{list_any};
+ghost use Rattle.std.specs.Ordering.{nat_cmp};
 ghost use Rattle.cg_member.specs.declared.calls.Calls.TheVariants.{OfSession};
+ghost use Rattle.cg_member.specs.declared.group.Group.{Group};
 ghost use Rattle.cg_member.specs.declared.member.Member.{Member};
+ghost use Rattle.cg_held.specs.Held.{InOrder, find_group};
 ghost use Rattle.cg_held.specs.Kept.{Each};
-ghost use Rattle.cg_held.specs.Sessions.{AreKnown, HaveLetGo, IsSettled, is_certain, is_home, is_known};
+ghost use Rattle.cg_held.specs.Sessions.{AreKnown, IfParked, IsFilled, IsLetGo, IsSettled, is_certain, is_home, is_known, is_parked};
 ghost use Rattle.cg_member.specs.Waiting.{is_waiting};
-ghost use Rattle.cg_member.specs.declared.reply.Reply.{Reply};
-ghost use Rattle.cg_request.specs.declared.ticket.Ticket.{Ticket};
 
-use crate::changes::Answered;
 use crate::held::Held;
 use crate::sessions::{Homes, affirm, doubt, leave};
 use cg_member::calls::Calls;
+use cg_member::group::Group;
 use cg_member::member::Member;
-use cg_member::reply::Reply;
 use cg_names::GroupId;
-use cg_request::ticket::Ticket;
 
-// Marks the group as doubtful for each session that got a reply.
-fn doubt_all(homes: &mut Homes, id: &GroupId, replies: &[(Ticket, Reply)])
-    ensures here { Each (λ (r : Ticket × Reply). is_certain homes.new r.0.session id.now ≡ false) replies.now }
+// Marks the group as doubtful for the session of the member's parked call, if it has one.
+fn doubt_one(homes: &mut Homes, id: &GroupId, member: &Member)
+    ensures here { IfParked (λ q. is_certain homes.new q id.now ≡ false) member.now.waits }
+    ensures doubtful { (q : ℕ) → is_certain homes.old q id.now ≡ false → is_certain homes.new q id.now ≡ false }
     ensures kept { (q : ℕ) (x : List ℕ) → is_home homes.old q x ≡ true → is_home homes.new q x ≡ true }
+    ensures fewer { (q : ℕ) (x : List ℕ) → is_home homes.new q x ≡ true → is_home homes.old q x ≡ true }
+    ensures filled { (q : ℕ) → IsFilled (get nat_cmp homes.old q) → IsFilled (get nat_cmp homes.new q) }
 {
-    for (ticket, _) in replies {
+    if let Some(ticket) = Calls::Any.called(member.waits) {
         doubt(homes, ticket.session, id);
+    }
+}
+
+// Marks the group as doubtful for each session with a parked call among these members.
+fn doubt_all(homes: &mut Homes, id: &GroupId, members: &[Member])
+    ensures here { Each (λ (m : Member). IfParked (λ q. is_certain homes.new q id.now ≡ false) m.waits) members.now }
+    ensures doubtful { (q : ℕ) → is_certain homes.old q id.now ≡ false → is_certain homes.new q id.now ≡ false }
+    ensures kept { (q : ℕ) (x : List ℕ) → is_home homes.old q x ≡ true → is_home homes.new q x ≡ true }
+    ensures fewer { (q : ℕ) (x : List ℕ) → is_home homes.new q x ≡ true → is_home homes.old q x ≡ true }
+    ensures filled { (q : ℕ) → IsFilled (get nat_cmp homes.old q) → IsFilled (get nat_cmp homes.new q) }
+{
+    for member in members {
+        doubt_one(homes, id, member);
     }
 }
 
@@ -33,6 +49,8 @@ fn affirm_one(homes: &mut Homes, id: &GroupId, member: &Member)
     ensures certain { (q : ℕ) (x : List ℕ) → is_certain homes.old q x ≡ true → is_certain homes.new q x ≡ true }
     ensures here { is_known (λ q. is_home homes.old q id.now) member.now.waits ≡ true → is_known (λ q. is_certain homes.new q id.now) member.now.waits ≡ true }
     ensures parked { (q : ℕ) → is_certain homes.new q id.now ≡ true → (is_certain homes.old q id.now ≡ true) ⊎ (is_waiting (OfSession q) member.now ≡ true) }
+    ensures fewer { (q : ℕ) (x : List ℕ) → is_home homes.new q x ≡ true → is_home homes.old q x ≡ true }
+    ensures filled { (q : ℕ) → IsFilled (get nat_cmp homes.old q) → IsFilled (get nat_cmp homes.new q) }
 {
     if let Some(ticket) = Calls::Any.called(member.waits) {
         affirm(homes, ticket.session, id);
@@ -42,84 +60,97 @@ fn affirm_one(homes: &mut Homes, id: &GroupId, member: &Member)
 // Marks the group as certain for each session with a parked call in it.
 fn affirm_all(homes: &mut Homes, id: &GroupId, members: &[Member])
     ensures kept { (q : ℕ) (x : List ℕ) → is_home homes.old q x ≡ true → is_home homes.new q x ≡ true }
+    ensures certain { (q : ℕ) (x : List ℕ) → is_certain homes.old q x ≡ true → is_certain homes.new q x ≡ true }
     ensures here { Each (λ (m : Member). is_known (λ q. is_home homes.old q id.now) m.waits ≡ true) members.now → Each (λ (m : Member). is_known (λ q. is_certain homes.new q id.now) m.waits ≡ true) members.now }
     ensures parked { (q : ℕ) → is_certain homes.new q id.now ≡ true → (is_certain homes.old q id.now ≡ true) ⊎ (list_any (is_waiting (OfSession q)) members.now ≡ true) }
+    ensures fewer { (q : ℕ) (x : List ℕ) → is_home homes.new q x ≡ true → is_home homes.old q x ≡ true }
+    ensures filled { (q : ℕ) → IsFilled (get nat_cmp homes.old q) → IsFilled (get nat_cmp homes.new q) }
 {
     for member in members {
         affirm_one(homes, id, member);
     }
 }
 
-// Removes the group, where it is doubtful, from the index of each session that got a reply.
-fn leave_all(homes: &mut Homes, id: &GroupId, replies: &[(Ticket, Reply)])
+// Removes the group, where it is doubtful, from the index of the session of the member's parked call.
+fn leave_one(homes: &mut Homes, id: &GroupId, member: &Member)
     ensures others { (q : ℕ) (x : List ℕ) → (x ≡ id.now → ⊥) → is_home homes.old q x ≡ true → is_home homes.new q x ≡ true }
     ensures certain { (q : ℕ) (x : List ℕ) → is_certain homes.old q x ≡ true → is_certain homes.new q x ≡ true }
     ensures sure { (q : ℕ) → is_certain homes.new q id.now ≡ true → is_certain homes.old q id.now ≡ true }
-    ensures settled { Each (λ (r : Ticket × Reply). IsSettled homes.new r.0.session id.now) replies.now }
+    ensures settled { IfParked (λ q. IsSettled homes.new q id.now) member.now.waits }
+    ensures calm { (q : ℕ) → IsSettled homes.old q id.now → IsSettled homes.new q id.now }
+    ensures fewer { (q : ℕ) (x : List ℕ) → is_home homes.new q x ≡ true → is_home homes.old q x ≡ true }
+    ensures filled { (q : ℕ) → IsFilled (get nat_cmp homes.old q) → IsFilled (get nat_cmp homes.new q) }
 {
-    for (ticket, _) in replies {
+    if let Some(ticket) = Calls::Any.called(member.waits) {
         leave(homes, ticket.session, id);
     }
 }
 
-/// Updates the index after these replies to calls in the group. Costs a few look-ups for each reply and for each call
-/// that is still parked there, and one pass over the members. No allocation.
-pub fn settle(homes: &mut Homes, held: &Held, id: &GroupId, replies: &[(Ticket, Reply)])
+// Removes the group, where it is doubtful, from the index of each session with a parked call among these members.
+fn leave_all(homes: &mut Homes, id: &GroupId, members: &[Member])
+    ensures others { (q : ℕ) (x : List ℕ) → (x ≡ id.now → ⊥) → is_home homes.old q x ≡ true → is_home homes.new q x ≡ true }
+    ensures certain { (q : ℕ) (x : List ℕ) → is_certain homes.old q x ≡ true → is_certain homes.new q x ≡ true }
+    ensures sure { (q : ℕ) → is_certain homes.new q id.now ≡ true → is_certain homes.old q id.now ≡ true }
+    ensures settled { Each (λ (m : Member). IfParked (λ q. IsSettled homes.new q id.now) m.waits) members.now }
+    ensures fewer { (q : ℕ) (x : List ℕ) → is_home homes.new q x ≡ true → is_home homes.old q x ≡ true }
+    ensures filled { (q : ℕ) → IsFilled (get nat_cmp homes.old q) → IsFilled (get nat_cmp homes.new q) }
+{
+    for member in members {
+        leave_one(homes, id, member);
+    }
+}
+
+// Marks as certain the sessions with a parked call in the group with this id, if it is loaded.
+fn affirm_held(homes: &mut Homes, held: &Held, id: &GroupId)
+    ensures kept { (q : ℕ) (x : List ℕ) → is_home homes.old q x ≡ true → is_home homes.new q x ≡ true }
+    ensures certain { (q : ℕ) (x : List ℕ) → is_certain homes.old q x ≡ true → is_certain homes.new q x ≡ true }
+    ensures here { (g : Group) → find_group id.now held.now ≡ Some g → Each (λ (m : Member). is_known (λ q. is_home homes.old q id.now) m.waits ≡ true) g.members → Each (λ (m : Member). is_known (λ q. is_certain homes.new q id.now) m.waits ≡ true) g.members }
+    ensures parked { (q : ℕ) → is_certain homes.new q id.now ≡ true → (is_certain homes.old q id.now ≡ true) ⊎ (is_parked q (find_group id.now held.now) ≡ true) }
+    ensures in_order { InOrder held.now }
+    ensures fewer { (q : ℕ) (x : List ℕ) → is_home homes.new q x ≡ true → is_home homes.old q x ≡ true }
+    ensures filled { (q : ℕ) → IsFilled (get nat_cmp homes.old q) → IsFilled (get nat_cmp homes.new q) }
+{
+    if let Some(group) = held.find(id) {
+        affirm_all(homes, id, group.members.as_slice());
+    }
+}
+
+/// Updates the index after an event in the group: `before` are its members as they were. Costs a few look-ups for each
+/// call that was or is parked there, and a pass over the members before and after. No allocation.
+pub fn settle(homes: &mut Homes, held: &Held, id: &GroupId, before: &[Member])
     ensures known { AreKnown (is_home homes.old) held.now → AreKnown (is_home homes.new) held.now }
-    ensures let_go { HaveLetGo homes.new held.now id.now replies.now }
+    ensures gone { Each (λ (m : Member). IfParked (λ q. IsLetGo homes.new held.now id.now q) m.waits) before.now }
+    ensures fewer { (q : ℕ) (x : List ℕ) → is_home homes.new q x ≡ true → is_home homes.old q x ≡ true }
+    ensures filled { (q : ℕ) → IsFilled (get nat_cmp homes.old q) → IsFilled (get nat_cmp homes.new q) }
 {
-    doubt_all(homes, id, replies);
-    match held.find(id) {
-        None => leave_all(homes, id, replies),
-        Some(group) => {
-            affirm_all(homes, id, group.members.as_slice());
-            leave_all(homes, id, replies);
-        }
-    }
+    doubt_all(homes, id, before);
+    affirm_held(homes, held, id);
+    leave_all(homes, id, before);
 }
 
-/// Updates the index after these replies to calls in the group that a request names, if it names one.
-pub fn settle_named(
-    homes: &mut Homes,
-    held: &Held,
-    id: &Option<GroupId>,
-    replies: &[(Ticket, Reply)],
-)
+/// Updates the index after a request of this session in the group: `before` are its members as they were. No allocation.
+pub fn settle_request(homes: &mut Homes, held: &Held, id: &GroupId, before: &[Member], session: u64)
     ensures known { AreKnown (is_home homes.old) held.now → AreKnown (is_home homes.new) held.now }
-    ensures let_go { (x : List ℕ) → id.now ≡ Some x → HaveLetGo homes.new held.now x replies.now }
+    ensures gone { Each (λ (m : Member). IfParked (λ q. IsLetGo homes.new held.now id.now q) m.waits) before.now }
+    ensures asked { IsLetGo homes.new held.now id.now session }
+    ensures fewer { (q : ℕ) (x : List ℕ) → is_home homes.new q x ≡ true → is_home homes.old q x ≡ true }
+    ensures filled { (q : ℕ) → IsFilled (get nat_cmp homes.old q) → IsFilled (get nat_cmp homes.new q) }
 {
-    if let Some(id) = id {
-        settle(homes, held, id, replies);
-    }
+    doubt(homes, session, id);
+    doubt_all(homes, id, before);
+    affirm_held(homes, held, id);
+    leave_all(homes, id, before);
+    leave(homes, session, id);
 }
 
-// Updates the index after the replies of one group, which begin at index `from`.
-fn settle_one(
-    homes: &mut Homes,
-    held: &Held,
-    answered: &Answered,
-    from: usize,
-    replies: &[(Ticket, Reply)],
-)
-    ensures { AreKnown (is_home homes.old) held.now → AreKnown (is_home homes.new) held.now }
+/// Updates the index after an event in several groups: `before` are the groups as they were.
+pub fn settle_all(homes: &mut Homes, held: &Held, before: &[Group])
+    ensures known { AreKnown (is_home homes.old) held.now → AreKnown (is_home homes.new) held.now }
+    ensures gone { Each (λ (g : Group). (q : ℕ) → is_parked q (Some g) ≡ true → IsLetGo homes.new held.now g.id q) before.now }
+    ensures fewer { (q : ℕ) (x : List ℕ) → is_home homes.new q x ≡ true → is_home homes.old q x ≡ true }
+    ensures filled { (q : ℕ) → IsFilled (get nat_cmp homes.old q) → IsFilled (get nat_cmp homes.new q) }
 {
-    if let Some(own) = replies.get(from..answered.until) {
-        settle(homes, held, &answered.group, own);
-    }
-}
-
-/// Updates the index after the replies of these groups, which follow each other in the list.
-pub fn settle_all(
-    homes: &mut Homes,
-    held: &Held,
-    answered: &[Answered],
-    replies: &[(Ticket, Reply)],
-)
-    ensures { AreKnown (is_home homes.old) held.now → AreKnown (is_home homes.new) held.now }
-{
-    let mut from = 0;
-    for one in answered {
-        settle_one(homes, held, one, from, replies);
-        from = one.until;
+    for group in before {
+        settle(homes, held, &group.id, group.members.as_slice());
     }
 }

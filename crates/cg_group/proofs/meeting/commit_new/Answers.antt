@@ -1,7 +1,12 @@
-use Rattle.std.proofs.Common.{ap, ◌∙◌}
+use Rattle.std.proofs.Common.{List, ap, sym, subst, ◌∙◌}
 use Rattle.cg_member.specs.Joining.{new_group}
 use Rattle.cg_held.specs.Held.{with_group, without_group}
 use Rattle.cg_group.proofs.Made.{commit_made, unmade}
+use Rattle.cg_member.specs.declared.group.Group.{Group}
+use Rattle.cg_held.specs.Held.{find_group}
+use Rattle.cg_held.specs.Sessions.{StayParked}
+use Rattle.cg_held.proofs.Tight.{stay_added}
+use Rattle.cg_group.proofs.Made.{own_id_new}
 use Rattle.cg_group.proofs.meeting.commit_new.Goals as goal
 
 pub returns-in-Ok-clause-ok : goal.returns-in-Ok-clause-ok
@@ -15,3 +20,18 @@ returns-in-Err-clause-err c =
     let made = c.new_group.ensures ∙ ap new_group c.in_ok-own.ensures.cases in
     let put = c.in_ok-put.ensures.ok ∙ ap (λ g. with_group g c.args.held.now) made in
     (c.remove.ensures ∙ ap (without_group c.args.id) put ∙ unmade c.args.id c.args.held.now c.requires, c.in-Err.ensures.err)
+
+pub returns-in-Ok-clause-parked : goal.returns-in-Ok-clause-parked
+returns-in-Ok-clause-parked c =
+    let made = c.new_group.ensures ∙ ap new_group c.in_ok-own.ensures.cases in
+    let put = c.in_ok-put.ensures.ok ∙ ap (λ g. with_group g c.args.held.now) made in
+    let P : List Group → Type 0 = λ gs. StayParked c.args.held.now gs in
+    subst P (sym put) (stay_added (new_group c.args.id) c.args.held.now (ap (λ i. find_group i c.args.held.now) (own_id_new c.args.id) ∙ c.requires))
+
+pub returns-in-Err-clause-parked : goal.returns-in-Err-clause-parked
+returns-in-Err-clause-parked c =
+    let made = c.new_group.ensures ∙ ap new_group c.in_ok-own.ensures.cases in
+    let put = c.in_ok-put.ensures.ok ∙ ap (λ g. with_group g c.args.held.now) made in
+    let same = c.remove.ensures ∙ ap (without_group c.args.id) put ∙ unmade c.args.id c.args.held.now c.requires in
+    let P : List Group → Type 0 = λ gs. StayParked c.args.held.now gs in
+    subst P (sym same) (λ q x h. h)

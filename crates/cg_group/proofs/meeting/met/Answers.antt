@@ -8,6 +8,7 @@ use Rattle.cg_member.specs.Ticking.{ticked}
 use Rattle.cg_group.proofs.Beside.{concluded_beside, concluded_still, deleted_beside, everywhere_beside, everywhere_still}
 use Rattle.cg_group.proofs.KnownSessions.{known-after}
 use Rattle.cg_group.proofs.Quiet.{quiet-beat, quiet-gone_in, quiet-join, quiet-leave, quiet-sync, quiet-ticked}
+use Rattle.cg_held.proofs.Tight.{tight_stay}
 use Rattle.cg_group.proofs.meeting.met.Goals as goal
 
 pub returns-in_ok-effects-in-Join-clause-ok : goal.returns-in_ok-effects-in-Join-clause-ok
@@ -36,12 +37,12 @@ pub returns-in-Beat-clause-ok : goal.returns-in-Beat-clause-ok
 unfolding met
 returns-in-Beat-clause-ok c =
     ap (met (standing c.args.now c.args.held.now c.args.offsets.now)) c.in-Beat.is
-    ∙ concluded_beside c.args.now c.args.held.now c.meet_beat.new.held c.args.offsets.now c.in-Beat.ticket (beat c.args.now c.in-Beat.r c.in-Beat.ticket c.args.held.now) c.meet_beat.result (c.meet_beat.ensures)
+    ∙ concluded_beside c.args.now c.args.held.now c.meet_beat.new.held c.args.offsets.now c.in-Beat.ticket (beat c.args.now c.in-Beat.r c.in-Beat.ticket c.args.held.now) c.meet_beat.result (c.meet_beat.ensures.met)
 
 pub returns-in-Beat-clause-offsets : goal.returns-in-Beat-clause-offsets
 returns-in-Beat-clause-offsets c =
     concluded_still c.args.now c.args.held.now c.meet_beat.new.held c.args.offsets.now c.in-Beat.ticket (beat c.args.now c.in-Beat.r c.in-Beat.ticket c.args.held.now) c.meet_beat.result
-    (quiet-beat c.args.now c.in-Beat.r c.in-Beat.ticket c.args.held.now) (c.meet_beat.ensures)
+    (quiet-beat c.args.now c.in-Beat.r c.in-Beat.ticket c.args.held.now) (c.meet_beat.ensures.met)
 
 pub returns-in_ok-effects-in-Leave-clause-ok : goal.returns-in_ok-effects-in-Leave-clause-ok
 unfolding met
@@ -89,14 +90,23 @@ returns-in_ok-effects-in-Tick-clause-offsets c =
 pub returns-in-Beat-clause-known : goal.returns-in-Beat-clause-known
 unfolding met
 returns-in-Beat-clause-known c =
-    known-after (is_home c.args.homes.now) c.args.now c.args.held.now c.meet_beat.new.held (event.Beat c.in-Beat.ticket c.in-Beat.r) c.meet_beat.result tt c.meet_beat.ensures c.requires
+    known-after (is_home c.args.homes.now) c.args.now c.args.held.now c.meet_beat.new.held (event.Beat c.in-Beat.ticket c.in-Beat.r) c.meet_beat.result tt c.meet_beat.ensures.met c.requires.known
 
 pub returns-in_ok-effects-in-Commit-clause-known : goal.returns-in_ok-effects-in-Commit-clause-known
 unfolding met
 returns-in_ok-effects-in-Commit-clause-known c =
-    known-after (is_home c.args.homes.now) c.args.now c.args.held.now c.meet_commit.new.held (event.Commit c.in-Commit.ticket c.in-Commit.r) c.in_ok-effects-in-Commit.effects tt c.in_ok-effects-in-Commit.ensures.ok c.requires
+    known-after (is_home c.args.homes.now) c.args.now c.args.held.now c.meet_commit.new.held (event.Commit c.in-Commit.ticket c.in-Commit.r) c.in_ok-effects-in-Commit.effects tt c.in_ok-effects-in-Commit.ensures.ok c.requires.known
 
 pub returns-in_ok-effects-in-Delete-clause-known : goal.returns-in_ok-effects-in-Delete-clause-known
 unfolding met
 returns-in_ok-effects-in-Delete-clause-known c =
-    known-after (is_home c.args.homes.now) c.args.now c.args.held.now c.meet_delete.new.held (event.Delete c.in-Delete.ticket c.in-Delete.id) c.in_ok-effects-in-Delete.effects tt c.in_ok-effects-in-Delete.ensures.ok c.requires
+    known-after (is_home c.args.homes.now) c.args.now c.args.held.now c.meet_delete.new.held (event.Delete c.in-Delete.ticket c.in-Delete.id) c.in_ok-effects-in-Delete.effects tt c.in_ok-effects-in-Delete.ensures.ok c.requires.known
+
+pub returns-in-Beat-clause-tight : goal.returns-in-Beat-clause-tight
+returns-in-Beat-clause-tight c = tight_stay c.args.homes.now c.args.held.now c.meet_beat.new.held c.meet_beat.ensures.parked c.requires.tight
+
+pub returns-in_ok-effects-in-Commit-clause-tight : goal.returns-in_ok-effects-in-Commit-clause-tight
+returns-in_ok-effects-in-Commit-clause-tight c = tight_stay c.args.homes.now c.args.held.now c.meet_commit.new.held c.meet_commit.ensures.parked c.requires.tight
+
+pub returns-in_ok-effects-in-Delete-clause-tight : goal.returns-in_ok-effects-in-Delete-clause-tight
+returns-in_ok-effects-in-Delete-clause-tight c = tight_stay c.args.homes.now c.args.held.now c.meet_delete.new.held c.meet_delete.ensures.parked c.requires.tight

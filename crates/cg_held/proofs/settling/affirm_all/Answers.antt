@@ -19,6 +19,9 @@ loop-member-preserved c =
             let P : Member → Type 0 = λ m. is_waiting (OfSession q) m ≡ true in
             inr (any_at (is_waiting (OfSession q)) c.args.members.now c.loop-member.member-index c.member-item.result (omega arith) (subst P c.member-item.is waits))
       ],
+      λ q x k. c.loop-member.invariant.3 q x (c.affirm_one.ensures.fewer q x k),
+      λ q h. c.affirm_one.ensures.filled q (c.loop-member.invariant.4 q h),
+      λ q x k. c.affirm_one.ensures.certain q x (c.loop-member.invariant.5 q x k),
     )
 
 pub returns-clause-here : goal.returns-clause-here

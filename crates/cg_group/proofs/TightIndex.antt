@@ -1,0 +1,104 @@
+-- The session index after an event has no more than the parked calls.
+use Rattle.std.proofs.Common.{◌≡◌, ℕ, true, List, inl, inr, Option, Some, None, Result, Ok, Err, refl, sym, ap, ◌∙◌, subst}
+use Rattle.std.specs.Prelude.{◌⊎◌}
+use Rattle.std.proofs.lemmas.Bool.{false≢true}
+use Rattle.std.specs.BTreeMap.{BTreeMap, get}
+use Rattle.std.specs.Ordering.{nat_cmp}
+use Rattle.cg_names.specs.declared.code.Code.{Code}
+use Rattle.cg_member.specs.declared.group.Group.{Group}
+use Rattle.cg_member.specs.declared.turn.Turn.{Turn}
+use Rattle.cg_group.specs.InPlace.{group_of, groups_of, replaced_by}
+use Rattle.cg_held.specs.declared.sessions.Home.{Home}
+use Rattle.cg_held.specs.Held.{find_group, with_group}
+use Rattle.cg_held.specs.Kept.{Each}
+use Rattle.cg_held.specs.Sessions.{IsFilled, IsLetGo, IsTight, is_home, is_parked, were_parked}
+use Rattle.cg_held.proofs.InOrder.{found_named}
+use Rattle.cg_held.proofs.Tight.{tight_put, were_in}
+
+module _ (homes0 homes1 final : BTreeMap ℕ (BTreeMap (List ℕ) Home)) (held0 held1 : List Group)
+    (fewer : (q : ℕ) (x : List ℕ) → is_home final q x ≡ true → is_home homes1 q x ≡ true)
+    (filled : (q : ℕ) → IsFilled (get nat_cmp homes1 q) → IsFilled (get nat_cmp final q)) where
+  module _ (own : Option (List ℕ)) (session : ℕ)
+      (noted : (q : ℕ) (x : List ℕ) → is_home homes1 q x ≡ true → (is_home homes0 q x ≡ true) ⊎ ((session ≡ q) × (own ≡ Some x)))
+      (also_filled : (q : ℕ) → IsFilled (get nat_cmp homes0 q) → IsFilled (get nat_cmp homes1 q))
+      (asked : (x : List ℕ) → own ≡ Some x → IsLetGo final held1 x session)
+      (tight : IsTight homes0 held0) where
+    asked_of : (q : ℕ) (x : List ℕ) → session ≡ q → own ≡ Some x → IsLetGo final held1 x q
+    asked_of q x s named = let P : ℕ → Type 0 = λ r. IsLetGo final held1 x r in subst P s (asked x named)
+
+    -- a request that changed nothing
+    pub tight_unchanged : held1 ≡ held0 → IsTight final held1
+    tight_unchanged same = (
+      λ q x here. elim (noted q x (fewer q x here)) as (λ _. is_parked q (find_group x held1) ≡ true) [
+        | inl before ↦ ap (λ gs. is_parked q (find_group x gs)) same ∙ tight.0 q x before
+        | inr n ↦ asked_of q x n.0 n.1 here
+      ],
+      λ q. filled q (also_filled q (tight.1 q)),
+    )
+
+    -- a step whose call may be parked
+    tight_step : (replaced : Option Group) → ((q : ℕ) (x : List ℕ) → own ≡ Some x → is_parked q replaced ≡ true → IsLetGo final held1 x q) → (t : Turn) → own ≡ Some t.group.id → held1 ≡ with_group t.group held0 → replaced ≡ find_group t.group.id held0 → IsTight final held1
+    tight_step replaced gone t named put was = (
+      λ q x here.
+          ap (λ gs. is_parked q (find_group x gs)) put
+          ∙ tight_put t.group held0 (is_home homes0) (is_home final) (λ q. session ≡ q) tight.0
+          (λ q x h. elim (noted q x (fewer q x h)) as (λ _. (is_home homes0 q x ≡ true) ⊎ ((session ≡ q) × (x ≡ t.group.id))) [
+            | inl before ↦ inl before
+            | inr n ↦ let same : Some x ≡ Some t.group.id = sym n.1 ∙ named in inr (n.0, (cc))
+          ])
+          (λ q h w. ap (λ gs. is_parked q (find_group t.group.id gs)) (sym put) ∙ (elim w as (λ _. is_parked q (find_group t.group.id held1) ≡ true) [
+            | inl p ↦ gone q t.group.id named (ap (is_parked q) was ∙ p) h
+            | inr s ↦ asked_of q t.group.id s named h
+          ]))
+          q x here,
+      λ q. filled q (also_filled q (tight.1 q)),
+    )
+
+    pub tight_parked : (replaced : Option Group) → ((q : ℕ) (x : List ℕ) → own ≡ Some x → is_parked q replaced ≡ true → IsLetGo final held1 x q) → (o : Result Turn Code) → own ≡ group_of o → held1 ≡ groups_of o held0 → replaced ≡ replaced_by o held0 → IsTight final held1
+    tight_parked replaced gone (Err code) named put was = tight_unchanged put
+    tight_parked replaced gone (Ok t) named put was = tight_step replaced gone t named put was
+
+-- a step that parks no call
+module _ (homes final : BTreeMap ℕ (BTreeMap (List ℕ) Home)) (held0 held1 : List Group)
+    (fewer : (q : ℕ) (x : List ℕ) → is_home final q x ≡ true → is_home homes q x ≡ true)
+    (filled : (q : ℕ) → IsFilled (get nat_cmp homes q) → IsFilled (get nat_cmp final q))
+    (tight : IsTight homes held0) where
+  pub tight_left : (o : Result Turn Code) (replaced : Option Group) → held1 ≡ groups_of o held0 → replaced ≡ replaced_by o held0
+      → ((g : Group) → replaced ≡ Some g → (q : ℕ) → is_parked q (Some g) ≡ true → IsLetGo final held1 g.id q) → IsTight final held1
+  tight_left (Err code) replaced put was gone = (λ q x here. ap (λ gs. is_parked q (find_group x gs)) put ∙ tight.0 q x (fewer q x here), λ q. filled q (tight.1 q))
+  tight_left (Ok t) replaced put was gone = (
+    λ q x here.
+        ap (λ gs. is_parked q (find_group x gs)) put
+        ∙ tight_put t.group held0 (is_home homes) (is_home final) (λ q. ⊥) tight.0 (λ q x h. inl (fewer q x h))
+        (λ q h w. elim w as (λ _. is_parked q (find_group t.group.id (with_group t.group held0)) ≡ true) [
+          | inl p ↦ ap (λ gs. is_parked q (find_group t.group.id gs)) (sym put) ∙ there q h (find_group t.group.id held0) refl p
+          | inr e ↦ absurd e
+        ])
+        q x here,
+    λ q. filled q (tight.1 q),
+  )
+    where
+      there : (q : ℕ) → is_home final q t.group.id ≡ true → (o : Option Group) → find_group t.group.id held0 ≡ o → is_parked q o ≡ true → is_parked q (find_group t.group.id held1) ≡ true
+      there q h None e p = absurd (false≢true p)
+      there q h (Some g) e p =
+          let own : g.id ≡ t.group.id = found_named t.group.id held0 g e in
+          let A : List ℕ → Type 0 = λ i. is_home final q i ≡ true in
+          let B : List ℕ → Type 0 = λ i. is_parked q (find_group i held1) ≡ true in
+          subst B own (gone g (was ∙ e) q p (subst A (sym own) h))
+
+  -- an event in several groups
+  pub tight_everywhere : (before : List Group)
+      → ((q : ℕ) (x : List ℕ) → is_parked q (find_group x held0) ≡ true → (is_parked q (find_group x held1) ≡ true) ⊎ (were_parked before q x ≡ true))
+      → Each (λ (g : Group). (q : ℕ) → is_parked q (Some g) ≡ true → IsLetGo final held1 g.id q) before → IsTight final held1
+  tight_everywhere before stays gone = (
+    λ q x here. elim (stays q x (tight.0 q x (fewer q x here))) as (λ _. is_parked q (find_group x held1) ≡ true) [
+      | inl p ↦ p
+      | inr w ↦
+          were_in (λ (g : Group). (q : ℕ) → is_parked q (Some g) ≡ true → IsLetGo final held1 g.id q) before q x (is_parked q (find_group x held1) ≡ true) gone w
+          (λ g own same waits.
+          let A : List ℕ → Type 0 = λ i. is_home final q i ≡ true in
+          let B : List ℕ → Type 0 = λ i. is_parked q (find_group i held1) ≡ true in
+          subst B same (own q waits (subst A (sym same) here)))
+    ],
+    λ q. filled q (tight.1 q),
+  )

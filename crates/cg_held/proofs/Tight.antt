@@ -1,0 +1,208 @@
+-- The session index has no more than the parked calls.
+use Rattle.std.proofs.Common.{◌≡◌, ℕ, zero, suc, ◌≤◌, Bool, true, false, List, [], ◌∷◌, ◌++◌, drop, take, length, inl, inr, Option, Some, None, refl, sym, ap, ◌∙◌, subst, arith}
+use Rattle.std.specs.Prelude.{◌⊎◌, ◌||◌, ◌==◌, ◌&&◌, if◌then◌else◌, is_some}
+use Rattle.std.proofs.lemmas.Bool.{and_from, eqb-true, false≢true, or_left, or_right}
+use Rattle.std.proofs.lemmas.List.Folds.{list_any-append}
+use Rattle.std.specs.BTreeMap.{BTreeMap, get, is_at}
+use Rattle.std.specs.Map.{lookup}
+use Rattle.std.specs.Ordering.{nat_cmp}
+use Rattle.std.specs.List.{list_any}
+use Rattle.cg_member.specs.declared.calls.Calls.TheVariants.{OfSession}
+use Rattle.cg_member.specs.declared.group.Group.{Group}
+use Rattle.cg_member.specs.declared.member.Member.{Member}
+use Rattle.cg_member.specs.declared.member.Waits.{Waits}
+use Rattle.cg_member.specs.declared.member.Waits.TheVariants.{Nothing, Join, Sync}
+use Rattle.cg_member.specs.Membership.{hearing, has_id, heard, is_same, with_member}
+use Rattle.cg_member.specs.Waiting.{called, is_waiting}
+use Rattle.cg_held.specs.declared.sessions.Home.{Home}
+use Rattle.cg_held.specs.Held.{find_group, with_group, without_group}
+use Rattle.cg_held.specs.Kept.{Each}
+use Rattle.cg_held.specs.Sessions.{IfParked, IsFilled, IsLetGo, IsSettled, IsTight, StayParked, is_certain, is_noted, is_parked, were_parked}
+use Rattle.cg_held.proofs.Finding.{find-other, find-own, find-without}
+use Rattle.cg_held.proofs.InOrder.{found_named}
+use Rattle.cg_held.proofs.KeptLists.{same_names, same_self}
+
+-- what holds of the sessions of all parked calls holds of the session of one
+pub at_call : (P : ℕ → Type 0) (q : ℕ) (w : Waits) → IfParked P w → is_some (called (OfSession q) w) ≡ true → P q
+at_call P q Nothing h e = absurd (false≢true e)
+at_call P q (Join t) h e =
+    (elim (t.session == q) as (λ b. (t.session == q) ≡ b → is_some (if b then Some t else None) ≡ true → P q) [
+      | true ↦ λ s _. subst P (eqb-true t.session q s) h
+      | false ↦ λ _ e. absurd (false≢true e)
+    ]) refl e
+at_call P q (Sync t) h e =
+    (elim (t.session == q) as (λ b. (t.session == q) ≡ b → is_some (if b then Some t else None) ≡ true → P q) [
+      | true ↦ λ s _. subst P (eqb-true t.session q s) h
+      | false ↦ λ _ e. absurd (false≢true e)
+    ]) refl e
+
+pub at_calls : (P : ℕ → Type 0) (q : ℕ) (ms : List Member) → Each (λ (m : Member). IfParked P m.waits) ms → list_any (is_waiting (OfSession q)) ms ≡ true → P q
+at_calls P q [] h e = absurd (false≢true e)
+at_calls P q (m ∷ ms) h e =
+    (elim (is_waiting (OfSession q) m) as (λ b. is_waiting (OfSession q) m ≡ b → (b || list_any (is_waiting (OfSession q)) ms) ≡ true → P q) [
+      | true ↦ λ w _. at_call P q m.waits h.0 w
+      | false ↦ λ _ e. at_calls P q ms h.1 e
+    ]) refl e
+
+-- what two facts about the session of a parked call give
+pub if_both : (P Q R : ℕ → Type 0) → ((q : ℕ) → P q → Q q → R q) → (w : Waits) → IfParked P w → IfParked Q w → IfParked R w
+if_both P Q R both Nothing p q = tt
+if_both P Q R both (Join t) p q = both t.session p q
+if_both P Q R both (Sync t) p q = both t.session p q
+
+pub if_more : (P R : ℕ → Type 0) → ((q : ℕ) → P q → R q) → (w : Waits) → IfParked P w → IfParked R w
+if_more P R more Nothing p = tt
+if_more P R more (Join t) p = more t.session p
+if_more P R more (Sync t) p = more t.session p
+
+pub each_more_sessions : (P R : ℕ → Type 0) → ((q : ℕ) → P q → R q) → (ms : List Member) → Each (λ (m : Member). IfParked P m.waits) ms → Each (λ (m : Member). IfParked R m.waits) ms
+each_more_sessions P R more [] h = tt
+each_more_sessions P R more (m ∷ ms) h = (if_more P R more m.waits h.0, each_more_sessions P R more ms h.1)
+
+-- after an update of the index: doubted sessions keep the group only if a call of them is parked in it
+pub let_go : (doubted sure final : BTreeMap ℕ (BTreeMap (List ℕ) Home)) (groups : List Group) (id : List ℕ)
+    → ((q : ℕ) → is_certain final q id ≡ true → is_certain sure q id ≡ true)
+    → ((q : ℕ) → is_certain sure q id ≡ true → (is_certain doubted q id ≡ true) ⊎ (is_parked q (find_group id groups) ≡ true))
+    → (q : ℕ) → is_certain doubted q id ≡ false → IsSettled final q id → IsLetGo final groups id q
+let_go doubted sure final groups id stays waits q doubtful settled here = choose (waits q (stays q (settled.0 here)))
+  where
+    choose : (is_certain doubted q id ≡ true) ⊎ (is_parked q (find_group id groups) ≡ true) → is_parked q (find_group id groups) ≡ true
+    choose (inl before) = absurd (false≢true (sym doubtful ∙ before))
+    choose (inr waits) = waits
+
+-- one of the groups as they were
+pub were_in : (P : Group → Type 0) (gs : List Group) (q : ℕ) (x : List ℕ) (C : Type 0) → Each P gs → were_parked gs q x ≡ true → ((g : Group) → P g → g.id ≡ x → is_parked q (Some g) ≡ true → C) → C
+were_in P [] q x C h e k = absurd (false≢true e)
+were_in P (g ∷ gs) q x C h e k =
+    (elim (is_same g.id x) as (λ b. is_same g.id x ≡ b → ((b && is_parked q (Some g)) || were_parked gs q x) ≡ true → C) [
+      | true ↦ λ s f.
+          (elim (is_parked q (Some g)) as (λ b. is_parked q (Some g) ≡ b → (b || were_parked gs q x) ≡ true → C) [
+            | true ↦ λ w _. k g h.0 (same_names g.id x s) w
+            | false ↦ λ _ f. were_in P gs q x C h.1 f k
+          ]) refl f
+      | false ↦ λ _ f. were_in P gs q x C h.1 f k
+    ]) refl e
+
+-- the index after a group took the place of the one with its id
+pub tight_put : (g : Group) (gs : List Group) (before after : ℕ → List ℕ → Bool) (noted : ℕ → Type 0)
+    → ((q : ℕ) (x : List ℕ) → before q x ≡ true → is_parked q (find_group x gs) ≡ true)
+    → ((q : ℕ) (x : List ℕ) → after q x ≡ true → (before q x ≡ true) ⊎ (noted q × (x ≡ g.id)))
+    → ((q : ℕ) → after q g.id ≡ true → (is_parked q (find_group g.id gs) ≡ true) ⊎ noted q → is_parked q (find_group g.id (with_group g gs)) ≡ true)
+    → (q : ℕ) (x : List ℕ) → after q x ≡ true → is_parked q (find_group x (with_group g gs)) ≡ true
+tight_put g gs before after noted tight fewer gone q x here =
+    (elim (is_same g.id x) as (λ b. is_same g.id x ≡ b → is_parked q (find_group x (with_group g gs)) ≡ true) [
+      | true ↦ λ s.
+          let own : g.id ≡ x = same_names g.id x s in
+          let A : List ℕ → Type 0 = λ i. after q i ≡ true in
+          let B : List ℕ → Type 0 = λ i. is_parked q (find_group i gs) ≡ true in
+          let R : List ℕ → Type 0 = λ i. is_parked q (find_group i (with_group g gs)) ≡ true in
+          subst R own (gone q (subst A (sym own) here) (elim (fewer q x here) as (λ _. (is_parked q (find_group g.id gs) ≡ true) ⊎ noted q) [
+            | inl b ↦ inl (subst B (sym own) (tight q x b))
+            | inr n ↦ inr n.0
+          ]))
+      | false ↦ λ d.
+          elim (fewer q x here) as (λ _. is_parked q (find_group x (with_group g gs)) ≡ true) [
+            | inl b ↦ ap (is_parked q) (find-other x g gs d) ∙ tight q x b
+            | inr n ↦ absurd (false≢true (sym d ∙ ap (is_same g.id) n.1 ∙ same_self g.id))
+          ]
+    ]) refl
+
+-- the index of groups in which all parked calls stay
+pub tight_stay : (homes : BTreeMap ℕ (BTreeMap (List ℕ) Home)) (groups others : List Group) → StayParked groups others → IsTight homes groups → IsTight homes others
+tight_stay homes groups others stay h = (λ q x here. stay q x (h.0 q x here), h.1)
+
+-- a member that is heard waits as before
+waits-with_member : (q : ℕ) (now : ℕ) (id : List ℕ) (ms : List Member) → list_any (is_waiting (OfSession q)) (with_member id (heard now) ms) ≡ list_any (is_waiting (OfSession q)) ms
+unfolding with_member
+waits-with_member q now id [] = refl
+waits-with_member q now id (m ∷ ms) =
+    elim (has_id id m) as (λ b. list_any (is_waiting (OfSession q)) (if b then heard now m ∷ ms else m ∷ with_member id (heard now) ms) ≡ list_any (is_waiting (OfSession q)) (m ∷ ms)) [
+      | true ↦ refl
+      | false ↦ ap (λ b. is_waiting (OfSession q) m || b) (waits-with_member q now id ms)
+    ]
+
+pub parked-hearing : (q now : ℕ) (id : List ℕ) (g : Group) → is_parked q (Some (hearing now id g)) ≡ is_parked q (Some g)
+unfolding hearing
+parked-hearing q now id g = waits-with_member q now id g.members
+
+own_id : (now : ℕ) (id : List ℕ) (g : Group) → (hearing now id g).id ≡ g.id
+unfolding hearing
+own_id now id g = refl
+
+-- all calls stay parked where a group takes the place of one with the same parked calls
+pub stay_put : (x : List ℕ) (g new : Group) (groups : List Group) → find_group x groups ≡ Some g → new.id ≡ g.id → ((q : ℕ) → is_parked q (Some g) ≡ true → is_parked q (Some new) ≡ true) → StayParked groups (with_group new groups)
+stay_put x g new groups found same stays q y parked =
+    let own : new.id ≡ x = same ∙ found_named x groups g found in
+    (elim (is_same new.id y) as (λ b. is_same new.id y ≡ b → is_parked q (find_group y (with_group new groups)) ≡ true) [
+      | true ↦ λ s.
+          let at : new.id ≡ y = same_names new.id y s in
+          let here : find_group y groups ≡ Some g = ap (λ i. find_group i groups) (sym at ∙ own) ∙ found in
+          ap (λ i. is_parked q (find_group i (with_group new groups))) (sym at)
+          ∙ ap (is_parked q) (find-own new groups)
+          ∙ stays q (sym (ap (is_parked q) here) ∙ parked)
+      | false ↦ λ d. ap (is_parked q) (find-other y new groups d) ∙ parked
+    ]) refl
+
+pub stay_heard : (now : ℕ) (id own : List ℕ) (groups after : List Group) (g : Group) → find_group own groups ≡ Some g → after ≡ with_group (hearing now id g) groups → StayParked groups after
+stay_heard now id own groups after g found put =
+    let P : List Group → Type 0 = λ gs. StayParked groups gs in
+    subst P (sym put) (stay_put own g (hearing now id g) groups found (own_id now id g) (λ q h. parked-hearing q now id g ∙ h))
+
+-- all calls stay parked where a group is new
+pub stay_added : (g : Group) (groups : List Group) → find_group g.id groups ≡ None → StayParked groups (with_group g groups)
+stay_added g groups none q y parked =
+    (elim (is_same g.id y) as (λ b. is_same g.id y ≡ b → is_parked q (find_group y (with_group g groups)) ≡ true) [
+      | true ↦ λ s. absurd (false≢true (sym (ap (is_parked q) (ap (λ i. find_group i groups) (sym (same_names g.id y s)) ∙ none)) ∙ parked))
+      | false ↦ λ d. ap (is_parked q) (find-other y g groups d) ∙ parked
+    ]) refl
+
+-- all calls stay parked where a group without parked calls is removed
+pub stay_removed : (id : List ℕ) (groups : List Group) → ((q : ℕ) → is_parked q (find_group id groups) ≡ false) → StayParked groups (without_group id groups)
+stay_removed id groups idle q y parked =
+    (elim (is_same id y) as (λ b. is_same id y ≡ b → is_parked q (find_group y (without_group id groups)) ≡ true) [
+      | true ↦ λ s. absurd (false≢true (sym (ap (λ i. is_parked q (find_group i groups)) (sym (same_names id y s)) ∙ idle q) ∙ parked))
+      | false ↦ λ d. ap (is_parked q) (find-without id y groups d) ∙ parked
+    ]) refl
+
+-- the whole of a list
+pub all_dropped : (n : ℕ) (gs : List Group) → length gs ≤ n → drop n gs ≡ []
+all_dropped zero [] h = refl
+all_dropped (suc n) [] h = refl
+all_dropped zero (g ∷ gs) h = absurd (omega arith)
+all_dropped (suc n) (g ∷ gs) h = all_dropped n gs (omega arith)
+
+pub all_taken : (n : ℕ) (gs : List Group) → length gs ≤ n → take n gs ≡ gs
+all_taken zero [] h = refl
+all_taken (suc n) [] h = refl
+all_taken zero (g ∷ gs) h = absurd (omega arith)
+all_taken (suc n) (g ∷ gs) h = ap (λ xs. g ∷ xs) (all_taken n gs (omega arith))
+
+-- one more group was exchanged
+pub swapped : (q : ℕ) (x : List ℕ) (gs after : List Group) (g old : Group) (before more : List Group) → after ≡ with_group g gs → find_group g.id gs ≡ Some old → more ≡ before ++ old ∷ []
+    → (is_parked q (find_group x gs) ≡ true) ⊎ (were_parked before q x ≡ true) → (is_parked q (find_group x after) ≡ true) ⊎ (were_parked more q x ≡ true)
+swapped q x gs after g old before more put found is h = elim h as (λ _. (is_parked q (find_group x after) ≡ true) ⊎ (were_parked more q x ≡ true)) [
+  | inl p ↦
+      (elim (is_same g.id x) as (λ b. is_same g.id x ≡ b → (is_parked q (find_group x after) ≡ true) ⊎ (were_parked more q x ≡ true)) [
+        | true ↦ λ s.
+            let own : is_same old.id x ≡ true = ap (λ i. is_same i x) (found_named g.id gs old found) ∙ s in
+            let waits : is_parked q (Some old) ≡ true = sym (ap (is_parked q) (ap (λ i. find_group i gs) (sym (same_names g.id x s)) ∙ found)) ∙ p in
+            inr (ap (λ os. were_parked os q x) is ∙ list_any-append (λ (o : Group). is_same o.id x && is_parked q (Some o)) before (old ∷ [])
+            ∙ or_right (were_parked before q x) ((is_same old.id x && is_parked q (Some old)) || false) (or_left (is_same old.id x && is_parked q (Some old)) false (and_from (is_same old.id x) (is_parked q (Some old)) own waits)))
+        | false ↦ λ d. inl (ap (λ gs. is_parked q (find_group x gs)) put ∙ ap (is_parked q) (find-other x g gs d) ∙ p)
+      ]) refl
+  | inr w ↦ inr (ap (λ os. were_parked os q x) is ∙ list_any-append (λ (o : Group). is_same o.id x && is_parked q (Some o)) before (old ∷ []) ∙ or_left (were_parked before q x) (were_parked (old ∷ []) q x) w)
+]
+
+-- an empty index
+pub tight_empty : (homes : BTreeMap ℕ (BTreeMap (List ℕ) Home)) (groups : List Group) → homes.entries ≡ [] → IsTight homes groups
+tight_empty homes groups empty = (
+  λ q x here. absurd (false≢true (sym (ap (is_noted x) (none q)) ∙ here)),
+  λ q. let P : Option (BTreeMap (List ℕ) Home) → Type 0 = λ o. IsFilled o in subst P (sym (none q)) tt,
+)
+  where
+    none : (q : ℕ) → get nat_cmp homes q ≡ None
+    none q = ap (lookup (is_at (nat_cmp q))) empty
+
+-- all calls stay parked where a group is put in its own place
+pub stay_same : (own : List ℕ) (groups after : List Group) (g new : Group) → find_group own groups ≡ Some g → new.id ≡ g.id → ((q : ℕ) → is_parked q (Some g) ≡ true → is_parked q (Some new) ≡ true) → after ≡ with_group new groups → StayParked groups after
+stay_same own groups after g new found same stays put = let P : List Group → Type 0 = λ gs. StayParked groups gs in subst P (sym put) (stay_put own g new groups found same stays)
