@@ -4,3 +4,4 @@ pub mod Ids
 pub mod Images
 pub mod Moves
 pub mod Reading
+pub mod Room

@@ -6,6 +6,7 @@ pub use Rattle.cg_root.specs.Roots
 pub mod Segments
 pub mod Carried
 pub mod Free
+pub mod Room
 pub mod Formatted
 pub mod Rolled
 pub mod Ready

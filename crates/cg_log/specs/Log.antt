@@ -3,6 +3,7 @@ use Rattle.std.specs.Prelude.{◌≡◌, ℕ, Bool, true, Result, Ok, Err}
 use Rattle.cg_disk.specs.Disk.{History, present}
 use Rattle.cg_root.specs.declared.root.Root.{Root}
 use Rattle.cg_log.specs.Carried.{Content, HoldsContent}
+use Rattle.cg_log.specs.Room.{Room, room_at}
 use Rattle.cg_log.specs.declared.fault.LogFault.{LogFault}
 use Rattle.cg_log.specs.declared.log.Log.{Log}
 
@@ -25,6 +26,10 @@ number_of log = log.number
 -- its device failed
 abbrev pub has_failed : {D : Type 0} {g : _} → Log D g → Bool
 has_failed log = log.has_failed
+
+-- what may still be appended
+abbrev pub room_of : {D : Type 0} {g : _} → (D → ℕ) → Log D g → Room
+room_of size log = room_at (size (disk_of log)) (root_of log) (end_of log)
 
 -- a log on an honest disk has this content in every crash image
 pub record LogHas {D : Type 0} {g : _} (honest : D → Bool) (history : D → History) (size : D → ℕ) (log : Log D g) (has : Content) : Type 0 where

@@ -1,6 +1,6 @@
 //! One more frame in the last tail.
-ghost use Rattle.std.specs.Prelude.{◌≡◌, ◌⊎◌, ℕ, ◌+◌, ◌^◌, ◌≤◌, ◌<◌, [], ◌∷◌, ◌++◌, Bool, ◌≢◌, true, false, length, IfErr, IfOk, OnOk, IsErrOf, is_err};
-ghost use Rattle.cg_disk.specs.Disk.{Counts, LeavesOnly, present};
+ghost use Rattle.std.specs.Prelude.{◌≡◌, ◌⊎◌, ℕ, ◌+◌, ◌^◌, ◌≤◌, ◌<◌, [], ◌∷◌, ◌++◌, Bool, ◌≢◌, true, false, length, IfErr, IfOk, OnOk, IsErrOf, MatchResult, is_err};
+ghost use Rattle.cg_disk.specs.Disk.{Counts, LeavesOnly, TakesCalls, present};
 ghost use Rattle.cg_frame.specs.Frames.{next_gate};
 ghost use Rattle.cg_frame.specs.declared.segment.TheConstants.{LARGEST_PAYLOAD_BYTES};
 ghost use Rattle.cg_gate.specs.Layout.{first_sector};
@@ -8,7 +8,8 @@ ghost use Rattle.cg_gate.specs.declared.layout.TheConstants.{SEGMENT_SECTORS};
 ghost use Rattle.cg_root.specs.Roots.{IsLawful};
 ghost use Rattle.cg_log.specs.Carried.{AllCarry, CarriesBeforeOrAfter, Content, HoldsContent, LogAt, appended, rolled, tails};
 ghost use Rattle.cg_log.specs.Faults.{is_device_failure, IsWritingFault};
-ghost use Rattle.cg_log.specs.Rolled.{IsAppended, IsFullFor};
+ghost use Rattle.cg_log.specs.Rolled.{IsAppended, IsFullFor, IsNextTail};
+ghost use Rattle.cg_log.specs.Room.{HasNext, calls_for, fits_tail, has_room, room_after};
 ghost use Rattle.cg_log.specs.Segments.{frames_of};
 ghost use Rattle.cg_log.specs.declared.numbers.TheConstants.{COMMAND_NUMBER_MAX};
 ghost use Rattle.cg_log.specs.Ready.{AllClosed, IsReady, last_id};
@@ -36,6 +37,7 @@ pub(crate) fn append_last<D: SectorDisk>(
         AllClosed (present (D.history disk.old)) (first_sector (last_id root.now.tail) + end) }
 
     ensures next { IfOk result (λ next. next ≡ next_gate end (length frame.now.1)) }
+    ensures clock { D.is_honest disk.old ≡ true → TakesCalls 4 (D.history disk.old) (D.history disk.new) (is_err result) }
     ensures cause { Counts (D.failures disk.old) (D.failures disk.new) (is_err result) }
     ensures same_size { D.size disk.new ≡ D.size disk.old }
     ensures same_honesty { D.is_honest disk.new ≡ D.is_honest disk.old }
@@ -57,7 +59,7 @@ pub(crate) fn append_last<D: SectorDisk>(
 }
 
 impl<D: SectorDisk> Log<D> {
-    ghost use Rattle.cg_log.specs.Log.{IsUnchanged, LogHas, disk_of, end_of, has_failed, number_of, root_of};
+    ghost use Rattle.cg_log.specs.Log.{IsUnchanged, LogHas, disk_of, end_of, has_failed, number_of, room_of, root_of};
 
     // Appends a frame that fits to the last tail.
     fn put(&mut self, frame: &StagedFrame, count: u64) -> Result<(), LogFault>
@@ -73,6 +75,10 @@ impl<D: SectorDisk> Log<D> {
             LeavesOnly (D.history (disk_of self.old)) (D.history (disk_of self.new))
             (CarriesBeforeOrAfter (D.size (disk_of self.old)) (number_of self.old) (frames_of has.base) (frames_of (tails has)) frame.now.0 frame.now.1) }
         ensures number { OnOk result (number_of self.new ≡ number_of self.old + count) }
+        ensures end { OnOk result (end_of self.new ≡ next_gate (end_of self.old) (length frame.now.1)) }
+        ensures same_root { root_of self.new ≡ root_of self.old }
+        ensures clock { D.is_honest (disk_of self.old) ≡ true →
+            TakesCalls 4 (D.history (disk_of self.old)) (D.history (disk_of self.new)) (is_err result) }
         ensures serves { OnOk result (has_failed self.new ≡ false) }
         ensures faults { IfErr result (λ fault. fault ≡ LogFault.Device) }
         ensures failed { IfErr result (λ fault. has_failed self.new ≡ true) }
@@ -107,7 +113,14 @@ impl<D: SectorDisk> Log<D> {
             (CarriesBeforeOrAfter (D.size (disk_of self.old)) (number_of self.old) (frames_of has.base) (frames_of (tails has)) count payload.now) }
         ensures number { OnOk result (number_of self.new ≡ number_of self.old + count) }
         ensures serves { OnOk result (has_failed self.new ≡ false) }
+        ensures tail { OnOk result ((id : ℕ) × IsNextTail (D.size (disk_of self.old)) (root_of self.old) id (root_of self.new)) }
+        ensures end { OnOk result (end_of self.new ≡ next_gate 0 (length payload.now)) }
+        ensures calls { D.is_honest (disk_of self.old) ≡ true →
+            (D.history (disk_of self.new)).now ≤ (D.history (disk_of self.old)).now + 12 }
         ensures full { IsErrOf result LogFault.Full → IsFullFor (D.size (disk_of self.old)) (root_of self.old) }
+        ensures clear { MatchResult result
+            (λ _. HasNext (D.size (disk_of self.old)) (root_of self.old))
+            (λ fault. fault ≢ LogFault.Full → HasNext (D.size (disk_of self.old)) (root_of self.old)) }
         ensures unchanged { IfErr result (λ fault. fault ≢ LogFault.Device → IsUnchanged self.old self.new) }
         ensures failed { IsErrOf result LogFault.Device → has_failed self.new ≡ true }
         ensures faults { IfErr result IsWritingFault }
@@ -124,8 +137,8 @@ impl<D: SectorDisk> Log<D> {
 
     /// Appends a frame of `count` commands, in four calls of the device; where it does not fit the last tail, in a new
     /// tail. Every crash image since the start carries the frames before, or these and the new one; after `Ok` the
-    /// latter. `Full` is reported only where the number of a command would be too great, or where the frame does not
-    /// fit the last tail and no segment is free or the epoch is the last. After `Device` every call reports `Failed`.
+    /// latter. `Full` is reported where the number of a command would be too great, and where the frame does not fit
+    /// the last tail and no segment is free or the epoch is the last, and nowhere else. After `Device` every call reports `Failed`.
     pub fn append(&mut self, count: u64, payload: &[u8]) -> Result<(), LogFault>
         requires counted { 1 ≤ count }
         requires one_frame { length payload.now ≤ LARGEST_PAYLOAD_BYTES }
@@ -139,9 +152,21 @@ impl<D: SectorDisk> Log<D> {
             (AllCarry (present (D.history (disk_of self.new))) (D.size (disk_of self.old)) (number_of self.old + count)
             (frames_of has.base) (frames_of (tails has) ++ (count, payload.now) ∷ [])) }
         ensures number { OnOk result (number_of self.new ≡ number_of self.old + count) }
+        ensures room { OnOk result (room_of D.size self.new ≡ room_after (room_of D.size self.old) (length payload.now)) }
         ensures full { IsErrOf result LogFault.Full → (COMMAND_NUMBER_MAX < number_of self.old + count)
-            ⊎ ((SEGMENT_SECTORS ≤ next_gate (end_of self.old) (length payload.now))
-            × IsFullFor (D.size (disk_of self.old)) (root_of self.old)) }
+            ⊎ (has_room (room_of D.size self.old) (length payload.now) ≡ false) }
+        ensures few { MatchResult result
+            (λ _. number_of self.old + count ≤ COMMAND_NUMBER_MAX)
+            (λ fault. fault ≢ LogFault.Failed → fault ≢ LogFault.Full → number_of self.old + count ≤ COMMAND_NUMBER_MAX) }
+        ensures clear { MatchResult result
+            (λ _. has_room (room_of D.size self.old) (length payload.now) ≡ true)
+            (λ fault. fault ≢ LogFault.Failed → fault ≢ LogFault.Full →
+            has_room (room_of D.size self.old) (length payload.now) ≡ true) }
+        // Where the frame fits the last tail, it takes four calls of the device; a new tail takes up to eight more.
+        ensures clock { D.is_honest (disk_of self.old) ≡ true → fits_tail (room_of D.size self.old) (length payload.now) ≡ true →
+            TakesCalls 4 (D.history (disk_of self.old)) (D.history (disk_of self.new)) (is_err result) }
+        ensures calls { D.is_honest (disk_of self.old) ≡ true → (D.history (disk_of self.new)).now ≤
+            (D.history (disk_of self.old)).now + calls_for (room_of D.size self.old) (length payload.now) }
         ensures unchanged { IfErr result (λ fault. fault ≢ LogFault.Device → IsUnchanged self.old self.new) }
         ensures serves { OnOk result (has_failed self.new ≡ false) }
         ensures failed { IsErrOf result LogFault.Device → has_failed self.new ≡ true }

@@ -8,6 +8,7 @@ mod cursor;
 mod fault;
 mod formatted;
 mod free;
+mod fusing;
 mod laws;
 mod loading;
 mod log;

@@ -97,6 +97,13 @@ impl<D: SectorDisk> Log<D> {
         )
     }
 
+    /// Returns whether the device failed in an earlier call.
+    pub fn has_failed(&self) -> bool
+        ensures { result ≡ has_failed self.now }
+    {
+        self.has_failed
+    }
+
     /// Returns the disk, without a call of the device.
     pub fn into_disk(self) -> D
         ensures { result ≡ disk_of self }

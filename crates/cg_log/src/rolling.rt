@@ -10,6 +10,7 @@ ghost use Rattle.cg_log.specs.Segments.{frames_of};
 ghost use Rattle.cg_log.specs.Faults.{is_device_failure};
 ghost use Rattle.cg_log.specs.Ready.{AllClosed, AllOpen, IsReady};
 ghost use Rattle.cg_log.specs.Rolled.{HasOneMoreTail, HasOrRolled, IsNextTail, IsFullFor, IsRolled};
+ghost use Rattle.cg_log.specs.Room.{HasNext, rolled_room};
 
 use crate::LogFault;
 use crate::free::least_free;
@@ -32,6 +33,7 @@ pub(crate) fn next_tail(alloc: Global, sectors: u64, current: &Root) -> Result<N
     requires { IsLawful sectors current.now }
     ensures next { IfOk result (λ tail. IsNextTail sectors current.now tail.id tail.root) }
     ensures full { IsErrOf result LogFault.Full → IsFullFor sectors current.now }
+    ensures clear { IsErrOf result LogFault.Memory → HasNext sectors current.now }
     ensures faults { IfErr result (λ fault. (fault ≡ LogFault.Memory) ⊎ (fault ≡ LogFault.Full)) }
 {
     if current.epoch == EPOCH_MAX {
@@ -87,6 +89,7 @@ fn close_other_if_open<D: SectorDisk>(
         (λ image. CountingRoot image (D.size disk.old) current.now) }
     ensures closed { D.is_honest disk.old ≡ true → OnOk result
         (AllClosed (present (D.history disk.new)) (gate_of (other_slot current.now.slot))) }
+    ensures calls { D.is_honest disk.old ≡ true → (D.history disk.new).now ≤ (D.history disk.old).now + 2 }
     ensures cause { Counts (D.failures disk.old) (D.failures disk.new) (is_err result) }
 {
     if is_other_open {
@@ -126,6 +129,7 @@ pub(crate) fn publish_tail<D: SectorDisk>(
         KeepsLog (present (D.history disk.new)) (D.size disk.old) next.now (rolled has id)) }
     ensures ready { D.is_honest disk.old ≡ true → OnOk result
         (IsReady (present (D.history disk.new)) (D.size disk.old) next.now 0 true) }
+    ensures calls { D.is_honest disk.old ≡ true → (D.history disk.new).now ≤ (D.history disk.old).now + 8 }
     ensures cause { Counts (D.failures disk.old) (D.failures disk.new) (is_err result) }
 {
     close_gate(disk, first_sector(id.get()))?;
@@ -135,7 +139,7 @@ pub(crate) fn publish_tail<D: SectorDisk>(
 }
 
 impl<D: SectorDisk> Log<D> {
-    ghost use Rattle.cg_log.specs.Log.{IsUnchanged, LogHas, disk_of, end_of, has_failed, number_of, root_of};
+    ghost use Rattle.cg_log.specs.Log.{IsUnchanged, LogHas, disk_of, end_of, has_failed, number_of, room_of, root_of};
 
     /// Publishes the next tail.
     pub(crate) fn add_tail(&mut self, tail: NextTail) -> Result<SegmentId, LogFault>
@@ -149,6 +153,9 @@ impl<D: SectorDisk> Log<D> {
             (λ image. Carries image (D.size (disk_of self.old)) (number_of self.old) (frames_of has.base) (frames_of (tails has))) }
         ensures number { number_of self.new ≡ number_of self.old }
         ensures end { OnOk result (end_of self.new ≡ 0) }
+        ensures root { OnOk result (root_of self.new ≡ tail.root) }
+        ensures calls { D.is_honest (disk_of self.old) ≡ true →
+            (D.history (disk_of self.new)).now ≤ (D.history (disk_of self.old)).now + 8 }
         ensures serves { OnOk result (has_failed self.new ≡ false) }
         ensures faults { IfErr result (λ fault. fault ≡ LogFault.Device) }
         ensures failed { IfErr result (λ fault. has_failed self.new ≡ true) }
@@ -184,6 +191,9 @@ impl<D: SectorDisk> Log<D> {
         ensures full { IsErrOf result LogFault.Full → IsFullFor (D.size (disk_of self.old)) (root_of self.old) }
         ensures unchanged { IfErr result (λ fault. fault ≢ LogFault.Device → IsUnchanged self.old self.new) }
         ensures empty_stays { end_of self.old ≡ 0 → IsUnchanged self.old self.new }
+        // A new tail takes one of the free segments.
+        ensures room { OnOk result (end_of self.old ≢ 0 →
+            room_of D.size self.new ≡ rolled_room (room_of D.size self.old)) }
         ensures serves { OnOk result (has_failed self.new ≡ false) }
         ensures failed { IsErrOf result LogFault.Device → has_failed self.new ≡ true }
         ensures refused { IsErrOf result LogFault.Failed → has_failed self.old ≡ true }

@@ -1,6 +1,6 @@
 //! Closing the other slot, and publishing a root.
 ghost use Rattle.std.specs.Prelude.{◌≡◌, ℕ, ◌+◌, ◌≤◌, true, length, slice_index, OnOk, is_err};
-ghost use Rattle.cg_disk.specs.Disk.{Image, present, IsImage, IsSynced, Changes, LeavesOnly, Counts};
+ghost use Rattle.cg_disk.specs.Disk.{Image, present, IsImage, IsSynced, Changes, LeavesOnly, TakesCalls, Counts};
 ghost use Rattle.cg_gate.specs.Gates.{IsOpen, IsClosed};
 ghost use Rattle.cg_root.specs.Slots.{gate_of, other_slot};
 ghost use Rattle.cg_root.specs.Roots.{root_body, IsLawful, CountingRoot, IsNewest, KeepsRoot, Published, IsOldOrNew};
@@ -33,6 +33,7 @@ pub fn close_other<D: SectorDisk>(disk: &mut D, current: &Root) -> Result<(), Di
     ensures closed { D.is_honest disk.old ≡ true → OnOk result ((image : Image) →
         IsImage (present (D.history disk.new)) image → IsClosed image (gate_of (other_slot current.now.slot))) }
     ensures durable { D.is_honest disk.old ≡ true → OnOk result (IsSynced (present (D.history disk.new))) }
+    ensures clock { D.is_honest disk.old ≡ true → TakesCalls 2 (D.history disk.old) (D.history disk.new) (is_err result) }
     ensures cause { Counts (D.failures disk.old) (D.failures disk.new) (is_err result) }
 {
     close_gate(disk, current.slot.other().gate())?;
@@ -68,6 +69,7 @@ pub fn publish<D: SectorDisk>(disk: &mut D, next: &Root) -> Result<(), DiskFault
     ensures zeros { D.is_honest disk.old ≡ true → OnOk result ((i : ℕ) → length (root_body next.now) ≤ i →
         slice_index ((present (D.history disk.new)).content (gate_of next.now.slot + 1)) i ≡ 0) }
     ensures durable { D.is_honest disk.old ≡ true → OnOk result (IsSynced (present (D.history disk.new))) }
+    ensures clock { D.is_honest disk.old ≡ true → TakesCalls 4 (D.history disk.old) (D.history disk.new) (is_err result) }
     ensures cause { Counts (D.failures disk.old) (D.failures disk.new) (is_err result) }
 {
     write_guarded(disk, next.slot.gate(), &body_of(next))?;

@@ -1,7 +1,11 @@
-use Rattle.std.proofs.Common.{◌∙◌, inl, refl, sym, ap}
+use Rattle.std.proofs.Common.{◌∙◌, inl, refl, sym, ap, subst}
 use Rattle.cg_disk.specs.Disk.{present}
 use Rattle.cg_log.specs.Ready.{last_id}
 use Rattle.cg_log.proofs.Moves.{last_id-content, no_frames, still-images}
+use Rattle.cg_log.specs.Log.{end_of, root_of}
+use Rattle.cg_log.specs.Rolled.{IsNextTail}
+use Rattle.cg_log.specs.Room.{room_at}
+use Rattle.cg_log.proofs.Room.{room-rolled}
 use Rattle.cg_log.proofs.log.Log.roll.Goals as goal
 
 pub returns-then-self-clause-images : goal.returns-then-self-clause-images
@@ -25,3 +29,14 @@ pub returns-in_err-tail-clause-images : goal.returns-in_err-tail-clause-images
 returns-in_err-tail-clause-images g c has log =
     let self = c.args.self.now in
     still-images (g.D.SectorDisk.history self.disk) (g.D.SectorDisk.size self.disk) self.root self.end self.number has self.in_range log.holds
+
+pub returns-clause-room : goal.returns-clause-room
+returns-clause-room g c filled =
+    let self = c.args.self.now in
+    let size = g.D.SectorDisk.size self.disk in
+    let new = c.add_tail.new.self in
+    ap (λ n. room_at n (root_of new) (end_of new)) c.add_tail.ensures.same_size
+    ∙ ap (λ r. room_at size r (end_of new)) c.in_ok-id.ensures.root
+    ∙ ap (λ e. room_at size c.in_ok-tail.tail.root e) c.in_ok-id.ensures.end
+    ∙ room-rolled size self.root c.in_ok-tail.tail.root c.in_ok-tail.tail.id self.end
+    (subst (λ n. IsNextTail n self.root c.in_ok-tail.tail.id c.in_ok-tail.tail.root) c.sectors.ensures c.in_ok-tail.ensures.next)

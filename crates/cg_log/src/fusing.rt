@@ -1,0 +1,27 @@
+//! Fault injection below a log.
+ghost use Rattle.std.specs.Prelude.{◌≡◌};
+ghost use Rattle.cg_disk.specs.Fuse.{blown_calls, calls_left, inner_of};
+
+use crate::log::Log;
+use cg_disk::{FuseDisk, SectorDisk};
+
+impl<D: SectorDisk> Log<FuseDisk<D>> {
+    ghost use Rattle.cg_log.specs.Carried.{Content};
+    ghost use Rattle.cg_log.specs.Log.{LogHas, disk_of, end_of, has_failed, number_of, root_of};
+
+    /// Sets how many more calls the disk passes before it fails each; `None` passes every call. Nothing else changes.
+    pub fn set_fuse(&mut self, calls: Option<u64>)
+        ensures fuse { calls_left (disk_of self.new) ≡ calls }
+        ensures disk { inner_of (disk_of self.new) ≡ inner_of (disk_of self.old) }
+        ensures blown { blown_calls (disk_of self.new) ≡ blown_calls (disk_of self.old) }
+        ensures root { root_of self.new ≡ root_of self.old }
+        ensures end { end_of self.new ≡ end_of self.old }
+        ensures number { number_of self.new ≡ number_of self.old }
+        ensures failed { has_failed self.new ≡ has_failed self.old }
+        ensures stored { (has : Content) →
+            LogHas (⟦<FuseDisk<D> as SectorDisk>⟧.is_honest) (⟦<FuseDisk<D> as SectorDisk>⟧.history) (⟦<FuseDisk<D> as SectorDisk>⟧.size) self.old has →
+            LogHas (⟦<FuseDisk<D> as SectorDisk>⟧.is_honest) (⟦<FuseDisk<D> as SectorDisk>⟧.history) (⟦<FuseDisk<D> as SectorDisk>⟧.size) self.new has }
+    {
+        self.disk.set(calls);
+    }
+}
