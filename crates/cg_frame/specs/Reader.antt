@@ -1,5 +1,5 @@
 -- A reader of the frames of segments, and what it finds.
-use Rattle.std.specs.Prelude.{◌≡◌, ℕ, ◌+◌, List, slice_range, Option, Some, None, Result, Ok, Err}
+use Rattle.std.specs.Prelude.{ℕ, ◌+◌, List, slice_range, Option, Some, None, Result, Ok, Err}
 use Rattle.cg_disk.specs.Disk.{Image, Holds}
 use Rattle.cg_frame.specs.Frames.{IsClosed, FrameAt}
 use Rattle.cg_frame.specs.Heads.{IsBadFrame}

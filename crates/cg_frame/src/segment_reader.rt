@@ -41,6 +41,26 @@ fn head_at(buffer: &[u8], segment: Segment, pos: u64) -> Result<Option<Head>, Sc
     Ok(head)
 }
 
+// Returns up to which sector a segment is read that was read up to `filled`, so that it is read up to `to` at least.
+fn piece_end(sectors: u64, filled: u64, to: u64) -> u64
+    requires filled { filled ≤ sectors }
+    requires to { to ≤ sectors }
+    requires small { sectors < 2 ^ 54 }
+    ensures enough { to ≤ result }
+    ensures more { filled ≤ result }
+    ensures inside { result ≤ sectors }
+{
+    cmp::min(sectors, cmp::max(to, filled + PIECE_SECTORS))
+}
+
+// Returns the position after the gate at `pos` and the sector after it, if the segment has one.
+fn front_end(sectors: u64, pos: u64) -> u64
+    requires { pos < 2 ^ 54 }
+    ensures { result ≡ min (pos + 2) sectors }
+{
+    cmp::min(pos + 2, sectors)
+}
+
 /// Reads sectors of a segment into a buffer that has the first ones, so that it has `to` of them at least. Returns how
 /// many it has.
 fn read_piece<D: SectorDisk>(
@@ -68,7 +88,7 @@ fn read_piece<D: SectorDisk>(
     if to <= filled {
         return Ok(filled);
     }
-    let end = cmp::min(segment.sectors, cmp::max(to, filled + PIECE_SECTORS));
+    let end = piece_end(segment.sectors, filled, to);
     let start_byte = filled as usize * SECTOR_BYTES;
     let end_byte = end as usize * SECTOR_BYTES;
     disk.read(segment.first + filled, &mut buffer[start_byte..end_byte])?;
@@ -194,7 +214,7 @@ impl SegmentReader {
         // The content stays.
         ensures time { D.is_honest disk.old ≡ true → Stays (D.history disk.old) (D.history disk.new) }
     {
-        self.fill(disk, cmp::min(self.pos + 2, self.segment.sectors))?;
+        self.fill(disk, front_end(self.segment.sectors, self.pos))?;
         let Some(head) = head_at(&self.buffer, self.segment, self.pos)? else {
             return Ok(None);
         };

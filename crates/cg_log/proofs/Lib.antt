@@ -4,3 +4,5 @@ pub mod Ids
 pub mod Images
 pub mod Moves
 pub mod Reading
+pub mod ReadTo
+pub mod Closed

@@ -1,5 +1,5 @@
 -- What is read of an image, from the first frame on: the segments that a root names, one after the other.
-use Rattle.std.specs.Prelude.{◌≡◌, ℕ, ◌+◌, List, [], ◌∷◌, ◌++◌, length, take, drop, slice_index, nat_le, if◌then◌else◌, Option, Some, None, Result, Ok, Err}
+use Rattle.std.specs.Prelude.{◌≡◌, ℕ, ◌+◌, List, [], ◌∷◌, ◌++◌, length, take, drop, slice_index, nat_lt, if◌then◌else◌, Option, Some, None, Result, Ok, Err}
 use Rattle.cg_disk.specs.Disk.{Image}
 use Rattle.cg_frame.specs.Frames.{Chain, IsClosed}
 use Rattle.cg_frame.specs.Reader.{payload_of, position_of}
@@ -27,7 +27,7 @@ pub record IsReadTo (image : Image) (root : Root) (index pos number : ℕ) (read
 
 -- the number of the last command after a frame of the segment at an index: a base has no part in it
 abbrev pub number_with : Root → ℕ → ℕ → ℕ → ℕ
-number_with root index number count = if nat_le (length root.base) index then number + count else number
+number_with root index number count = if nat_lt index (length root.base) then number else number + count
 
 -- no segments of a root's ids have frames that an image has
 abbrev pub HasBadSegment : Image → Root → Type 0

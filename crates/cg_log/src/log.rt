@@ -1,12 +1,11 @@
 //! The log, and its opening.
-ghost use Rattle.std.specs.Prelude.{◌≡◌, ℕ, ◌≤◌, ◌<◌, true, false, length, OnOk, IfOk, IfErr, MatchResult};
-ghost use Rattle.cg_disk.specs.Disk.{Counts, Image, Stays, present};
+ghost use Rattle.std.specs.Prelude.{◌≡◌, ℕ, ◌≤◌, ◌<◌, true, false, length, IfOk, IfErr, MatchResult};
+ghost use Rattle.cg_disk.specs.Disk.{Counts, Stays, present};
 ghost use Rattle.cg_gate.specs.declared.layout.TheConstants.{SEGMENT_SECTORS};
 ghost use Rattle.cg_root.specs.Roots.{IsLawful, root_ids};
 ghost use Rattle.cg_log.specs.Carried.{Content, AllCarry, Carries};
-ghost use Rattle.cg_log.specs.Faults.{Tells, is_device_failure, is_opening_failure, IsOutOfReach};
+ghost use Rattle.cg_log.specs.Faults.{Tells, is_opening_failure, IsOutOfReach};
 ghost use Rattle.cg_log.specs.Free.{free_count_of};
-ghost use Rattle.cg_log.specs.Openings.{HasRead, disk_under, is_at_end};
 ghost use Rattle.cg_log.specs.Ready.{IsReady};
 ghost use Rattle.cg_log.specs.Segments.{Frames};
 ghost use Rattle.cg_log.specs.declared.numbers.TheConstants.{COMMAND_NUMBER_MAX};
@@ -36,23 +35,6 @@ pub struct Log<D: SectorDisk> {
         IsReady (present (D.history disk)) (D.size disk) root end is_other_open } by { ready-prop has_failed (D.is_honest disk) (present (D.history disk)) (D.size disk) root end is_other_open },
 }
 
-// Reads all frames of an opening.
-fn read_all<D: SectorDisk>(opening: &mut Opening<D>) -> Result<(), LogFault>
-    ensures read { (image : Image) (read : Frames) → HasRead D.is_honest D.history D.size opening.old image read →
-        OnOk result ((all : Frames) × HasRead D.is_honest D.history D.size opening.new image all) }
-    ensures tells { (image : Image) (read : Frames) → HasRead D.is_honest D.history D.size opening.old image read →
-        IfErr result (Tells image (D.size (disk_under opening.new))) }
-    ensures at_end { OnOk result (is_at_end opening.new ≡ true) }
-    ensures device { Counts (D.failures (disk_under opening.old)) (D.failures (disk_under opening.new)) (is_device_failure result) }
-    ensures same_size { D.size (disk_under opening.new) ≡ D.size (disk_under opening.old) }
-    ensures same_honesty { D.is_honest (disk_under opening.new) ≡ D.is_honest (disk_under opening.old) }
-    ensures time { D.is_honest (disk_under opening.old) ≡ true →
-        Stays (D.history (disk_under opening.old)) (D.history (disk_under opening.new)) }
-{
-    while let Some(_) = opening.next()? {}
-    Ok(())
-}
-
 impl<D: SectorDisk> Log<D> {
     ghost use Rattle.cg_log.specs.Log.{LogHas, disk_after, disk_of, has_failed, number_of, root_of};
 
@@ -79,7 +61,7 @@ impl<D: SectorDisk> Log<D> {
             Ok(opening) => opening,
             Err(refused) => return Err(refused),
         };
-        match read_all(&mut opening) {
+        match opening.read_all() {
             Ok(()) => Ok(opening.finish()),
             Err(fault) => Err((fault, opening.into_disk())),
         }

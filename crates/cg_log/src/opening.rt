@@ -6,7 +6,6 @@ ghost use Rattle.cg_gate.specs.declared.layout.TheConstants.{SEGMENT_SECTORS};
 ghost use Rattle.cg_root.specs.Roots.{IsLawful, root_ids};
 ghost use Rattle.cg_log.specs.Carried.{AllCarry, Carries, Content};
 ghost use Rattle.cg_log.specs.Faults.{IsReadingFault, Tells, is_device_failure, is_opening_failure};
-ghost use Rattle.cg_log.specs.Log.{LogHas, disk_of, has_failed, number_of};
 ghost use Rattle.cg_log.specs.Props.{IsLawful-prop};
 ghost use Rattle.cg_log.specs.ReadTo.{id_at, number_with};
 ghost use Rattle.cg_log.specs.Segments.{Frames, segment_of};
@@ -85,6 +84,7 @@ pub struct Opening<D: SectorDisk> {
 }
 
 impl<D: SectorDisk> Opening<D> {
+    ghost use Rattle.cg_log.specs.Log.{LogHas, disk_of, has_failed, number_of};
     ghost use Rattle.cg_log.specs.Openings.{HasRead, disk_begun, disk_under, has_fault, is_at_end, left_to_read, number_so_far, payload_read};
 
     /// Begins to open the log on a disk: syncs the disk once, and reads the root. Writes nothing. A fault comes with the
@@ -216,6 +216,23 @@ impl<D: SectorDisk> Opening<D> {
         let outcome = self.read_next();
         self.has_fault = outcome.is_err();
         outcome
+    }
+
+    /// Reads the frames that are left.
+    pub(crate) fn read_all(&mut self) -> Result<(), LogFault>
+        ensures read { (image : Image) (read : Frames) → HasRead D.is_honest D.history D.size self.old image read →
+            OnOk result ((all : Frames) × HasRead D.is_honest D.history D.size self.new image all) }
+        ensures tells { (image : Image) (read : Frames) → HasRead D.is_honest D.history D.size self.old image read →
+            IfErr result (Tells image (D.size (disk_under self.new))) }
+        ensures at_end { OnOk result (is_at_end self.new ≡ true) }
+        ensures device { Counts (D.failures (disk_under self.old)) (D.failures (disk_under self.new)) (is_device_failure result) }
+        ensures same_size { D.size (disk_under self.new) ≡ D.size (disk_under self.old) }
+        ensures same_honesty { D.is_honest (disk_under self.new) ≡ D.is_honest (disk_under self.old) }
+        ensures time { D.is_honest (disk_under self.old) ≡ true →
+            Stays (D.history (disk_under self.old)) (D.history (disk_under self.new)) }
+    {
+        while let Some(_) = self.next()? {}
+        Ok(())
     }
 
     /// Returns the payload of the frame that `next` handed out last.
