@@ -6,3 +6,4 @@ pub mod Moves
 pub mod Reading
 pub mod ReadTo
 pub mod Closed
+pub mod Next

@@ -88,13 +88,15 @@ pub(crate) fn read_on<D: SectorDisk>(
     ensures same_honesty { D.is_honest disk.new ≡ D.is_honest disk.old }
     ensures time { D.is_honest disk.old ≡ true → Stays (D.history disk.old) (D.history disk.new) }
 {
-    let last = root.base.len() + root.tail.len() - 1;
+    let base = root.base.as_slice();
+    let tail = root.tail.as_slice();
+    let last = base.len() + tail.len() - 1;
     while *index < last {
         if let Some(count) = reader.next(disk)? {
             return Ok(Some(count));
         }
         *index += 1;
-        reader.restart(segment(id_at(root.base.as_slice(), root.tail.as_slice(), *index)));
+        reader.restart(segment(id_at(base, tail, *index)));
     }
     let count = reader.next(disk)?;
     Ok(count)
