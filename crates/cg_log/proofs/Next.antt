@@ -1,5 +1,5 @@
 -- What comes next in a reading, by what a reader finds.
-use Rattle.std.proofs.Common.{◌≡◌, ℕ, ◌+◌, ◌<◌, length, sym, ap, ◌∙◌, subst, refl, Ok, Err, Option, Some, None, Result}
+use Rattle.std.proofs.Common.{◌≡◌, ℕ, ◌+◌, ◌<◌, ◌≤◌, ◌++◌, length, sym, ap, ◌∙◌, subst, refl, Ok, Err, Option, Some, None, Result}
 use Rattle.std.specs.Prelude.{IfSome}
 use Rattle.cg_disk.specs.Disk.{Image}
 use Rattle.cg_frame.specs.Frames.{FrameAt, IsClosed, next_gate}
@@ -12,13 +12,16 @@ use Rattle.cg_frame.specs.declared.segment_reader.SegmentReader.{SegmentReader}
 use Rattle.cg_gate.specs.Layout.{first_sector}
 use Rattle.cg_root.specs.Roots.{CountingRoot, root_ids}
 use Rattle.cg_root.specs.declared.root.Root.{Root}
+use Rattle.cg_log.specs.Carried.{Carries, tails}
 use Rattle.cg_log.specs.FaultOf.{of_scan}
 use Rattle.cg_log.specs.Faults.{Tells}
 use Rattle.cg_log.specs.ReadTo.{FindsNext, IsReadTo, id_at}
-use Rattle.cg_log.specs.Segments.{Frames, segment_of}
+use Rattle.cg_log.specs.Segments.{Frames, frames_of, segment_of}
 use Rattle.cg_log.specs.declared.fault.LogFault.{LogFault}
 use Rattle.cg_log.specs.declared.fault.LogFault.TheVariants as log_fault
-use Rattle.cg_log.proofs.ReadTo.{HasBadFrame-segment, IsReadTo-bad, IsReadTo-closed, IsReadTo-frame}
+use Rattle.cg_log.specs.declared.numbers.TheConstants.{COMMAND_NUMBER_MAX}
+use Rattle.cg_log.proofs.Images.{Carries-at}
+use Rattle.cg_log.proofs.ReadTo.{HasBadFrame-segment, IsWhole-read, IsReadTo-bad, IsReadTo-closed, IsReadTo-frame}
 
 module _ (image : Image) (root : Root) (index number : ℕ) (read : Frames) (old new : SegmentReader) (inside : index < length (root_ids root)) (at : segment_read old ≡ segment_of (id_at root index)) (so_far : IsReadTo image root index (position_of old) number read) where
   closed-at : IsClosed image ((segment_read old).first + position_of old) → IsClosed image (first_sector (id_at root index) + position_of old)
@@ -47,3 +50,9 @@ Tells-next image sectors root index number read reader log_fault.BadRoot countin
 Tells-next image sectors root index number read reader log_fault.BadFrame counting found = HasBadFrame-segment image sectors root counting found
 Tells-next image sectors root index number read reader log_fault.NoRoot counting found = absurd found
 Tells-next image sectors root index number read reader log_fault.Failed counting found = found
+
+-- everything was read: the image carries it
+pub Carries-read : (image : Image) (sectors : ℕ) (root : Root) (index pos number : ℕ) (read : Frames) → CountingRoot image sectors root → 1 ≤ length root.tail → index + 1 ≡ length (root_ids root) → IsReadTo image root index pos number read → IsClosed image (first_sector (id_at root index) + pos) → number ≤ COMMAND_NUMBER_MAX → (base : Frames) × ((tail : Frames) × ((read ≡ base ++ tail) × Carries image sectors number base tail))
+Carries-read image sectors root index pos number read counting some last so_far closed small =
+    let whole = IsWhole-read image sectors root index pos number read counting some last so_far closed in
+    (frames_of whole.0.base, (frames_of (tails whole.0), (whole.1.read_is, Carries-at image sectors number root whole.0 whole.1.stored whole.1.number_is small)))

@@ -47,7 +47,7 @@ pub record HasRead {D : Type 0} {g : _} (honest : D → Bool) (history : D → H
   pub other : IsTrue opening.is_other_open ↔ IsOpen image (gate_of (other_slot opening.root.slot))
   pub buffered : IsBuffered image opening.reader
   pub so_far : IsReadTo image opening.root opening.segment (position_of opening.reader) opening.number read
-  pub closed : opening.is_at_end ≡ true → IsClosed image (first_sector (id_at opening.root opening.segment) + position_of opening.reader)
+  pub closed : opening.is_at_end ≡ true → (opening.segment + 1 ≡ length (root_ids opening.root)) × IsClosed image (first_sector (id_at opening.root opening.segment) + position_of opening.reader)
 
 -- the disk after a beginning
 abbrev pub disk_begun : {D : Type 0} {g : _} → Result (Opening D g) (LogFault × D) → D

@@ -213,9 +213,13 @@ impl<D: SectorDisk> Opening<D> {
         if self.is_at_end {
             return Ok(None);
         }
-        let outcome = self.read_next();
-        self.has_fault = outcome.is_err();
-        outcome
+        match self.read_next() {
+            Ok(next) => Ok(next),
+            Err(fault) => {
+                self.has_fault = true;
+                Err(fault)
+            }
+        }
     }
 
     /// Reads the frames that are left.
