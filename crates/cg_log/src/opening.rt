@@ -141,6 +141,7 @@ impl<D: SectorDisk> Opening<D> {
             HasRead D.is_honest D.history D.size self.old image read → self.old.is_at_end ≡ false →
             IfErr result (Tells image (D.size (disk_under self.new))) }
         ensures at_end { result ≡ Ok None → is_at_end self.new ≡ true }
+        ensures same_fault { has_fault self.new ≡ has_fault self.old }
         ensures moves { IfOk result (λ o. IfSome o (λ _. left_to_read self.new < left_to_read self.old)) }
         ensures counted { IfOk result (λ o. IfSome o (λ count. 1 ≤ count)) }
         ensures faults { IfErr result IsReadingFault }
