@@ -7,3 +7,4 @@ pub mod Reading
 pub mod ReadTo
 pub mod Closed
 pub mod Next
+pub mod Whole
