@@ -1,5 +1,5 @@
 -- Closed gates that were written with others before one sync.
-use Rattle.std.proofs.Common.{◌≡◌, ℕ, ◌+◌, ◌<◌, ◌≤◌, List, sym, ap, ◌∙◌, arith}
+use Rattle.std.proofs.Common.{ℕ, ◌+◌, ◌<◌, ◌≤◌, List, ◌∙◌, arith}
 use Rattle.cg_disk.specs.Disk.{Changes, History, Holds, IsSynced, Stays, present}
 use Rattle.cg_disk.proofs.Moments.{Changes-present, Stays-content}
 use Rattle.cg_gate.specs.Gates.{IsClosedGate}

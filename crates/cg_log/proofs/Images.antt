@@ -1,5 +1,5 @@
 -- What images carry: that it is one thing, and what agreeing images carry.
-use Rattle.std.proofs.Common.{◌≡◌, inl, inr, ℕ, ◌+◌, ◌<◌, ◌≤◌, Bool, true, false, List, [], ◌∷◌, ◌++◌, sym, ap, ◌∙◌, subst, refl, arith, get_or}
+use Rattle.std.proofs.Common.{◌≡◌, inl, inr, ℕ, ◌+◌, ◌≤◌, Bool, true, false, List, [], ◌∷◌, sym, ap, ◌∙◌, subst, refl, get_or}
 use Rattle.cg_disk.specs.Disk.{Image, Moment, IsImage}
 use Rattle.cg_disk.proofs.Moments.{IsImage-content}
 use Rattle.cg_gate.specs.Gates.{IsOpen, IsClosed}
@@ -13,7 +13,7 @@ use Rattle.cg_root.proofs.Unique.{CountingRoot-unique, CountingRoot-some, Counti
 use Rattle.cg_log.specs.Carried.{Content, LogAt, Carries, AllCarry, HoldsContent, tails}
 use Rattle.cg_log.specs.Faults.{Tells, IsOutOfReach, IsReadingFault}
 use Rattle.cg_log.specs.Ready.{IsReady, last_id}
-use Rattle.cg_log.specs.Segments.{Frames, Filled, ids_of, frames_of, counted, end_of_frames, segment_of, AreStored}
+use Rattle.cg_log.specs.Segments.{Frames, ids_of, frames_of, counted, end_of_frames, segment_of}
 use Rattle.cg_log.specs.declared.fault.LogFault.{LogFault}
 use Rattle.cg_log.specs.declared.fault.LogFault.TheVariants as log_fault
 use Rattle.cg_log.specs.declared.numbers.TheConstants.{COMMAND_NUMBER_MAX}

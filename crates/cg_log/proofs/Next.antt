@@ -1,5 +1,5 @@
 -- What comes next in a reading, by what a reader finds.
-use Rattle.std.proofs.Common.{◌≡◌, ℕ, ◌+◌, ◌<◌, ◌≤◌, ◌++◌, length, sym, ap, ◌∙◌, subst, refl, Ok, Err, Option, Some, None, Result}
+use Rattle.std.proofs.Common.{◌≡◌, ℕ, ◌+◌, ◌<◌, ◌≤◌, ◌++◌, length, sym, subst, refl, Ok, Err, Option, Some, None, Result}
 use Rattle.std.specs.Prelude.{IfSome}
 use Rattle.cg_disk.specs.Disk.{Image}
 use Rattle.cg_frame.specs.Frames.{FrameAt, IsClosed, next_gate}

@@ -2,7 +2,7 @@
 use Rattle.std.proofs.Common.{◌≡◌, inl, inr, ℕ, zero, suc, ◌+◌, ◌^◌, ◌<◌, ◌≤◌, List, [], ◌∷◌, ◌++◌, length, get_or, take, drop, sym, ap, ◌∙◌, subst, refl, arith, append_assoc}
 use Rattle.std.proofs.lemmas.Bool.{cases_lt}
 use Rattle.std.proofs.lemmas.Bool.Decides.{nat_tests}
-use Rattle.std.proofs.lemmas.List.{append-nil, drop_all, drop_at, drop-append-le, length-append, length-map, length-take, map-append, take_all, take_at, take_more, take-append-drop, take-take}
+use Rattle.std.proofs.lemmas.List.{append-nil, drop_all, drop_at, drop-append-le, length-append, length-map, length-take, map-append, take_all, take_at, take_more, take-append-drop}
 use Rattle.cg_disk.specs.Disk.{Image}
 use Rattle.cg_frame.specs.Frames.{Chain, FrameAt, HasFrames, IsClosed, next_gate}
 use Rattle.cg_frame.specs.Heads.{IsBadFrame}

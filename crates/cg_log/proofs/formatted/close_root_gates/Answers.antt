@@ -1,4 +1,4 @@
-use Rattle.std.proofs.Common.{length, ◌∙◌, arith}
+use Rattle.std.proofs.Common.{◌∙◌, arith}
 use Rattle.cg_disk.proofs.Moments.{Changes-refl}
 use Rattle.cg_log.proofs.Closed.{AllClosed-synced}
 use Rattle.cg_log.proofs.formatted.close_root_gates.Goals as goal

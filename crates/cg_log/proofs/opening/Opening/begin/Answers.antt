@@ -1,7 +1,6 @@
-use Rattle.std.proofs.Common.{◌≡◌, ℕ, ◌∙◌, sym, subst, refl, []}
+use Rattle.std.proofs.Common.{ℕ, ◌∙◌, sym, subst, refl, []}
 use Rattle.cg_disk.specs.Disk.{present}
 use Rattle.cg_disk.proofs.Moments.{Stays-content}
-use Rattle.cg_frame.specs.Reader.{position_of}
 use Rattle.cg_log.specs.ReadTo.{IsReadTo}
 use Rattle.cg_log.proofs.ReadTo.{IsReadTo-starts}
 use Rattle.cg_log.proofs.opening.Opening.begin.Goals as goal

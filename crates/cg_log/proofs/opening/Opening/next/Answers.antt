@@ -1,4 +1,3 @@
-use Rattle.std.proofs.Common.{◌≡◌, ◌∙◌, Ok}
 use Rattle.cg_frame.specs.Reader.{position_of}
 use Rattle.cg_log.proofs.Next.{Carries-read}
 use Rattle.cg_log.proofs.ReadTo.{read-first}

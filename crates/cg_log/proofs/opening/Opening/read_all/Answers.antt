@@ -1,4 +1,4 @@
-use Rattle.std.proofs.Common.{◌≡◌, ◌∙◌, ap, refl, Ok, Err, Some, None}
+use Rattle.std.proofs.Common.{◌∙◌, ap, refl, Ok}
 use Rattle.std.proofs.lemmas.Result.{err_from_is_err_and}
 use Rattle.cg_disk.proofs.Moments.{Changes-then}
 use Rattle.cg_log.proofs.opening.Opening.read_all.Goals as goal

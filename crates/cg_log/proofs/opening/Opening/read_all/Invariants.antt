@@ -1,4 +1,4 @@
-use Rattle.std.proofs.Common.{◌≡◌, ℕ, true}
+use Rattle.std.proofs.Common.{◌≡◌, true}
 use Rattle.cg_disk.specs.Disk.{Image, Stays}
 use Rattle.cg_log.specs.Openings.{HasRead, disk_under, left_to_read}
 use Rattle.cg_log.specs.Segments.{Frames}
