@@ -10,7 +10,7 @@ use Rattle.cg_frame.specs.Outcomes.{StandsLast, Appended, KeepsFramesTo, IsBefor
 use Rattle.cg_frame.specs.declared.segment.Segment.{Segment}
 
 -- the first byte of a later sector
-sector_first : (bytes : List ℕ) (i : ℕ) → get_or (sector bytes i) 0 0 ≡ get_or bytes (512 * i) 0
+pub sector_first : (bytes : List ℕ) (i : ℕ) → get_or (sector bytes i) 0 0 ≡ get_or bytes (512 * i) 0
 unfolding sector
 sector_first bytes i = get_or-take 512 (drop (512 * i) bytes) 0 0 (omega arith) ∙ get_or-drop (512 * i) bytes 0 0 ∙ ap (λ (k : ℕ). get_or bytes k 0) (add-zero (512 * i))
 

@@ -1,7 +1,9 @@
+mod Buffered
 mod Encoded
 mod Laid
 pub mod Loading
 mod Parts
 mod Read
+mod Readers
 pub mod Standing
 mod Words

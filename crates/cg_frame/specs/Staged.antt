@@ -1,6 +1,6 @@
 -- The sectors of a frame that is not on a disk yet.
 use Rattle.std.specs.Prelude.{◌≡◌, ℕ, ◌+◌, ◌*◌, ◌^◌, ◌<◌, ◌≤◌, List, ◌++◌, length, take, drop, slice_index}
-use Rattle.cg_frame.specs.Frames.{body, body_sectors, word}
+use Rattle.cg_frame.specs.Frames.{body_sectors, word}
 
 -- these sectors are the body of a payload of n bytes, and zeros after it, and so a closed gate
 pub record IsStagedFrame (sectors : List ℕ) (count n : ℕ) : Type 0 where

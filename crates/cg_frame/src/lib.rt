@@ -7,6 +7,7 @@ mod buffer;
 mod fault;
 mod reading;
 mod segment;
+mod segment_reader;
 mod staged;
 #[cfg(test)]
 mod tests;
@@ -15,5 +16,6 @@ mod writing;
 pub use fault::{FrameFault, ScanFault};
 pub use reading::scan;
 pub use segment::{Frame, LARGEST_PAYLOAD_BYTES, SEGMENT_SECTORS, Segment, fits, frame_numbers};
+pub use segment_reader::{PIECE_SECTORS, SegmentReader};
 pub use staged::{StagedFrame, append_staged, stage};
 pub use writing::{append, close_gate};

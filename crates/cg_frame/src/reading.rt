@@ -12,7 +12,7 @@ use cg_gate::{OPEN, is_open};
 use std::alloc::{AllocError, Global};
 
 /// Bytes of a gate and of the first sector of a body, which are read together.
-const FRONT_BYTES: usize = 2 * SECTOR_BYTES;
+pub(crate) const FRONT_BYTES: usize = 2 * SECTOR_BYTES;
 
 /// Where the count, the length and the payload begin in them.
 const COUNT_AT: usize = SECTOR_BYTES;
@@ -26,13 +26,13 @@ const START_BYTES: usize = FRONT_BYTES - PAYLOAD_AT;
 
 /// What stands before a payload.
 #[derive(Clone, Copy)]
-struct Head {
-    count: u64,
-    bytes: u64,
+pub(crate) struct Head {
+    pub(crate) count: u64,
+    pub(crate) bytes: u64,
 }
 
 /// What the front of a frame tells; `None` where its gate is closed.
-fn head_of(front: &[u8], segment: Segment, pos: u64) -> Result<Option<Head>, ScanFault>
+pub(crate) fn head_of(front: &[u8], segment: Segment, pos: u64) -> Result<Option<Head>, ScanFault>
     requires { length front.now ≡ 1024 }
     ensures closed { result ≡ Ok None → slice_index front.now 0 ≢ 1 }
     ensures head { IfOk result (λ o. IfSome o (λ head.

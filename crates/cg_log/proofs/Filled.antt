@@ -1,5 +1,5 @@
 -- Segments with their frames: lists of them, and images that agree on their sectors.
-use Rattle.std.proofs.Common.{◌≡◌, ◌⊎◌, inl, inr, ℕ, zero, suc, ◌+◌, ◌-◌, ◌^◌, ◌<◌, ◌≤◌, List, [], ◌∷◌, ◌++◌, length, get_or, take, min, sym, ap, ◌∙◌, subst, refl, arith}
+use Rattle.std.proofs.Common.{◌≡◌, ◌⊎◌, inl, inr, ℕ, zero, suc, ◌+◌, ◌-◌, ◌<◌, ◌≤◌, List, [], ◌∷◌, ◌++◌, length, get_or, take, sym, ap, ◌∙◌, subst, refl, arith}
 use Rattle.std.proofs.lemmas.List.{map-append}
 use Rattle.std.proofs.lemmas.Grind.{flat_map-append}
 use Rattle.std.proofs.lemmas.List.{append-nil, take_all, take_more, length-append}
@@ -10,13 +10,8 @@ use Rattle.cg_frame.specs.Frames.{Chain, HasFrames, HasFramesTo, next_gate}
 use Rattle.cg_frame.specs.declared.segment.Segment.{Segment}
 use Rattle.cg_frame.proofs.Standing.{Chain-same, HasFrames-unique}
 use Rattle.cg_gate.specs.Layout.{first_sector}
-use Rattle.cg_log.specs.Loaded.{IsTailEnd}
-use Rattle.cg_log.specs.declared.numbers.TheConstants.{COMMAND_NUMBER_MAX}
 use Rattle.cg_log.specs.Ready.{last_id}
-use Rattle.cg_log.specs.Scanned.{IsExtent, AreCounted}
-use Rattle.cg_log.specs.Segments.{Frames, Filled, segment_of, ids_of, frames_of, counted, end_of_frames, AreStored}
-use Rattle.cg_log.specs.declared.scanning.Extent.{Extent}
-use Rattle.cg_log.proofs.Found.{counted-append}
+use Rattle.cg_log.specs.Segments.{Frames, Filled, segment_of, ids_of, frames_of, end_of_frames, AreStored}
 
 -- The end of frames
 
@@ -48,9 +43,6 @@ HasFramesTo-same a b segment frames end some same has =
 
 pub HasFrames-same : (a b : Image) (id : ℕ) (frames : Frames) → SameSectors a b (first_sector id) 2048 → HasFrames a (segment_of id) frames → HasFrames b (segment_of id) frames
 HasFrames-same a b id frames same has = (has.0, HasFramesTo-same a b (segment_of id) frames has.0 (omega arith) same has.1)
-
-pub IsExtent-same : (a b : Image) (id : ℕ) (extent : Extent) → ((s : ℕ) → b s ≡ a s) → IsExtent a id extent → IsExtent b id extent
-IsExtent-same a b id extent same is = record { frames = is.frames; has = HasFramesTo-same a b (segment_of id) is.frames extent.end (omega arith) (λ s _ _. same s) is.has; count_is = is.count_is }
 
 -- these segments have no sector among the n from `at` on
 abbrev pub AreApart : ℕ → ℕ → List Filled → Type 0
@@ -113,71 +105,12 @@ frames_of-push xs id frames = frames_of-append xs ((id, frames) ∷ []) ∙ ap (
 pub ids_of-push : (xs : List Filled) (id : ℕ) (frames : Frames) → ids_of (xs ++ (id, frames) ∷ []) ≡ ids_of xs ++ id ∷ []
 ids_of-push xs id frames = map-append (λ (s : Filled). s.0) xs ((id, frames) ∷ [])
 
--- one more segment that was read
-pub AreCounted-push : (image : Image) (ids ids' : List ℕ) (segments : List Filled) (id count count' : ℕ) (extent : Extent) → AreCounted image ids segments count → (is : IsExtent image id extent) → ids' ≡ ids ++ id ∷ [] → count' ≡ min (count + extent.count) (2 ^ 64 - 1) → AreCounted image ids' (segments ++ (id, is.frames) ∷ []) count'
-AreCounted-push image ids ids' segments id count count' extent are is ids_is count_is = record {
-  ids_are = ids_is ∙ ap (λ (l : List ℕ). l ++ id ∷ []) are.ids_are ∙ sym (ids_of-push segments id is.frames);
-  stored = AreStored-append image segments ((id, is.frames) ∷ []) are.stored ((extent.end, is.has), tt);
-  count_is =
-      let sum : counted (frames_of (segments ++ (id, is.frames) ∷ [])) ≡ counted (frames_of segments) + counted is.frames =
-      ap counted (frames_of-push segments id is.frames) ∙ counted-append (frames_of segments) is.frames in
-      omega (arith, sum, count_is, are.count_is, is.count_is);
-}
-
 -- The last of several segments
 
 pub split_last : (xs : List ℕ) (n : ℕ) → n ≡ length xs → 1 ≤ n → xs ≡ take (n - 1) xs ++ get_or xs (n - 1) 0 ∷ []
 split_last xs n is some =
     let whole : take (n - 1 + 1) xs ≡ xs = take_all (n - 1 + 1) xs (omega arith) in
     sym whole ∙ take_more xs (n - 1) 0 (omega arith)
-
--- segments of ids that end with this one
-pub split_ids : (segments : List Filled) (earlier : List ℕ) (last : ℕ) → ids_of segments ≡ earlier ++ last ∷ [] → (xs : List Filled) × ((frames : Frames) × ((segments ≡ xs ++ (last, frames) ∷ []) × (ids_of xs ≡ earlier)))
-split_ids [] [] last is = absurd cc
-split_ids [] (e ∷ earlier) last is = absurd cc
-split_ids (s ∷ []) [] last is = let id : s.0 ≡ last = cc in ([], (s.1, (λ i. (id i, s.1) ∷ [], refl)))
-split_ids (s ∷ t ∷ segments) [] last is = absurd cc
-split_ids (s ∷ segments) (e ∷ earlier) last is =
-    let id : s.0 ≡ e = cc in
-    let rest : ids_of segments ≡ earlier ++ last ∷ [] = cc in
-    let cut = split_ids segments earlier last rest in
-    (s ∷ cut.0, (cut.1.0, (ap (λ (l : List Filled). s ∷ l) cut.1.1.0, λ i. id i ∷ cut.1.1.1 i)))
-
--- tails that were read: those before the last, and the last
-module _ (image : Image) (ids earlier : List ℕ) (last : ℕ) (split : ids ≡ earlier ++ last ∷ []) where
-  pub sealed-stored : (segments : List Filled) → ids ≡ ids_of segments → AreStored image segments → (xs : List Filled) × ((earlier ≡ ids_of xs) × AreStored image xs)
-  sealed-stored segments is are =
-      let cut = split_ids segments earlier last (sym is ∙ split) in
-      (cut.0, (sym cut.1.1.1, AreStored-front image cut.0 ((last, cut.1.0) ∷ []) (subst (AreStored image) cut.1.1.0 are)))
-
-  pub last-stored : (segments : List Filled) → ids ≡ ids_of segments → AreStored image segments → (frames : Frames) × HasFrames image (segment_of last) frames
-  last-stored segments is are =
-      let cut = split_ids segments earlier last (sym is ∙ split) in
-      (cut.1.0, (AreStored-back image cut.0 ((last, cut.1.0) ∷ []) (subst (AreStored image) cut.1.1.0 are)).0)
-
-  module _ (seen : List Filled) (sealed : ℕ) (extent : Extent) (are_counted : AreCounted image earlier seen sealed) (is_extent : IsExtent image last extent) where
-    all_ids : ids ≡ ids_of (seen ++ (last, is_extent.frames) ∷ [])
-    all_ids = split ∙ ap (λ (l : List ℕ). l ++ last ∷ []) are_counted.ids_are ∙ sym (ids_of-push seen last is_extent.frames)
-
-    all_stored : AreStored image (seen ++ (last, is_extent.frames) ∷ [])
-    all_stored = AreStored-append image seen ((last, is_extent.frames) ∷ []) are_counted.stored ((extent.end, is_extent.has), tt)
-
-    all_counted : counted (frames_of (seen ++ (last, is_extent.frames) ∷ [])) ≡ counted (frames_of seen) + counted is_extent.frames
-    all_counted = ap counted (frames_of-push seen last is_extent.frames) ∙ counted-append (frames_of seen) is_extent.frames
-
-    pub counts_below : (segments : List Filled) → ids ≡ ids_of segments → AreStored image segments → sealed + extent.count ≤ counted (frames_of segments)
-    counts_below segments is are =
-        let same : segments ≡ seen ++ (last, is_extent.frames) ∷ [] = AreStored-unique image segments (seen ++ (last, is_extent.frames) ∷ []) (sym is ∙ all_ids) are all_stored in
-        let sum : counted (frames_of segments) ≡ counted (frames_of seen) + counted is_extent.frames = ap (λ (l : List Filled). counted (frames_of l)) same ∙ all_counted in
-        omega (arith, sum, are_counted.count_is, is_extent.count_is)
-
-    pub IsTailEnd-read : (base_number number : ℕ) → number ≡ base_number + sealed + extent.count → number ≤ COMMAND_NUMBER_MAX → IsTailEnd image base_number ids seen (last, is_extent.frames) record { end = extent.end; number = number }
-    IsTailEnd-read base_number number is small = record {
-      ids_are = all_ids;
-      stored = all_stored;
-      end_is = Chain-end image (segment_of last) 0 is_extent.frames extent.end is_extent.has.chain;
-      number_is = omega (arith, is, small, all_counted, are_counted.count_is, is_extent.count_is);
-    }
 
 pub last_id-push : (xs : List ℕ) (x : ℕ) → last_id (xs ++ x ∷ []) ≡ x
 last_id-push xs x =

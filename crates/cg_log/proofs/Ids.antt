@@ -1,12 +1,13 @@
 -- Ids of segments: ranges, and that no two are equal.
-use Rattle.std.proofs.Common.{◌≡◌, ◌⊎◌, inl, inr, ℕ, ◌<◌, ◌≤◌, ◌+◌, Bool, true, false, List, [], ◌∷◌, ◌++◌, refl, ap, ◌∙◌, arith, add-one}
+use Rattle.std.proofs.Common.{◌≡◌, ◌⊎◌, inl, inr, ℕ, zero, suc, ◌<◌, ◌≤◌, ◌+◌, Bool, true, false, List, [], ◌∷◌, ◌++◌, length, get_or, refl, ap, ◌∙◌, arith, add-one}
 use Rattle.std.specs.Prelude.{◌&&◌, ◌||◌, nat_lt, nat_eq, IsTrue}
 use Rattle.std.specs.List.{list_all, AllByRecursion, IsDistinct}
 use Rattle.std.proofs.lemmas.Bool.{cases_lt}
 use Rattle.std.proofs.lemmas.Bool.Decides.{nat_tests}
 use Rattle.std.proofs.lemmas.List.Folds.{list_all-append}
-use Rattle.cg_gate.specs.Layout.{first_sector}
-use Rattle.cg_root.specs.Roots.{AreSegments}
+use Rattle.cg_gate.specs.Layout.{first_sector, segment_count}
+use Rattle.cg_root.specs.Roots.{AreSegments, IsLawful, root_ids}
+use Rattle.cg_root.specs.declared.root.Root.{Root}
 use Rattle.cg_log.specs.Free.{is_among, free_below}
 use Rattle.cg_log.specs.Segments.{Filled, ids_of}
 use Rattle.cg_log.proofs.Filled.{AreApart}
@@ -34,6 +35,21 @@ pub below_last : (n : ℕ) (xs : List ℕ) (x : ℕ) → IsTrue (list_all (λ id
 below_last n xs x is =
     let test : nat_lt x n ≡ true = (both_true (nat_lt x n) true (below_back n xs (x ∷ []) is)).0 in
     grind (arith, nat_tests)
+
+pub below_at : (n : ℕ) (xs : List ℕ) (i : ℕ) → i < length xs → IsTrue (list_all (λ id. nat_lt id n) xs) → get_or xs i 0 < n
+below_at n [] i lt is = absurd (omega arith)
+below_at n (x ∷ xs) zero lt is =
+    let test : nat_lt x n ≡ true = (both_true (nat_lt x n) (list_all (λ id. nat_lt id n) xs) is).0 in
+    grind (arith, nat_tests)
+below_at n (x ∷ xs) (suc i) lt is = below_at n xs i (omega arith) (both_true (nat_lt x n) (list_all (λ id. nat_lt id n) xs) is).1
+
+-- where a disk has a segment, all of its sectors are on the disk
+segment-on_disk : (sectors id : ℕ) → id < segment_count sectors → first_sector id + 2048 ≤ sectors
+unfolding segment_count
+segment-on_disk sectors id lt = omega arith
+
+pub root-on_disk : (sectors : ℕ) (root : Root) (index : ℕ) → IsLawful sectors root → index < length (root_ids root) → first_sector (get_or (root_ids root) index 0) + 2048 ≤ sectors
+root-on_disk sectors root index lawful inside = segment-on_disk sectors (get_or (root_ids root) index 0) (below_at (segment_count sectors) (root_ids root) index inside lawful.ids.below)
 
 -- an id that is none of these
 module _ (y : ℕ) where

@@ -1,5 +1,5 @@
 -- What images carry: that it is one thing, and what agreeing images carry.
-use Rattle.std.proofs.Common.{◌≡◌, inl, inr, ℕ, ◌+◌, ◌<◌, ◌≤◌, Bool, true, false, List, [], ◌∷◌, ◌++◌, sym, ap, ◌∙◌, subst, refl, arith, get_or}
+use Rattle.std.proofs.Common.{◌≡◌, inl, inr, ℕ, ◌+◌, ◌≤◌, Bool, true, false, List, [], ◌∷◌, sym, ap, ◌∙◌, subst, refl, get_or}
 use Rattle.cg_disk.specs.Disk.{Image, Moment, IsImage}
 use Rattle.cg_disk.proofs.Moments.{IsImage-content}
 use Rattle.cg_gate.specs.Gates.{IsOpen, IsClosed}
@@ -12,13 +12,10 @@ use Rattle.cg_root.proofs.Stored.{CountingRoot-same, HasNoRoot-same, HasBadRoot-
 use Rattle.cg_root.proofs.Unique.{CountingRoot-unique, CountingRoot-some, CountingRoot-good}
 use Rattle.cg_log.specs.Carried.{Content, LogAt, Carries, AllCarry, HoldsContent, tails}
 use Rattle.cg_log.specs.Faults.{Tells, IsOutOfReach, IsReadingFault}
-use Rattle.cg_log.specs.Loaded.{IsTailEnd, IsLoaded}
 use Rattle.cg_log.specs.Ready.{IsReady, last_id}
-use Rattle.cg_log.specs.Segments.{Frames, Filled, ids_of, frames_of, counted, end_of_frames, segment_of, AreStored}
+use Rattle.cg_log.specs.Segments.{Frames, ids_of, frames_of, counted, end_of_frames, segment_of}
 use Rattle.cg_log.specs.declared.fault.LogFault.{LogFault}
 use Rattle.cg_log.specs.declared.fault.LogFault.TheVariants as log_fault
-use Rattle.cg_log.specs.declared.loading.Loaded.{Loaded}
-use Rattle.cg_log.specs.declared.loading.TailEnd.{TailEnd}
 use Rattle.cg_log.specs.declared.numbers.TheConstants.{COMMAND_NUMBER_MAX}
 use Rattle.cg_log.proofs.Filled.{AreStored-back, AreStored-same, AreStored-unique, HasFramesTo-end, ids_of-push, last_id-push}
 
@@ -64,34 +61,6 @@ module _ (image : Image) (sectors : ℕ) (root : Root) (counting : CountingRoot 
   Tells-reading fault (inr (inl memory)) none = subst (Tells image sectors) (sym memory) tt
   Tells-reading fault (inr (inr device)) none = subst (Tells image sectors) (sym device) tt
 
-  pub none-base : ((segments : List Filled) → root.base ≡ ids_of segments → AreStored image segments → ⊥) → (n : ℕ) (base tail : Frames) → Carries image sectors n base tail → ⊥
-  none-base bad n base tail c =
-      let same : root ≡ c.root = CountingRoot-unique image sectors root c.root counting c.stored.counting in
-      bad c.has.base (ap (λ (r : Root). r.base) same ∙ c.stored.base_ids) c.stored.base
-
-  pub none-tail : ((segments : List Filled) → root.tail ≡ ids_of segments → AreStored image segments → COMMAND_NUMBER_MAX < root.base_number + counted (frames_of segments)) → (n : ℕ) (base tail : Frames) → Carries image sectors n base tail → ⊥
-  none-tail bad n base tail c =
-      let same : root ≡ c.root = CountingRoot-unique image sectors root c.root counting c.stored.counting in
-      let past = bad (tails c.has) (ap (λ (r : Root). r.tail) same ∙ c.stored.tail_ids) c.stored.tail in
-      let number : n ≡ root.base_number + counted (frames_of (tails c.has)) = c.number ∙ (λ i. (sym same i).base_number + counted (c.tail_frames i)) in
-      omega (arith, past, number, c.in_range)
-
-  -- a log that was read
-  pub IsLoaded-read : (tail : TailEnd) (is_other_open : Bool) (base sealed : List Filled) (last : Filled) → root.base ≡ ids_of base → AreStored image base → IsTailEnd image root.base_number root.tail sealed last tail → IsLoaded image sectors record { root = root; tail = tail; is_other_open = is_other_open } record { base = base; sealed = sealed; last = last }
-  IsLoaded-read tail is_other_open base sealed last base_ids stored end = record {
-    stored = record { counting = counting; base_ids = base_ids; tail_ids = end.ids_are; base = stored; tail = end.stored };
-    end_is = end.end_is;
-    number_is = end.number_is;
-  }
-
-pub IsTailEnd-same : (a b : Image) (base_number : ℕ) (ids ids' : List ℕ) (sealed : List Filled) (last : Filled) (tail : TailEnd) → ((s : ℕ) → b s ≡ a s) → ids ≡ ids' → IsTailEnd a base_number ids sealed last tail → IsTailEnd b base_number ids' sealed last tail
-IsTailEnd-same a b base_number ids ids' sealed last tail same ids_same end = record {
-  ids_are = sym ids_same ∙ end.ids_are;
-  stored = AreStored-same a b (sealed ++ last ∷ []) same end.stored;
-  end_is = end.end_is;
-  number_is = end.number_is;
-}
-
 pub Tells-same : (a b : Image) (sectors : ℕ) (fault : LogFault) → ((s : ℕ) → b s ≡ a s) → Tells a sectors fault → Tells b sectors fault
 Tells-same a b sectors log_fault.Memory same told = tt
 Tells-same a b sectors log_fault.Device same told = tt
@@ -114,20 +83,20 @@ IsClosed-last image sectors root has at =
     let last = (AreStored-back image has.sealed (has.last ∷ []) at.tail).0 in
     subst (λ (k : ℕ). IsClosed image (first_sector k + end_of_frames 0 has.last.1)) (sym id) (HasFramesTo-end image (segment_of has.last.0) has.last.1 last).closed
 
-module _ (m : Moment) (sectors : ℕ) (content : Image) (images : (image : Image) → IsImage m image → (s : ℕ) → image s ≡ content s) (loaded : Loaded) (has : Content) (is : IsLoaded content sectors loaded has) where
-  pub HoldsContent-loaded : HoldsContent m sectors loaded.root loaded.tail.end loaded.tail.number has
-  HoldsContent-loaded = record {
-    keeps = λ image is_image. LogAt-same content image sectors loaded.root has (images image is_image) is.stored;
-    end_is = is.end_is;
-    number_is = is.number_is;
+module _ (m : Moment) (sectors : ℕ) (content : Image) (images : (image : Image) → IsImage m image → (s : ℕ) → image s ≡ content s) (root : Root) (end : ℕ) (has : Content) (stored : LogAt content sectors root has) (end_is : end ≡ end_of_frames 0 has.last.1) where
+  pub HoldsContent-read : (number : ℕ) → number ≡ root.base_number + counted (frames_of (tails has)) → HoldsContent m sectors root end number has
+  HoldsContent-read number number_is = record {
+    keeps = λ image is_image. LogAt-same content image sectors root has (images image is_image) stored;
+    end_is = end_is;
+    number_is = number_is;
   }
 
-  pub IsReady-loaded : (IsTrue loaded.is_other_open ↔ IsOpen content (gate_of (other_slot loaded.root.slot))) → IsReady m sectors loaded.root loaded.tail.end loaded.is_other_open
-  IsReady-loaded other = record {
-    root_counts = λ image is_image. (LogAt-same content image sectors loaded.root has (images image is_image) is.stored).counting;
-    closed = λ image is_image. subst (λ (e : ℕ). IsClosed image (first_sector (last_id loaded.root.tail) + e)) (sym is.end_is) (IsClosed-last image sectors loaded.root has (LogAt-same content image sectors loaded.root has (images image is_image) is.stored));
+  pub IsReady-read : (is_other_open : Bool) → (IsTrue is_other_open ↔ IsOpen content (gate_of (other_slot root.slot))) → IsReady m sectors root end is_other_open
+  IsReady-read is_other_open other = record {
+    root_counts = λ image is_image. (LogAt-same content image sectors root has (images image is_image) stored).counting;
+    closed = λ image is_image. subst (λ (e : ℕ). IsClosed image (first_sector (last_id root.tail) + e)) (sym end_is) (IsClosed-last image sectors root has (LogAt-same content image sectors root has (images image is_image) stored));
     other_open = λ opened image is_image. ap (λ (l : List ℕ). get_or l 0 0) (images image is_image _) ∙ other.0 opened;
-    other_closed = λ shut image is_image opened. absurd (not_both loaded.is_other_open shut (other.1 (ap (λ (l : List ℕ). get_or l 0 0) (sym (images image is_image _)) ∙ opened)));
+    other_closed = λ shut image is_image opened. absurd (not_both is_other_open shut (other.1 (ap (λ (l : List ℕ). get_or l 0 0) (sym (images image is_image _)) ∙ opened)));
   }
     where
       not_both : (b : Bool) → b ≡ false → b ≡ true → ⊥

@@ -5,3 +5,7 @@ pub mod Images
 pub mod Moves
 pub mod Reading
 pub mod Room
+pub mod ReadTo
+pub mod Closed
+pub mod Next
+pub mod Whole

@@ -1,5 +1,5 @@
 -- Reading the frames of segments one by one.
-use Rattle.std.proofs.Common.{◌≡◌, ◌⊎◌, inl, inr, Bool, true, false, ℕ, zero, suc, ◌+◌, ◌-◌, ◌<◌, ◌≤◌, List, [], ◌∷◌, ◌++◌, length, take, get_or, sym, ap, ◌∙◌, subst, refl, arith, append_assoc, add-one, Result, Ok, Err, Option, Some, None}
+use Rattle.std.proofs.Common.{◌≡◌, Bool, ℕ, zero, suc, ◌+◌, ◌<◌, ◌≤◌, List, [], ◌∷◌, ◌++◌, length, take, get_or, sym, ap, ◌∙◌, subst, refl, arith, append_assoc, Err, Option, Some, None}
 use Rattle.std.proofs.lemmas.List.{append-nil, map-append, take_all, length-append}
 use Rattle.cg_disk.specs.Disk.{Image, Moment, History, IsImage, Stays, present}
 use Rattle.cg_disk.proofs.Moments.{IsImage-content, LeavesOnly-present, LeavesOnly-starts, LeavesOnly-stays}
@@ -14,7 +14,7 @@ use Rattle.cg_root.specs.Roots.{CountingRoot}
 use Rattle.cg_root.specs.Slots.{gate_of, other_slot}
 use Rattle.cg_root.specs.declared.root.Root.{Root}
 use Rattle.cg_log.proofs.Filled.{AreStored-append}
-use Rattle.cg_log.specs.Cursors.{IsAfter, IsAt, IsNext, frames_at, index_of, read_limit, segments_before}
+use Rattle.cg_log.specs.Cursors.{IsAfter, IsNext, frames_at, index_of, read_limit, segments_before}
 use Rattle.cg_log.specs.Scanned.{Finds}
 use Rattle.cg_log.specs.Segments.{Frames, Filled, segment_of, ids_of, frames_of, end_of_frames, AreStored}
 use Rattle.cg_log.specs.declared.cursor.Cursor.{Cursor}

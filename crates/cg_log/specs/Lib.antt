@@ -14,6 +14,7 @@ pub mod Props
 pub mod FaultOf
 pub mod Faults
 pub mod Scanned
-pub mod Loaded
+pub mod ReadTo
 pub mod Log
+pub mod Openings
 pub mod Cursors

@@ -1,6 +1,7 @@
 //! Formatting a disk.
 ghost use Rattle.std.specs.Prelude.{◌≡◌, ◌≢◌, ◌↔◌, ◌+◌, ◌≤◌, ◌<◌, [], true, IfErr, IfOk, OnOk, IsErrOf, is_err};
 ghost use Rattle.cg_disk.specs.Disk.{Counts, present};
+ghost use Rattle.cg_gate.specs.Gates.{IsClosedGate};
 ghost use Rattle.cg_gate.specs.Layout.{segment_count, first_sector};
 ghost use Rattle.cg_log.specs.Carried.{AllCarry, KeepsLog};
 ghost use Rattle.cg_log.specs.Faults.{is_device_failure, IsWritingFault};
@@ -9,7 +10,7 @@ ghost use Rattle.cg_log.specs.Ready.{AllClosed};
 ghost use Rattle.cg_root.specs.Slots.{gate_of};
 
 use crate::LogFault;
-use cg_disk::{DiskFault, SectorDisk};
+use cg_disk::{DiskFault, SECTOR_BYTES, SectorDisk};
 use cg_gate::{close_gate, first_sector, segment_count};
 use cg_root::{Root, SegmentId, SegmentIds, Slot, publish};
 use std::alloc::{AllocError, Global};
@@ -32,7 +33,31 @@ fn make_first_root(alloc: Global) -> Result<Root, AllocError>
     })
 }
 
-// Closes the gates of both root slots, and the first gate of the first segment.
+// Returns the sector of a closed gate.
+fn closed_gate() -> [u8; SECTOR_BYTES]
+    ensures { IsClosedGate result }
+{
+    [0; SECTOR_BYTES]
+}
+
+// Closes the gates of both root slots, with one sync.
+fn close_root_gates<D: SectorDisk>(disk: &mut D) -> Result<(), DiskFault>
+    requires { 4 ≤ D.size disk.old }
+
+    ensures zero { D.is_honest disk.old ≡ true → OnOk result (AllClosed (present (D.history disk.new)) (gate_of Slot.Zero)) }
+    ensures one { D.is_honest disk.old ≡ true → OnOk result (AllClosed (present (D.history disk.new)) (gate_of Slot.One)) }
+    ensures cause { Counts (D.failures disk.old) (D.failures disk.new) (is_err result) }
+    ensures same_size { D.size disk.new ≡ D.size disk.old }
+    ensures same_honesty { D.is_honest disk.new ≡ D.is_honest disk.old }
+{
+    let closed = closed_gate();
+    disk.write(Slot::Zero.gate(), &closed)?;
+    disk.write(Slot::One.gate(), &closed)?;
+    disk.sync()?;
+    Ok(())
+}
+
+// Closes the gates of both root slots, and then the first gate of the first segment.
 fn close_gates<D: SectorDisk>(disk: &mut D) -> Result<(), DiskFault>
     requires { 0 < segment_count (D.size disk.old) }
 
@@ -45,8 +70,7 @@ fn close_gates<D: SectorDisk>(disk: &mut D) -> Result<(), DiskFault>
     ensures same_honesty { D.is_honest disk.new ≡ D.is_honest disk.old }
 {
     let first = first_sector(FIRST_SEGMENT);
-    close_gate(disk, Slot::Zero.gate())?;
-    close_gate(disk, Slot::One.gate())?;
+    close_root_gates(disk)?;
     close_gate(disk, first)?;
     Ok(())
 }

@@ -11,9 +11,8 @@ ghost use Rattle.cg_log.specs.Segments.{Frames};
 ghost use Rattle.cg_log.specs.declared.numbers.TheConstants.{COMMAND_NUMBER_MAX};
 ghost use Rattle.cg_log.specs.Props.{IsLawful-prop, ready-prop};
 
-use crate::LogFault;
 use crate::free::count_free;
-use crate::loading::{Loaded, load};
+use crate::{LogFault, Opening};
 use cg_disk::SectorDisk;
 use cg_root::Root;
 use std::alloc::Global;
@@ -58,25 +57,14 @@ impl<D: SectorDisk> Log<D> {
         ensures same_size { D.size (disk_after result) ≡ D.size disk }
         ensures same_honesty { D.is_honest (disk_after result) ≡ D.is_honest disk }
     {
-        let mut disk = disk;
-        let loaded = match load(alloc, &mut disk) {
-            Ok(loaded) => loaded,
-            Err(fault) => return Err((fault, disk)),
+        let mut opening = match Opening::begin(alloc, disk) {
+            Ok(opening) => opening,
+            Err(refused) => return Err(refused),
         };
-        let Loaded {
-            root,
-            tail,
-            is_other_open,
-        } = loaded;
-        Ok(Log {
-            alloc,
-            disk,
-            root,
-            end: tail.end,
-            number: tail.number,
-            is_other_open,
-            has_failed: false,
-        })
+        match opening.read_all() {
+            Ok(()) => Ok(opening.finish()),
+            Err(fault) => Err((fault, opening.into_disk())),
+        }
     }
 
     /// Returns the number of the last command: the base number, and the commands of the tail.

@@ -1,28 +1,34 @@
 //! Reading the frames of segments.
-ghost use Rattle.std.specs.Prelude.{◌≡◌, ℕ, ◌+◌, ◌-◌, ◌^◌, ◌≤◌, ◌<◌, min, true, length, List, IfOk, IfErr, IfSome, IsErrOf, IsTrue, nat_lt};
-ghost use Rattle.std.specs.List.{list_all};
-ghost use Rattle.cg_disk.specs.Disk.{Counts, Stays, present};
-ghost use Rattle.cg_frame.specs.Frames.{HasFrames, next_gate};
+ghost use Rattle.std.specs.Prelude.{◌≡◌, ℕ, ◌+◌, ◌*◌, ◌-◌, ◌≤◌, ◌<◌, ◌++◌, true, length, slice_index, IfOk, IfErr, IfSome};
+ghost use Rattle.cg_disk.specs.Disk.{Counts, Image, Stays, present};
+ghost use Rattle.cg_frame.specs.Frames.{next_gate};
+ghost use Rattle.cg_frame.specs.Heads.{HasContent};
+ghost use Rattle.cg_frame.specs.Reader.{IsBuffered, position_of, segment_read};
 ghost use Rattle.cg_gate.specs.Layout.{segment_count};
 ghost use Rattle.cg_gate.specs.declared.layout.TheConstants.{SEGMENT_SECTORS};
+ghost use Rattle.cg_root.specs.Roots.{IsLawful, root_ids};
 ghost use Rattle.cg_log.specs.Faults.{is_device_failure, IsReadingFault};
-ghost use Rattle.cg_log.specs.Scanned.{Finds, IsExtent, AreCounted};
-ghost use Rattle.cg_log.specs.Segments.{Frames, Filled, segment_of, ids_of, AreStored};
+ghost use Rattle.cg_log.specs.ReadTo.{FindsNext, IsReadTo, id_at};
+ghost use Rattle.cg_log.specs.Scanned.{Finds};
+ghost use Rattle.cg_log.specs.Segments.{Frames, segment_of};
 
 use crate::LogFault;
 use crate::segment::segment;
 use cg_disk::SectorDisk;
-use cg_frame::{Frame, scan};
-use cg_root::SegmentId;
+use cg_frame::{Frame, SegmentReader, scan};
+use cg_root::{Root, SegmentId};
 use std::alloc::Global;
 
-/// The frames of a segment, as far as the log needs them.
-#[derive(Clone, Copy)]
-pub(crate) struct Extent {
-    /// Position of the gate after the last frame.
-    pub(crate) end: u64,
-    /// Number of their commands, up to `u64::MAX`.
-    pub(crate) count: u64,
+/// Returns the id at an index of these two lists, of which the second follows the first.
+pub(crate) fn id_at(base: &[SegmentId], tail: &[SegmentId], index: usize) -> SegmentId
+    requires { index < length (base.now ++ tail.now) }
+    ensures { result ≡ slice_index (base.now ++ tail.now) index }
+{
+    if index < base.len() {
+        base[index]
+    } else {
+        tail[index - base.len()]
+    }
 }
 
 /// Reads the frame at a position of a segment, if its gate is open.
@@ -52,60 +58,46 @@ pub(crate) fn next_frame<D: SectorDisk>(
     Ok(frame)
 }
 
-/// Reads the frames of a segment, up to the closed gate after the last.
-pub(crate) fn read_segment<D: SectorDisk>(
-    alloc: Global,
+/// Reads the next frame, from the position of a reader in the segment at an index on, and keeps its payload in the
+/// reader. Returns the count of its commands, and moves the index to its segment; `None` after the last frame.
+pub(crate) fn read_on<D: SectorDisk>(
     disk: &mut D,
-    id: SegmentId,
-) -> Result<Extent, LogFault>
-    requires on_disk { id < segment_count (D.size disk.old) }
+    root: &Root,
+    reader: &mut SegmentReader,
+    index: &mut usize,
+) -> Result<Option<u64>, LogFault>
+    requires lawful { IsLawful (D.size disk.old) root.now }
+    requires inside { index.old < length (root_ids root.now) }
+    requires at { segment_read reader.old ≡ segment_of (id_at root.now index.old) }
 
-    ensures frames { D.is_honest disk.old ≡ true → IfOk result (λ extent.
-        IsExtent (present (D.history disk.old)).content id extent) }
-    ensures bad { D.is_honest disk.old ≡ true → IsErrOf result LogFault.BadFrame →
-        (frames : Frames) → ¬ HasFrames (present (D.history disk.old)).content (segment_of id) frames }
-    ensures faults { IfErr result IsReadingFault }
-    ensures inside { IfOk result (λ extent. extent.end < SEGMENT_SECTORS) }
-    ensures device { Counts (D.failures disk.old) (D.failures disk.new) (is_device_failure result) }
-    ensures same_size { D.size disk.new ≡ D.size disk.old }
-    ensures same_honesty { D.is_honest disk.new ≡ D.is_honest disk.old }
-
-    // The content stays.
-    ensures time { D.is_honest disk.old ≡ true → Stays (D.history disk.old) (D.history disk.new) }
-{
-    let mut extent = Extent { end: 0, count: 0 };
-    while let Some(frame) = next_frame(alloc, disk, id, extent.end)? {
-        extent = Extent {
-            end: frame.next,
-            count: extent.count.saturating_add(frame.count),
-        };
-    }
-    Ok(extent)
-}
-
-/// Reads the frames of segments. Returns the number of their commands, up to `u64::MAX`.
-pub(crate) fn count_segments<D: SectorDisk>(
-    alloc: Global,
-    disk: &mut D,
-    ids: &[SegmentId],
-) -> Result<u64, LogFault>
-    requires on_disk { IsTrue (list_all (λ id. nat_lt id (segment_count (D.size disk.old))) ids.now) }
-
-    ensures frames { D.is_honest disk.old ≡ true → IfOk result (λ count.
-        (segments : List Filled) × AreCounted (present (D.history disk.old)).content ids.now segments count) }
-    ensures bad { D.is_honest disk.old ≡ true → IsErrOf result LogFault.BadFrame →
-        (segments : List Filled) → ids.now ≡ ids_of segments →
-        ¬ AreStored (present (D.history disk.old)).content segments }
+    ensures found { D.is_honest disk.old ≡ true → (image : Image) (number : ℕ) (read : Frames) →
+        HasContent (present (D.history disk.old)) image → IsBuffered image reader.old →
+        IsReadTo image root.now index.old (position_of reader.old) number read →
+        FindsNext image root.now number read index.new reader.new result }
+    ensures buffered { D.is_honest disk.old ≡ true → (image : Image) →
+        HasContent (present (D.history disk.old)) image → IsBuffered image reader.old → IsBuffered image reader.new }
+    ensures inside { index.new < length (root_ids root.now) }
+    ensures at { segment_read reader.new ≡ segment_of (id_at root.now index.new) }
+    ensures last { result ≡ Ok None → index.new + 1 ≡ length (root_ids root.now) }
+    ensures moves { IfOk result (λ o. IfSome o (λ _. SEGMENT_SECTORS * index.old + position_of reader.old
+        < SEGMENT_SECTORS * index.new + position_of reader.new)) }
+    ensures counted { IfOk result (λ o. IfSome o (λ count. 1 ≤ count)) }
     ensures faults { IfErr result IsReadingFault }
     ensures device { Counts (D.failures disk.old) (D.failures disk.new) (is_device_failure result) }
     ensures same_size { D.size disk.new ≡ D.size disk.old }
     ensures same_honesty { D.is_honest disk.new ≡ D.is_honest disk.old }
     ensures time { D.is_honest disk.old ≡ true → Stays (D.history disk.old) (D.history disk.new) }
 {
-    let mut count: u64 = 0;
-    for id in ids {
-        let extent = read_segment(alloc, disk, *id)?;
-        count = count.saturating_add(extent.count);
+    let base = root.base.as_slice();
+    let tail = root.tail.as_slice();
+    let last = base.len() + tail.len() - 1;
+    while *index < last {
+        if let Some(count) = reader.next(disk)? {
+            return Ok(Some(count));
+        }
+        *index += 1;
+        reader.restart(segment(id_at(base, tail, *index)));
     }
+    let count = reader.next(disk)?;
     Ok(count)
 }

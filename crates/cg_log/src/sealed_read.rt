@@ -11,23 +11,12 @@ ghost use Rattle.cg_log.specs.Segments.{Filled, Frames, ids_of, AreStored};
 ghost use Rattle.cg_root.specs.Roots.{root_ids};
 
 use crate::log::Log;
-use crate::scanning::next_frame;
+use crate::scanning::{id_at, next_frame};
 use crate::{Cursor, LogFault};
 use cg_disk::SectorDisk;
 use cg_frame::Frame;
 use cg_root::SegmentId;
 use std::alloc::Global;
-
-fn id_at(base: &[SegmentId], tail: &[SegmentId], index: usize) -> SegmentId
-    requires { index < length (base.now ++ tail.now) }
-    ensures { result ≡ slice_index (base.now ++ tail.now) index }
-{
-    if index < base.len() {
-        base[index]
-    } else {
-        tail[index - base.len()]
-    }
-}
 
 // Returns the index of an id; where it is not among these, how many there are.
 fn index_of(id: SegmentId, ids: &[SegmentId]) -> usize

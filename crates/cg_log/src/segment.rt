@@ -28,11 +28,3 @@ pub(crate) fn last_id(ids: &[SegmentId]) -> SegmentId
 {
     ids[ids.len() - 1]
 }
-
-/// Returns the ids before the last.
-pub(crate) fn earlier_ids(ids: &[SegmentId]) -> &[SegmentId]
-    requires { 1 ≤ length ids.now }
-    ensures { ids.now ≡ result.now ++ last_id ids.now ∷ [] }
-{
-    &ids[..ids.len() - 1]
-}

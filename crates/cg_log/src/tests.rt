@@ -136,10 +136,10 @@ fn number_after(
 #[test]
 fn an_append_that_is_stopped_is_there_or_not(rt: HostRuntime) -> Result<(), Fail> {
     let alloc = rt.alloc();
-    // Opening takes six calls of the device, a roll six, an append four.
-    for (rolls, all) in [(false, 10), (true, 16)] {
+    // Opening takes four calls of the device, a roll six, an append four.
+    for (rolls, all) in [(false, 8), (true, 14)] {
         for kind in [Crash::Keep, Crash::Lose] {
-            for calls in 6..=all {
+            for calls in 4..=all {
                 let (is_ok, number) = number_after(&rt, alloc, calls, rolls, kind)?;
                 assert!(rt; number == 3 || number == 5, "{calls}");
                 assert!(rt; !is_ok || number == 5, "{calls}");

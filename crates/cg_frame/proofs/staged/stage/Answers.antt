@@ -1,4 +1,3 @@
-use Rattle.std.proofs.Common.{length}
 use Rattle.cg_frame.proofs.Encoded.{payload-staged, IsStagedFrame-staged}
 use Rattle.cg_frame.proofs.staged.stage.Goals as goal
 

@@ -1,10 +1,9 @@
-use Rattle.std.proofs.Common.{◌≡◌, ◌<◌, ◌+◌, ◌++◌, ◌∙◌, sym, subst, refl, ap, arith, length, get_or, Ok, Err, Some, None, rules}
+use Rattle.std.proofs.Common.{◌≡◌, ◌<◌, ◌∙◌, sym, subst, refl, ap, arith, length, get_or, Ok, Err, Some, None}
 use Rattle.std.specs.Prelude.{IfSome}
 use Rattle.std.proofs.lemmas.Result.{err_from_is_err_and}
 use Rattle.cg_disk.specs.Disk.{present}
 use Rattle.cg_disk.proofs.Moments.{Changes-then, Stays-content}
 use Rattle.cg_frame.specs.Frames.{next_gate}
-use Rattle.cg_gate.specs.declared.layout.TheConstants.{SEGMENT_SECTORS}
 use Rattle.cg_log.specs.Scanned.{Finds}
 use Rattle.cg_log.specs.Segments.{ids_of}
 use Rattle.cg_log.specs.declared.fault.LogFault.TheVariants as log_fault
