@@ -5,12 +5,18 @@
 
 mod advice;
 mod call;
+mod command;
+mod command_line;
 mod line;
 mod loaded;
 mod player;
+mod poke;
+mod poked;
+mod poked_disk;
 mod request_line;
 mod script;
 mod script_line;
+mod sector_text;
 mod stage;
 mod stop;
 mod telling;
@@ -19,19 +25,28 @@ mod tests;
 mod text;
 mod unloaded;
 
-pub use script::{STATUS_BAD_LINE, STATUS_DONE, STATUS_IO, STATUS_SHORT, script};
+pub use command::command;
+pub use command_line::{SEGMENTS_DEFAULT, SEGMENTS_MAX};
+pub use script::{STATUS_BAD_LINE, STATUS_DONE, STATUS_IO, STATUS_SHORT, STATUS_USAGE, script};
+use std::env;
 use std::io::{self, BufReader};
 use std::process::ExitCode;
 
 fn main(rt: HostRuntime) -> ExitCode {
     let mut writer = io::writer(&rt);
+    let stderr = rt.stderr();
+    let mut faults = &stderr;
+    let words: Vec<String> = match words(&rt) {
+        Ok(words) => words,
+        Err(error) => return ExitCode::from(script::refuse_script(&mut writer)),
+    };
     let Ok(mut reader) = BufReader::new(rt.alloc(), rt.reader()) else {
         return ExitCode::from(script::refuse_script(&mut writer));
     };
-    let mut problem = None;
-    let status = script::explained_script(rt.alloc(), &mut reader, &mut writer, &mut problem);
-    if let Some((number, problem)) = problem {
-        let _unwritten = eprintln!(rt; "cg_sim: line {number}: {problem}");
-    }
+    let status = command(&rt, &words[1..], &mut reader, &mut writer, &mut faults);
     ExitCode::from(status)
+}
+
+fn words(rt: &HostRuntime) -> io::Result<Vec<String>> {
+    Ok(env::args(rt)?.collect(rt.alloc())?)
 }

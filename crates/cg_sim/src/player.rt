@@ -4,6 +4,7 @@ ghost use Rattle.cg_sim.specs.Line.{line_of};
 
 use crate::call::Call;
 use crate::line::{Line, draws_uuid};
+use crate::poke::Poke;
 use crate::stage::Stage;
 use crate::stop::Stop;
 use crate::telling;
@@ -59,6 +60,9 @@ impl Player {
     ) -> (Stage, Result<(), Stop>)
         ensures { IfErr result.1 (λ stop. (stop ≡ Stop.Memory) ⊎ (stop ≡ Stop.BadLine number)) }
     {
+        if stage.refuses(line) {
+            return (stage, Err(Stop::BadLine(number)));
+        }
         match line {
             Line::Skipped => (stage, Ok(())),
             Line::At(now) => self.wait(stage, *now),
@@ -69,11 +73,12 @@ impl Player {
             Line::Settle => stage.take_step(self.alloc, Step::Settle, out),
             Line::Flush => stage.flush(self.alloc, out),
             Line::Fuse(calls) => light(stage, *calls),
-            Line::Stop(crash) => (Stage::Unloaded(stage.stop(self.alloc, *crash)), Ok(())),
+            Line::Poke(sector, bytes) => {
+                stage.poke(self.alloc, number, Poke::new(*sector, bytes))
+            }
+            Line::Stop(crash) => self.stop(stage, *crash),
             Line::Load => self.load(stage, number, out),
-            Line::Reload => stage
-                .stop(self.alloc, Crash::Keep)
-                .load(self.alloc, self.now, out),
+            Line::Reload => self.reload(stage, out),
             Line::Close => stage.close(self.alloc, out),
             Line::Ask(session, request) => {
                 self.ask(
@@ -103,13 +108,31 @@ impl Player {
         stage.take_step(self.alloc, Step::Tick(now), out)
     }
 
+    fn stop(&self, stage: Stage, crash: Crash) -> (Stage, Result<(), Stop>)
+        ensures { IfErr result.1 (λ stop. stop ≡ Stop.Device) }
+    {
+        let (unloaded, put) = stage.stop(self.alloc, crash);
+        (Stage::Unloaded(unloaded), put)
+    }
+
+    // Stops and loads again, unless the disk fails in a poke.
+    fn reload(&self, stage: Stage, out: &mut Vec<u8>) -> (Stage, Result<(), Stop>)
+        ensures { IfErr result.1 (λ stop. (stop ≡ Stop.Memory) ⊎ (stop ≡ Stop.Device)) }
+    {
+        let (unloaded, put) = stage.stop(self.alloc, Crash::Keep);
+        match put {
+            Ok(()) => unloaded.load(self.alloc, self.now, out),
+            Err(stop) => (Stage::Unloaded(unloaded), Err(stop)),
+        }
+    }
+
     // Loads, unless something is loaded.
     fn load(&self, stage: Stage, number: u64, out: &mut Vec<u8>) -> (Stage, Result<(), Stop>)
         ensures { IfErr result.1 (λ stop. (stop ≡ Stop.Memory) ⊎ (stop ≡ Stop.BadLine number)) }
     {
         match stage {
             Stage::Unloaded(unloaded) => unloaded.load(self.alloc, self.now, out),
-            Stage::Loaded(loaded) => (Stage::Loaded(loaded), Err(Stop::BadLine(number))),
+            stage => (stage, Err(Stop::BadLine(number))),
         }
     }
 

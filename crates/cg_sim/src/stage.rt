@@ -1,10 +1,14 @@
 //! The state of a script: its disk, with or without something loaded.
-ghost use Rattle.std.specs.Prelude.{◌≡◌, ◌≤◌, IfErr};
-ghost use Rattle.cg_disk.specs.Mem.{mem_size};
-ghost use Rattle.cg_sim.specs.Disk.{sectors_needed};
+ghost use Rattle.std.specs.Prelude.{◌≡◌, ◌⊎◌, ◌≤◌, Err, false, true, IfErr};
+ghost use Rattle.cg_sim.specs.Poking.{may_follow_poke, sector_of};
+ghost use Rattle.cg_sim.specs.Stages.{is_poked, stage_sectors};
 
 use crate::call::Call;
+use crate::line::Line;
 use crate::loaded::Loaded;
+use crate::poke::Poke;
+use crate::poked::Poked;
+use crate::poked_disk::PokedDisk;
 use crate::stop::Stop;
 use crate::telling;
 use crate::unloaded::Unloaded;
@@ -20,32 +24,42 @@ pub type Disk = FuseDisk<MemDisk>;
 pub enum Stage {
     Unloaded(Unloaded),
     Loaded(Loaded),
+    /// Something is loaded, and pokes wait for the next stop, reload or close.
+    Poked(Poked),
 }
 
 impl Stage {
-    /// Takes a step that is not a request, if something is loaded, and prints its trace.
+    /// Returns whether pokes wait, and the line is not one of the few that may follow them.
+    pub fn refuses(&self, line: &Line<'_>) -> bool
+        ensures { result ≡ (is_poked self.now && not (may_follow_poke line.now)) }
+    {
+        matches!(self, Stage::Poked(_)) && !line.may_follow_poke()
+    }
+
+    /// Takes a step that is not a request, if something is loaded and no poke waits, and prints its trace.
     pub fn take_step(self, alloc: Global, step: Step, out: &mut Vec<u8>) -> (Self, Result<(), Stop>)
         ensures { IfErr result.1 (λ stop. stop ≡ Stop.Memory) }
     {
         match self {
-            Stage::Unloaded(unloaded) => (Stage::Unloaded(unloaded), Ok(())),
             Stage::Loaded(loaded) => {
                 let (loaded, printed) = loaded.take_step(alloc, step, out);
                 (Stage::Loaded(loaded), printed)
             }
+            stage => (stage, Ok(())),
         }
     }
 
-    /// Takes the steps that make queued commands durable, if something is loaded, and prints their trace.
+    /// Takes the steps that make queued commands durable, if something is loaded and no poke waits, and prints their
+    /// trace.
     pub fn flush(self, alloc: Global, out: &mut Vec<u8>) -> (Self, Result<(), Stop>)
         ensures { IfErr result.1 (λ stop. stop ≡ Stop.Memory) }
     {
         match self {
-            Stage::Unloaded(unloaded) => (Stage::Unloaded(unloaded), Ok(())),
             Stage::Loaded(loaded) => {
                 let (loaded, printed) = loaded.flush(alloc, out);
                 (Stage::Loaded(loaded), printed)
             }
+            stage => (stage, Ok(())),
         }
     }
 
@@ -62,6 +76,7 @@ impl Stage {
                 let (loaded, printed) = loaded.ask(alloc, call, out);
                 (Stage::Loaded(loaded), printed)
             }
+            Stage::Poked(poked) => (Stage::Poked(poked), Ok(())),
         }
     }
 
@@ -70,32 +85,92 @@ impl Stage {
         match self {
             Stage::Unloaded(unloaded) => unloaded.set_fuse(calls),
             Stage::Loaded(loaded) => loaded.set_fuse(calls),
+            Stage::Poked(_) => {}
+        }
+    }
+
+    /// Puts a poke down, or lets it wait if something is loaded. A poke outside the disk is refused as line `number`.
+    pub fn poke(self, alloc: Global, number: u64, poke: Poke) -> (Self, Result<(), Stop>)
+        ensures range { stage_sectors self ≤ sector_of poke → result.1 ≡ Err (Stop.BadLine number) }
+        ensures err { sector_of poke < stage_sectors self → IfErr result.1 (λ stop. (stop ≡ Stop.Memory) ⊎ (stop ≡ Stop.Device)) }
+    {
+        if poke.sector() >= self.sectors() {
+            return (self, Err(Stop::BadLine(number)));
+        }
+        match self {
+            Stage::Unloaded(mut unloaded) => {
+                let put = unloaded.poke(&poke);
+                (Stage::Unloaded(unloaded), put)
+            }
+            Stage::Loaded(loaded) => Stage::wait(Poked::new(alloc, loaded), poke),
+            Stage::Poked(poked) => Stage::wait(poked, poke),
+        }
+    }
+
+    // Lets one more poke wait.
+    fn wait(mut poked: Poked, poke: Poke) -> (Self, Result<(), Stop>)
+        requires { sector_of poke < poked_sectors poked }
+        ensures { IfErr result.1 (λ stop. stop ≡ Stop.Memory) }
+    {
+        match poked.add(poke) {
+            Ok(()) => (Stage::Poked(poked), Ok(())),
+            Err(_) => (Stage::Poked(poked), Err(Stop::Memory)),
+        }
+    }
+
+    // Returns the number of sectors of the disk.
+    fn sectors(&self) -> u64
+        ensures { result ≡ stage_sectors self.now }
+    {
+        match self {
+            Stage::Unloaded(unloaded) => unloaded.sectors(),
+            Stage::Loaded(loaded) => loaded.sectors(),
+            Stage::Poked(poked) => poked.sectors(),
         }
     }
 
     /// Refuses every pending request of what was loaded. Returns the refusals, and the disk without its fuse.
-    pub fn end(self, alloc: Global) -> (Vec<Outgoing>, MemDisk)
-        ensures { sectors_needed ≤ mem_size result.1 }
-    {
+    pub fn end(self, alloc: Global) -> (Vec<Outgoing>, PokedDisk) {
         match self {
-            Stage::Unloaded(unloaded) => (Vec::new(alloc), unloaded.into_disk()),
-            Stage::Loaded(loaded) => loaded.close(),
+            Stage::Unloaded(unloaded) => {
+                let disk = PokedDisk::unpoked(alloc, unloaded.into_disk());
+                (Vec::new(alloc), disk)
+            }
+            Stage::Loaded(loaded) => {
+                let (refused, disk) = loaded.close();
+                (refused, PokedDisk::unpoked(alloc, disk))
+            }
+            Stage::Poked(poked) => poked.close(),
         }
     }
 
-    /// Simulates power loss: the disk crashes, the fuse is lifted, and replies that had not left are lost.
-    pub fn stop(self, alloc: Global, crash: Crash) -> Unloaded {
+    /// Simulates power loss: the disk crashes, the pokes that wait are put down, the fuse is lifted, and replies that had
+    /// not left are lost.
+    pub fn stop(self, alloc: Global, crash: Crash) -> (Unloaded, Result<(), Stop>)
+        ensures { IfErr result.1 (λ stop. stop ≡ Stop.Device) }
+    {
         let (_, disk) = self.end(alloc);
-        Unloaded::new(alloc, disk.crash(crash))
+        let (disk, put) = disk.crash(crash);
+        (Unloaded::new(alloc, disk), put)
     }
 
     /// Prints the refusals of a closing desk, then acts as a power loss that keeps what was written.
     pub fn close(self, alloc: Global, out: &mut Vec<u8>) -> (Self, Result<(), Stop>)
-        ensures { IfErr result.1 (λ stop. stop ≡ Stop.Memory) }
+        ensures { IfErr result.1 (λ stop. (stop ≡ Stop.Memory) ⊎ (stop ≡ Stop.Device)) }
     {
         let (refused, disk) = self.end(alloc);
         let printed = telling::put_all(refused.as_slice(), out);
-        let unloaded = Unloaded::new(alloc, disk.crash(Crash::Keep));
-        (Stage::Unloaded(unloaded), printed)
+        let (disk, put) = disk.crash(Crash::Keep);
+        let unloaded = Unloaded::new(alloc, disk);
+        (Stage::Unloaded(unloaded), first_stop(printed, put))
     }
+}
+
+// Returns the first of two causes.
+fn first_stop(first: Result<(), Stop>, second: Result<(), Stop>) -> Result<(), Stop>
+    ensures { result ≡ earlier first second }
+{
+    first?;
+    second?;
+    Ok(())
 }

@@ -5,11 +5,12 @@ ghost use Rattle.cg_sim.specs.Disk.{sectors_needed, sectors_of};
 
 use crate::call::Call;
 use crate::loaded::Loaded;
+use crate::poke::Poke;
 use crate::stage::{Disk, Stage};
 use crate::stop::Stop;
 use crate::telling;
 use cg_desk::{Desk, ReplyToken};
-use cg_disk::{FuseDisk, MemDisk};
+use cg_disk::{FuseDisk, MemDisk, SectorDisk};
 use cg_names::{Code, Moment};
 use cg_world::World;
 use std::alloc::Global;
@@ -39,11 +40,12 @@ impl Unloaded {
         ensures { IfErr result.1 (λ stop. stop ≡ Stop.Memory) }
     {
         let Unloaded { desk, disk } = self;
+        let sectors = disk.sectors();
         match World::open(alloc, disk, now) {
             Ok(world) => {
                 let _ = desk.close();
                 let printed = telling::put_opening(alloc, world.opening(), out);
-                (Stage::Loaded(Loaded::new(world)), printed)
+                (Stage::Loaded(Loaded::new(world, sectors)), printed)
             }
             Err((fault, disk)) => {
                 let printed = telling::put_open_fault(fault, out);
@@ -73,6 +75,30 @@ impl Unloaded {
     /// Sets how many more calls the disk passes before it fails each.
     pub fn set_fuse(&mut self, calls: u64) {
         self.disk.set(Some(calls));
+    }
+
+    /// Returns the number of sectors of the disk.
+    pub fn sectors(&self) -> u64
+        ensures { result ≡ sectors_of (unloaded_disk self.now) }
+    {
+        self.disk.sectors()
+    }
+
+    /// Puts a poke down. The fuse neither counts its calls nor fails them.
+    pub fn poke(&mut self, poke: &Poke) -> Result<(), Stop>
+        requires { sector_of poke.now < sectors_of (unloaded_disk self.old) }
+        ensures put { OnOk result (IsPoked (poke.now ∷ []) (present (mem_history (inner_of (unloaded_disk self.old)))).content (present (mem_history (inner_of (unloaded_disk self.new))))) }
+        ensures fuse { calls_left (unloaded_disk self.new) ≡ calls_left (unloaded_disk self.old) }
+        ensures cause { Counts (mem_failures (inner_of (unloaded_disk self.old))) (mem_failures (inner_of (unloaded_disk self.new))) (is_err result) }
+    {
+        let calls = self.disk.calls_left();
+        self.disk.set(None);
+        let put = poke.put(&mut self.disk);
+        self.disk.set(calls);
+        match put {
+            Ok(()) => Ok(()),
+            Err(_) => Err(Stop::Device),
+        }
     }
 
     /// Returns the disk without its fuse.

@@ -1,0 +1,2 @@
+-- The command line.
+use Rattle.std.specs.Prelude.{ℕ}

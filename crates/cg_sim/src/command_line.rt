@@ -1,0 +1,64 @@
+//! The words of the command line.
+ghost use Rattle.std.specs.Prelude.{◌≡◌, map, IfOk, IfErr};
+ghost use Rattle.clap.specs.Words.{FailsBy, app_of, fault_of, found_of, is_broken};
+ghost use Rattle.cg_sim.specs.CommandLine.{segments_in, sim_app};
+
+use clap::{Arg, ArgMatches, Command, Error, value_parser};
+use std::alloc::{AllocError, Global};
+use std::convert::AsStr;
+
+/// Number of segments of the disk without `--segments`.
+pub const SEGMENTS_DEFAULT: u64 = 8;
+
+/// Greatest number of segments of the disk.
+pub const SEGMENTS_MAX: u64 = 200;
+
+/// What help says of script lines.
+const SCRIPT_HELP: &str = "\
+Script lines (blank lines and lines that begin with # are skipped):
+  s<digits> REQUEST           a request of that session: JOIN, SYNC, BEAT, LEAVE,
+                              COMMIT, FETCH, DESCRIBE, DELETE or LIST
+  at M, tick M                set the moment in milliseconds; tick also runs timeouts
+  gone s<digits>              the session is closed
+  take, append, settle        hand out a batch, store it, release its replies
+  flush                       take, append and settle
+  fuse K                      the disk passes K more calls, then fails each
+  poke S xBYTES               sector S holds these bytes, then zeros; on a loaded
+                              disk only pokes may follow before stop, reload or close
+  stop keep, stop lose        power loss; unsynced writes are kept or lost
+  load                        open the log, and print LOADED or FAULT
+  reload                      stop keep, then load
+  close                       refuse every pending request, then stop keep
+
+Exit status: 0 the script ended, 1 a bad line, 2 usage, 3 a failed read or write,
+4 out of memory, or the disk failed in a format or a poke.";
+
+fn segments_arg<'a>(alloc: Global) -> Arg<'a> {
+    Arg::new(alloc, "segments")
+        .long("segments")
+        .value_name("N")
+        .value_parser(value_parser!(u64).range(1..=200))
+        .help("Segments of 1 MiB on the disk, 1 to 200 [default: 8]")
+}
+
+fn command<'a>(alloc: Global) -> Result<Command<'a>, AllocError> {
+    Command::new(alloc, "cg_sim")
+        .no_binary_name(true)
+        .about("Runs a script of requests and steps, read from standard input, on a disk in memory")
+        .after_help(SCRIPT_HELP)
+        .arg(segments_arg(alloc))
+}
+
+// Returns the number of segments that a parse found.
+fn segments_in(matches: &ArgMatches<'_>) -> u64 {
+    match matches.get_one::<u64>("segments") {
+        Some(segments) => segments,
+        None => SEGMENTS_DEFAULT,
+    }
+}
+
+/// Returns the number of segments that these words ask for, without the program's name.
+pub fn segments<S: AsStr>(alloc: Global, words: &[S]) -> Result<u64, Error> {
+    let matches = command(alloc)?.try_get_matches_from(words)?;
+    Ok(segments_in(&matches))
+}

@@ -1,0 +1,64 @@
+//! Pokes: bytes that a script puts on the disk.
+ghost use Rattle.std.specs.Prelude.{◌≡◌, ◌<◌, ◌∷◌, [], length, true, OnOk, is_err};
+ghost use Rattle.cg_disk.specs.Disk.{Changes, Counts, present};
+ghost use Rattle.cg_disk.specs.declared.disk.TheConstants.{SECTOR_BYTES};
+ghost use Rattle.cg_line.specs.Fields.{bytes_in};
+ghost use Rattle.cg_sim.specs.Poking.{AreWithin, IsPoked, content_of, filled, sector_of};
+
+use crate::sector_text::SectorText;
+use cg_disk::{DiskFault, SECTOR_BYTES, SectorDisk};
+
+/// New content of one sector.
+#[derive(Clone, Copy)]
+pub struct Poke {
+    sector: u64,
+    content: [u8; SECTOR_BYTES],
+    ghost whole: { length content ≡ SECTOR_BYTES },
+}
+
+impl Poke {
+    /// Creates the poke of a script line: the bytes of the text, and zeros after them.
+    pub fn new(sector: u64, text: &SectorText<'_>) -> Self
+        ensures sector { sector_of result ≡ sector }
+        ensures content { content_of result ≡ filled (bytes_in text.now) }
+    {
+        Poke {
+            sector,
+            content: text.sector(),
+        }
+    }
+
+    /// Returns the position of the sector.
+    pub fn sector(&self) -> u64
+        ensures { result ≡ sector_of self.now }
+    {
+        self.sector
+    }
+
+    /// Writes the sector and syncs the disk.
+    pub fn put<D: SectorDisk>(&self, disk: &mut D) -> Result<(), DiskFault>
+        requires { sector_of self.now < D.size disk.old }
+        ensures put { D.is_honest disk.old ≡ true → OnOk result (IsPoked (self.now ∷ []) (present (D.history disk.old)).content (present (D.history disk.new))) }
+        ensures same_size { D.size disk.new ≡ D.size disk.old }
+        ensures same_honesty { D.is_honest disk.new ≡ D.is_honest disk.old }
+        ensures cause { Counts (D.failures disk.old) (D.failures disk.new) (is_err result) }
+    {
+        disk.write(self.sector, &self.content)?;
+        disk.sync()?;
+        Ok(())
+    }
+}
+
+/// Writes the sectors of the pokes, in their order, and syncs the disk after each.
+pub fn put_all<D: SectorDisk>(pokes: &[Poke], disk: &mut D) -> Result<(), DiskFault>
+    requires { AreWithin (D.size disk.old) pokes.now }
+    ensures put { D.is_honest disk.old ≡ true → IsSynced (present (D.history disk.old)) → OnOk result (IsPoked pokes.now (present (D.history disk.old)).content (present (D.history disk.new))) }
+    ensures same_size { D.size disk.new ≡ D.size disk.old }
+    ensures same_honesty { D.is_honest disk.new ≡ D.is_honest disk.old }
+    ensures cause { Counts (D.failures disk.old) (D.failures disk.new) (is_err result) }
+{
+    for poke in pokes {
+        poke.put(disk)?;
+    }
+    Ok(())
+}

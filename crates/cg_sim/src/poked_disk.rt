@@ -1,0 +1,56 @@
+//! A disk that is taken from a stage, with the pokes that wait for its crash.
+ghost use Rattle.std.specs.Prelude.{◌≡◌, OnOk};
+ghost use Rattle.cg_disk.specs.Crash.{IsLastSynced};
+ghost use Rattle.cg_disk.specs.Disk.{Image, present};
+ghost use Rattle.cg_disk.specs.Mem.{mem_history, mem_size};
+ghost use Rattle.cg_sim.specs.Poking.{AreWithin, IsPoked, pokes_of, disk_of};
+
+use crate::poke::{self, Poke};
+use crate::stop::Stop;
+use cg_disk::{Crash, MemDisk};
+use std::alloc::Global;
+
+/// Disk without its fuse, and the pokes that are put down after its crash, in their order.
+#[derive(Drop)]
+pub struct PokedDisk {
+    disk: MemDisk,
+    pokes: Vec<Poke>,
+    ghost within: { AreWithin (mem_size disk) pokes.items },
+}
+
+impl PokedDisk {
+    /// Takes a disk for which these pokes wait.
+    pub fn new(disk: MemDisk, pokes: Vec<Poke>) -> Self
+        requires { AreWithin (mem_size disk) pokes.items }
+        ensures disk { disk_of result ≡ disk }
+        ensures pokes { pokes_of result ≡ pokes.items }
+    {
+        PokedDisk { disk, pokes }
+    }
+
+    /// Takes a disk for which no poke waits.
+    pub fn unpoked(alloc: Global, disk: MemDisk) -> Self
+        ensures disk { disk_of result ≡ disk }
+        ensures pokes { pokes_of result ≡ [] }
+    {
+        PokedDisk {
+            disk,
+            pokes: Vec::new(alloc),
+        }
+    }
+
+    /// Crashes the disk, and then puts the pokes down.
+    pub fn crash(self, kind: Crash) -> (MemDisk, Result<(), Stop>)
+        ensures size { mem_size result.0 ≡ mem_size (disk_of self) }
+        ensures kept { kind ≡ Crash.Keep → OnOk result.1 (IsPoked (pokes_of self) (present (mem_history (disk_of self))).content (present (mem_history result.0))) }
+        ensures lost { kind ≡ Crash.Lose → OnOk result.1 ((image : Image) × IsLastSynced (mem_history (disk_of self)) image × IsPoked (pokes_of self) image (present (mem_history result.0))) }
+        ensures err { IfErr result.1 (λ stop. stop ≡ Stop.Device) }
+    {
+        let PokedDisk { disk, pokes } = self;
+        let mut disk = disk.crash(kind);
+        match poke::put_all(pokes.as_slice(), &mut disk) {
+            Ok(()) => (disk, Ok(())),
+            Err(_) => (disk, Err(Stop::Device)),
+        }
+    }
+}
