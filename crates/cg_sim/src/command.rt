@@ -1,4 +1,9 @@
 //! The whole program, from the words of its command line to its exit status.
+ghost use Rattle.std.specs.Prelude.{◌≡◌, ◌≢◌, ◌⊎◌, map, []};
+ghost use Rattle.clap.specs.Words.{kind_of};
+ghost use Rattle.cg_sim.specs.CommandLine.{RefusedForMemory, faults_of};
+ghost use Rattle.cg_sim.specs.Ending.{Ends};
+
 use crate::advice::Problem;
 use crate::command_line;
 use crate::script::{self, STATUS_USAGE};
@@ -17,7 +22,11 @@ pub fn command<E: Alloc<A = Global>, S: AsStr, R: BufRead, W: Write, F: Write>(
     reader: &mut R,
     writer: &mut W,
     faults: &mut F,
-) -> u8 {
+) -> u8
+    ensures serves { faults_of (map S.text words.now) ≡ [] → Ends result (W.contents writer.old) (W.contents writer.new) }
+    ensures refuses { faults_of (map S.text words.now) ≢ [] → ((result ≡ STATUS_USAGE) × (W.contents writer.new ≡ W.contents writer.old))
+        ⊎ RefusedForMemory result (W.contents writer.old) (W.contents writer.new) }
+{
     match command_line::segments(rt.alloc(), words) {
         Ok(segments) => run(rt.alloc(), segments, reader, writer, faults),
         Err(error) => refuse_words(&error, writer, faults),
@@ -31,7 +40,9 @@ fn run<R: BufRead, W: Write, F: Write>(
     reader: &mut R,
     writer: &mut W,
     faults: &mut F,
-) -> u8 {
+) -> u8
+    ensures { Ends result (W.contents writer.old) (W.contents writer.new) }
+{
     let mut problem = None;
     let status = script::explained_script(alloc, reader, writer, segments, &mut problem);
     if let Some((number, problem)) = problem {
@@ -46,7 +57,10 @@ fn explain<F: Write>(faults: &mut F, number: u64, problem: Problem) {
 }
 
 // Prints the text of `clap` for words that it refused, unless it ran out of memory.
-fn refuse_words<W: Write, F: Write>(error: &Error, writer: &mut W, faults: &mut F) -> u8 {
+fn refuse_words<W: Write, F: Write>(error: &Error, writer: &mut W, faults: &mut F) -> u8
+    ensures memory { kind_of error.now ≡ ErrorKind.OutOfMemory → RefusedForMemory result (W.contents writer.old) (W.contents writer.new) }
+    ensures usage { kind_of error.now ≢ ErrorKind.OutOfMemory → (result ≡ STATUS_USAGE) × (W.contents writer.new ≡ W.contents writer.old) }
+{
     match error.kind() {
         ErrorKind::OutOfMemory => script::refuse_script(writer),
         _ => {

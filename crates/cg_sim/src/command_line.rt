@@ -1,7 +1,7 @@
 //! The words of the command line.
-ghost use Rattle.std.specs.Prelude.{◌≡◌, map, IfOk, IfErr};
-ghost use Rattle.clap.specs.Words.{FailsBy, app_of, fault_of, found_of, is_broken};
-ghost use Rattle.cg_sim.specs.CommandLine.{segments_in, sim_app};
+ghost use Rattle.std.specs.Prelude.{◌≡◌, map, codes, IfOk};
+ghost use Rattle.clap.specs.Words.{FailsBy, app_of, found_of, one_text, rule_of};
+ghost use Rattle.cg_sim.specs.CommandLine.{AsksFor, WordsAskFor, faults_of, segments_rule, sim_app};
 
 use clap::{Arg, ArgMatches, Command, Error, value_parser};
 use std::alloc::{AllocError, Global};
@@ -33,15 +33,19 @@ Script lines (blank lines and lines that begin with # are skipped):
 Exit status: 0 the script ended, 1 a bad line, 2 usage, 3 a failed read or write,
 4 out of memory, or the disk failed in a format or a poke.";
 
-fn segments_arg<'a>(alloc: Global) -> Arg<'a> {
+fn segments_arg<'a>(alloc: Global) -> Arg<'a>
+    ensures { rule_of result ≡ segments_rule }
+{
     Arg::new(alloc, "segments")
         .long("segments")
         .value_name("N")
-        .value_parser(value_parser!(u64).range(1..=200))
+        .value_parser(value_parser!(u64).range(1..=SEGMENTS_MAX as i64))
         .help("Segments of 1 MiB on the disk, 1 to 200 [default: 8]")
 }
 
-fn command<'a>(alloc: Global) -> Result<Command<'a>, AllocError> {
+fn command<'a>(alloc: Global) -> Result<Command<'a>, AllocError>
+    ensures { IfOk result (λ command. app_of command ≡ sim_app) }
+{
     Command::new(alloc, "cg_sim")
         .no_binary_name(true)
         .about("Runs a script of requests and steps, read from standard input, on a disk in memory")
@@ -50,7 +54,9 @@ fn command<'a>(alloc: Global) -> Result<Command<'a>, AllocError> {
 }
 
 // Returns the number of segments that a parse found.
-fn segments_in(matches: &ArgMatches<'_>) -> u64 {
+fn segments_in(matches: &ArgMatches<'_>) -> u64
+    ensures { AsksFor (one_text (found_of matches.now) (codes "segments")) result }
+{
     match matches.get_one::<u64>("segments") {
         Some(segments) => segments,
         None => SEGMENTS_DEFAULT,
@@ -58,7 +64,10 @@ fn segments_in(matches: &ArgMatches<'_>) -> u64 {
 }
 
 /// Returns the number of segments that these words ask for, without the program's name.
-pub fn segments<S: AsStr>(alloc: Global, words: &[S]) -> Result<u64, Error> {
+pub fn segments<S: AsStr>(alloc: Global, words: &[S]) -> Result<u64, Error>
+    ensures value { IfOk result (WordsAskFor (map S.text words.now)) }
+    ensures fails { FailsBy (faults_of (map S.text words.now)) result }
+{
     let matches = command(alloc)?.try_get_matches_from(words)?;
     Ok(segments_in(&matches))
 }

@@ -2,6 +2,7 @@
 ghost use Rattle.std.specs.Prelude.{◌≡◌, ◌⊎◌, ◌≤◌, ◌++◌, ℕ, Ok, Err, Some, [], IfOk, IfErr, IfSome, OnOk, List};
 ghost use Rattle.std.specs.Io.KnownBytes.{Appends};
 ghost use Rattle.cg_disk.specs.Mem.{mem_size};
+ghost use Rattle.cg_sim.specs.CommandLine.{RefusedForMemory};
 ghost use Rattle.cg_sim.specs.Disk.{disk_sectors, sectors_needed};
 ghost use Rattle.cg_sim.specs.Ending.{Ends, WritesThen, status_of};
 ghost use Rattle.cg_sim.specs.Telling.{bad_line, stop_text};
@@ -188,8 +189,7 @@ fn status_of(stop: Stop) -> u8
 
 /// Reports out of memory before a script began, and returns the exit status.
 pub fn refuse_script<W: Write>(writer: &mut W) -> u8
-    ensures ends { Ends result (W.contents writer.old) (W.contents writer.new) }
-    ensures short { (result ≡ STATUS_SHORT) ⊎ (result ≡ STATUS_IO) }
+    ensures { RefusedForMemory result (W.contents writer.old) (W.contents writer.new) }
 {
     match tell_stop(writer, Stop::Memory) {
         Ok(()) => STATUS_SHORT,
