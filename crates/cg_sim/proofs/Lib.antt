@@ -3,3 +3,4 @@ pub mod Value
 pub mod Front
 pub mod Known
 mod Lines
+pub mod Poking

@@ -1,14 +1,12 @@
 -- The disk of a script.
 use Rattle.std.specs.Prelude.{ℕ, ◌+◌, ◌*◌}
+use Rattle.cg_disk.specs.Disk.{Moment, present}
 use Rattle.cg_disk.specs.Fuse.{inner_of}
-use Rattle.cg_disk.specs.Mem.{mem_size}
+use Rattle.cg_disk.specs.Mem.{mem_history, mem_size}
 use Rattle.cg_disk.specs.declared.fuse.FuseDisk.{FuseDisk}
 use Rattle.cg_disk.specs.declared.mem.MemDisk.{MemDisk}
 use Rattle.cg_frame.specs.declared.segment.TheConstants.{SEGMENT_SECTORS}
 use Rattle.cg_store.specs.declared.segment.TheConstants.{FIRST_SEGMENT_SECTOR}
-use Rattle.cg_sim.specs.declared.loaded.Loaded.{Loaded}
-use Rattle.cg_sim.specs.declared.poked.Poked.{Poked}
-use Rattle.cg_sim.specs.declared.unloaded.Unloaded.{Unloaded}
 
 -- the sectors of the root slots and of this many segments
 abbrev pub disk_sectors : ℕ → ℕ
@@ -21,13 +19,6 @@ sectors_needed = FIRST_SEGMENT_SECTOR + SEGMENT_SECTORS
 abbrev pub sectors_of : FuseDisk MemDisk → ℕ
 sectors_of disk = mem_size (inner_of disk)
 
--- the disk from which nothing is loaded
-abbrev pub unloaded_disk : Unloaded → FuseDisk MemDisk
-unloaded_disk unloaded = unloaded.disk
-
--- the sectors of a loaded disk
-abbrev pub loaded_sectors : Loaded → ℕ
-loaded_sectors loaded = loaded.sectors
-
-abbrev pub poked_sectors : Poked → ℕ
-poked_sectors poked = loaded_sectors poked.loaded
+-- what a disk in memory holds now
+abbrev pub moment_of : MemDisk → Moment
+moment_of disk = present (mem_history disk)

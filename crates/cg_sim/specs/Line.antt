@@ -1,5 +1,5 @@
 -- The parsed form of a script line, or None for a bad line.
-use Rattle.std.specs.Prelude.{ℕ, List, length, nat_lt, Bool, Option, None, Some, if◌then◌else◌, codes}
+use Rattle.std.specs.Prelude.{ℕ, List, length, nat_lt, Bool, true, false, Option, None, Some, if◌then◌else◌, codes}
 use Rattle.std.specs.Option.{option_map}
 use Rattle.std.specs.Str.{bytes_eq}
 use Rattle.cg_disk.specs.declared.mem.Crash.TheVariants.{Keep, Lose}
@@ -66,3 +66,12 @@ unfoldable pub line_of : List ℕ → Option Line
 line_of text =
     if nat_lt SCRIPT_LINE_BYTES_MAX (length text) then None
     else (if is_skipped text then Some Skipped else first_of_two (step_line_of text) (first_of_two (power_line_of text) (worded_line_of text)))
+
+-- the line may follow a poke while something is loaded: the next stop, reload or close puts its bytes down
+abbrev pub may_follow_poke : Line → Bool
+may_follow_poke Skipped = true
+may_follow_poke (Poke sector text) = true
+may_follow_poke (Stop crash) = true
+may_follow_poke Reload = true
+may_follow_poke Close = true
+may_follow_poke _ = false

@@ -1,44 +1,33 @@
 -- Bytes that a script puts on the disk.
-use Rattle.std.specs.Prelude.{◌≡◌, ◌<◌, ℕ, ◌-◌, Bool, true, false, ◌==◌, List, ◌++◌, length, replicate, if◌then◌else◌}
+use Rattle.std.specs.Prelude.{◌≡◌, ◌<◌, ℕ, ◌-◌, ◌==◌, List, ◌++◌, length, replicate, if◌then◌else◌}
 use Rattle.std.specs.List.{All, fold}
 use Rattle.cg_disk.specs.Disk.{Image, IsSynced, Moment}
 use Rattle.cg_disk.specs.declared.disk.TheConstants.{SECTOR_BYTES}
-use Rattle.cg_sim.specs.declared.line.Line.{Line}
-use Rattle.cg_sim.specs.declared.line.Line.TheVariants.{Skipped, Poke, Stop, Reload, Close}
-use Rattle.cg_sim.specs.declared.poke.Poke as poke
+use Rattle.cg_sim.specs.declared.poke.Poke.{Poke}
 
 -- a sector with these bytes, and zeros after them
 unfoldable pub filled : List ℕ → List ℕ
 filled bytes = bytes ++ replicate (SECTOR_BYTES - length bytes) 0
 
-abbrev pub sector_of : poke.Poke → ℕ
+abbrev pub sector_of : Poke → ℕ
 sector_of p = p.sector
 
-abbrev pub content_of : poke.Poke → List ℕ
-content_of p = p.content
+abbrev pub content_of : Poke → List ℕ
+content_of p = p.content.items
 
 -- the content of a disk after a poke
-abbrev pub poked : Image → poke.Poke → Image
+abbrev pub poked : Image → Poke → Image
 poked image p s = if s == sector_of p then content_of p else image s
 
 -- the content of a disk after pokes, in their order
-abbrev pub poked_by : List poke.Poke → Image → Image
+abbrev pub poked_by : List Poke → Image → Image
 poked_by pokes image = fold poked image pokes
 
 -- a disk has the content that the pokes make of an image, and is synced
-pub record IsPoked (pokes : List poke.Poke) (image : Image) (now : Moment) : Type 0 where
+pub record IsPoked (pokes : List Poke) (image : Image) (now : Moment) : Type 0 where
   pub content : (s : ℕ) → now.content s ≡ poked_by pokes image s
   pub synced : IsSynced now
 
 -- every poke is in range of a disk with this many sectors
-abbrev pub AreWithin : ℕ → List poke.Poke → Type 0
+abbrev pub AreWithin : ℕ → List Poke → Type 0
 AreWithin sectors = All (λ p. sector_of p < sectors)
-
--- the line may follow a poke while something is loaded: the next stop, reload or close puts its bytes down
-abbrev pub may_follow_poke : Line → Bool
-may_follow_poke Skipped = true
-may_follow_poke (Poke sector text) = true
-may_follow_poke (Stop crash) = true
-may_follow_poke Reload = true
-may_follow_poke Close = true
-may_follow_poke _ = false

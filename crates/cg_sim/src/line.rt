@@ -1,7 +1,6 @@
 //! Parsing script lines. No function here allocates.
 ghost use Rattle.std.specs.Prelude.{◌≡◌};
 ghost use Rattle.std.specs.Option.{option_map};
-ghost use Rattle.cg_sim.specs.Poking.{may_follow_poke};
 ghost use Rattle.cg_sim.specs.Text.{draws_uuid, is_skipped, joiner_of, number_of};
 ghost use Rattle.cg_sim.specs.declared.text.TheConstants.{NUMBER_MAX};
 
@@ -50,7 +49,7 @@ pub enum Line<'a> {
 }
 
 impl<'a> Line<'a> {
-    ghost use Rattle.cg_sim.specs.Line.{line_of, poke_line_of, power_line_of, step_line_of, word_line_of, worded_line_of};
+    ghost use Rattle.cg_sim.specs.Line.{line_of, may_follow_poke, poke_line_of, power_line_of, step_line_of, word_line_of, worded_line_of};
 
     /// Parses a script line. Returns `None` if it is a bad one.
     #[tactic(auto, unfolding(crate::specs::Line::line_of))]

@@ -1,9 +1,11 @@
 //! A desk and its store, after a load.
 ghost use Rattle.std.specs.Prelude.{◌≡◌, ◌≤◌, IfErr};
+ghost use Rattle.cg_disk.specs.Fuse.{inner_of};
 ghost use Rattle.cg_disk.specs.Mem.{mem_size};
 ghost use Rattle.cg_store.specs.Store.{disk_of};
 ghost use Rattle.cg_world.specs.Sights.{store_of};
-ghost use Rattle.cg_sim.specs.Disk.{loaded_sectors, sectors_needed, sectors_of};
+ghost use Rattle.cg_sim.specs.Disk.{sectors_needed, sectors_of};
+ghost use Rattle.cg_sim.specs.Stages.{loaded_disk};
 
 use crate::call::Call;
 use crate::stage::Disk;
@@ -27,14 +29,14 @@ impl Loaded {
     pub fn new(world: World<Disk>, sectors: u64) -> Self
         requires roomy { sectors_needed ≤ sectors_of (disk_of (store_of world)) }
         requires sized { sectors ≡ sectors_of (disk_of (store_of world)) }
-        ensures { loaded_sectors result ≡ sectors }
+        ensures { loaded_disk result ≡ disk_of (store_of world) }
     {
         Loaded { world, sectors }
     }
 
     /// Returns the number of sectors of the disk.
     pub fn sectors(&self) -> u64
-        ensures { result ≡ loaded_sectors self.now }
+        ensures { result ≡ sectors_of (loaded_disk self.now) }
     {
         self.sectors
     }
@@ -93,7 +95,7 @@ impl Loaded {
     /// Refuses every pending request. Returns the refusals, and the disk without its fuse.
     pub fn close(self) -> (Vec<Outgoing>, MemDisk)
         ensures roomy { sectors_needed ≤ mem_size result.1 }
-        ensures size { mem_size result.1 ≡ loaded_sectors self }
+        ensures disk { result.1 ≡ inner_of (loaded_disk self) }
     {
         let Loaded {
             world,

@@ -1,10 +1,16 @@
 //! The effect of each script line.
-ghost use Rattle.std.specs.Prelude.{◌≡◌, ◌⊎◌, Ok, Err, None, IfErr};
+ghost use Rattle.std.specs.Prelude.{◌≡◌, ◌⊎◌, ◌<◌, ◌≤◌, ℕ, List, Ok, Err, None, Some, IfErr, IsTrue};
+ghost use Rattle.cg_disk.specs.Mem.{mem_size};
+ghost use Rattle.cg_sim.specs.Ending.{IsCause};
 ghost use Rattle.cg_sim.specs.Line.{line_of};
+ghost use Rattle.cg_sim.specs.Stages.{is_refused, stage_disk};
+ghost use Rattle.cg_sim.specs.declared.line.Line.{Line};
+ghost use Rattle.cg_sim.specs.declared.line.Line.TheVariants.{Poke};
 
 use crate::call::Call;
 use crate::line::{Line, draws_uuid};
 use crate::poke::Poke;
+use crate::sector_text::SectorText;
 use crate::stage::Stage;
 use crate::stop::Stop;
 use crate::telling;
@@ -42,7 +48,9 @@ impl Player {
         text: &[u8],
         out: &mut Vec<u8>,
     ) -> (Stage, Result<(), Stop>)
-        ensures err { IfErr result.1 (λ stop. (stop ≡ Stop.Memory) ⊎ (stop ≡ Stop.BadLine number)) }
+        ensures err { IfErr result.1 (λ stop. IsCause number stop) }
+        ensures order { (line : Line) → line_of text.now ≡ Some line → IsTrue (is_refused stage line) → result.1 ≡ Err (Stop.BadLine number) }
+        ensures range { (sector : ℕ) (word : List ℕ) → line_of text.now ≡ Some (Poke sector word) → mem_size (stage_disk stage) ≤ sector → result.1 ≡ Err (Stop.BadLine number) }
         ensures bad { line_of text.now ≡ None → result.1 ≡ Err (Stop.BadLine number) }
     {
         match Line::read(text) {
@@ -58,7 +66,9 @@ impl Player {
         line: &Line<'_>,
         out: &mut Vec<u8>,
     ) -> (Stage, Result<(), Stop>)
-        ensures { IfErr result.1 (λ stop. (stop ≡ Stop.Memory) ⊎ (stop ≡ Stop.BadLine number)) }
+        ensures err { IfErr result.1 (λ stop. IsCause number stop) }
+        ensures order { IsTrue (is_refused stage line.now) → result.1 ≡ Err (Stop.BadLine number) }
+        ensures range { (sector : ℕ) (word : List ℕ) → line.now ≡ Poke sector word → mem_size (stage_disk stage) ≤ sector → result.1 ≡ Err (Stop.BadLine number) }
     {
         if stage.refuses(line) {
             return (stage, Err(Stop::BadLine(number)));
@@ -73,9 +83,7 @@ impl Player {
             Line::Settle => stage.take_step(self.alloc, Step::Settle, out),
             Line::Flush => stage.flush(self.alloc, out),
             Line::Fuse(calls) => light(stage, *calls),
-            Line::Poke(sector, bytes) => {
-                stage.poke(self.alloc, number, Poke::new(*sector, bytes))
-            }
+            Line::Poke(sector, text) => self.poke(stage, number, *sector, text),
             Line::Stop(crash) => self.stop(stage, *crash),
             Line::Load => self.load(stage, number, out),
             Line::Reload => self.reload(stage, out),
@@ -106,6 +114,26 @@ impl Player {
     {
         self.now = now;
         stage.take_step(self.alloc, Step::Tick(now), out)
+    }
+
+    // Makes the poke of a line, and puts it down or lets it wait. It needs a sector that the disk has.
+    fn poke(
+        &self,
+        stage: Stage,
+        number: u64,
+        sector: u64,
+        text: &SectorText<'_>,
+    ) -> (Stage, Result<(), Stop>)
+        ensures range { mem_size (stage_disk stage) ≤ sector → result.1 ≡ Err (Stop.BadLine number) }
+        ensures err { sector < mem_size (stage_disk stage) → IfErr result.1 (λ stop. (stop ≡ Stop.Memory) ⊎ (stop ≡ Stop.Device)) }
+    {
+        if sector >= stage.sectors() {
+            return (stage, Err(Stop::BadLine(number)));
+        }
+        match Poke::new(self.alloc, sector, text) {
+            Ok(poke) => stage.poke(self.alloc, poke),
+            Err(_) => (stage, Err(Stop::Memory)),
+        }
     }
 
     fn stop(&self, stage: Stage, crash: Crash) -> (Stage, Result<(), Stop>)

@@ -1,31 +1,30 @@
 //! Pokes: bytes that a script puts on the disk.
-ghost use Rattle.std.specs.Prelude.{◌≡◌, ◌<◌, ◌∷◌, [], length, true, OnOk, is_err};
-ghost use Rattle.cg_disk.specs.Disk.{Changes, Counts, present};
+ghost use Rattle.std.specs.Prelude.{◌≡◌, ◌<◌, ◌∷◌, [], length, true, IfOk, OnOk, is_err};
+ghost use Rattle.cg_disk.specs.Disk.{Counts, IsSynced, present};
 ghost use Rattle.cg_disk.specs.declared.disk.TheConstants.{SECTOR_BYTES};
 ghost use Rattle.cg_line.specs.Fields.{bytes_in};
 ghost use Rattle.cg_sim.specs.Poking.{AreWithin, IsPoked, content_of, filled, sector_of};
 
 use crate::sector_text::SectorText;
-use cg_disk::{DiskFault, SECTOR_BYTES, SectorDisk};
+use cg_disk::{DiskFault, SectorDisk};
+use std::alloc::{AllocError, Global};
 
 /// New content of one sector.
-#[derive(Clone, Copy)]
+#[derive(Drop)]
 pub struct Poke {
     sector: u64,
-    content: [u8; SECTOR_BYTES],
-    ghost whole: { length content ≡ SECTOR_BYTES },
+    content: Vec<u8>,
+    ghost whole: { length content.items ≡ SECTOR_BYTES },
 }
 
 impl Poke {
     /// Creates the poke of a script line: the bytes of the text, and zeros after them.
-    pub fn new(sector: u64, text: &SectorText<'_>) -> Self
-        ensures sector { sector_of result ≡ sector }
-        ensures content { content_of result ≡ filled (bytes_in text.now) }
+    pub fn new(alloc: Global, sector: u64, text: &SectorText<'_>) -> Result<Self, AllocError>
+        ensures sector { IfOk result (λ poke. sector_of poke ≡ sector) }
+        ensures content { IfOk result (λ poke. content_of poke ≡ filled (bytes_in text.now)) }
     {
-        Poke {
-            sector,
-            content: text.sector(),
-        }
+        let content = text.sector(alloc)?;
+        Ok(Poke { sector, content })
     }
 
     /// Returns the position of the sector.
@@ -43,7 +42,7 @@ impl Poke {
         ensures same_honesty { D.is_honest disk.new ≡ D.is_honest disk.old }
         ensures cause { Counts (D.failures disk.old) (D.failures disk.new) (is_err result) }
     {
-        disk.write(self.sector, &self.content)?;
+        disk.write(self.sector, self.content.as_slice())?;
         disk.sync()?;
         Ok(())
     }

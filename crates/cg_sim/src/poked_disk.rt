@@ -1,9 +1,11 @@
 //! A disk that is taken from a stage, with the pokes that wait for its crash.
-ghost use Rattle.std.specs.Prelude.{◌≡◌, OnOk};
+ghost use Rattle.std.specs.Prelude.{◌≡◌, [], IfErr, OnOk};
 ghost use Rattle.cg_disk.specs.Crash.{IsLastSynced};
-ghost use Rattle.cg_disk.specs.Disk.{Image, present};
+ghost use Rattle.cg_disk.specs.Disk.{Image};
 ghost use Rattle.cg_disk.specs.Mem.{mem_history, mem_size};
-ghost use Rattle.cg_sim.specs.Poking.{AreWithin, IsPoked, pokes_of, disk_of};
+ghost use Rattle.cg_sim.specs.Disk.{moment_of};
+ghost use Rattle.cg_sim.specs.Poking.{AreWithin, IsPoked};
+ghost use Rattle.cg_sim.specs.Stages.{taken_disk, taken_pokes};
 
 use crate::poke::{self, Poke};
 use crate::stop::Stop;
@@ -22,16 +24,16 @@ impl PokedDisk {
     /// Takes a disk for which these pokes wait.
     pub fn new(disk: MemDisk, pokes: Vec<Poke>) -> Self
         requires { AreWithin (mem_size disk) pokes.items }
-        ensures disk { disk_of result ≡ disk }
-        ensures pokes { pokes_of result ≡ pokes.items }
+        ensures disk { taken_disk result ≡ disk }
+        ensures pokes { taken_pokes result ≡ pokes.items }
     {
         PokedDisk { disk, pokes }
     }
 
     /// Takes a disk for which no poke waits.
     pub fn unpoked(alloc: Global, disk: MemDisk) -> Self
-        ensures disk { disk_of result ≡ disk }
-        ensures pokes { pokes_of result ≡ [] }
+        ensures disk { taken_disk result ≡ disk }
+        ensures pokes { taken_pokes result ≡ [] }
     {
         PokedDisk {
             disk,
@@ -41,9 +43,9 @@ impl PokedDisk {
 
     /// Crashes the disk, and then puts the pokes down.
     pub fn crash(self, kind: Crash) -> (MemDisk, Result<(), Stop>)
-        ensures size { mem_size result.0 ≡ mem_size (disk_of self) }
-        ensures kept { kind ≡ Crash.Keep → OnOk result.1 (IsPoked (pokes_of self) (present (mem_history (disk_of self))).content (present (mem_history result.0))) }
-        ensures lost { kind ≡ Crash.Lose → OnOk result.1 ((image : Image) × IsLastSynced (mem_history (disk_of self)) image × IsPoked (pokes_of self) image (present (mem_history result.0))) }
+        ensures size { mem_size result.0 ≡ mem_size (taken_disk self) }
+        ensures kept { kind ≡ Crash.Keep → OnOk result.1 (IsPoked (taken_pokes self) (moment_of (taken_disk self)).content (moment_of result.0)) }
+        ensures lost { kind ≡ Crash.Lose → OnOk result.1 ((image : Image) × IsLastSynced (mem_history (taken_disk self)) image × IsPoked (taken_pokes self) image (moment_of result.0)) }
         ensures err { IfErr result.1 (λ stop. stop ≡ Stop.Device) }
     {
         let PokedDisk { disk, pokes } = self;

@@ -1,11 +1,12 @@
 //! The bytes of a `poke` line.
-ghost use Rattle.std.specs.Prelude.{◌≡◌, ◌+◌, ◌*◌, ◌/◌, ◌≤◌, List, ℕ, IsTrue, drop, length, true};
-ghost use Rattle.std.specs.List.{list_all};
+ghost use Rattle.std.specs.Prelude.{◌≡◌, List, ℕ, IsTrue, length, IfOk};
 ghost use Rattle.cg_disk.specs.declared.disk.TheConstants.{SECTOR_BYTES};
-ghost use Rattle.cg_line.specs.Fields.{are_pairs, begins_with_x, bytes_in, is_lower_hex_digit, is_opaque};
+ghost use Rattle.cg_line.specs.Fields.{bytes_in, is_opaque};
 ghost use Rattle.cg_sim.specs.Poking.{filled};
+ghost use Rattle.cg_sim.specs.SectorText.{sector_text_of};
 
 use cg_disk::SECTOR_BYTES;
+use std::alloc::{AllocError, Global};
 use std::marker::Model;
 
 /// Bytes of a `poke` line, as text: `x` and lower-case hexadecimal digits, two for each byte, and at most a sector of
@@ -28,58 +29,25 @@ impl<'a> Model for SectorText<'a> {
 }
 
 impl<'a> SectorText<'a> {
-    ghost use Rattle.cg_sim.specs.SectorText.{sector_text_of};
-
-    /// Returns the bytes of a word, or `None` if it is no bytes or has more than a sector of them.
+    /// Returns the text of a word, or `None` if it is no bytes or has more than a sector of them.
     #[tactic(auto, unfolding(crate::specs::SectorText::sector_text_of))]
     pub fn read(word: &'a [u8]) -> Option<Self>
         ensures { result ≡ sector_text_of word.now }
     {
-        if is_sector_text(word) {
+        if cg_line::is_opaque(word, SECTOR_BYTES) {
             Some(SectorText { word })
         } else {
             None
         }
     }
 
-    /// Returns the sector that has these bytes, and zeros after them.
-    pub fn sector(&self) -> [u8; SECTOR_BYTES]
-        ensures { result ≡ filled (bytes_in self.now) }
+    /// Returns the sector that begins with these bytes. Zeros follow them.
+    pub fn sector(&self, alloc: Global) -> Result<Vec<u8>, AllocError>
+        ensures filled { IfOk result (λ sector. sector.items ≡ filled (bytes_in self.now)) }
+        ensures whole { IfOk result (λ sector. length sector.items ≡ SECTOR_BYTES) }
     {
-        let digits = &self.word[1..];
-        let mut sector = [0; SECTOR_BYTES];
-        match hex::decode_to_slice(digits, &mut sector[..digits.len() / 2]) {
-            Ok(()) => sector,
-            Err(_) => unreachable!(),
-        }
-    }
-}
-
-fn is_lower_hex(byte: u8) -> bool
-    ensures { result ≡ is_lower_hex_digit byte }
-{
-    byte.is_ascii_digit() || (b'a'..=b'f').contains(&byte)
-}
-
-fn are_lower_hex(text: &[u8]) -> bool
-    ensures { result ≡ list_all is_lower_hex_digit text.now }
-{
-    text.iter().all(|b| is_lower_hex(*b))
-}
-
-fn are_pairs(digits: &[u8]) -> bool
-    ensures { result ≡ are_pairs digits.now }
-{
-    are_lower_hex(digits) && digits.len() % 2 == 0
-}
-
-fn is_sector_text(word: &[u8]) -> bool
-    ensures { result ≡ is_opaque SECTOR_BYTES word.now }
-{
-    match word {
-        [first, digits @ ..] => *first == b'x'
-            && are_pairs(digits)
-            && digits.len() / 2 <= SECTOR_BYTES,
-        [] => false,
+        let mut sector = cg_line::bytes_in(alloc, self.word)?;
+        sector.resize(SECTOR_BYTES, 0)?;
+        Ok(sector)
     }
 }

@@ -1,7 +1,13 @@
 //! The state of a script: its disk, with or without something loaded.
-ghost use Rattle.std.specs.Prelude.{◌≡◌, ◌⊎◌, ◌≤◌, Err, false, true, IfErr};
-ghost use Rattle.cg_sim.specs.Poking.{may_follow_poke, sector_of};
-ghost use Rattle.cg_sim.specs.Stages.{is_poked, stage_sectors};
+ghost use Rattle.std.specs.Prelude.{◌≡◌, ◌⊎◌, ◌<◌, ◌≤◌, ◌++◌, ◌∷◌, [], true, false, IfErr, OnOk};
+ghost use Rattle.cg_disk.specs.Crash.{IsLastSynced};
+ghost use Rattle.cg_disk.specs.Disk.{Image};
+ghost use Rattle.cg_disk.specs.Fuse.{inner_of};
+ghost use Rattle.cg_disk.specs.Mem.{mem_history, mem_size};
+ghost use Rattle.cg_sim.specs.Disk.{moment_of, sectors_needed, sectors_of};
+ghost use Rattle.cg_sim.specs.Ending.{earlier};
+ghost use Rattle.cg_sim.specs.Poking.{IsPoked, sector_of};
+ghost use Rattle.cg_sim.specs.Stages.{is_loaded, is_refused, poked_disk, pokes_waiting, stage_disk, stage_pokes, taken_disk, taken_pokes, unloaded_disk};
 
 use crate::call::Call;
 use crate::line::Line;
@@ -31,7 +37,7 @@ pub enum Stage {
 impl Stage {
     /// Returns whether pokes wait, and the line is not one of the few that may follow them.
     pub fn refuses(&self, line: &Line<'_>) -> bool
-        ensures { result ≡ (is_poked self.now && not (may_follow_poke line.now)) }
+        ensures { result ≡ is_refused self.now line.now }
     {
         matches!(self, Stage::Poked(_)) && !line.may_follow_poke()
     }
@@ -89,14 +95,13 @@ impl Stage {
         }
     }
 
-    /// Puts a poke down, or lets it wait if something is loaded. A poke outside the disk is refused as line `number`.
-    pub fn poke(self, alloc: Global, number: u64, poke: Poke) -> (Self, Result<(), Stop>)
-        ensures range { stage_sectors self ≤ sector_of poke → result.1 ≡ Err (Stop.BadLine number) }
-        ensures err { sector_of poke < stage_sectors self → IfErr result.1 (λ stop. (stop ≡ Stop.Memory) ⊎ (stop ≡ Stop.Device)) }
+    /// Puts a poke down, or lets it wait if something is loaded.
+    pub fn poke(self, alloc: Global, poke: Poke) -> (Self, Result<(), Stop>)
+        requires { sector_of poke < mem_size (stage_disk self) }
+        ensures waits { is_loaded self ≡ true → OnOk result.1 ((stage_pokes result.0 ≡ stage_pokes self ++ poke ∷ []) × (stage_disk result.0 ≡ stage_disk self)) }
+        ensures put { is_loaded self ≡ false → OnOk result.1 (IsPoked (poke ∷ []) (moment_of (stage_disk self)).content (moment_of (stage_disk result.0))) }
+        ensures err { IfErr result.1 (λ stop. (stop ≡ Stop.Memory) ⊎ (stop ≡ Stop.Device)) }
     {
-        if poke.sector() >= self.sectors() {
-            return (self, Err(Stop::BadLine(number)));
-        }
         match self {
             Stage::Unloaded(mut unloaded) => {
                 let put = unloaded.poke(&poke);
@@ -109,8 +114,9 @@ impl Stage {
 
     // Lets one more poke wait.
     fn wait(mut poked: Poked, poke: Poke) -> (Self, Result<(), Stop>)
-        requires { sector_of poke < poked_sectors poked }
-        ensures { IfErr result.1 (λ stop. stop ≡ Stop.Memory) }
+        requires { sector_of poke < sectors_of (poked_disk poked) }
+        ensures err { IfErr result.1 (λ stop. stop ≡ Stop.Memory) }
+        ensures waits { OnOk result.1 ((stage_pokes result.0 ≡ pokes_waiting poked ++ poke ∷ []) × (stage_disk result.0 ≡ inner_of (poked_disk poked))) }
     {
         match poked.add(poke) {
             Ok(()) => (Stage::Poked(poked), Ok(())),
@@ -118,9 +124,9 @@ impl Stage {
         }
     }
 
-    // Returns the number of sectors of the disk.
-    fn sectors(&self) -> u64
-        ensures { result ≡ stage_sectors self.now }
+    /// Returns the number of sectors of the disk.
+    pub fn sectors(&self) -> u64
+        ensures { result ≡ mem_size (stage_disk self.now) }
     {
         match self {
             Stage::Unloaded(unloaded) => unloaded.sectors(),
@@ -130,7 +136,11 @@ impl Stage {
     }
 
     /// Refuses every pending request of what was loaded. Returns the refusals, and the disk without its fuse.
-    pub fn end(self, alloc: Global) -> (Vec<Outgoing>, PokedDisk) {
+    pub fn end(self, alloc: Global) -> (Vec<Outgoing>, PokedDisk)
+        ensures roomy { sectors_needed ≤ mem_size (taken_disk result.1) }
+        ensures disk { taken_disk result.1 ≡ stage_disk self }
+        ensures pokes { taken_pokes result.1 ≡ stage_pokes self }
+    {
         match self {
             Stage::Unloaded(unloaded) => {
                 let disk = PokedDisk::unpoked(alloc, unloaded.into_disk());
@@ -147,7 +157,9 @@ impl Stage {
     /// Simulates power loss: the disk crashes, the pokes that wait are put down, the fuse is lifted, and replies that had
     /// not left are lost.
     pub fn stop(self, alloc: Global, crash: Crash) -> (Unloaded, Result<(), Stop>)
-        ensures { IfErr result.1 (λ stop. stop ≡ Stop.Device) }
+        ensures kept { crash ≡ Crash.Keep → OnOk result.1 (IsPoked (stage_pokes self) (moment_of (stage_disk self)).content (moment_of (inner_of (unloaded_disk result.0)))) }
+        ensures lost { crash ≡ Crash.Lose → OnOk result.1 ((image : Image) × IsLastSynced (mem_history (stage_disk self)) image × IsPoked (stage_pokes self) image (moment_of (inner_of (unloaded_disk result.0)))) }
+        ensures err { IfErr result.1 (λ stop. stop ≡ Stop.Device) }
     {
         let (_, disk) = self.end(alloc);
         let (disk, put) = disk.crash(crash);

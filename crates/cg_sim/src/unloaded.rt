@@ -1,7 +1,11 @@
 //! A disk from which nothing is loaded.
-ghost use Rattle.std.specs.Prelude.{◌≡◌, ◌≤◌, IfErr};
-ghost use Rattle.cg_disk.specs.Mem.{mem_size};
-ghost use Rattle.cg_sim.specs.Disk.{sectors_needed, sectors_of};
+ghost use Rattle.std.specs.Prelude.{◌≡◌, ◌<◌, ◌≤◌, ◌∷◌, [], IfErr, OnOk, is_err};
+ghost use Rattle.cg_disk.specs.Disk.{Counts};
+ghost use Rattle.cg_disk.specs.Fuse.{blown_calls, calls_left, inner_of};
+ghost use Rattle.cg_disk.specs.Mem.{mem_failures, mem_size};
+ghost use Rattle.cg_sim.specs.Disk.{moment_of, sectors_needed, sectors_of};
+ghost use Rattle.cg_sim.specs.Poking.{IsPoked, sector_of};
+ghost use Rattle.cg_sim.specs.Stages.{unloaded_disk};
 
 use crate::call::Call;
 use crate::loaded::Loaded;
@@ -26,6 +30,7 @@ impl Unloaded {
     /// Creates a disk without a fuse, from which nothing is loaded.
     pub fn new(alloc: Global, disk: MemDisk) -> Self
         requires { sectors_needed ≤ mem_size disk }
+        ensures { inner_of (unloaded_disk result) ≡ disk }
     {
         let mut disk = FuseDisk::new(disk, 0);
         disk.set(None);
@@ -87,9 +92,11 @@ impl Unloaded {
     /// Puts a poke down. The fuse neither counts its calls nor fails them.
     pub fn poke(&mut self, poke: &Poke) -> Result<(), Stop>
         requires { sector_of poke.now < sectors_of (unloaded_disk self.old) }
-        ensures put { OnOk result (IsPoked (poke.now ∷ []) (present (mem_history (inner_of (unloaded_disk self.old)))).content (present (mem_history (inner_of (unloaded_disk self.new))))) }
+        ensures put { OnOk result (IsPoked (poke.now ∷ []) (moment_of (inner_of (unloaded_disk self.old))).content (moment_of (inner_of (unloaded_disk self.new)))) }
         ensures fuse { calls_left (unloaded_disk self.new) ≡ calls_left (unloaded_disk self.old) }
+        ensures passed { blown_calls (unloaded_disk self.new) ≡ blown_calls (unloaded_disk self.old) }
         ensures cause { Counts (mem_failures (inner_of (unloaded_disk self.old))) (mem_failures (inner_of (unloaded_disk self.new))) (is_err result) }
+        ensures err { IfErr result (λ stop. stop ≡ Stop.Device) }
     {
         let calls = self.disk.calls_left();
         self.disk.set(None);
@@ -103,7 +110,8 @@ impl Unloaded {
 
     /// Returns the disk without its fuse.
     pub fn into_disk(self) -> MemDisk
-        ensures { sectors_needed ≤ mem_size result }
+        ensures roomy { sectors_needed ≤ mem_size result }
+        ensures disk { result ≡ inner_of (unloaded_disk self) }
     {
         let Unloaded { desk, disk } = self;
         let _ = desk.close();
