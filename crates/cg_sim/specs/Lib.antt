@@ -6,5 +6,6 @@ pub mod Ending
 pub mod Disk
 pub mod SectorText
 pub mod Poking
+pub mod LoadedDisk
 pub mod Stages
 pub mod CommandLine

@@ -1,6 +1,6 @@
 -- Bytes that a script puts on the disk.
-use Rattle.std.specs.Prelude.{◌≡◌, ◌<◌, ℕ, ◌-◌, ◌==◌, List, ◌++◌, length, replicate, if◌then◌else◌}
-use Rattle.std.specs.List.{All, fold}
+use Rattle.std.specs.Prelude.{◌≡◌, ℕ, ◌-◌, ◌==◌, nat_lt, Bool, List, ◌++◌, length, replicate, if◌then◌else◌}
+use Rattle.std.specs.List.{fold, list_all}
 use Rattle.cg_disk.specs.Disk.{Image, IsSynced, Moment}
 use Rattle.cg_disk.specs.declared.disk.TheConstants.{SECTOR_BYTES}
 use Rattle.cg_sim.specs.declared.poke.Poke.{Poke}
@@ -29,5 +29,5 @@ pub record IsPoked (pokes : List Poke) (image : Image) (now : Moment) : Type 0 w
   pub synced : IsSynced now
 
 -- every poke is in range of a disk with this many sectors
-abbrev pub AreWithin : ℕ → List Poke → Type 0
-AreWithin sectors = All (λ p. sector_of p < sectors)
+abbrev pub are_within : ℕ → List Poke → Bool
+are_within sectors = list_all (λ p. nat_lt (sector_of p) sectors)

@@ -3,11 +3,9 @@ use Rattle.std.specs.Prelude.{Bool, true, false, not, ◌&&◌, List, []}
 use Rattle.cg_disk.specs.Fuse.{inner_of}
 use Rattle.cg_disk.specs.declared.fuse.FuseDisk.{FuseDisk}
 use Rattle.cg_disk.specs.declared.mem.MemDisk.{MemDisk}
-use Rattle.cg_store.specs.Store.{disk_of}
-use Rattle.cg_world.specs.Sights.{store_of}
+use Rattle.cg_sim.specs.LoadedDisk.{loaded_disk}
 use Rattle.cg_sim.specs.Line.{may_follow_poke}
 use Rattle.cg_sim.specs.declared.line.Line.{Line}
-use Rattle.cg_sim.specs.declared.loaded.Loaded.{Loaded as LoadedStage}
 use Rattle.cg_sim.specs.declared.poke.Poke.{Poke}
 use Rattle.cg_sim.specs.declared.poked.Poked.{Poked as PokedStage}
 use Rattle.cg_sim.specs.declared.poked_disk.PokedDisk.{PokedDisk}
@@ -19,11 +17,7 @@ use Rattle.cg_sim.specs.declared.unloaded.Unloaded.{Unloaded as UnloadedStage}
 abbrev pub unloaded_disk : UnloadedStage → FuseDisk MemDisk
 unloaded_disk unloaded = unloaded.disk
 
--- a loaded disk, with its fuse
-abbrev pub loaded_disk : LoadedStage → FuseDisk MemDisk
-loaded_disk loaded = disk_of (store_of loaded.world)
-
--- the same while pokes wait, and those pokes
+-- a loaded disk while pokes wait, with its fuse, and those pokes
 abbrev pub poked_disk : PokedStage → FuseDisk MemDisk
 poked_disk poked = loaded_disk poked.loaded
 
@@ -63,4 +57,4 @@ stage_pokes (stage.Poked poked) = pokes_waiting poked
 
 -- pokes wait, and the line may not follow them
 abbrev pub is_refused : Stage → Line → Bool
-is_refused stage line = is_poked stage && not (may_follow_poke line)
+is_refused s line = is_poked s && not (may_follow_poke line)

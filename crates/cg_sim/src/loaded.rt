@@ -5,7 +5,7 @@ ghost use Rattle.cg_disk.specs.Mem.{mem_size};
 ghost use Rattle.cg_store.specs.Store.{disk_of};
 ghost use Rattle.cg_world.specs.Sights.{store_of};
 ghost use Rattle.cg_sim.specs.Disk.{sectors_needed, sectors_of};
-ghost use Rattle.cg_sim.specs.Stages.{loaded_disk};
+ghost use Rattle.cg_sim.specs.LoadedDisk.{loaded_disk};
 
 use crate::call::Call;
 use crate::stage::Disk;

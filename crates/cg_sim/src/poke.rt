@@ -3,7 +3,7 @@ ghost use Rattle.std.specs.Prelude.{◌≡◌, ◌<◌, ◌∷◌, [], length, t
 ghost use Rattle.cg_disk.specs.Disk.{Counts, IsSynced, present};
 ghost use Rattle.cg_disk.specs.declared.disk.TheConstants.{SECTOR_BYTES};
 ghost use Rattle.cg_line.specs.Fields.{bytes_in};
-ghost use Rattle.cg_sim.specs.Poking.{AreWithin, IsPoked, content_of, filled, sector_of};
+ghost use Rattle.cg_sim.specs.Poking.{are_within, IsPoked, content_of, filled, sector_of};
 
 use crate::sector_text::SectorText;
 use cg_disk::{DiskFault, SectorDisk};
@@ -50,7 +50,7 @@ impl Poke {
 
 /// Writes the sectors of the pokes, in their order, and syncs the disk after each.
 pub fn put_all<D: SectorDisk>(pokes: &[Poke], disk: &mut D) -> Result<(), DiskFault>
-    requires { AreWithin (D.size disk.old) pokes.now }
+    requires { are_within (D.size disk.old) pokes.now ≡ true }
     ensures put { D.is_honest disk.old ≡ true → IsSynced (present (D.history disk.old)) → OnOk result (IsPoked pokes.now (present (D.history disk.old)).content (present (D.history disk.new))) }
     ensures same_size { D.size disk.new ≡ D.size disk.old }
     ensures same_honesty { D.is_honest disk.new ≡ D.is_honest disk.old }

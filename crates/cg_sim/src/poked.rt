@@ -1,10 +1,11 @@
 //! A loaded disk with pokes that wait for its next crash.
-ghost use Rattle.std.specs.Prelude.{◌≡◌, ◌<◌, ◌≤◌, ◌++◌, ◌∷◌, [], OnOk};
+ghost use Rattle.std.specs.Prelude.{◌≡◌, ◌<◌, ◌≤◌, ◌++◌, ◌∷◌, [], true, OnOk};
 ghost use Rattle.cg_disk.specs.Fuse.{inner_of};
 ghost use Rattle.cg_disk.specs.Mem.{mem_size};
 ghost use Rattle.cg_sim.specs.Disk.{sectors_needed, sectors_of};
-ghost use Rattle.cg_sim.specs.Poking.{AreWithin, sector_of};
-ghost use Rattle.cg_sim.specs.Stages.{loaded_disk, poked_disk, pokes_waiting, taken_disk, taken_pokes};
+ghost use Rattle.cg_sim.specs.Poking.{are_within, sector_of};
+ghost use Rattle.cg_sim.specs.LoadedDisk.{loaded_disk};
+ghost use Rattle.cg_sim.specs.Stages.{poked_disk, pokes_waiting, taken_disk, taken_pokes};
 
 use crate::loaded::Loaded;
 use crate::poke::Poke;
@@ -16,7 +17,7 @@ use std::alloc::{AllocError, Global};
 pub struct Poked {
     loaded: Loaded,
     pokes: Vec<Poke>,
-    ghost within: { AreWithin (sectors_of (loaded_disk loaded)) pokes.items },
+    ghost within: { are_within (sectors_of (loaded_disk loaded)) pokes.items ≡ true },
 }
 
 impl Poked {

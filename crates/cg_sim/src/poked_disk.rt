@@ -1,10 +1,10 @@
 //! A disk that is taken from a stage, with the pokes that wait for its crash.
-ghost use Rattle.std.specs.Prelude.{◌≡◌, [], IfErr, OnOk};
+ghost use Rattle.std.specs.Prelude.{◌≡◌, [], true, IfErr, OnOk};
 ghost use Rattle.cg_disk.specs.Crash.{IsLastSynced};
 ghost use Rattle.cg_disk.specs.Disk.{Image};
 ghost use Rattle.cg_disk.specs.Mem.{mem_history, mem_size};
 ghost use Rattle.cg_sim.specs.Disk.{moment_of};
-ghost use Rattle.cg_sim.specs.Poking.{AreWithin, IsPoked};
+ghost use Rattle.cg_sim.specs.Poking.{are_within, IsPoked};
 ghost use Rattle.cg_sim.specs.Stages.{taken_disk, taken_pokes};
 
 use crate::poke::{self, Poke};
@@ -17,13 +17,13 @@ use std::alloc::Global;
 pub struct PokedDisk {
     disk: MemDisk,
     pokes: Vec<Poke>,
-    ghost within: { AreWithin (mem_size disk) pokes.items },
+    ghost within: { are_within (mem_size disk) pokes.items ≡ true },
 }
 
 impl PokedDisk {
     /// Takes a disk for which these pokes wait.
     pub fn new(disk: MemDisk, pokes: Vec<Poke>) -> Self
-        requires { AreWithin (mem_size disk) pokes.items }
+        requires { are_within (mem_size disk) pokes.items ≡ true }
         ensures disk { taken_disk result ≡ disk }
         ensures pokes { taken_pokes result ≡ pokes.items }
     {
