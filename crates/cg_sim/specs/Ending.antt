@@ -1,5 +1,5 @@
 -- How a script ends.
-use Rattle.std.specs.Prelude.{◌≡◌, ◌⊎◌, ℕ, List, [], ◌++◌, Option, Result, Ok, Err, ⊤, codes}
+use Rattle.std.specs.Prelude.{◌≡◌, ◌⊎◌, ℕ, List, [], ◌++◌, Option, codes}
 use Rattle.std.specs.Io.KnownBytes.{Appends}
 use Rattle.cg_sim.specs.declared.script.TheConstants.{STATUS_BAD_LINE, STATUS_DONE, STATUS_IO, STATUS_SHORT}
 use Rattle.cg_sim.specs.declared.stop.Stop.{Stop}
@@ -20,11 +20,6 @@ WritesThen old new last = (said : List ℕ) × Appends old new (said ++ last)
 -- the script came to its end; a cause with this status was printed; or a read or a write failed
 abbrev pub Ends : ℕ → Option (List ℕ) → Option (List ℕ) → Type 0
 Ends status old new = ((status ≡ STATUS_DONE) × WritesThen old new []) ⊎ ((cause : Stop) × (status ≡ status_of cause) × WritesThen old new (stop_text cause)) ⊎ (status ≡ STATUS_IO)
-
--- the first of two causes, if there is one
-abbrev pub earlier : Result ⊤ Stop → Result ⊤ Stop → Result ⊤ Stop
-earlier (Ok done) second = second
-earlier (Err stop) second = Err stop
 
 -- why a line may end the script: memory ran out, the disk failed in a poke, or the line is bad
 abbrev pub IsCause : ℕ → Stop → Type 0

@@ -58,8 +58,8 @@ fn explain<F: Write>(faults: &mut F, number: u64, problem: Problem) {
 
 // Prints the text of `clap` for words that it refused, unless it ran out of memory.
 fn refuse_words<W: Write, F: Write>(error: &Error, writer: &mut W, faults: &mut F) -> u8
-    ensures memory { kind_of error.now ≡ ErrorKind.OutOfMemory → RefusedForMemory result (W.contents writer.old) (W.contents writer.new) }
-    ensures usage { kind_of error.now ≢ ErrorKind.OutOfMemory → (result ≡ STATUS_USAGE) × (W.contents writer.new ≡ W.contents writer.old) }
+    ensures { ((kind_of error.now ≡ ErrorKind.OutOfMemory) × RefusedForMemory result (W.contents writer.old) (W.contents writer.new))
+        ⊎ ((kind_of error.now ≢ ErrorKind.OutOfMemory) × (result ≡ STATUS_USAGE) × (W.contents writer.new ≡ W.contents writer.old)) }
 {
     match error.kind() {
         ErrorKind::OutOfMemory => script::refuse_script(writer),

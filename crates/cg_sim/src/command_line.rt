@@ -1,5 +1,5 @@
 //! The words of the command line.
-ghost use Rattle.std.specs.Prelude.{◌≡◌, map, codes, IfOk};
+ghost use Rattle.std.specs.Prelude.{◌≡◌, false, map, codes, IfOk};
 ghost use Rattle.clap.specs.Words.{FailsBy, app_of, found_of, one_text, rule_of};
 ghost use Rattle.cg_sim.specs.CommandLine.{AsksFor, WordsAskFor, faults_of, segments_rule, sim_app};
 
@@ -34,7 +34,8 @@ Exit status: 0 the script ended, 1 a bad line, 2 usage, 3 a failed read or write
 4 out of memory, or the disk failed in a format or a poke.";
 
 fn segments_arg<'a>(alloc: Global) -> Arg<'a>
-    ensures { rule_of result ≡ segments_rule }
+    ensures rule { rule_of result ≡ segments_rule }
+    ensures local { result.global ≡ false }
 {
     Arg::new(alloc, "segments")
         .long("segments")
@@ -46,11 +47,12 @@ fn segments_arg<'a>(alloc: Global) -> Arg<'a>
 fn command<'a>(alloc: Global) -> Result<Command<'a>, AllocError>
     ensures { IfOk result (λ command. app_of command ≡ sim_app) }
 {
-    Command::new(alloc, "cg_sim")
+    let command = Command::new(alloc, "cg_sim")
         .no_binary_name(true)
         .about("Runs a script of requests and steps, read from standard input, on a disk in memory")
         .after_help(SCRIPT_HELP)
-        .arg(segments_arg(alloc))
+        .arg(segments_arg(alloc))?;
+    Ok(command)
 }
 
 // Returns the number of segments that a parse found.

@@ -73,6 +73,20 @@ impl Player {
         if stage.refuses(line) {
             return (stage, Err(Stop::BadLine(number)));
         }
+        self.play_allowed(stage, number, line, out)
+    }
+
+    // Plays a line that may come here.
+    fn play_allowed(
+        &mut self,
+        stage: Stage,
+        number: u64,
+        line: &Line<'_>,
+        out: &mut Vec<u8>,
+    ) -> (Stage, Result<(), Stop>)
+        ensures err { IfErr result.1 (λ stop. IsCause number stop) }
+        ensures range { (sector : ℕ) (word : List ℕ) → line.now ≡ Poke sector word → mem_size (stage_disk stage) ≤ sector → result.1 ≡ Err (Stop.BadLine number) }
+    {
         match line {
             Line::Skipped => (stage, Ok(())),
             Line::At(now) => self.wait(stage, *now),

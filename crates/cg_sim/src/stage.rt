@@ -1,11 +1,10 @@
 //! The state of a script: its disk, with or without something loaded.
-ghost use Rattle.std.specs.Prelude.{◌≡◌, ◌⊎◌, ◌<◌, ◌≤◌, ◌++◌, ◌∷◌, [], true, false, IfErr, OnOk};
+ghost use Rattle.std.specs.Prelude.{◌≡◌, ◌⊎◌, ◌<◌, ◌≤◌, ◌++◌, ◌∷◌, [], true, false, IfErr, OnErr, OnOk};
 ghost use Rattle.cg_disk.specs.Crash.{IsLastSynced};
 ghost use Rattle.cg_disk.specs.Disk.{Image};
 ghost use Rattle.cg_disk.specs.Fuse.{inner_of};
 ghost use Rattle.cg_disk.specs.Mem.{mem_history, mem_size};
 ghost use Rattle.cg_sim.specs.Disk.{moment_of, sectors_needed, sectors_of};
-ghost use Rattle.cg_sim.specs.Ending.{earlier};
 ghost use Rattle.cg_sim.specs.Poking.{IsPoked, sector_of};
 ghost use Rattle.cg_sim.specs.Stages.{is_loaded, is_refused, poked_disk, pokes_waiting, stage_disk, stage_pokes, taken_disk, taken_pokes, unloaded_disk};
 
@@ -103,8 +102,8 @@ impl Stage {
         ensures err { IfErr result.1 (λ stop. (stop ≡ Stop.Memory) ⊎ (stop ≡ Stop.Device)) }
     {
         match self {
-            Stage::Unloaded(mut unloaded) => {
-                let put = unloaded.poke(&poke);
+            Stage::Unloaded(unloaded) => {
+                let (unloaded, put) = unloaded.poke(&poke);
                 (Stage::Unloaded(unloaded), put)
             }
             Stage::Loaded(loaded) => Stage::wait(Poked::new(alloc, loaded), poke),
@@ -180,7 +179,8 @@ impl Stage {
 
 // Returns the first of two causes.
 fn first_stop(first: Result<(), Stop>, second: Result<(), Stop>) -> Result<(), Stop>
-    ensures { result ≡ earlier first second }
+    ensures first { OnErr first (result ≡ first) }
+    ensures second { OnOk first (result ≡ second) }
 {
     first?;
     second?;

@@ -1,7 +1,7 @@
 //! A disk from which nothing is loaded.
 ghost use Rattle.std.specs.Prelude.{◌≡◌, ◌<◌, ◌≤◌, ◌∷◌, [], IfErr, OnOk, is_err};
 ghost use Rattle.cg_disk.specs.Disk.{Counts};
-ghost use Rattle.cg_disk.specs.Fuse.{blown_calls, calls_left, inner_of};
+ghost use Rattle.cg_disk.specs.Fuse.{calls_left, inner_of};
 ghost use Rattle.cg_disk.specs.Mem.{mem_failures, mem_size};
 ghost use Rattle.cg_sim.specs.Disk.{moment_of, sectors_needed, sectors_of};
 ghost use Rattle.cg_sim.specs.Poking.{IsPoked, sector_of};
@@ -90,21 +90,23 @@ impl Unloaded {
     }
 
     /// Puts a poke down. The fuse neither counts its calls nor fails them.
-    pub fn poke(&mut self, poke: &Poke) -> Result<(), Stop>
-        requires { sector_of poke.now < sectors_of (unloaded_disk self.old) }
-        ensures put { OnOk result (IsPoked (poke.now ∷ []) (moment_of (inner_of (unloaded_disk self.old))).content (moment_of (inner_of (unloaded_disk self.new)))) }
-        ensures fuse { calls_left (unloaded_disk self.new) ≡ calls_left (unloaded_disk self.old) }
-        ensures passed { blown_calls (unloaded_disk self.new) ≡ blown_calls (unloaded_disk self.old) }
-        ensures cause { Counts (mem_failures (inner_of (unloaded_disk self.old))) (mem_failures (inner_of (unloaded_disk self.new))) (is_err result) }
-        ensures err { IfErr result (λ stop. stop ≡ Stop.Device) }
+    pub fn poke(self, poke: &Poke) -> (Self, Result<(), Stop>)
+        requires { sector_of poke.now < sectors_of (unloaded_disk self) }
+        ensures put { OnOk result.1 (IsPoked (poke.now ∷ []) (moment_of (inner_of (unloaded_disk self))).content (moment_of (inner_of (unloaded_disk result.0)))) }
+        ensures fuse { calls_left (unloaded_disk result.0) ≡ calls_left (unloaded_disk self) }
+        ensures cause { Counts (mem_failures (inner_of (unloaded_disk self))) (mem_failures (inner_of (unloaded_disk result.0))) (is_err result.1) }
+        ensures err { IfErr result.1 (λ stop. stop ≡ Stop.Device) }
     {
-        let calls = self.disk.calls_left();
-        self.disk.set(None);
-        let put = poke.put(&mut self.disk);
-        self.disk.set(calls);
+        let Unloaded { desk, disk } = self;
+        let calls = disk.calls_left();
+        let mut disk = disk.into_inner();
+        let put = poke.put(&mut disk);
+        let mut disk = FuseDisk::new(disk, 0);
+        disk.set(calls);
+        let unloaded = Unloaded { desk, disk };
         match put {
-            Ok(()) => Ok(()),
-            Err(_) => Err(Stop::Device),
+            Ok(()) => (unloaded, Ok(())),
+            Err(_) => (unloaded, Err(Stop::Device)),
         }
     }
 
