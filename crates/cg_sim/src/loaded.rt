@@ -5,7 +5,6 @@ ghost use Rattle.cg_disk.specs.Mem.{mem_size};
 ghost use Rattle.cg_store.specs.Store.{disk_of};
 ghost use Rattle.cg_world.specs.Sights.{store_of};
 ghost use Rattle.cg_sim.specs.Disk.{sectors_needed, sectors_of};
-ghost use Rattle.cg_sim.specs.LoadedDisk.{loaded_disk};
 
 use crate::call::Call;
 use crate::stage::Disk;
@@ -25,6 +24,8 @@ pub struct Loaded {
 }
 
 impl Loaded {
+    ghost use Rattle.cg_sim.specs.LoadedDisk.{loaded_disk};
+
     /// Takes a world over a disk with this many sectors.
     pub fn new(world: World<Disk>, sectors: u64) -> Self
         requires roomy { sectors_needed ≤ sectors_of (disk_of (store_of world)) }

@@ -3,7 +3,6 @@ ghost use Rattle.std.specs.Prelude.{◌≡◌, ◌<◌, ◌∷◌, [], length, t
 ghost use Rattle.cg_disk.specs.Disk.{Counts, IsSynced, present};
 ghost use Rattle.cg_disk.specs.declared.disk.TheConstants.{SECTOR_BYTES};
 ghost use Rattle.cg_line.specs.Fields.{bytes_in};
-ghost use Rattle.cg_sim.specs.Poking.{are_within, IsPoked, content_of, filled, sector_of};
 
 use crate::sector_text::SectorText;
 use cg_disk::{DiskFault, SectorDisk};
@@ -18,6 +17,8 @@ pub struct Poke {
 }
 
 impl Poke {
+    ghost use Rattle.cg_sim.specs.Poking.{are_within, IsPoked, content_of, filled, sector_of};
+
     /// Creates the poke of a script line: the bytes of the text, and zeros after them.
     pub fn new(alloc: Global, sector: u64, text: &SectorText<'_>) -> Result<Self, AllocError>
         ensures sector { IfOk result (λ poke. sector_of poke ≡ sector) }
@@ -46,18 +47,18 @@ impl Poke {
         disk.sync()?;
         Ok(())
     }
-}
 
-/// Writes the sectors of the pokes, in their order, and syncs the disk after each.
-pub fn put_all<D: SectorDisk>(pokes: &[Poke], disk: &mut D) -> Result<(), DiskFault>
-    requires { are_within (D.size disk.old) pokes.now ≡ true }
-    ensures put { D.is_honest disk.old ≡ true → IsSynced (present (D.history disk.old)) → OnOk result (IsPoked pokes.now (present (D.history disk.old)).content (present (D.history disk.new))) }
-    ensures same_size { D.size disk.new ≡ D.size disk.old }
-    ensures same_honesty { D.is_honest disk.new ≡ D.is_honest disk.old }
-    ensures cause { Counts (D.failures disk.old) (D.failures disk.new) (is_err result) }
-{
-    for poke in pokes {
-        poke.put(disk)?;
+    /// Writes the sectors of the pokes, in their order, and syncs the disk after each.
+    pub fn put_all<D: SectorDisk>(pokes: &[Poke], disk: &mut D) -> Result<(), DiskFault>
+        requires { are_within (D.size disk.old) pokes.now ≡ true }
+        ensures put { D.is_honest disk.old ≡ true → IsSynced (present (D.history disk.old)) → OnOk result (IsPoked pokes.now (present (D.history disk.old)).content (present (D.history disk.new))) }
+        ensures same_size { D.size disk.new ≡ D.size disk.old }
+        ensures same_honesty { D.is_honest disk.new ≡ D.is_honest disk.old }
+        ensures cause { Counts (D.failures disk.old) (D.failures disk.new) (is_err result) }
+    {
+        for poke in pokes {
+            poke.put(disk)?;
+        }
+        Ok(())
     }
-    Ok(())
 }

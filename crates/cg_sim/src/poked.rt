@@ -5,7 +5,6 @@ ghost use Rattle.cg_disk.specs.Mem.{mem_size};
 ghost use Rattle.cg_sim.specs.Disk.{sectors_needed, sectors_of};
 ghost use Rattle.cg_sim.specs.Poking.{are_within, sector_of};
 ghost use Rattle.cg_sim.specs.LoadedDisk.{loaded_disk};
-ghost use Rattle.cg_sim.specs.Stages.{poked_disk, pokes_waiting, taken_disk, taken_pokes};
 
 use crate::loaded::Loaded;
 use crate::poke::Poke;
@@ -21,6 +20,8 @@ pub struct Poked {
 }
 
 impl Poked {
+    ghost use Rattle.cg_sim.specs.Stages.{poked_disk, pokes_waiting, taken_disk, taken_pokes};
+
     /// Lets no poke wait yet.
     pub fn new(alloc: Global, loaded: Loaded) -> Self
         ensures disk { poked_disk result ≡ loaded_disk loaded }

@@ -5,9 +5,8 @@ ghost use Rattle.cg_disk.specs.Disk.{Image};
 ghost use Rattle.cg_disk.specs.Mem.{mem_history, mem_size};
 ghost use Rattle.cg_sim.specs.Disk.{moment_of};
 ghost use Rattle.cg_sim.specs.Poking.{are_within, IsPoked};
-ghost use Rattle.cg_sim.specs.Stages.{taken_disk, taken_pokes};
 
-use crate::poke::{self, Poke};
+use crate::poke::Poke;
 use crate::stop::Stop;
 use cg_disk::{Crash, MemDisk};
 use std::alloc::Global;
@@ -21,6 +20,8 @@ pub struct PokedDisk {
 }
 
 impl PokedDisk {
+    ghost use Rattle.cg_sim.specs.Stages.{taken_disk, taken_pokes};
+
     /// Takes a disk for which these pokes wait.
     pub fn new(disk: MemDisk, pokes: Vec<Poke>) -> Self
         requires { are_within (mem_size disk) pokes.items ≡ true }
@@ -50,7 +51,7 @@ impl PokedDisk {
     {
         let PokedDisk { disk, pokes } = self;
         let mut disk = disk.crash(kind);
-        match poke::put_all(pokes.as_slice(), &mut disk) {
+        match Poke::put_all(pokes.as_slice(), &mut disk) {
             Ok(()) => (disk, Ok(())),
             Err(_) => (disk, Err(Stop::Device)),
         }

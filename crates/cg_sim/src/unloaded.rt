@@ -5,7 +5,6 @@ ghost use Rattle.cg_disk.specs.Fuse.{calls_left, inner_of};
 ghost use Rattle.cg_disk.specs.Mem.{mem_failures, mem_size};
 ghost use Rattle.cg_sim.specs.Disk.{moment_of, sectors_needed, sectors_of};
 ghost use Rattle.cg_sim.specs.Poking.{IsPoked, sector_of};
-ghost use Rattle.cg_sim.specs.Stages.{unloaded_disk};
 
 use crate::call::Call;
 use crate::loaded::Loaded;
@@ -27,6 +26,8 @@ pub struct Unloaded {
 }
 
 impl Unloaded {
+    ghost use Rattle.cg_sim.specs.Stages.{unloaded_disk};
+
     /// Creates a disk without a fuse, from which nothing is loaded.
     pub fn new(alloc: Global, disk: MemDisk) -> Self
         requires { sectors_needed ≤ mem_size disk }

@@ -1,7 +1,7 @@
 use Rattle.std.proofs.Common.{◌≡◌, true, take}
 use Rattle.cg_disk.specs.Disk.{IsSynced, present}
 use Rattle.cg_sim.specs.Poking.{IsPoked}
-use Rattle.cg_sim.proofs.poke.put_all.Given as goal
+use Rattle.cg_sim.proofs.poke.Poke.put_all.Given as goal
 
 abbrev pub invariant-loop-poke : goal.invariant-loop-poke
 invariant-loop-poke g l = record {
