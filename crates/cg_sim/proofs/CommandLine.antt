@@ -14,5 +14,5 @@ only-memory [] e none (inr among) = absurd among
 only-memory (k ∷ ks) e none has = cc
 
 pub Ends-memory : (status : ℕ) (old new : Option (List ℕ)) → RefusedForMemory status old new → Ends status old new
-Ends-memory status old new (inl refused) = inr (inl (stop.Memory, refused.0, [], refused.1))
+Ends-memory status old new (inl refused) = inr (inl (stop.Memory, refused.0, ([], refused.1)))
 Ends-memory status old new (inr io) = inr (inr io)

@@ -5,3 +5,4 @@ pub mod Known
 mod Lines
 pub mod Poking
 pub mod CommandLine
+pub mod Filled

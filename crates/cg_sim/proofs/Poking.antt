@@ -1,9 +1,9 @@
 -- What a poke leaves on a disk.
-use Rattle.std.proofs.Common.{◌≡◌, ◌≢◌, ℕ, ◌+◌, ◌<◌, ◌≤◌, Bool, true, false, eqb, List, [], ◌∷◌, ◌++◌, length, refl, sym, ap, ◌∙◌, inl, inr, arith, take_all}
+use Rattle.std.proofs.Common.{◌≡◌, ◌≢◌, ℕ, ◌+◌, ◌<◌, ◌≤◌, Bool, true, false, eqb, List, [], ◌∷◌, ◌++◌, length, refl, sym, subst, ap, ◌∙◌, inl, inr, arith, take_all}
 use Rattle.std.specs.Prelude.{◌==◌, if◌then◌else◌}
 use Rattle.std.proofs.lemmas.Bool.{cases_lt, eqb-false, eqb-true}
 use Rattle.std.proofs.lemmas.List.Sums.{fold-append}
-use Rattle.cg_disk.specs.Disk.{Changes, History, Holds, Image, IsDisturbed, IsSynced, Moment, Stays, present, sector}
+use Rattle.cg_disk.specs.Disk.{Changes, History, Holds, Image, IsDisturbed, IsSynced, Moment, Stays, present, sector, sector_count}
 use Rattle.cg_disk.proofs.Moments.{Changes-present, Stays-content}
 use Rattle.cg_sim.specs.Poking.{IsPoked, content_of, poked, poked_by, sector_of}
 use Rattle.cg_sim.specs.declared.poke.Poke.{Poke}
@@ -22,7 +22,7 @@ IsPoked-written p old mid new long holds changes stays synced = record { content
     disturbed = Changes-present (sector_of p) 1 old mid changes
 
     written : (present mid).content (sector_of p) ≡ content_of p
-    written = holds 0 (omega arith) ∙ whole-sector (content_of p) long
+    written = let first : sector_of p ≡ sector_of p + 0 = omega arith in ap (present mid).content first ∙ holds 0 (omega arith) ∙ whole-sector (content_of p) long
 
     apart : (s : ℕ) → s ≢ sector_of p → (present mid).content s ≡ (present old).content s
     apart s other = elim (cases_lt s (sector_of p)) [
@@ -36,6 +36,16 @@ IsPoked-written p old mid new long holds changes stays synced = record { content
         go : (t : _) → eqb s (sector_of p) ≡ t → (present mid).content s ≡ poked_by (p ∷ []) (present old).content s
         go true same = let is : s ≡ sector_of p = eqb-true _ _ same in rw (same) (rw is written)
         go false other = rw other (apart s (eqb-false s (sector_of p) other))
+
+-- the same, for the bytes that a call was given
+pub IsPoked-given : (p : Poke) (bytes : List ℕ) (old mid new : History) → bytes ≡ content_of p → length (content_of p) ≡ 512
+    → Holds (present mid).content (sector_of p) (sector_count bytes) bytes → Changes (sector_of p) (sector_count bytes) old mid
+    → Stays mid new → IsSynced (present new) → IsPoked (p ∷ []) (present old).content (present new)
+IsPoked-given p bytes old mid new same long holds changes stays synced =
+    let one : sector_count bytes ≡ 1 = omega (arith, ap length same, long) in
+    let held = subst (λ n. Holds (present mid).content (sector_of p) n bytes) one holds in
+    let alone = subst (λ n. Changes (sector_of p) n old mid) one changes in
+    IsPoked-written p old mid new long (subst (Holds (present mid).content (sector_of p) 1) same held) alone stays synced
 
 -- no poke leaves the content as it is
 pub IsPoked-none : (now : Moment) → IsSynced now → IsPoked [] now.content now

@@ -26,7 +26,7 @@ Script lines (blank lines and lines that begin with # are skipped):
   poke S xBYTES               sector S holds these bytes, then zeros; on a loaded
                               disk only pokes may follow before stop, reload or close
   stop keep, stop lose        power loss; unsynced writes are kept or lost
-  load                        open the log, and print LOADED or FAULT
+  load                        open the store, and print LOADED or FAULT
   reload                      stop keep, then load
   close                       refuse every pending request, then stop keep
 
@@ -41,7 +41,7 @@ fn segments_arg<'a>(alloc: Global) -> Arg<'a>
         .long("segments")
         .value_name("N")
         .value_parser(value_parser!(u64).range(1..=SEGMENTS_MAX as i64))
-        .help("Segments of 1 MiB on the disk, 1 to 200 [default: 8]")
+        .help("Segments of 1 MiB on the disk, 1 to 200, of which the first is used [default: 8]")
 }
 
 fn command<'a>(alloc: Global) -> Result<Command<'a>, AllocError>

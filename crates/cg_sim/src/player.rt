@@ -5,7 +5,7 @@ ghost use Rattle.cg_sim.specs.Ending.{IsCause};
 ghost use Rattle.cg_sim.specs.Line.{line_of};
 ghost use Rattle.cg_sim.specs.Stages.{is_refused, stage_disk};
 ghost use Rattle.cg_sim.specs.declared.line.Line.{Line};
-ghost use Rattle.cg_sim.specs.declared.line.Line.TheVariants.{Poke};
+ghost use Rattle.cg_sim.specs.declared.line.Line.TheVariants as form;
 
 use crate::call::Call;
 use crate::line::{Line, draws_uuid};
@@ -50,7 +50,7 @@ impl Player {
     ) -> (Stage, Result<(), Stop>)
         ensures err { IfErr result.1 (λ stop. IsCause number stop) }
         ensures order { (line : Line) → line_of text.now ≡ Some line → IsTrue (is_refused stage line) → result.1 ≡ Err (Stop.BadLine number) }
-        ensures range { (sector : ℕ) (word : List ℕ) → line_of text.now ≡ Some (Poke sector word) → mem_size (stage_disk stage) ≤ sector → result.1 ≡ Err (Stop.BadLine number) }
+        ensures range { (sector : ℕ) (word : List ℕ) → line_of text.now ≡ Some (form.Poke sector word) → mem_size (stage_disk stage) ≤ sector → result.1 ≡ Err (Stop.BadLine number) }
         ensures bad { line_of text.now ≡ None → result.1 ≡ Err (Stop.BadLine number) }
     {
         match Line::read(text) {
@@ -68,7 +68,7 @@ impl Player {
     ) -> (Stage, Result<(), Stop>)
         ensures err { IfErr result.1 (λ stop. IsCause number stop) }
         ensures order { IsTrue (is_refused stage line.now) → result.1 ≡ Err (Stop.BadLine number) }
-        ensures range { (sector : ℕ) (word : List ℕ) → line.now ≡ Poke sector word → mem_size (stage_disk stage) ≤ sector → result.1 ≡ Err (Stop.BadLine number) }
+        ensures range { (sector : ℕ) (word : List ℕ) → line.now ≡ form.Poke sector word → mem_size (stage_disk stage) ≤ sector → result.1 ≡ Err (Stop.BadLine number) }
     {
         if stage.refuses(line) {
             return (stage, Err(Stop::BadLine(number)));
@@ -85,7 +85,7 @@ impl Player {
         out: &mut Vec<u8>,
     ) -> (Stage, Result<(), Stop>)
         ensures err { IfErr result.1 (λ stop. IsCause number stop) }
-        ensures range { (sector : ℕ) (word : List ℕ) → line.now ≡ Poke sector word → mem_size (stage_disk stage) ≤ sector → result.1 ≡ Err (Stop.BadLine number) }
+        ensures range { (sector : ℕ) (word : List ℕ) → line.now ≡ form.Poke sector word → mem_size (stage_disk stage) ≤ sector → result.1 ≡ Err (Stop.BadLine number) }
     {
         match line {
             Line::Skipped => (stage, Ok(())),
