@@ -19,6 +19,7 @@ mod protocols;
 mod splitting;
 mod sync_entries;
 
+pub use bytes::{bytes_in, is_opaque};
 use crate::line_fault::LineFault::{self, Malformed, TooLong};
 use crate::words::LINE_BYTES_MAX;
 use cg_group::Request;
