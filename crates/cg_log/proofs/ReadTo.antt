@@ -184,13 +184,20 @@ module _ (image : Image) (sectors : ℕ) (root : Root) (counting : CountingRoot 
     ids : root_ids root ≡ ids_of (segments_of c.has)
     ids = ap root_ids same ∙ ids-carried image sectors c.root c.has c.stored
 
+    abbrev id_there : ℕ
+    id_there = get_or (ids_of (segments_of c.has)) index 0
+
+    split-of : (frames : Frames) (later : List Filled) → segments_of c.has ≡ so_far.done ++ (id_there, frames) ∷ later → HasFrames image (segment_of id_there) frames → (rest : Frames) × ((later : List Filled) × (segments_of c.has ≡ so_far.done ++ (id_at root index, so_far.seen ++ rest) ∷ later))
+    split-of frames later parts are =
+        let here : id_there ≡ id_at root index = ap (λ (l : List ℕ). get_or l index 0) (sym ids) in
+        let has : HasFrames image (segment_of (id_at root index)) frames = subst (λ (j : ℕ). HasFrames image (segment_of j) frames) here are in
+        let front = Chain-front image (segment_of (id_at root index)) 0 pos so_far.seen frames has.0 (omega arith) so_far.chain has.1.chain has.1.closed in
+        (front.0, (later, parts ∙ (λ i. so_far.done ++ (here i, front.1 i) ∷ later)))
+
     split : (rest : Frames) × ((later : List Filled) × (segments_of c.has ≡ so_far.done ++ (id_at root index, so_far.seen ++ rest) ∷ later))
     split =
-        let here : get_or (ids_of (segments_of c.has)) index 0 ≡ id_at root index = ap (λ (l : List ℕ). get_or l index 0) (sym ids) in
         let cut = split-segments image index (segments_of c.has) so_far.done (ap (take index) (sym ids) ∙ so_far.ids_are) (omega (arith, inside, ap length ids)) (stored-carried image sectors c.root c.has c.stored) so_far.stored in
-        let has : HasFrames image (segment_of (id_at root index)) cut.0 = subst (λ (j : ℕ). HasFrames image (segment_of j) cut.0) here cut.1.1.1 in
-        let front = Chain-front image (segment_of (id_at root index)) 0 pos so_far.seen cut.0 has.0 (omega arith) so_far.chain has.1.chain has.1.closed in
-        (front.0, (cut.1.0, cut.1.1.0 ∙ (λ i. so_far.done ++ (here i, front.1 i) ∷ cut.1.0)))
+        split-of cut.0 cut.1.0 cut.1.1.0 cut.1.1.1
 
     -- the frames that were read are the first ones that it carries
     pub read-first : (rest : Frames) × (base ++ tail ≡ read ++ rest)
