@@ -24,6 +24,7 @@ use Rattle.cg_member.specs.Syncing.{sync_taken}
 use Rattle.cg_member.specs.Ticking.{ticked}
 use Rattle.cg_member.specs.Waiting.{called}
 use Rattle.cg_desk.specs.Held.{calls_of}
+use Rattle.cg_desk.specs.Bags.{AreSameTickets}
 use Rattle.cg_desk.specs.Owed.{weight_calls}
 
 -- the weight of a member's parked request; below, the sums over members and over replies
