@@ -1,4 +1,4 @@
-use Rattle.std.proofs.Common.{◌∙◌, ap, refl, Ok}
+use Rattle.std.proofs.Common.{◌∙◌, ap, refl, false, Ok}
 use Rattle.std.proofs.lemmas.Result.{err_from_is_err_and}
 use Rattle.cg_disk.proofs.Moments.{Changes-then}
 use Rattle.cg_log.proofs.opening.Opening.read_all.Goals as goal
@@ -17,7 +17,7 @@ loop-preserved g c =
           let so_far = inv.read image read has in
           (_, rw c.in-Some.is at (c.in_ok-next.ensures.frame image so_far.0 so_far.1));
       time = λ honest. Changes-then 0 0 _ _ _ (inv.time honest) (c.next.ensures.time (inv.same_honesty ∙ honest));
-      same_failures = c.in_ok-next.ensures.device.stays refl ∙ inv.same_failures;
+      same_failures = c.in_ok-next.ensures.device.stays (refl {a = false}) ∙ inv.same_failures;
       same_size = c.next.ensures.same_size ∙ inv.same_size;
       same_honesty = c.next.ensures.same_honesty ∙ inv.same_honesty;
     }

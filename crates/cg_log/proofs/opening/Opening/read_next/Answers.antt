@@ -1,8 +1,7 @@
-use Rattle.std.proofs.Common.{◌++◌, ◌∷◌, [], ◌∙◌, sym, subst, ap, Ok}
+use Rattle.std.proofs.Common.{◌∙◌, ap, Ok}
 use Rattle.std.proofs.lemmas.Result.{err_from_is_err_and}
 use Rattle.cg_disk.proofs.Moments.{Stays-content, Stays-synced}
-use Rattle.cg_frame.specs.Reader.{payload_of, position_of}
-use Rattle.cg_log.specs.ReadTo.{IsReadTo}
+use Rattle.cg_frame.specs.Reader.{position_of}
 use Rattle.cg_log.proofs.Next.{Tells-next}
 use Rattle.cg_log.proofs.ReadTo.{HasBadFrame-number}
 use Rattle.cg_log.proofs.opening.Opening.read_next.Goals as goal
@@ -34,7 +33,7 @@ returns-in_ok-self-in-Some-clause-frame g c image read has not_end =
       counting = rw c.read_on.ensures.same_size has.counting;
       other = has.other;
       buffered = c.read_on.ensures.buffered has.is_honest image has.content has.buffered;
-      so_far = subst (λ n. IsReadTo image self.root c.read_on.new.index (position_of c.read_on.new.reader) n (read ++ (c.in-Some.count, payload_of c.read_on.new.reader) ∷ [])) (sym c.in_ok-self-in-Some.ensures.0) found;
+      so_far = rw c.in_ok-self-in-Some.ensures.0 found;
       closed = λ ended. absurd cc;
     }
 
