@@ -19,9 +19,9 @@ mod protocols;
 mod splitting;
 mod sync_entries;
 
-pub use bytes::{bytes_in, is_opaque};
 use crate::line_fault::LineFault::{self, Malformed, TooLong};
 use crate::words::LINE_BYTES_MAX;
+pub use bytes::{bytes_in, is_opaque};
 use cg_group::Request;
 use std::alloc::Global;
 
