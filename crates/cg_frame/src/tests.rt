@@ -1,11 +1,9 @@
-//! The largest payload, damage after an open gate, frames in more than one piece, and a read that fails.
+//! The largest payload, damage after an open gate, and a read that fails.
 ghost use Rattle.std.specs.Prelude.{◌≡◌, ◌+◌, ◌^◌, ◌<◌, ◌≤◌, IfOk, OnOk, length};
-ghost use Rattle.cg_disk.specs.Mem.{mem_size};
-ghost use Rattle.cg_frame.specs.Reader.{segment_read};
 
 use crate::{
-    FrameFault, LARGEST_PAYLOAD_BYTES, SEGMENT_SECTORS, ScanFault, Segment, SegmentReader, append,
-    close_gate, fits, scan,
+    FrameFault, LARGEST_PAYLOAD_BYTES, SEGMENT_SECTORS, ScanFault, Segment, append, close_gate,
+    fits, scan,
 };
 use cg_disk::{FuseDisk, MemDisk, SectorDisk};
 use std::alloc::{AllocError, Global};
@@ -132,80 +130,5 @@ fn a_scan_reports_a_failed_read(rt: HostRuntime) -> Result<(), Fail> {
     ] {
         assert_eq!(rt; fault_after(rt.alloc(), calls)?, fault, "{calls}");
     }
-    Ok(())
-}
-
-// A segment of more than two pieces, from the third sector of a disk of 608 on.
-fn long() -> Segment
-    ensures { result ≡ record { first = 3; sectors = 600 } }
-{
-    Segment {
-        first: 3,
-        sectors: 600,
-    }
-}
-
-// Bytes of a payload after which the next gate, at position 255, is the last sector of the first piece.
-const TO_THE_LAST_GATE: u64 = 254 * 512 - 16;
-
-// Frames in order: the count, the bytes of the payload, and the position of the next gate. The body of the second frame
-// begins the second piece, and that of the third one goes on in the third piece.
-const FRAMES: [(u64, u64, u64); 3] = [
-    (1, TO_THE_LAST_GATE, 255),
-    (2, 600, 258),
-    (3, 300 * 512, 560),
-];
-
-// A disk with these frames. Each payload repeats the count of its frame.
-fn with_frames(rt: &impl Abort, alloc: Global) -> Result<MemDisk, Fail>
-    ensures { IfOk result (λ disk. mem_size disk ≡ 608) }
-{
-    let mut disk = MemDisk::new(alloc, 608)?;
-    let first = vec![in alloc; 1; TO_THE_LAST_GATE as usize]?;
-    let second = vec![in alloc; 2; 600]?;
-    let third = vec![in alloc; 3; 300 * 512]?;
-    close_gate(&mut disk, long(), 0)?;
-    let pos = append(alloc, &mut disk, long(), 0, 1, &first)?;
-    let pos = append(alloc, &mut disk, long(), pos, 2, &second)?;
-    let pos = append(alloc, &mut disk, long(), pos, 3, &third)?;
-    assert_eq!(rt; pos, 560);
-    Ok(disk)
-}
-
-// The reader reads this frame next.
-fn reads<D: SectorDisk>(
-    rt: &impl Abort,
-    alloc: Global,
-    disk: &mut D,
-    reader: &mut SegmentReader,
-    frame: (u64, u64, u64),
-) -> Result<(), Fail>
-    requires { (segment_read reader.old).first + (segment_read reader.old).sectors ≤ D.size disk.old }
-    ensures same_segment { segment_read reader.new ≡ segment_read reader.old }
-    ensures same_size { D.size disk.new ≡ D.size disk.old }
-{
-    let (count, bytes, next) = frame;
-    let payload = vec![in alloc; count as u8; bytes as usize]?;
-    assert_eq!(rt; reader.next(disk)?, Some(count));
-    assert_eq!(rt; reader.position(), next);
-    assert!(rt; reader.payload() == payload.as_slice());
-    Ok(())
-}
-
-#[test]
-fn a_reader_goes_on_after_a_failed_read(rt: HostRuntime) -> Result<(), Fail> {
-    let alloc = rt.alloc();
-    // Each piece takes one call of the device.
-    let mut disk = FuseDisk::new(with_frames(&rt, alloc)?, 1);
-    let mut reader = SegmentReader::new(alloc, long())?;
-    reads(&rt, alloc, &mut disk, &mut reader, FRAMES[0])?;
-    assert_eq!(rt; reader.next(&mut disk).err(), Some(ScanFault::Device));
-    assert_eq!(rt; reader.position(), 255);
-    disk.set(Some(1));
-    reads(&rt, alloc, &mut disk, &mut reader, FRAMES[1])?;
-    assert_eq!(rt; reader.next(&mut disk).err(), Some(ScanFault::Device));
-    disk.set(None);
-    reads(&rt, alloc, &mut disk, &mut reader, FRAMES[2])?;
-    assert!(rt; reader.next(&mut disk)?.is_none());
     Ok(())
 }

@@ -1,10 +1,9 @@
-//! The bytes of a format and of a roll, an append, a roll and an opening that are stopped at a device call, damaged
-//! disks.
+//! The bytes of a format and of a roll, an append and a roll that are stopped at each device call, damaged disks.
 ghost use Rattle.std.specs.Prelude.{◌≡◌, ◌≤◌, IfOk};
 ghost use Rattle.cg_disk.specs.Fuse.{inner_of};
 ghost use Rattle.cg_disk.specs.Mem.{mem_size};
 
-use crate::{Cursor, Log, LogFault, Opening, format};
+use crate::{Cursor, Log, LogFault, format};
 use cg_disk::{Crash, FuseDisk, MemDisk, SectorDisk};
 use cg_root::SegmentId;
 use std::alloc::{AllocError, Global};
@@ -235,41 +234,5 @@ fn frames_are_read_in_order(rt: HostRuntime) -> Result<(), Fail> {
     assert_eq!(rt; second, 5);
     assert!(rt; next_count(&mut log, end, None)?.is_none());
     assert!(rt; next_count(&mut log, next, Some(cut))?.is_none());
-    Ok(())
-}
-
-fn begun<D: SectorDisk>(alloc: Global, disk: D) -> Result<Opening<D>, LogFault>
-where
-    D: Drop,
-{
-    match Opening::begin(alloc, disk) {
-        Ok(opening) => Ok(opening),
-        Err((fault, _)) => Err(fault),
-    }
-}
-
-#[test]
-fn an_opening_stops_at_a_fault(rt: HostRuntime) -> Result<(), Fail> {
-    let alloc = rt.alloc();
-    let mut log = opened(alloc, with_a_frame(alloc)?)?;
-    log.roll()?;
-    log.append(5, &[])?;
-    let mut disk = log.into_disk();
-    // The beginning takes three calls of the device, and each segment one.
-    disk.set(Some(4));
-    let mut opening = begun(alloc, disk)?;
-    assert_eq!(rt; opening.next()?, Some(3));
-    assert!(rt; opening.payload() == [5; 600].as_slice());
-    assert_eq!(rt; opening.next().err(), Some(LogFault::Device));
-    assert_eq!(rt; opening.next().err(), Some(LogFault::Failed));
-    let mut disk = opening.into_disk();
-    disk.set(None);
-    let mut opening = begun(alloc, disk)?;
-    assert_eq!(rt; opening.next()?, Some(3));
-    assert_eq!(rt; opening.next()?, Some(5));
-    assert!(rt; opening.payload().is_empty());
-    assert!(rt; opening.next()?.is_none());
-    assert!(rt; opening.next()?.is_none());
-    assert_eq!(rt; opened(alloc, opening.into_disk())?.number(), 8);
     Ok(())
 }
