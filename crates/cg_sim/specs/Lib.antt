@@ -4,8 +4,3 @@ pub mod Reading
 pub mod Telling
 pub mod Ending
 pub mod Disk
-pub mod SectorText
-pub mod Poking
-pub mod LoadedDisk
-pub mod Stages
-pub mod CommandLine
