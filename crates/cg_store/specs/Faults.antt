@@ -1,24 +1,56 @@
 -- The meaning of each fault of a store.
-use Rattle.std.specs.Prelude.{◌≡◌, ◌⊎◌, ℕ, List, Bool, true, false, Option, Some, None, Result, Ok, Err}
+use Rattle.std.specs.Prelude.{◌≡◌, ◌⊎◌, ℕ, Bool, true, false, Option, Some, None, Result, Ok, Err}
 use Rattle.cg_disk.specs.Disk.{Image}
 use Rattle.cg_fold.specs.Durable.{State}
-use Rattle.cg_store.specs.Carried.{Carries, IsWhole}
+use Rattle.cg_log.specs.Carried.{Carries as LogCarries}
+use Rattle.cg_log.specs.Faults.{HasBadFrame}
+use Rattle.cg_log.specs.Segments.{Frames}
+use Rattle.cg_log.specs.declared.fault.LogFault.{LogFault}
+use Rattle.cg_log.specs.declared.fault.LogFault.TheVariants as log_fault
+use Rattle.cg_root.specs.Roots.{HasNoRoot, HasBadRoot}
+use Rattle.cg_store.specs.Carried.{Carries}
 use Rattle.cg_store.specs.declared.fault.OpenFault.{OpenFault}
 use Rattle.cg_store.specs.declared.fault.OpenFault.TheVariants as open_fault
 use Rattle.cg_store.specs.declared.fault.StoreFault.{StoreFault}
 use Rattle.cg_store.specs.declared.fault.StoreFault.TheVariants as store_fault
 
--- what a fault says of an image: it is not a list of frames, or it is one that has no decodable commands
-abbrev pub Tells : Image → OpenFault → Type 0
-Tells image open_fault.Memory = Unit {0}
-Tells image open_fault.Device = Unit {0}
-Tells image open_fault.BadFrame = (frames : List (ℕ × List ℕ)) → ¬ IsWhole image frames
-Tells image open_fault.BadRecord = ((frames : List (ℕ × List ℕ)) × IsWhole image frames) × ((n : ℕ) (state : State) → ¬ Carries image n state)
+-- the log of an image is sound
+pub record HasLog (image : Image) (sectors : ℕ) : Type 0 where
+  pub number : ℕ
+  pub base : Frames
+  pub tail : Frames
+  pub log : LogCarries image sectors number base tail
+
+-- the log of an image is sound, and the image carries nothing: some frame has no decodable commands
+pub record HasBadRecord (image : Image) (sectors : ℕ) : Type 0 where
+  pub has : HasLog image sectors
+  pub none : (n : ℕ) (state : State) → ¬ Carries image sectors n state
+
+-- what a fault says of an image
+abbrev pub Tells : Image → ℕ → OpenFault → Type 0
+Tells image sectors open_fault.Memory = Unit {0}
+Tells image sectors open_fault.Device = Unit {0}
+Tells image sectors open_fault.NoRoot = HasNoRoot image sectors
+Tells image sectors open_fault.BadRoot = HasBadRoot image sectors
+Tells image sectors open_fault.BadFrame = HasBadFrame image sectors
+Tells image sectors open_fault.BadRecord = HasBadRecord image sectors
+
+-- the fault of an opening for that of its log; an opening of a log reports neither Full nor Failed
+abbrev pub of_log : LogFault → OpenFault
+of_log log_fault.Memory = open_fault.Memory
+of_log log_fault.Device = open_fault.Device
+of_log log_fault.Full = open_fault.NoRoot
+of_log log_fault.BadRoot = open_fault.BadRoot
+of_log log_fault.BadFrame = open_fault.BadFrame
+of_log log_fault.NoRoot = open_fault.NoRoot
+of_log log_fault.Failed = open_fault.NoRoot
 
 -- an opening failed because of the disk, by its fault and by its result
 abbrev pub is_loading_failure : OpenFault → Bool
 is_loading_failure open_fault.Memory = false
 is_loading_failure open_fault.Device = true
+is_loading_failure open_fault.NoRoot = false
+is_loading_failure open_fault.BadRoot = false
 is_loading_failure open_fault.BadFrame = false
 is_loading_failure open_fault.BadRecord = false
 

@@ -1,12 +1,14 @@
 //! The faults of a store.
 ghost use Rattle.std.specs.Prelude.{◌≡◌};
+ghost use Rattle.cg_store.specs.Faults.{of_log};
 ghost use Rattle.cg_store.specs.declared.fault.OpenFault.TheVariants as open_fault;
 
-use cg_disk::DiskFault;
+use cg_log::LogFault;
 use std::alloc::AllocError;
 use thiserror::Error;
 
-/// The reason why a store was not opened. Roots are not written yet, so no fault is about them.
+/// The reason why a store was not opened. Where no allocation and no call of the disk fails, the faults are reported in
+/// the order `NoRoot`, `BadRoot`, `BadFrame`, `BadRecord`: every frame is read before any record is judged.
 #[derive(Clone, Copy, Debug, PartialEq, Eq, Error)]
 pub enum OpenFault {
     /// An allocation failed.
@@ -15,8 +17,14 @@ pub enum OpenFault {
     /// The disk failed.
     #[error("the disk failed")]
     Device,
-    /// An open gate has no frame after it, or there are more commands than sequence numbers. It is reported before
-    /// `BadRecord`.
+    /// The disk has fewer than four sectors, or both root gates are closed.
+    #[error("no root")]
+    NoRoot,
+    /// A root gate is open and its body breaks a rule, or both are open and the epochs are equal.
+    #[error("a bad root")]
+    BadRoot,
+    /// A segment that the root names has an open gate without a frame after it, or there are more commands than sequence
+    /// numbers.
     #[error("a frame is damaged")]
     BadFrame,
     /// A payload cannot be decoded, or the number of its commands differs from the count of its frame.
@@ -32,11 +40,18 @@ impl From<AllocError> for OpenFault {
     }
 }
 
-impl From<DiskFault> for OpenFault {
-    ghost from_gives = { λ _ fault. fault ≡ open_fault.Device };
+impl From<LogFault> for OpenFault {
+    ghost from_gives = { λ log fault. fault ≡ of_log log };
 
-    fn from(_: DiskFault) -> Self {
-        OpenFault::Device
+    fn from(fault: LogFault) -> Self {
+        match fault {
+            LogFault::Memory => OpenFault::Memory,
+            LogFault::Device => OpenFault::Device,
+            LogFault::BadRoot => OpenFault::BadRoot,
+            LogFault::BadFrame => OpenFault::BadFrame,
+            // No opening reports that a log is full or has failed.
+            LogFault::NoRoot | LogFault::Full | LogFault::Failed => OpenFault::NoRoot,
+        }
     }
 }
 
@@ -50,7 +65,8 @@ pub enum StoreFault {
     /// The disk failed. The batch may be on disk or not, and every further append reports `Failed`.
     #[error("the disk failed")]
     Device,
-    /// The frame does not fit, or there are too few sequence numbers left. The store is unchanged.
+    /// The frame does not fit the last segment and no other is free, or there are too few sequence numbers left. The
+    /// store is unchanged.
     #[error("the store is full")]
     Full,
     /// The first number of the batch is not the one after the store's last. The store is unchanged.

@@ -7,19 +7,20 @@ use crate::store::Store;
 use cg_disk::{FuseDisk, SectorDisk};
 
 impl<D: SectorDisk> Store<FuseDisk<D>> {
-    ghost use Rattle.cg_store.specs.Store.{StandsAt, disk_of, end_of, front_of, has_failed};
+    ghost use Rattle.cg_store.specs.Store.{StandsAt, disk_of, front_of, has_failed, room_of, sectors_of};
 
     /// Sets how many more calls the disk passes before it fails each; `None` passes every call. Nothing else changes.
     pub fn set_fuse(&mut self, calls: Option<u64>)
         ensures fuse { calls_left (disk_of self.new) ≡ calls }
         ensures disk { inner_of (disk_of self.new) ≡ inner_of (disk_of self.old) }
         ensures blown { blown_calls (disk_of self.new) ≡ blown_calls (disk_of self.old) }
-        ensures end { end_of self.new ≡ end_of self.old }
+        ensures room { room_of self.new ≡ room_of self.old }
+        ensures same_sectors { sectors_of self.new ≡ sectors_of self.old }
         ensures front { front_of self.new ≡ front_of self.old }
         ensures failed { has_failed self.new ≡ has_failed self.old }
         ensures stands { (n : ℕ) (state : State) → StandsAt (⟦<FuseDisk<D> as SectorDisk>⟧.is_honest) (⟦<FuseDisk<D> as SectorDisk>⟧.history) self.old n state
             → StandsAt (⟦<FuseDisk<D> as SectorDisk>⟧.is_honest) (⟦<FuseDisk<D> as SectorDisk>⟧.history) self.new n state }
     {
-        self.disk.set(calls);
+        self.log.set_fuse(calls);
     }
 }

@@ -7,7 +7,7 @@ pub fn images_carry_one_pair()
     ensures { ImagesCarryOnePair }
 {}
 
-/// The state of an image is the one that as many lawful commands make.
+/// The state of an image is one that lawful commands make, and its number is at most `COMMAND_NUMBER_MAX`.
 pub fn images_carry_commands()
     ensures { ImagesCarryCommands }
 {}

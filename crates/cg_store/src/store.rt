@@ -1,42 +1,40 @@
 //! The store.
-ghost use Rattle.std.specs.Prelude.{◌≡◌, ◌+◌, ◌≤◌, ◌<◌, true, false};
-ghost use Rattle.cg_frame.specs.declared.segment.TheConstants.{SEGMENT_SECTORS};
-ghost use Rattle.cg_store.specs.Carried.{IsFree};
-ghost use Rattle.cg_store.specs.declared.segment.TheConstants.{COMMAND_NUMBER_MAX, FIRST_SEGMENT_SECTOR};
+ghost use Rattle.std.specs.Prelude.{◌≡◌, ◌≤◌};
+ghost use Rattle.cg_log.specs.Log as log_model;
+ghost use Rattle.cg_log.specs.declared.numbers.TheConstants.{COMMAND_NUMBER_MAX};
 
 use cg_disk::SectorDisk;
+use cg_log::Log;
 
-/// The commands on a disk. The store keeps their number and the position of the next frame in memory, and none of the
-/// commands.
+/// The commands on a disk. The store keeps their log and the size of the disk in memory, and none of the commands.
 #[derive(Drop)]
 pub struct Store<D: SectorDisk> {
-    pub(crate) disk: D,
-    pub(crate) end: u64,
-    pub(crate) front: u64,
-    pub(crate) has_failed: bool,
-    ghost on_disk: { FIRST_SEGMENT_SECTOR + SEGMENT_SECTORS ≤ D.size disk },
-    ghost inside: { end < SEGMENT_SECTORS },
-    ghost in_range: { front ≤ COMMAND_NUMBER_MAX },
-    // The gate that the next frame opens is closed, whatever a crash leaves.
-    ghost gate: { has_failed ≡ false → D.is_honest disk ≡ true → IsFree (D.history disk) end },
+    pub(crate) log: Log<D>,
+    pub(crate) sectors: u64,
+    ghost size: { sectors ≡ D.size (log_model.disk_of log) },
 }
 
 impl<D: SectorDisk> Store<D> {
-    ghost use Rattle.cg_store.specs.Store.{disk_of, front_of};
+    ghost use Rattle.cg_store.specs.Store.{disk_of, front_of, room_of};
 
-    /// Returns the number of commands appended since the disk was formatted. A batch on which the disk failed does not
-    /// count.
+    /// Returns the number of the last command. A batch on which the disk failed does not count.
     pub fn front(&self) -> u64
         ensures { result ≡ front_of self.now }
     {
-        self.front
+        self.log.number()
+    }
+
+    /// Returns how many segments of the disk are free. Compares each segment with each that is in use.
+    pub fn free_count(&self) -> u64
+        ensures { result ≡ (room_of self.now).segments }
+    {
+        self.log.free_count()
     }
 
     /// Returns the disk, without a disk call.
     pub fn into_disk(self) -> D
         ensures { result ≡ disk_of self }
     {
-        let Store { disk, .. } = self;
-        disk
+        self.log.into_disk()
     }
 }

@@ -1,11 +1,33 @@
-//! Appends on a disk that fails, the order of batches, and the faults of damaged disks.
+//! Appends on a disk that fails, the order of batches, formats, and the faults of damaged disks.
 ghost use Rattle.std.specs.Prelude.{◌≡◌, IfOk, length};
 
 use super::*;
 use cg_disk::{Crash, FuseDisk, MemDisk, SectorDisk};
+use cg_gate::{FIRST_SEGMENT_SECTOR, SEGMENT_SECTORS};
 use std::alloc::{AllocError, Global};
 use std::process::Abort;
 use std::test::Fail;
+
+// Sectors of a disk with two segments.
+const DISK_SECTORS: u64 = FIRST_SEGMENT_SECTOR + 2 * SEGMENT_SECTORS;
+
+// Makes a formatted disk.
+fn formatted(alloc: Global) -> Result<MemDisk, Fail> {
+    let mut disk = MemDisk::new(alloc, DISK_SECTORS)?;
+    format(alloc, &mut disk)?;
+    Ok(disk)
+}
+
+// Opens a store, without its number and state.
+fn opened<D: SectorDisk>(alloc: Global, disk: D) -> Result<Store<D>, Fail>
+where
+    D: Drop,
+{
+    match Store::open(alloc, disk) {
+        Ok((store, _, _)) => Ok(store),
+        Err(_) => Err("opened".into()),
+    }
+}
 
 // Returns a batch of two commands, which delete the groups g and h.
 fn batch(alloc: Global, first: u64) -> Result<Batch, Fail> {
@@ -17,14 +39,10 @@ fn batch(alloc: Global, first: u64) -> Result<Batch, Fail> {
 
 // Returns the number of commands after a crash, where the disk failed with this many calls of an append of two.
 fn left_after(rt: &impl Abort, alloc: Global, calls: u64, kind: Crash) -> Result<u64, Fail> {
-    let mut disk = MemDisk::new(alloc, DISK_SECTORS)?;
-    format(&mut disk)?;
-    let disk = FuseDisk::new(disk, calls.saturating_add(2));
-    let Ok((mut store, _, _)) = Store::open(alloc, disk) else {
-        return Err("opened".into());
-    };
-    if let Err((fault, back)) = store.append(alloc, batch(alloc, 1)?) {
-        let again = store.append(alloc, back).err().map(|(fault, _)| fault);
+    let mut store = opened(alloc, FuseDisk::new(formatted(alloc)?, u64::MAX))?;
+    store.set_fuse(Some(calls));
+    if let Err((fault, back)) = store.append(batch(alloc, 1)?) {
+        let again = store.append(back).err().map(|(fault, _)| fault);
         assert_eq!(rt;
             (fault, again),
             (StoreFault::Device, Some(StoreFault::Failed))
@@ -50,12 +68,8 @@ fn a_failed_append_leaves_all_or_nothing(rt: HostRuntime) -> Result<(), Fail> {
 
 // Returns the fault of appending a batch with this first number to an empty store.
 fn fault_of(alloc: Global, first: u64) -> Result<Option<StoreFault>, Fail> {
-    let mut disk = MemDisk::new(alloc, DISK_SECTORS)?;
-    format(&mut disk)?;
-    let Ok((mut store, _, _)) = Store::open(alloc, disk) else {
-        return Err("opened".into());
-    };
-    let fault = store.append(alloc, batch(alloc, first)?).err();
+    let mut store = opened(alloc, formatted(alloc)?)?;
+    let fault = store.append(batch(alloc, first)?).err();
     Ok(fault.map(|(fault, _)| fault))
 }
 
@@ -72,6 +86,19 @@ fn batches_come_in_order(rt: HostRuntime) -> Result<(), Fail> {
     Ok(())
 }
 
+#[test]
+fn a_format_needs_one_segment(rt: HostRuntime) -> Result<(), Fail> {
+    for (sectors, want) in [
+        (0, Err(LogFault::Full)),
+        (2051, Err(LogFault::Full)),
+        (2052, Ok(())),
+    ] {
+        let mut disk = MemDisk::new(rt.alloc(), sectors)?;
+        assert_eq!(rt; format(rt.alloc(), &mut disk), want, "{sectors}");
+    }
+    Ok(())
+}
+
 // Returns an open gate, and a body with this count and with a payload of this version that deletes group g.
 fn frame_of(alloc: Global, count: u64, version: u8) -> Result<Vec<u8>, AllocError>
     ensures { IfOk result (λ frame. length frame.items ≡ 1024) }
@@ -84,13 +111,13 @@ fn frame_of(alloc: Global, count: u64, version: u8) -> Result<Vec<u8>, AllocErro
     Ok(frame)
 }
 
-// Returns the fault of opening a disk with one frame, or two.
+// Returns the fault of opening a formatted disk with one frame in its first segment, or two.
 fn fault_of_opening(
     alloc: Global,
     first: (u64, u8),
     second: Option<(u64, u8)>,
 ) -> Result<Option<OpenFault>, Fail> {
-    let mut disk = MemDisk::new(alloc, DISK_SECTORS)?;
+    let mut disk = formatted(alloc)?;
     disk.write(FIRST_SEGMENT_SECTOR, &frame_of(alloc, first.0, first.1)?)?;
     if let Some((count, version)) = second {
         disk.write(FIRST_SEGMENT_SECTOR + 2, &frame_of(alloc, count, version)?)?;
@@ -115,5 +142,22 @@ fn damage_is_reported(rt: HostRuntime) -> Result<(), Fail> {
     ] {
         assert_eq!(rt; fault_of_opening(rt.alloc(), first, second)?, want);
     }
+    Ok(())
+}
+
+#[test]
+fn damaged_roots_are_reported(rt: HostRuntime) -> Result<(), Fail> {
+    let mut small = MemDisk::new(rt.alloc(), 3)?;
+    small.write(0, &[1; 512])?;
+    let small = Store::open(rt.alloc(), small).err();
+    assert_eq!(rt; small.map(|(fault, _)| fault), Some(OpenFault::NoRoot));
+    let mut closed = formatted(rt.alloc())?;
+    closed.write(0, &[0; 512])?;
+    let closed = Store::open(rt.alloc(), closed).err();
+    assert_eq!(rt; closed.map(|(fault, _)| fault), Some(OpenFault::NoRoot));
+    let mut bad = formatted(rt.alloc())?;
+    bad.write(1, &[2; 512])?;
+    let bad = Store::open(rt.alloc(), bad).err();
+    assert_eq!(rt; bad.map(|(fault, _)| fault), Some(OpenFault::BadRoot));
     Ok(())
 }

@@ -5,7 +5,7 @@ use Rattle.cg_disk.specs.Disk.{History, Image, IsImage, IsSynced, LeavesOnly, St
 use Rattle.cg_fold.specs.Durable.{State, after}
 use Rattle.cg_record.specs.declared.command.Command.{Command}
 use Rattle.cg_store.specs.Carried.{Carries}
-use Rattle.cg_store.specs.Store.{disk_of}
+use Rattle.cg_store.specs.Store.{disk_of, sectors_of}
 use Rattle.cg_desk.specs.Desks.{settled_of}
 use Rattle.cg_world.specs.Opening.{IsOpened}
 use Rattle.cg_world.specs.Running.{IsRun, went}
@@ -46,11 +46,12 @@ AreRuns honest history world (r ∷ rs) = IsRun honest history r.steps world r.a
 pub record Opens {D : Type 0} {g : _} (honest : D → Bool) (history : D → History) (disk : D) (now : ℕ) (world : World D g) : Type 0 where
   pub honesty : honest (disk_of (store_of world)) ≡ honest disk
   pub content : Stays (history disk) (history (disk_of (store_of world)))
-  pub carried : (n : ℕ) (state : State) → Carries (present (history disk)).content n state → IsOpened honest history now world n state
+  pub carried : (n : ℕ) (state : State) → Carries (present (history disk)).content (sectors_of (store_of world)) n state → IsOpened honest history now world n state
 
--- a life that begins with this image: after its last run began, and before it ended, a crash left the next image
-pub record IsLife {D : Type 0} {g : _} (honest : D → Bool) (history : D → History) (before : Image) (life : Life D (World D g)) : Type 0 where
+-- a life of a disk of that many sectors that begins with this image: after its last run began, and before it ended, a crash left the next image
+pub record IsLife {D : Type 0} {g : _} (honest : D → Bool) (history : D → History) (sectors : ℕ) (before : Image) (life : Life D (World D g)) : Type 0 where
   pub is_honest : honest life.disk ≡ true
+  pub size : sectors_of (store_of life.world) ≡ sectors
   pub content : (s : ℕ) → (present (history life.disk)).content s ≡ before s
   pub opens : Opens honest history life.disk life.opened_at life.world
   pub runs : AreRuns honest history life.world life.runs
@@ -60,9 +61,9 @@ pub record IsLife {D : Type 0} {g : _} (honest : D → Bool) (history : D → Hi
   pub crash : IsImage ((history (disk_of (store_of life.broken_off.after))).at life.crashed_at) life.image
 
 -- lives, each of which begins with the image that the crash before it left
-abbrev pub AreLives : {D : Type 0} {g : _} → (D → Bool) → (D → History) → Image → List (Life D (World D g)) → Type 0
-AreLives honest history before [] = Unit {0}
-AreLives honest history before (life ∷ lives) = IsLife honest history before life × AreLives honest history life.image lives
+abbrev pub AreLives : {D : Type 0} {g : _} → (D → Bool) → (D → History) → ℕ → Image → List (Life D (World D g)) → Type 0
+AreLives honest history sectors before [] = Unit {0}
+AreLives honest history sectors before (life ∷ lives) = IsLife honest history sectors before life × AreLives honest history sectors life.image lives
 
 -- what is settled never falls, from one run to the next
 abbrev pub NeverFalls : {D : Type 0} {g : _} → World D g → List (Ran (World D g)) → Type 0
@@ -76,23 +77,25 @@ numbered_by world (r ∷ rs) = made_by (went r.steps r.trace) (sight world) ++ n
 
 -- a life that loads n commands, which make the state: its crash leaves these and a prefix of the commands that it numbered,
 -- and no fewer than were settled in any run that was over, so all on which a reply rests that left
-pub record LifeKeeps {D : Type 0} {g : _} (honest : D → Bool) (history : D → History) (n : ℕ) (state : State) (life : Life D (World D g)) (stored : List Command) : Type 0 where
+pub record LifeKeeps {D : Type 0} {g : _} (honest : D → Bool) (history : D → History) (sectors n : ℕ) (state : State) (life : Life D (World D g)) (stored : List Command) : Type 0 where
   pub loads : IsOpened honest history life.opened_at life.world n state
   pub never_falls : NeverFalls life.world life.runs
   pub lost : List Command
   pub numbered : numbered_by life.world life.runs ++ made_by (went life.broken_off.steps life.broken_off.trace) (sight (world_after life.world life.runs)) ≡ stored ++ lost
   pub enough : settled_of (sight (world_after life.world life.runs)).desk ≤ n + length stored
-  pub carried : Carries life.image (n + length stored) (after state stored)
+  pub carried : Carries life.image sectors (n + length stored) (after state stored)
 
 -- so does each of these lives, and the next one loads what this one left
-abbrev pub LivesKeep : {D : Type 0} {g : _} → (D → Bool) → (D → History) → ℕ → State → List (Life D (World D g)) → Type 0
-LivesKeep honest history n state [] = Unit {0}
-LivesKeep honest history n state (life ∷ lives) =
-    (stored : List Command) × LifeKeeps honest history n state life stored × LivesKeep honest history (n + length stored) (after state stored) lives
+abbrev pub LivesKeep : {D : Type 0} {g : _} → (D → Bool) → (D → History) → ℕ → ℕ → State → List (Life D (World D g)) → Type 0
+LivesKeep honest history sectors n state [] = Unit {0}
+LivesKeep honest history sectors n state (life ∷ lives) =
+    (stored : List Command) × LifeKeeps honest history sectors n state life stored × LivesKeep honest history sectors (n + length stored) (after state stored) lives
 
 -- The headline over several lives: whatever lives follow each other on a disk whose first image has n commands, each of
 -- them keeps what was settled in it, and the next one loads just this. Of the openings of this world's kind.
 pub record NothingSettledIsLost {D : Type 0} {g : _} (honest : D → Bool) (history : D → History) (world : World D g) : Type 0 where
-  pub lives : (first : Image) (n : ℕ) (state : State) (lives : List (Life D (World D g))) → Carries first n state → AreLives honest history first lives → LivesKeep honest history n state lives
+  pub lives : (first : Image) (sectors n : ℕ) (state : State) (lives : List (Life D (World D g))) → Carries first sectors n state
+      → AreLives honest history sectors first lives → LivesKeep honest history sectors n state lives
   -- a crash in an opening, before there is a world, leaves what the disk had
-  pub opening : (old new : History) (n : ℕ) (state : State) → IsSynced (present old) → Stays old new → Carries (present old).content n state → LeavesOnly old new (λ image. Carries image n state)
+  pub opening : (old new : History) (sectors n : ℕ) (state : State) → IsSynced (present old) → Stays old new
+      → Carries (present old).content sectors n state → LeavesOnly old new (λ image. Carries image sectors n state)

@@ -1,20 +1,22 @@
 -- The world after an opening.
-use Rattle.std.specs.Prelude.{◌≡◌, ℕ, Bool, true, false, Result, Ok, Err}
+use Rattle.std.specs.Prelude.{◌≡◌, ◌≤◌, ℕ, Bool, true, false, Result, Ok, Err}
 use Rattle.cg_disk.specs.Disk.{History, Image}
 use Rattle.cg_fold.specs.Durable.{State, counts_of}
 use Rattle.cg_held.specs.Kept.{AreRecords}
 use Rattle.cg_held.specs.Reviving.{revive}
-use Rattle.cg_store.specs.Carried.{AreCommandsTo, Carries}
+use Rattle.cg_log.specs.declared.numbers.TheConstants.{COMMAND_NUMBER_MAX}
+use Rattle.cg_store.specs.Carried.{AreMade, Carries}
 use Rattle.cg_store.specs.Store.{StandsAt, disk_of}
 use Rattle.cg_store.specs.declared.fault.OpenFault.{OpenFault}
 use Rattle.cg_desk.specs.Desks.{Serving, opened}
 use Rattle.cg_world.specs.Sights.{opening_of, sight, store_of}
 use Rattle.cg_world.specs.declared.world.World.{World}
 
--- a world that was opened at this moment found n lawful commands, which make the state: its desk serves the groups that
--- this state recovers. On an honest disk every crash image has these commands.
+-- a world that was opened at this moment found n as the number of commands, and a state that lawful commands make: its desk
+-- serves the groups that this state recovers. On an honest disk every crash image has this number and this state.
 pub record IsOpened {D : Type 0} {g : _} (honest : D → Bool) (history : D → History) (now : ℕ) (world : World D g) (n : ℕ) (state : State) : Type 0 where
-  pub made : AreCommandsTo n state
+  pub made : AreMade state
+  pub few : n ≤ COMMAND_NUMBER_MAX
   pub desk : (sight world).desk ≡ Serving (opened n (revive state now))
   pub fresh : (sight world).appended ≡ false
   pub found : opening_of world ≡ (n, (counts_of state).0, (counts_of state).1)
@@ -27,5 +29,5 @@ disk_after (Err refused) = refused.1
 
 -- Lawful commands make lawful records, and so does what an image carries.
 pub record LoadingsAreLawful : Type 0 where
-  pub made : (n : ℕ) (state : State) → AreCommandsTo n state → AreRecords state
-  pub carried : (image : Image) (n : ℕ) (state : State) → Carries image n state → AreRecords state
+  pub made : (state : State) → AreMade state → AreRecords state
+  pub carried : (image : Image) (sectors n : ℕ) (state : State) → Carries image sectors n state → AreRecords state

@@ -3,7 +3,8 @@ use Rattle.std.specs.Prelude.{◌≡◌, ◌+◌, ◌<◌, ◌≤◌, ℕ, Bool,
 use Rattle.std.specs.List.{list_any, zip}
 use Rattle.cg_disk.specs.Disk.{History, LeavesOnly}
 use Rattle.cg_fold.specs.Durable.{State}
-use Rattle.cg_store.specs.Store.{StandsAt, disk_of, front_of}
+use Rattle.cg_store.specs.Batches.{calls_for}
+use Rattle.cg_store.specs.Store.{StandsAt, disk_of, front_of, sectors_of}
 use Rattle.cg_desk.specs.Desks.{settled_of}
 use Rattle.cg_desk.specs.declared.outgoing.Outgoing.{Outgoing}
 use Rattle.cg_world.specs.Agreeing.{is_serving}
@@ -12,7 +13,7 @@ use Rattle.cg_world.specs.Faults.{is_failure, refusal_of, stopped_by_device}
 use Rattle.cg_world.specs.Replying.{IsOrderly, LeavesWhenSettled}
 use Rattle.cg_world.specs.Runs.{AreNotes, after_run, outs_of, to_store, unstored}
 use Rattle.cg_world.specs.Sights.{Sight, sight, store_of}
-use Rattle.cg_world.specs.Turns.{turn}
+use Rattle.cg_world.specs.Turns.{in_flight, turn}
 use Rattle.cg_world.specs.declared.step.Step.{Step}
 use Rattle.cg_world.specs.declared.step.Step.TheVariants.{Request, Gone, Tick, Take, Append, Settle}
 use Rattle.cg_world.specs.declared.step.StepNote.{StepNote}
@@ -69,33 +70,34 @@ pub record IsTraced {D : Type 0} {g : _} (steps : List Step) (old new : World D 
   pub fails : stopped_by_device trace.stopped ≡ true → is_serving (sight new).desk ≡ false
 
 -- the most calls of the disk that a step makes
-abbrev pub calls_in : Step → ℕ
-calls_in (Request ticket r now fresh) = 0
-calls_in (Gone session now) = 0
-calls_in (Tick now) = 0
-calls_in Take = 0
-calls_in Append = 4
-calls_in Settle = 0
+abbrev pub calls_in : Step → Sight → ℕ
+calls_in (Request ticket r now fresh) w = 0
+calls_in (Gone session now) w = 0
+calls_in (Tick now) w = 0
+calls_in Take w = 0
+calls_in Append w = calls_for w.room (in_flight w.desk)
+calls_in Settle w = 0
 
 -- from the moment after each step on, every image carries at least the commands that were settled then
-unfoldable pub KeepsSettled : History → List (Step × StepNote) → Sight → ℕ → Type 0
-KeepsSettled history [] w since = (since ≡ history.now) × CarriesSince history since (settled_of w.desk)
-KeepsSettled history (p ∷ ps) w since =
-    CarriesSince history since (settled_of w.desk) × ((next : ℕ) × (since ≤ next) × (next ≤ since + calls_in p.0) × KeepsSettled history ps (turn p.0 p.1 w).after next)
+unfoldable pub KeepsSettled : ℕ → History → List (Step × StepNote) → Sight → ℕ → Type 0
+KeepsSettled sectors history [] w since = (since ≡ history.now) × CarriesSince sectors history since (settled_of w.desk)
+KeepsSettled sectors history (p ∷ ps) w since =
+    CarriesSince sectors history since (settled_of w.desk)
+    × ((next : ℕ) × (since ≤ next) × (next ≤ since + calls_in p.0 w) × KeepsSettled sectors history ps (turn p.0 p.1 w).after next)
 
 -- what the disk keeps in a run whose store has n commands and this state when it begins, from its entry to its exit
-pub record DiskKeeps (n : ℕ) (state : State) (ps : List (Step × StepNote)) (w : Sight) (entry exit : History) : Type 0 where
+pub record DiskKeeps (sectors n : ℕ) (state : State) (ps : List (Step × StepNote)) (w : Sight) (entry exit : History) : Type 0 where
   -- the prefix law: each image since the entry carries the pair plus a prefix of the commands that the run may store
-  pub prefix : LeavesOnly entry exit (CarriesFront n state (to_store ps w))
+  pub prefix : LeavesOnly entry exit (CarriesFront sectors n state (to_store ps w))
   -- the durability law: each image since the entry has all commands that were settled then; each that a crash may leave at
   -- the exit has all that are settled then; and so it is at each step
-  pub at_entry : LeavesOnly entry exit (CarriesAtLeast (settled_of w.desk))
-  pub at_exit : HoldsAtLeast (settled_of (after_run ps w).desk) exit
-  pub at_steps : KeepsSettled exit ps w entry.now
+  pub at_entry : LeavesOnly entry exit (CarriesAtLeast sectors (settled_of w.desk))
+  pub at_exit : HoldsAtLeast sectors (settled_of (after_run ps w).desk) exit
+  pub at_steps : KeepsSettled sectors exit ps w entry.now
 
 -- what a run keeps whose store has n commands and this state when it begins
 pub record RunKeeps {D : Type 0} {g : _} (honest : D → Bool) (history : D → History) (n : ℕ) (state : State) (ps : List (Step × StepNote)) (old new : World D g) (failed : Bool) : Type 0 where
-  pub disk : DiskKeeps n state ps (sight old) (history (disk_of (store_of old))) (history (disk_of (store_of new)))
+  pub disk : DiskKeeps (sectors_of (store_of old)) n state ps (sight old) (history (disk_of (store_of old))) (history (disk_of (store_of new)))
   -- unless the disk failed, the store has a prefix of the commands that the run may store, and the rest are the commands
   -- that it does not have
   pub store : failed ≡ false → HasStored honest history (store_of new) n state (to_store ps (sight old)) (unstored (sight new))
@@ -106,5 +108,6 @@ pub record IsRun {D : Type 0} {g : _} (honest : D → Bool) (history : D → His
   -- no more is settled than the store has, and what is settled never falls
   pub settled : settled_of (sight new).desk ≤ front_of (store_of new)
   pub grows : settled_of (sight old).desk ≤ settled_of (sight new).desk
+  pub sectors : sectors_of (store_of new) ≡ sectors_of (store_of old)
   -- a world that has failed leaves its disk alone
   pub rests : is_serving (sight old).desk ≡ false → disk_of (store_of new) ≡ disk_of (store_of old)

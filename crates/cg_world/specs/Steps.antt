@@ -2,7 +2,7 @@
 use Rattle.std.specs.Prelude.{◌≡◌, ◌≢◌, ◌+◌, ◌≤◌, ℕ, Bool, true, List, [], ◌∷◌}
 use Rattle.cg_disk.specs.Disk.{History, LeavesOnly}
 use Rattle.cg_fold.specs.Durable.{State}
-use Rattle.cg_store.specs.Store.{StandsAt, disk_of}
+use Rattle.cg_store.specs.Store.{StandsAt, disk_of, sectors_of}
 use Rattle.cg_desk.specs.Desks.{settled_of}
 use Rattle.cg_desk.specs.declared.outgoing.Outgoing.{Outgoing}
 use Rattle.cg_world.specs.Carrying.{CarriesFront, HasStored, HoldsAtLeast}
@@ -23,9 +23,10 @@ pub record IsTaken {D : Type 0} {g : _} (honest : D → Bool) (history : D → H
   -- each image carries the pair plus a prefix of what may be stored; so does the store, unless its disk failed; and
   -- every image that a crash may leave now has all settled commands
   pub images : (n : ℕ) (state : State) → StandsAt honest history (store_of old) n state
-      → LeavesOnly (history (disk_of (store_of old))) (history (disk_of (store_of new))) (CarriesFront n state (to_store ((step, note) ∷ []) (sight old)))
+      → LeavesOnly (history (disk_of (store_of old))) (history (disk_of (store_of new))) (CarriesFront (sectors_of (store_of old)) n state (to_store ((step, note) ∷ []) (sight old)))
   pub stored : (n : ℕ) (state : State) → StandsAt honest history (store_of old) n state → note ≢ Device
       → HasStored honest history (store_of new) n state (to_store ((step, note) ∷ []) (sight old)) (unstored (sight new))
-  pub holds : (n : ℕ) (state : State) → StandsAt honest history (store_of old) n state → HoldsAtLeast (settled_of (sight new).desk) (history (disk_of (store_of new)))
+  pub holds : (n : ℕ) (state : State) → StandsAt honest history (store_of old) n state → HoldsAtLeast (sectors_of (store_of old)) (settled_of (sight new).desk) (history (disk_of (store_of new)))
+  pub same_sectors : sectors_of (store_of new) ≡ sectors_of (store_of old)
   -- the disk is called only as often as the step allows
-  pub clock : honest (disk_of (store_of old)) ≡ true → (history (disk_of (store_of new))).now ≤ (history (disk_of (store_of old))).now + calls_in step
+  pub clock : honest (disk_of (store_of old)) ≡ true → (history (disk_of (store_of new))).now ≤ (history (disk_of (store_of old))).now + calls_in step (sight old)

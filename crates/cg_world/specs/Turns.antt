@@ -1,12 +1,10 @@
 -- What each step does to a world.
 use Rattle.std.specs.Prelude.{◌≡◌, ℕ, Bool, true, false, ◌++◌, List, [], length, Option, Some, None, is_some, if◌then◌else◌}
-use Rattle.cg_frame.specs.Frames.{next_gate}
 use Rattle.cg_request.specs.declared.event.Event.{Event}
 use Rattle.cg_request.specs.declared.event.Event.TheVariants as event
 use Rattle.cg_request.specs.Asking.{asked}
 use Rattle.cg_record.specs.declared.command.Command.{Command}
-use Rattle.cg_record.specs.Spelling.{spelling}
-use Rattle.cg_store.specs.Batches.{has_room}
+use Rattle.cg_store.specs.Batches.{has_room, room_after}
 use Rattle.cg_desk.specs.Books.{Books, is_short, taking}
 use Rattle.cg_desk.specs.Desks.{Answer, State, Loading, Serving, Failed, failing_on, gone_on, is_out, numbered_of, request_on, return_to, settle_on, settled_of, tick_on}
 use Rattle.cg_desk.specs.Flights.{Idle, unsettled}
@@ -76,7 +74,7 @@ taken note w = quiet w
 
 -- appends the batch; or gives it back; or the disk fails
 abbrev pub appended : StepNote → Sight → Turn
-appended Done w = quiet (record w { appended = true; end = next_gate w.end (length (spelling (in_flight w.desk))) })
+appended Done w = quiet (record w { appended = true; room = room_after w.room (in_flight w.desk) })
 appended Nothing w = quiet w
 appended InFlight w = quiet w
 appended Full w = quiet (record w { desk = return_to w.desk })
@@ -110,7 +108,7 @@ IsIdle (Serving b) = (b.course ≡ Idle) × (b.queue ≡ [])
 
 -- the store has room for the batch
 abbrev pub fits : Sight → Bool
-fits w = has_room w.end (settled_of w.desk) (in_flight w.desk)
+fits w = has_room w.room (settled_of w.desk) (in_flight w.desk)
 
 abbrev pub IsTakeNote : Sight → StepNote → Type 0
 IsTakeNote w Done = (is_out w.desk ≡ false) × (¬ IsIdle w.desk)

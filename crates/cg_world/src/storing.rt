@@ -3,7 +3,8 @@ ghost use Rattle.std.specs.Prelude.{◌≡◌, ◌≢◌, ◌+◌, ◌≤◌, �
 ghost use Rattle.cg_disk.specs.Disk.{Counts, LeavesOnly};
 ghost use Rattle.cg_fold.specs.Durable.{State, after};
 ghost use Rattle.cg_store.specs.Carried.{CarriesBeforeOrAfter};
-ghost use Rattle.cg_store.specs.Store.{IsUnchanged, StandsAt, disk_of};
+ghost use Rattle.cg_store.specs.Batches.{calls_for};
+ghost use Rattle.cg_store.specs.Store.{IsUnchanged, StandsAt, disk_of, sectors_of};
 ghost use Rattle.cg_world.specs.Turns.{appended, in_flight, is_taken, settled, taken, IsAppendNote, IsSettleNote, IsTakeNote, quiet};
 ghost use Rattle.cg_world.specs.Faults.{failed_append};
 
@@ -45,12 +46,14 @@ impl<D: SectorDisk> World<D> {
         ensures err { IfErr result (λ wanting. (sight self.new ≡ sight self.old) × (wanting.last ≡ None)) }
         // Below: what the disk holds.
         ensures images { (n : ℕ) (state : State) → StandsAt D.is_honest D.history (store_of self.old) n state
-            → LeavesOnly (D.history (disk_of (store_of self.old))) (D.history (disk_of (store_of self.new))) (CarriesBeforeOrAfter n state (in_flight (sight self.old).desk)) }
+            → LeavesOnly (D.history (disk_of (store_of self.old))) (D.history (disk_of (store_of self.new))) (CarriesBeforeOrAfter (sectors_of (store_of self.old)) n state (in_flight (sight self.old).desk)) }
         ensures stored { (n : ℕ) (state : State) → StandsAt D.is_honest D.history (store_of self.old) n state
             → IfOk result (λ told. told.0 ≡ StepNote.Done → StandsAt D.is_honest D.history (store_of self.new) (n + length (in_flight (sight self.old).desk)) (after state (in_flight (sight self.old).desk))) }
         ensures unchanged { IfOk result (λ told. told.0 ≢ StepNote.Done → told.0 ≢ StepNote.Device → IsUnchanged (store_of self.old) (store_of self.new)) }
         ensures wanting { OnErr result (IsUnchanged (store_of self.old) (store_of self.new)) }
-        ensures clock { D.is_honest (disk_of (store_of self.old)) ≡ true → (D.history (disk_of (store_of self.new))).now ≤ (D.history (disk_of (store_of self.old))).now + 4 }
+        ensures clock { D.is_honest (disk_of (store_of self.old)) ≡ true → (D.history (disk_of (store_of self.new))).now ≤ (D.history (disk_of (store_of self.old))).now
+            + calls_for (sight self.old).room (in_flight (sight self.old).desk) }
+        ensures same_sectors { sectors_of (store_of self.new) ≡ sectors_of (store_of self.old) }
         ensures nothing { is_taken (sight self.old) ≡ false → store_of self.new ≡ store_of self.old }
         ensures device { Counts (D.failures (disk_of (store_of self.old))) (D.failures (disk_of (store_of self.new))) (failed_append result) }
         ensures same_size { D.size (disk_of (store_of self.new)) ≡ D.size (disk_of (store_of self.old)) }
@@ -60,7 +63,7 @@ impl<D: SectorDisk> World<D> {
         let Some(batch) = self.transit.take_batch() else {
             return Ok((StepNote::Nothing, Vec::new(self.alloc)));
         };
-        match self.store.append(self.alloc, batch) {
+        match self.store.append(batch) {
             Ok(receipt) => {
                 self.transit = Transit::Appended(receipt);
                 Ok((StepNote::Done, Vec::new(self.alloc)))

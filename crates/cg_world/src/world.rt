@@ -2,12 +2,10 @@
 ghost use Rattle.std.specs.Prelude.{◌≡◌, ◌⊎◌, ◌+◌, ◌≤◌, ℕ, true, false, IfOk, IfErr, MatchResult};
 ghost use Rattle.cg_disk.specs.Disk.{Counts, Stays, present};
 ghost use Rattle.cg_fold.specs.Durable.{State};
-ghost use Rattle.cg_frame.specs.declared.segment.TheConstants.{SEGMENT_SECTORS};
 ghost use Rattle.cg_held.specs.Reviving.{revive};
 ghost use Rattle.cg_store.specs.Carried.{Carries};
 ghost use Rattle.cg_store.specs.Faults.{Tells, failed_opening};
-ghost use Rattle.cg_store.specs.Store.{disk_of, front_of, has_failed};
-ghost use Rattle.cg_store.specs.declared.segment.TheConstants.{FIRST_SEGMENT_SECTOR};
+ghost use Rattle.cg_store.specs.Store.{disk_of, front_of, has_failed, sectors_of};
 ghost use Rattle.cg_desk.specs.Desks.{failing_on, opened, state_of};
 ghost use Rattle.cg_desk.specs.Desks as state;
 ghost use Rattle.cg_world.specs.Agreeing.{Agree};
@@ -56,16 +54,16 @@ impl<D: SectorDisk> World<D> {
     /// every member (KIP-62). Changes no content of the disk, and reads each frame of the log once. After an error,
     /// returns the disk.
     pub fn open(alloc: Global, disk: D, now: Moment) -> Result<Self, (OpenFault, D)>
-        requires { FIRST_SEGMENT_SECTOR + SEGMENT_SECTORS ≤ D.size disk }
         ensures opened { IfOk result (λ world. (n : ℕ) × (state : State) × IsOpened D.is_honest D.history now world n state) }
         // Whatever the disk gives, each pending request has its token, and the replies wait in order.
         ensures orderly { IfOk result (λ world. IsOrderly (sight world)) }
         // If the content carries a pair, the world serves that pair, unless an allocation or the disk fails.
-        ensures carried { D.is_honest disk ≡ true → (n : ℕ) (state : State) → Carries (present (D.history disk)).content n state
+        ensures carried { D.is_honest disk ≡ true → (n : ℕ) (state : State) → Carries (present (D.history disk)).content (D.size disk) n state
             → MatchResult result
             (λ world. IsOpened D.is_honest D.history now world n state)
             (λ refused. (refused.0 ≡ OpenFault.Memory) ⊎ (refused.0 ≡ OpenFault.Device)) }
-        ensures tells { D.is_honest disk ≡ true → IfErr result (λ refused. Tells (present (D.history disk)).content refused.0) }
+        ensures tells { D.is_honest disk ≡ true → IfErr result (λ refused. Tells (present (D.history disk)).content (D.size disk) refused.0) }
+        ensures sectors { IfOk result (λ world. sectors_of (store_of world) ≡ D.size disk) }
         ensures content { D.is_honest disk ≡ true → Stays (D.history disk) (D.history (disk_after result)) }
         ensures device { Counts (D.failures disk) (D.failures (disk_after result)) (failed_opening result) }
         ensures same_size { D.size (disk_after result) ≡ D.size disk }

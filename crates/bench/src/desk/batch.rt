@@ -76,7 +76,7 @@ pub fn commit_batch<D: SectorDisk>(
     let commits = requests.len();
     ask_all(desk, 0, requests)?;
     let batch = taken(desk)?;
-    let receipt = appended(alloc, store, batch, commits)?;
+    let receipt = appended(store, batch, commits)?;
     let out = settled(desk, receipt)?;
     ensure!(out.len() == commits, "a reply stays");
     Ok(())

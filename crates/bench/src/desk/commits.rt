@@ -3,26 +3,27 @@ ghost use Rattle.std.specs.Prelude.{◌≡◌, ◌≤◌, ◌+◌, IfOk, OnOk};
 ghost use Rattle.std.specs.VecDeque.{deque_len};
 ghost use Rattle.cg_disk.specs.Mem.{mem_size};
 ghost use Rattle.cg_store.specs.Store.{front_of};
-ghost use Rattle.cg_store.specs.declared.segment.TheConstants.{DISK_SECTORS};
+ghost use Rattle.bench.specs.declared.desk.store.TheConstants.{DISK_SECTORS};
 
 use crate::desk::batch::{BatchSize, batch_size, commit_batch};
 use crate::desk::scene::{add_commits, desk, groups, step_all};
-use crate::desk::store::opened;
+use crate::desk::store::{DISK_SECTORS, opened};
 use crate::plain_frames::{FILE_FRAMES_MAX, PlainFrames};
 use crate::tally::{ROUNDS, Tally, hundredths};
 use anyhow::{Result, ensure};
 use cg_desk::Desk;
 use cg_disk::{Crash, FileDisk, MemDisk, SectorDisk};
-use cg_frame::{SEGMENT_SECTORS, Segment};
+use cg_frame::Segment;
+use cg_gate::{FIRST_SEGMENT_SECTOR, SEGMENT_SECTORS};
 use cg_group::Request;
-use cg_store::{DISK_SECTORS, FIRST_SEGMENT_SECTOR, Store};
+use cg_store::Store;
 use std::alloc::Global;
 use std::collections::VecDeque;
 use std::fs;
 use std::rt::{Clock, Files};
 use std::time::Instant;
 
-/// The segment of a store.
+/// The first segment of a store.
 const SEGMENT: Segment = Segment {
     first: FIRST_SEGMENT_SECTOR,
     sectors: SEGMENT_SECTORS,

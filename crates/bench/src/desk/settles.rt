@@ -1,12 +1,12 @@
 //! The settling of a batch, by the replies that leave and those that stay after them.
 use crate::desk::batch::{ask_all, settled, taken};
 use crate::desk::scene::{commits, desk};
-use crate::desk::store::{appended, opened};
+use crate::desk::store::{DISK_SECTORS, appended, opened};
 use crate::tally::{RUNS, Tally, hundredths};
 use anyhow::{Result, ensure};
 use cg_desk::Desk;
 use cg_disk::MemDisk;
-use cg_store::{DISK_SECTORS, Store};
+use cg_store::Store;
 use std::alloc::Global;
 use std::rt::Clock;
 use std::time::Instant;
@@ -34,7 +34,7 @@ fn timed<R: Clock>(
     ask_all(desk, 0, &mut commits(alloc, leaving)?)?;
     let batch = taken(desk)?;
     ask_all(desk, leaving as u64, &mut commits(alloc, staying)?)?;
-    let receipt = appended(alloc, store, batch, leaving)?;
+    let receipt = appended(store, batch, leaving)?;
     let start = Instant::now(rt)?;
     let out = settled(desk, receipt)?;
     tally.add(rt, start, leaving as u64)?;

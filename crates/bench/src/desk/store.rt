@@ -1,19 +1,20 @@
 //! A store under a desk.
-ghost use Rattle.std.specs.Prelude.{◌≡◌, ◌≤◌, ◌+◌, OnOk};
+ghost use Rattle.std.specs.Prelude.{◌≡◌, ◌+◌, OnOk};
 ghost use Rattle.cg_store.specs.Store.{front_of};
-ghost use Rattle.cg_store.specs.declared.segment.TheConstants.{DISK_SECTORS};
 
 use anyhow::{Result, ensure};
 use cg_disk::SectorDisk;
+use cg_gate::{FIRST_SEGMENT_SECTOR, SEGMENT_SECTORS};
 use cg_store::{Batch, Receipt, Store, format};
 use std::alloc::Global;
 
+/// Sectors of a disk with eight segments.
+pub const DISK_SECTORS: u64 = FIRST_SEGMENT_SECTOR + 8 * SEGMENT_SECTORS;
+
 /// Formats a disk and opens a store without commands on it.
-pub fn opened<D: SectorDisk + Drop>(alloc: Global, disk: D) -> Result<Store<D>>
-    requires { DISK_SECTORS ≤ D.size disk }
-{
+pub fn opened<D: SectorDisk + Drop>(alloc: Global, disk: D) -> Result<Store<D>> {
     let mut disk = disk;
-    format(&mut disk)?;
+    format(alloc, &mut disk)?;
     match Store::open(alloc, disk) {
         Ok((store, _, _)) => Ok(store),
         Err((fault, _)) => Err(fault.into()),
@@ -22,7 +23,6 @@ pub fn opened<D: SectorDisk + Drop>(alloc: Global, disk: D) -> Result<Store<D>>
 
 /// Appends a batch of `commits` commands.
 pub fn appended<D: SectorDisk>(
-    alloc: Global,
     store: &mut Store<D>,
     batch: Batch,
     commits: usize,
@@ -33,7 +33,7 @@ pub fn appended<D: SectorDisk>(
         batch.commands.len() == commits,
         "a batch has another number of commands"
     );
-    match store.append(alloc, batch) {
+    match store.append(batch) {
         Ok(receipt) => Ok(receipt),
         Err((fault, _)) => Err(fault.into()),
     }
