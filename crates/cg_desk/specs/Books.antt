@@ -7,7 +7,7 @@ use Rattle.cg_held.specs.Held.{Machine, Outcome}
 use Rattle.cg_member.specs.Waiting.{waiting_calls}
 use Rattle.cg_record.specs.declared.command.Command.{Command}
 use Rattle.cg_store.specs.declared.batch.Batch.{Batch}
-use Rattle.cg_store.specs.declared.segment.TheConstants.{COMMAND_NUMBER_MAX}
+use Rattle.cg_log.specs.declared.numbers.TheConstants.{COMMAND_NUMBER_MAX}
 use Rattle.cg_desk.specs.Answering.{after_answering, answering, refused_call}
 use Rattle.cg_desk.specs.Fronts.{in_frame}
 use Rattle.cg_desk.specs.Held.{calls_of, holding, released, replies_of, still_held}
