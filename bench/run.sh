@@ -2,10 +2,10 @@
 # Runs one benchmark: proves and builds crates/bench, and runs a subcommand of it.
 # FILE is made on the disk to be measured, and removed (frames makes FILE.plain too).
 set -eu
-usage="usage: bench/run.sh frames FILE | groups | fold | desk FILE | lines"
+usage="usage: bench/run.sh frames FILE | groups | fold | desk FILE | lines | load FILE"
 subcommand=${1:?$usage}
 case $subcommand in
-frames | desk) file=$(realpath -m "${2:?$usage}") ;;
+frames | desk | load) file=$(realpath -m "${2:?$usage}") ;;
 groups | fold | lines) ;;
 *)
     echo "$usage" >&2
@@ -27,6 +27,9 @@ fi
 case $subcommand in
 frames)
     "${bound[@]}" out/bench frames "$file"
+    ;;
+load)
+    "${bound[@]}" env time -f "peak: %M KiB" out/bench load "$file"
     ;;
 desk)
     "${bound[@]}" out/bench desk commits "$file"

@@ -19,6 +19,8 @@ pub enum Benchmark<'a> {
     Desk(DeskPart<'a>),
     /// Lines that are parsed and printed.
     Lines,
+    /// Logs that are loaded from this file.
+    Load(&'a str),
 }
 
 fn file<'a>(alloc: Global) -> Arg<'a> {
@@ -64,6 +66,9 @@ fn desk<'a>(alloc: Global) -> Result<Command<'a>, AllocError> {
 pub fn command<'a>(alloc: Global) -> Result<Command<'a>, AllocError> {
     let groups = Command::new(alloc, "groups").about("Events of the group machine per second");
     let lines = Command::new(alloc, "lines").about("Bytes of lines read and printed per second");
+    let load = Command::new(alloc, "load")
+        .about("Logs loaded, beside a plain read, and appends that roll")
+        .arg(file(alloc))?;
     Command::new(alloc, "bench")
         .about("Measures one part of the coordinator, and prints what it took")
         .subcommand_required(true)
@@ -71,7 +76,8 @@ pub fn command<'a>(alloc: Global) -> Result<Command<'a>, AllocError> {
         .subcommand(groups)?
         .subcommand(fold(alloc)?)?
         .subcommand(desk(alloc)?)?
-        .subcommand(lines)
+        .subcommand(lines)?
+        .subcommand(load)
 }
 
 fn desk_part<'a>(matches: &ArgMatches<'a>) -> Option<DeskPart<'a>> {
@@ -98,6 +104,7 @@ pub fn chosen<'a>(matches: &ArgMatches<'a>) -> Option<Benchmark<'a>> {
         },
         ("desk", desk) => desk_part(desk).map(Benchmark::Desk),
         ("lines", _) => Some(Benchmark::Lines),
+        ("load", load) => load.get_str("FILE").map(Benchmark::Load),
         _ => None,
     }
 }

@@ -1,6 +1,6 @@
 //! The desk with its store: commits per second beside the disk's own calls, the settling of a batch by the replies that
 //! leave and those that stay, and requests by the number of held replies.
-mod batch;
+pub mod batch;
 mod commits;
 mod requests;
 mod scene;

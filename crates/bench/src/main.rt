@@ -1,6 +1,5 @@
-//! Benchmarks: how long frames, events, commands, commits and lines take, each beside a comparison. Without arguments
-//! the
-//! program prints its usage, and measures nothing.
+//! Benchmarks: how long frames, events, commands, commits, lines and loading take, each beside a comparison. Without
+//! arguments the program prints its usage, and measures nothing.
 #![tactic(auto)]
 
 mod command_line;
@@ -9,6 +8,7 @@ mod fold;
 mod frames;
 mod groups;
 mod lines;
+mod load;
 mod machine;
 mod offsets;
 mod plain_frames;
@@ -54,5 +54,6 @@ fn run<R: Clock + Files + Print + Alloc<A = Global>>(
         Benchmark::FoldPart(part) => fold::part::run(rt, part).context("running a part"),
         Benchmark::Desk(part) => desk::measure(rt, part).context("measuring the desk"),
         Benchmark::Lines => lines::measure(rt).context("measuring lines"),
+        Benchmark::Load(file) => load::measure(rt, file).context("measuring loading"),
     }
 }

@@ -82,20 +82,24 @@ pub fn commit_batch<D: SectorDisk>(
     Ok(())
 }
 
-fn first_size(alloc: Global, desk: &mut Desk, most: usize) -> Result<BatchSize> {
+fn first_batch(alloc: Global, desk: &mut Desk, most: usize) -> Result<Batch> {
     ask_all(desk, 0, &mut commits(alloc, most)?)?;
-    let batch = taken(desk)?;
+    taken(desk)
+}
+
+/// Returns the batch that a desk makes of `most` commits; of fewer if they do not all fit a frame.
+pub fn batch_of(alloc: Global, most: usize) -> Result<Batch> {
+    let mut desk = desk(alloc)?;
+    let batch = first_batch(alloc, &mut desk, most);
+    let _ = desk.close();
+    batch
+}
+
+/// Returns the size of that batch.
+pub fn batch_size(alloc: Global, most: usize) -> Result<BatchSize> {
+    let batch = batch_of(alloc, most)?;
     Ok(BatchSize {
         commits: batch.commands.len(),
         bytes: batch.commands.as_bytes().len() as u64,
     })
-}
-
-/// Returns the size of the batch that a desk makes of `most` commits. The batch has fewer if they do not all fit a
-/// frame.
-pub fn batch_size(alloc: Global, most: usize) -> Result<BatchSize> {
-    let mut desk = desk(alloc)?;
-    let size = first_size(alloc, &mut desk, most);
-    let _ = desk.close();
-    size
 }
