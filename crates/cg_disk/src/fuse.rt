@@ -39,6 +39,13 @@ impl<D: SectorDisk> FuseDisk<D> {
         self.left = calls;
     }
 
+    /// Returns how many more calls pass; `None` if every call does.
+    pub fn calls_left(&self) -> Option<u64>
+        ensures { result ≡ calls_left self.now }
+    {
+        self.left
+    }
+
     /// Returns the wrapped disk, without a disk call.
     pub fn into_inner(self) -> D
         ensures { result ≡ inner_of self }

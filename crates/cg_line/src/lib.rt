@@ -1,6 +1,5 @@
 //! The line protocol (docs/PROTOCOL.md): parses request lines, prints reply lines, and serves a stream of lines over
-//! any
-//! reader, writer and backend. Requests and replies are those of `cg_group`.
+//! any reader, writer and backend. Requests and replies are those of `cg_group`.
 #![tactic(auto)]
 
 mod backend;
@@ -16,7 +15,7 @@ mod words;
 pub use backend::Backend;
 pub use ending::{RunEnd, RunFault};
 pub use line_fault::LineFault;
-pub use parsing::parse;
+pub use parsing::{bytes_in, is_opaque, parse};
 pub use printing::{print, print_into};
 pub use running::{READS_MAX, run};
 pub use words::LINE_BYTES_MAX;

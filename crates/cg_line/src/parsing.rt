@@ -21,6 +21,7 @@ mod sync_entries;
 
 use crate::line_fault::LineFault::{self, Malformed, TooLong};
 use crate::words::LINE_BYTES_MAX;
+pub use bytes::{bytes_in, is_opaque};
 use cg_group::Request;
 use std::alloc::Global;
 

@@ -3,3 +3,6 @@ pub mod Value
 pub mod Front
 pub mod Known
 mod Lines
+pub mod Poking
+pub mod CommandLine
+pub mod Filled

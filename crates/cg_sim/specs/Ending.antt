@@ -20,3 +20,7 @@ WritesThen old new last = (said : List ℕ) × Appends old new (said ++ last)
 -- the script came to its end; a cause with this status was printed; or a read or a write failed
 abbrev pub Ends : ℕ → Option (List ℕ) → Option (List ℕ) → Type 0
 Ends status old new = ((status ≡ STATUS_DONE) × WritesThen old new []) ⊎ ((cause : Stop) × (status ≡ status_of cause) × WritesThen old new (stop_text cause)) ⊎ (status ≡ STATUS_IO)
+
+-- why a line may end the script: memory ran out, the disk failed in a poke, or the line is bad
+abbrev pub IsCause : ℕ → Stop → Type 0
+IsCause number stop = (stop ≡ Memory) ⊎ (stop ≡ Device) ⊎ (stop ≡ BadLine number)

@@ -4,3 +4,8 @@ pub mod Reading
 pub mod Telling
 pub mod Ending
 pub mod Disk
+pub mod SectorText
+pub mod Poking
+pub mod LoadedDisk
+pub mod Stages
+pub mod CommandLine

@@ -53,6 +53,8 @@ opening_text found = codes "LOADED " ++ decimal found.0 ++ codes " " ++ decimal 
 abbrev pub open_fault_text : OpenFault → List ℕ
 open_fault_text fault.Memory = []
 open_fault_text fault.Device = fault_line (codes "Device")
+open_fault_text fault.NoRoot = fault_line (codes "NoRoot")
+open_fault_text fault.BadRoot = fault_line (codes "BadRoot")
 open_fault_text fault.BadFrame = fault_line (codes "BadFrame")
 open_fault_text fault.BadRecord = fault_line (codes "BadRecord")
 

@@ -1,6 +1,8 @@
 //! What is wrong with a bad script line, and what would be right: text for a person, on standard error.
-use crate::line::SCRIPT_LINE_BYTES_MAX;
+use crate::line::{Line, SCRIPT_LINE_BYTES_MAX};
 use crate::text::{self, NUMBER_MAX};
+use cg_disk::SECTOR_BYTES;
+use cg_gate::{FIRST_SEGMENT_SECTOR, SEGMENT_SECTORS};
 use std::fmt;
 
 /// Requests, each with the form of its line.
@@ -36,6 +38,12 @@ pub enum Problem {
     Spaces,
     /// `load` while something is loaded.
     AlreadyLoaded,
+    /// A line that may not follow a `poke` while something is loaded.
+    AfterPoke,
+    /// A `poke` is not a sector and at most a sector's bytes.
+    Poke,
+    /// A `poke` names a sector that the disk does not have.
+    NoSuchSector,
     /// A session is not `s` and 1 to 6 digits.
     Session,
     /// A number is out of range, or not in plain decimal.
@@ -65,6 +73,24 @@ impl fmt::Display for Problem {
                     "something is loaded already; use `stop keep` or `stop lose` first, or `reload`"
                 )
             }
+            Problem::AfterPoke => {
+                write!(
+                    f,
+                    "after a poke, while something is loaded, only pokes may come, and then stop keep, stop lose, reload or close"
+                )
+            }
+            Problem::Poke => {
+                write!(
+                    f,
+                    "the form is poke SECTOR xBYTES, with at most {SECTOR_BYTES} bytes, two lower-case digits for each"
+                )
+            }
+            Problem::NoSuchSector => {
+                write!(
+                    f,
+                    "the disk has no such sector; it has {FIRST_SEGMENT_SECTOR}, and {SEGMENT_SECTORS} for each segment, counted from 0"
+                )
+            }
             Problem::Session => write!(f, "a session is `s` and 1 to 6 digits, as in s1"),
             Problem::Number => {
                 write!(
@@ -82,7 +108,7 @@ impl fmt::Display for Problem {
             ),
             Problem::UnknownLine => write!(
                 f,
-                "a line is s<digits> REQUEST, at, tick, gone, take, append, settle, flush, fuse, stop keep, stop lose, load, reload or close"
+                "a line is s<digits> REQUEST, at, tick, gone, take, append, settle, flush, fuse, poke, stop keep, stop lose, load, reload or close"
             ),
         }
     }
@@ -113,6 +139,9 @@ fn problem_after(word: &[u8], rest: &[u8]) -> Problem {
     if word == b"gone".as_slice() {
         return Problem::Session;
     }
+    if word == b"poke".as_slice() {
+        return poke_problem(rest);
+    }
     if [b"at".as_slice(), b"tick", b"fuse"]
         .iter()
         .any(|own| *own == word)
@@ -125,6 +154,14 @@ fn problem_after(word: &[u8], rest: &[u8]) -> Problem {
     match text::behind(word, b"s") {
         Some(digits) if digits.iter().all(|b| b.is_ascii_digit()) => Problem::Session,
         _ => Problem::UnknownLine,
+    }
+}
+
+// Returns the problem of a poke with these words.
+fn poke_problem(rest: &[u8]) -> Problem {
+    match Line::poke_line(rest) {
+        Some(_) => Problem::NoSuchSector,
+        None => Problem::Poke,
     }
 }
 

@@ -5,6 +5,7 @@ ghost use Rattle.cg_sim.specs.Text.{draws_uuid, is_skipped, joiner_of, number_of
 ghost use Rattle.cg_sim.specs.declared.text.TheConstants.{NUMBER_MAX};
 
 use crate::request_line::RequestLine;
+use crate::sector_text::SectorText;
 use crate::text::{self, NUMBER_MAX};
 use cg_disk::Crash;
 use cg_names::Moment;
@@ -33,6 +34,8 @@ pub enum Line<'a> {
     Flush,
     /// `fuse K`: the disk passes K more calls, and then fails each (fault injection).
     Fuse(u64),
+    /// `poke S xBYTES`: the sector with this number holds these bytes, then zeros.
+    Poke(u64, SectorText<'a>),
     /// `stop keep` or `stop lose`: power loss, which keeps or loses unsynced writes.
     Stop(Crash),
     /// `load`: opens the store and serves what it has.
@@ -46,7 +49,7 @@ pub enum Line<'a> {
 }
 
 impl<'a> Line<'a> {
-    ghost use Rattle.cg_sim.specs.Line.{line_of, power_line_of, step_line_of, word_line_of, worded_line_of};
+    ghost use Rattle.cg_sim.specs.Line.{line_of, may_follow_poke, poke_line_of, power_line_of, step_line_of, word_line_of, worded_line_of};
 
     /// Parses a script line. Returns `None` if it is a bad one.
     #[tactic(auto, unfolding(crate::specs::Line::line_of))]
@@ -120,7 +123,28 @@ impl<'a> Line<'a> {
         None
     }
 
-    // Parses a line by its first word: a moment, a closed session, a fuse or a request.
+    /// Parses the sector and the bytes of a poke.
+    #[tactic(auto, unfolding(crate::specs::Line::poke_line_of))]
+    pub fn poke_line(rest: &'a [u8]) -> Option<Self>
+        ensures { result ≡ poke_line_of rest.now }
+    {
+        let (sector, bytes) = text::cut(rest, b' ')?;
+        let sector = text::number(sector, NUMBER_MAX)?;
+        let bytes = SectorText::read(bytes)?;
+        Some(Line::Poke(sector, bytes))
+    }
+
+    /// Returns whether the line may come after a poke that waits for the next stop, reload or close.
+    pub fn may_follow_poke(&self) -> bool
+        ensures { result ≡ may_follow_poke self.now }
+    {
+        match self {
+            Line::Skipped | Line::Poke(_, _) | Line::Stop(_) | Line::Reload | Line::Close => true,
+            _ => false,
+        }
+    }
+
+    // Parses a line by its first word: a moment, a closed session, a fuse, a poke or a request.
     #[tactic(auto, unfolding(crate::specs::Line::word_line_of))]
     fn word_line(word: &[u8], rest: &'a [u8]) -> Option<Self>
         ensures { result ≡ word_line_of word.now rest.now }
@@ -136,6 +160,9 @@ impl<'a> Line<'a> {
         }
         if word == b"fuse".as_slice() {
             return Some(Line::Fuse(text::number(rest, NUMBER_MAX)?));
+        }
+        if word == b"poke".as_slice() {
+            return Line::poke_line(rest);
         }
         Some(Line::Ask(text::session_number(word)?, RequestLine::new(rest)))
     }

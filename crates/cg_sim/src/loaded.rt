@@ -1,9 +1,10 @@
 //! A desk and its store, after a load.
 ghost use Rattle.std.specs.Prelude.{◌≡◌, ◌≤◌, IfErr};
+ghost use Rattle.cg_disk.specs.Fuse.{inner_of};
 ghost use Rattle.cg_disk.specs.Mem.{mem_size};
 ghost use Rattle.cg_store.specs.Store.{disk_of};
 ghost use Rattle.cg_world.specs.Sights.{store_of};
-ghost use Rattle.cg_sim.specs.Disk.{sectors_needed, sectors_of};
+ghost use Rattle.cg_sim.specs.Disk.{sectors_of};
 
 use crate::call::Call;
 use crate::stage::Disk;
@@ -17,23 +18,35 @@ use std::alloc::Global;
 /// A desk and its store, after a load.
 pub struct Loaded {
     world: World<Disk>,
-    ghost roomy: { sectors_needed ≤ sectors_of (disk_of (store_of world)) },
+    sectors: u64,
+    ghost sized: { sectors ≡ sectors_of (disk_of (store_of world)) },
 }
 
 impl Loaded {
-    pub fn new(world: World<Disk>) -> Self
-        requires { sectors_needed ≤ sectors_of (disk_of (store_of world)) }
+    ghost use Rattle.cg_sim.specs.LoadedDisk.{loaded_disk};
+
+    /// Takes a world over a disk with this many sectors.
+    pub fn new(world: World<Disk>, sectors: u64) -> Self
+        requires sized { sectors ≡ sectors_of (disk_of (store_of world)) }
+        ensures { loaded_disk result ≡ disk_of (store_of world) }
     {
-        Loaded { world }
+        Loaded { world, sectors }
+    }
+
+    /// Returns the number of sectors of the disk.
+    pub fn sectors(&self) -> u64
+        ensures { result ≡ sectors_of (loaded_disk self.now) }
+    {
+        self.sectors
     }
 
     // Takes the steps, and prints their trace.
     fn run(self, alloc: Global, steps: Vec<Step>, out: &mut Vec<u8>) -> (Self, Result<(), Stop>)
         ensures { IfErr result.1 (λ stop. stop ≡ Stop.Memory) }
     {
-        let Loaded { world } = self;
+        let Loaded { world, sectors } = self;
         let (world, trace) = cg_world::run(alloc, world, steps);
-        (Loaded { world }, telling::put_trace(&trace, out))
+        (Loaded { world, sectors }, telling::put_trace(&trace, out))
     }
 
     /// Takes a step that is not a request, and prints its trace.
@@ -80,9 +93,12 @@ impl Loaded {
 
     /// Refuses every pending request. Returns the refusals, and the disk without its fuse.
     pub fn close(self) -> (Vec<Outgoing>, MemDisk)
-        ensures { sectors_needed ≤ mem_size result.1 }
+        ensures disk { result.1 ≡ inner_of (loaded_disk self) }
     {
-        let Loaded { world } = self;
+        let Loaded {
+            world,
+            sectors: _sectors,
+        } = self;
         let (refused, disk) = world.close();
         (refused, disk.into_inner())
     }

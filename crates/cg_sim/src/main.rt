@@ -1,16 +1,21 @@
 //! Runs a script of requests and steps against a coordinator over a disk in memory (docs/PROTOCOL.md): reads script
-//! lines
-//! from standard input, and prints the replies to standard output.
+//! lines from standard input, and prints the replies to standard output.
 #![tactic(auto)]
 
 mod advice;
 mod call;
+mod command;
+mod command_line;
 mod line;
 mod loaded;
 mod player;
+mod poke;
+mod poked;
+mod poked_disk;
 mod request_line;
 mod script;
 mod script_line;
+mod sector_text;
 mod stage;
 mod stop;
 mod telling;
@@ -19,19 +24,48 @@ mod tests;
 mod text;
 mod unloaded;
 
-pub use script::{STATUS_BAD_LINE, STATUS_DONE, STATUS_IO, STATUS_SHORT, script};
-use std::io::{self, BufReader};
+pub use command::command;
+pub use command_line::{SEGMENTS_DEFAULT, SEGMENTS_MAX};
+pub use script::{STATUS_BAD_LINE, STATUS_DONE, STATUS_IO, STATUS_SHORT, STATUS_USAGE, script};
+use std::env;
+use std::io::{self, BufReader, ErrorKind, Write};
 use std::process::ExitCode;
 
 fn main(rt: HostRuntime) -> ExitCode {
     let mut writer = io::writer(&rt);
+    let stderr = rt.stderr();
+    let mut faults = &stderr;
+    let words = match words(&rt) {
+        Ok(words) => words,
+        Err(error) => return ExitCode::from(refuse_encoding(&error, &mut writer, &mut faults)),
+    };
     let Ok(mut reader) = BufReader::new(rt.alloc(), rt.reader()) else {
         return ExitCode::from(script::refuse_script(&mut writer));
     };
-    let mut problem = None;
-    let status = script::explained_script(rt.alloc(), &mut reader, &mut writer, &mut problem);
-    if let Some((number, problem)) = problem {
-        let _unwritten = eprintln!(rt; "cg_sim: line {number}: {problem}");
+    let words = after_name(words.as_slice());
+    ExitCode::from(command(&rt, words, &mut reader, &mut writer, &mut faults))
+}
+
+// Copies the words of the command line.
+fn words(rt: &HostRuntime) -> io::Result<Vec<String>> {
+    Ok(env::args(rt)?.collect(rt.alloc())?)
+}
+
+// Returns the words after the program's name.
+fn after_name(words: &[String]) -> &[String] {
+    match words {
+        [_, rest @ ..] => rest,
+        [] => words,
     }
-    ExitCode::from(status)
+}
+
+// Reports why the words could not be copied: one is not text, or an allocation failed.
+fn refuse_encoding<W: Write, F: Write>(error: &io::Error, writer: &mut W, faults: &mut F) -> u8 {
+    match error.kind() {
+        ErrorKind::OutOfMemory => script::refuse_script(writer),
+        _ => {
+            let _unwritten = faults.write_all(b"error: a word on the command line is not UTF-8\n");
+            STATUS_USAGE
+        }
+    }
 }

@@ -1,9 +1,16 @@
 //! The effect of each script line.
-ghost use Rattle.std.specs.Prelude.{◌≡◌, ◌⊎◌, Ok, Err, None, IfErr};
+ghost use Rattle.std.specs.Prelude.{◌≡◌, ◌⊎◌, ◌<◌, ◌≤◌, ℕ, List, Ok, Err, None, Some, IfErr, IsTrue};
+ghost use Rattle.cg_disk.specs.Mem.{mem_size};
+ghost use Rattle.cg_sim.specs.Ending.{IsCause};
 ghost use Rattle.cg_sim.specs.Line.{line_of};
+ghost use Rattle.cg_sim.specs.Stages.{is_refused, stage_disk};
+ghost use Rattle.cg_sim.specs.declared.line.Line.{Line};
+ghost use Rattle.cg_sim.specs.declared.line.Line.TheVariants as form;
 
 use crate::call::Call;
 use crate::line::{Line, draws_uuid};
+use crate::poke::Poke;
+use crate::sector_text::SectorText;
 use crate::stage::Stage;
 use crate::stop::Stop;
 use crate::telling;
@@ -41,7 +48,9 @@ impl Player {
         text: &[u8],
         out: &mut Vec<u8>,
     ) -> (Stage, Result<(), Stop>)
-        ensures err { IfErr result.1 (λ stop. (stop ≡ Stop.Memory) ⊎ (stop ≡ Stop.BadLine number)) }
+        ensures err { IfErr result.1 (λ stop. IsCause number stop) }
+        ensures order { (line : Line) → line_of text.now ≡ Some line → IsTrue (is_refused stage line) → result.1 ≡ Err (Stop.BadLine number) }
+        ensures range { (sector : ℕ) (word : List ℕ) → line_of text.now ≡ Some (form.Poke sector word) → mem_size (stage_disk stage) ≤ sector → result.1 ≡ Err (Stop.BadLine number) }
         ensures bad { line_of text.now ≡ None → result.1 ≡ Err (Stop.BadLine number) }
     {
         match Line::read(text) {
@@ -57,7 +66,26 @@ impl Player {
         line: &Line<'_>,
         out: &mut Vec<u8>,
     ) -> (Stage, Result<(), Stop>)
-        ensures { IfErr result.1 (λ stop. (stop ≡ Stop.Memory) ⊎ (stop ≡ Stop.BadLine number)) }
+        ensures err { IfErr result.1 (λ stop. IsCause number stop) }
+        ensures order { IsTrue (is_refused stage line.now) → result.1 ≡ Err (Stop.BadLine number) }
+        ensures range { (sector : ℕ) (word : List ℕ) → line.now ≡ form.Poke sector word → mem_size (stage_disk stage) ≤ sector → result.1 ≡ Err (Stop.BadLine number) }
+    {
+        if stage.refuses(line) {
+            return (stage, Err(Stop::BadLine(number)));
+        }
+        self.play_allowed(stage, number, line, out)
+    }
+
+    // Plays a line that may come here.
+    fn play_allowed(
+        &mut self,
+        stage: Stage,
+        number: u64,
+        line: &Line<'_>,
+        out: &mut Vec<u8>,
+    ) -> (Stage, Result<(), Stop>)
+        ensures err { IfErr result.1 (λ stop. IsCause number stop) }
+        ensures range { (sector : ℕ) (word : List ℕ) → line.now ≡ form.Poke sector word → mem_size (stage_disk stage) ≤ sector → result.1 ≡ Err (Stop.BadLine number) }
     {
         match line {
             Line::Skipped => (stage, Ok(())),
@@ -69,11 +97,10 @@ impl Player {
             Line::Settle => stage.take_step(self.alloc, Step::Settle, out),
             Line::Flush => stage.flush(self.alloc, out),
             Line::Fuse(calls) => light(stage, *calls),
-            Line::Stop(crash) => (Stage::Unloaded(stage.stop(self.alloc, *crash)), Ok(())),
+            Line::Poke(sector, text) => self.poke(stage, number, *sector, text),
+            Line::Stop(crash) => self.stop(stage, *crash),
             Line::Load => self.load(stage, number, out),
-            Line::Reload => stage
-                .stop(self.alloc, Crash::Keep)
-                .load(self.alloc, self.now, out),
+            Line::Reload => self.reload(stage, out),
             Line::Close => stage.close(self.alloc, out),
             Line::Ask(session, request) => {
                 self.ask(
@@ -103,13 +130,51 @@ impl Player {
         stage.take_step(self.alloc, Step::Tick(now), out)
     }
 
+    // Makes the poke of a line, and puts it down or lets it wait. It needs a sector that the disk has.
+    fn poke(
+        &self,
+        stage: Stage,
+        number: u64,
+        sector: u64,
+        text: &SectorText<'_>,
+    ) -> (Stage, Result<(), Stop>)
+        ensures range { mem_size (stage_disk stage) ≤ sector → result.1 ≡ Err (Stop.BadLine number) }
+        ensures err { sector < mem_size (stage_disk stage) → IfErr result.1 (λ stop. (stop ≡ Stop.Memory) ⊎ (stop ≡ Stop.Device)) }
+    {
+        if sector >= stage.sectors() {
+            return (stage, Err(Stop::BadLine(number)));
+        }
+        match Poke::new(self.alloc, sector, text) {
+            Ok(poke) => stage.poke(self.alloc, poke),
+            Err(_) => (stage, Err(Stop::Memory)),
+        }
+    }
+
+    fn stop(&self, stage: Stage, crash: Crash) -> (Stage, Result<(), Stop>)
+        ensures { IfErr result.1 (λ stop. stop ≡ Stop.Device) }
+    {
+        let (unloaded, put) = stage.stop(self.alloc, crash);
+        (Stage::Unloaded(unloaded), put)
+    }
+
+    // Stops and loads again, unless the disk fails in a poke.
+    fn reload(&self, stage: Stage, out: &mut Vec<u8>) -> (Stage, Result<(), Stop>)
+        ensures { IfErr result.1 (λ stop. (stop ≡ Stop.Memory) ⊎ (stop ≡ Stop.Device)) }
+    {
+        let (unloaded, put) = stage.stop(self.alloc, Crash::Keep);
+        match put {
+            Ok(()) => unloaded.load(self.alloc, self.now, out),
+            Err(stop) => (Stage::Unloaded(unloaded), Err(stop)),
+        }
+    }
+
     // Loads, unless something is loaded.
     fn load(&self, stage: Stage, number: u64, out: &mut Vec<u8>) -> (Stage, Result<(), Stop>)
         ensures { IfErr result.1 (λ stop. (stop ≡ Stop.Memory) ⊎ (stop ≡ Stop.BadLine number)) }
     {
         match stage {
             Stage::Unloaded(unloaded) => unloaded.load(self.alloc, self.now, out),
-            Stage::Loaded(loaded) => (Stage::Loaded(loaded), Err(Stop::BadLine(number))),
+            stage => (stage, Err(Stop::BadLine(number))),
         }
     }
 

@@ -1,20 +1,23 @@
 //! Running a script, line by line, until its end, a bad line or a fault.
-ghost use Rattle.std.specs.Prelude.{◌≡◌, ◌⊎◌, ◌≤◌, ◌++◌, ℕ, Ok, Err, Some, [], IfOk, IfErr, OnOk, List};
+ghost use Rattle.std.specs.Prelude.{◌≡◌, ◌⊎◌, ◌≤◌, ◌++◌, ℕ, Ok, Err, Some, [], IfOk, IfErr, IfSome, OnOk, List};
 ghost use Rattle.std.specs.Io.KnownBytes.{Appends};
 ghost use Rattle.cg_disk.specs.Mem.{mem_size};
-ghost use Rattle.cg_sim.specs.Disk.{sectors_needed};
+ghost use Rattle.cg_sim.specs.CommandLine.{RefusedForMemory};
+ghost use Rattle.cg_sim.specs.Disk.{disk_sectors};
 ghost use Rattle.cg_sim.specs.Ending.{Ends, WritesThen, status_of};
 ghost use Rattle.cg_sim.specs.Telling.{bad_line, stop_text};
 
 use crate::advice::{Problem, problem_of};
+use crate::line::Line;
 use crate::player::Player;
 use crate::script_line::{read_line, without_end};
 use crate::stage::Stage;
 use crate::stop::Stop;
 use crate::unloaded::Unloaded;
 use cg_disk::MemDisk;
+use cg_gate::{FIRST_SEGMENT_SECTOR, SEGMENT_SECTORS};
 use cg_names::Moment;
-use cg_store::DISK_SECTORS;
+use cg_store::LogFault;
 use itoa::Buffer;
 use std::alloc::Global;
 use std::io::{self, BufRead, Write};
@@ -25,10 +28,13 @@ pub const STATUS_DONE: u8 = 0;
 /// Exit status after a bad script line, or a `load` while something is loaded.
 pub const STATUS_BAD_LINE: u8 = 1;
 
+/// Exit status after words on the command line that are not understood, and after a call for help.
+pub const STATUS_USAGE: u8 = 2;
+
 /// Exit status after a failed read or write.
 pub const STATUS_IO: u8 = 3;
 
-/// Exit status if an allocation failed outside a request, or the disk failed while it was formatted.
+/// Exit status if an allocation failed outside a request, or the disk failed in a format or a `poke`.
 pub const STATUS_SHORT: u8 = 4;
 
 // Writes and flushes what was printed.
@@ -44,13 +50,24 @@ fn emit<W: Write>(writer: &mut W, out: &mut Vec<u8>) -> Result<(), Stop>
     Ok(())
 }
 
-// Makes a formatted disk in memory.
-fn formatted(alloc: Global) -> Result<MemDisk, Stop>
-    ensures { IfOk result (λ disk. sectors_needed ≤ mem_size disk) }
+// Returns the number of sectors of a disk with this many segments, if it is a number of sectors.
+fn disk_sectors(segments: u64) -> Option<u64>
+    ensures { IfSome result (λ sectors. sectors ≡ disk_sectors segments) }
 {
-    let mut disk = MemDisk::new(alloc, DISK_SECTORS)?;
-    match cg_store::format(&mut disk) {
+    SEGMENT_SECTORS
+        .checked_mul(segments)?
+        .checked_add(FIRST_SEGMENT_SECTOR)
+}
+
+// Makes a formatted disk in memory with this many segments.
+fn formatted(alloc: Global, segments: u64) -> Result<MemDisk, Stop>
+    ensures { IfOk result (λ disk. mem_size disk ≡ disk_sectors segments) }
+{
+    let sectors = disk_sectors(segments).ok_or(Stop::Memory)?;
+    let mut disk = MemDisk::new(alloc, sectors)?;
+    match cg_store::format(alloc, &mut disk) {
         Ok(()) => Ok(disk),
+        Err(LogFault::Memory) => Err(Stop::Memory),
         Err(_) => Err(Stop::Device),
     }
 }
@@ -70,10 +87,18 @@ fn emit_before<W: Write>(
 }
 
 // Returns the number of a bad line and its problem, if the script stopped there.
-fn problem_at(stop: Stop, line: &[u8]) -> Option<(u64, Problem)> {
+fn problem_at(stop: Stop, stage: &Stage, line: &[u8]) -> Option<(u64, Problem)> {
     match stop {
-        Stop::BadLine(number) => Some((number, problem_of(line))),
+        Stop::BadLine(number) => Some((number, problem_on(stage, line))),
         Stop::Io | Stop::Memory | Stop::Device => None,
+    }
+}
+
+// Returns what is wrong with a line that is bad on this stage.
+fn problem_on(stage: &Stage, line: &[u8]) -> Problem {
+    match Line::read(line) {
+        Some(read) if stage.refuses(&read) => Problem::AfterPoke,
+        _ => problem_of(line),
     }
 }
 
@@ -95,7 +120,7 @@ fn serve_lines<R: BufRead, W: Write>(
     let mut played = before;
     for number in 1..u64::MAX {
         if let Err(stop) = emit_before(writer, out, played) {
-            *problem = problem_at(stop, without_end(&line));
+            *problem = problem_at(stop, &stage, without_end(&line));
             return (stage, Err(stop));
         }
         match read_line(reader, &mut line) {
@@ -112,13 +137,14 @@ fn run<R: BufRead, W: Write>(
     alloc: Global,
     reader: &mut R,
     writer: &mut W,
+    segments: u64,
     problem: &mut Option<(u64, Problem)>,
 ) -> Result<(), Stop>
     ensures written { (result ≡ Err Stop.Io) ⊎ ((said : List ℕ) × Appends (W.contents writer.old) (W.contents writer.new) said) }
     ensures end { (input : List ℕ) → R.remaining reader.old ≡ Some input → result ≡ Ok tt → R.remaining reader.new ≡ Some [] }
 {
     let mut out = Vec::new(alloc);
-    let unloaded = Unloaded::new(alloc, formatted(alloc)?);
+    let unloaded = Unloaded::new(alloc, formatted(alloc, segments)?);
     let (stage, loaded) = unloaded.load(alloc, Moment::from_millis(0), &mut out);
     let (stage, ended) = serve_lines(alloc, stage, loaded, &mut out, reader, writer, problem);
     let _ = stage.end(alloc);
@@ -160,8 +186,7 @@ fn status_of(stop: Stop) -> u8
 
 /// Reports out of memory before a script began, and returns the exit status.
 pub fn refuse_script<W: Write>(writer: &mut W) -> u8
-    ensures ends { Ends result (W.contents writer.old) (W.contents writer.new) }
-    ensures short { (result ≡ STATUS_SHORT) ⊎ (result ≡ STATUS_IO) }
+    ensures { RefusedForMemory result (W.contents writer.old) (W.contents writer.new) }
 {
     match tell_stop(writer, Stop::Memory) {
         Ok(()) => STATUS_SHORT,
@@ -169,14 +194,20 @@ pub fn refuse_script<W: Write>(writer: &mut W) -> u8
     }
 }
 
-/// Runs a script over a disk in memory, and returns the exit status: `STATUS_DONE` at its end, `STATUS_BAD_LINE` after
-/// a line `BAD SCRIPT LINE`, `STATUS_SHORT` after a last line `FAULT`, and `STATUS_IO` if a read or a write failed.
-pub fn script<R: BufRead, W: Write>(alloc: Global, reader: &mut R, writer: &mut W) -> u8
+/// Runs a script over a disk in memory with this many segments, and returns the exit status: `STATUS_DONE` at its end,
+/// `STATUS_BAD_LINE` after a line `BAD SCRIPT LINE`, `STATUS_SHORT` after a last line `FAULT`, and `STATUS_IO` if a read or
+/// a write failed.
+pub fn script<R: BufRead, W: Write>(
+    alloc: Global,
+    reader: &mut R,
+    writer: &mut W,
+    segments: u64,
+) -> u8
     ensures ends { Ends result (W.contents writer.old) (W.contents writer.new) }
     ensures end { (input : List ℕ) → R.remaining reader.old ≡ Some input → result ≡ STATUS_DONE → R.remaining reader.new ≡ Some [] }
 {
     let mut problem = None;
-    explained_script(alloc, reader, writer, &mut problem)
+    explained_script(alloc, reader, writer, segments, &mut problem)
 }
 
 /// Runs a script as `script` does. Sets `problem` to the number of a bad line and what is wrong with it.
@@ -184,12 +215,13 @@ pub fn explained_script<R: BufRead, W: Write>(
     alloc: Global,
     reader: &mut R,
     writer: &mut W,
+    segments: u64,
     problem: &mut Option<(u64, Problem)>,
 ) -> u8
     ensures ends { Ends result (W.contents writer.old) (W.contents writer.new) }
     ensures end { (input : List ℕ) → R.remaining reader.old ≡ Some input → result ≡ STATUS_DONE → R.remaining reader.new ≡ Some [] }
 {
-    let Err(stop) = run(alloc, reader, writer, problem) else {
+    let Err(stop) = run(alloc, reader, writer, segments, problem) else {
         return STATUS_DONE;
     };
     match tell_stop(writer, stop) {

@@ -135,6 +135,8 @@ pub fn put_open_fault(fault: OpenFault, out: &mut Vec<u8>) -> Result<(), Stop>
     let line: &[u8] = match fault {
         OpenFault::Memory => return Err(Stop::Memory),
         OpenFault::Device => b"FAULT Device\n",
+        OpenFault::NoRoot => b"FAULT NoRoot\n",
+        OpenFault::BadRoot => b"FAULT BadRoot\n",
         OpenFault::BadFrame => b"FAULT BadFrame\n",
         OpenFault::BadRecord => b"FAULT BadRecord\n",
     };

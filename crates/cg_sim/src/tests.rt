@@ -1,7 +1,7 @@
 //! Readers and writers that fail, and a stop after each number of device calls.
 use super::*;
 use std::alloc::{AllocError, Global};
-use std::io::{BufReader, ErrorKind, Read, Write};
+use std::io::Read;
 use std::test::*;
 
 // Returns its bytes, and then fails.
@@ -38,7 +38,7 @@ fn a_read_that_fails_in_mid_line(rt: HostRuntime) -> Result<(), Fail> {
     let bytes: &[u8] = b"s1 FETCH g t:0\ns1 FET";
     let mut reader = BufReader::new(rt.alloc(), BreaksOff { bytes })?;
     let mut written = Vec::new(rt.alloc());
-    assert_eq!(rt; script(rt.alloc(), &mut reader, &mut written), 3);
+    assert_eq!(rt; script(rt.alloc(), &mut reader, &mut written, 1), 3);
     assert_eq!(rt;
         written.as_slice(),
         b"LOADED 0 0 0\ns1 FETCHED t:0:-1:x\n".as_slice()
@@ -49,14 +49,14 @@ fn a_read_that_fails_in_mid_line(rt: HostRuntime) -> Result<(), Fail> {
 #[test]
 fn a_write_that_fails(rt: HostRuntime) {
     let mut reader: &[u8] = b"flush\n";
-    assert_eq!(rt; script(rt.alloc(), &mut reader, &mut TakesNothing), 3);
+    assert_eq!(rt; script(rt.alloc(), &mut reader, &mut TakesNothing, 1), 3);
 }
 
 // Returns what a script writes if it ends with status 0, and otherwise the empty string.
 fn output(alloc: Global, text: &str) -> Result<String, AllocError> {
     let mut written = Vec::new(alloc);
     let mut reader = text.as_bytes();
-    if script(alloc, &mut reader, &mut written) != 0 {
+    if script(alloc, &mut reader, &mut written, 1) != 0 {
         return Ok(String::new(alloc));
     }
     match String::from_utf8(written) {
@@ -110,6 +110,34 @@ fn a_stop_after_each_call(rt: HostRuntime) -> Result<(), Fail> {
         assert!(rt; no_offset_is_missing(rt.alloc(), commit, "", stop)?);
         assert!(rt; no_offset_is_missing(rt.alloc(), three, "", stop)?);
         assert!(rt; no_offset_is_missing(rt.alloc(), commit, "take\nappend\nsettle\n", stop)?);
+    }
+    Ok(())
+}
+
+// Words of the command line with the exit status over an empty script, what is written, and what standard error has.
+const COMMAND_LINES: [(&[&str], u8, &str, &str); 8] = [
+    (&[], 0, "LOADED 0 0 0\n", ""),
+    (&["--segments", "1"], 0, "LOADED 0 0 0\n", ""),
+    (&["--segments=200"], 0, "LOADED 0 0 0\n", ""),
+    (&["--segments", "0"], 2, "", "0 is not in 1..=200"),
+    (&["--segments", "201"], 2, "", "201 is not in 1..=200"),
+    (&["--segments", "eight"], 2, "", "invalid value 'eight'"),
+    (&["8"], 2, "", "unexpected argument '8'"),
+    (&["--help"], 2, "", "poke S xBYTES"),
+];
+
+#[test]
+fn the_command_line(rt: HostRuntime) -> Result<(), Fail> {
+    for (words, status, output, problem) in COMMAND_LINES {
+        let mut reader: &[u8] = b"";
+        let mut written = Vec::new(rt.alloc());
+        let mut faults = Vec::new(rt.alloc());
+        assert_eq!(rt;
+            command(&rt, words, &mut reader, &mut written, &mut faults),
+            status
+        );
+        assert_eq!(rt; written.as_slice(), output.as_bytes());
+        assert!(rt; String::from_utf8(faults)?.contains(problem));
     }
     Ok(())
 }

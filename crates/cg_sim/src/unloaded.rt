@@ -1,15 +1,19 @@
 //! A disk from which nothing is loaded.
-ghost use Rattle.std.specs.Prelude.{◌≡◌, ◌≤◌, IfErr};
-ghost use Rattle.cg_disk.specs.Mem.{mem_size};
-ghost use Rattle.cg_sim.specs.Disk.{sectors_needed, sectors_of};
+ghost use Rattle.std.specs.Prelude.{◌≡◌, ◌<◌, ◌≤◌, ◌∷◌, [], IfErr, OnOk, is_err};
+ghost use Rattle.cg_disk.specs.Disk.{Counts};
+ghost use Rattle.cg_disk.specs.Fuse.{calls_left, inner_of};
+ghost use Rattle.cg_disk.specs.Mem.{mem_failures, mem_size};
+ghost use Rattle.cg_sim.specs.Disk.{moment_of, sectors_of};
+ghost use Rattle.cg_sim.specs.Poking.{IsPoked, sector_of};
 
 use crate::call::Call;
 use crate::loaded::Loaded;
+use crate::poke::Poke;
 use crate::stage::{Disk, Stage};
 use crate::stop::Stop;
 use crate::telling;
 use cg_desk::{Desk, ReplyToken};
-use cg_disk::{FuseDisk, MemDisk};
+use cg_disk::{FuseDisk, MemDisk, SectorDisk};
 use cg_names::{Code, Moment};
 use cg_world::World;
 use std::alloc::Global;
@@ -18,13 +22,14 @@ use std::alloc::Global;
 pub struct Unloaded {
     desk: Desk,
     disk: Disk,
-    ghost roomy: { sectors_needed ≤ sectors_of disk },
 }
 
 impl Unloaded {
+    ghost use Rattle.cg_sim.specs.Stages.{unloaded_disk};
+
     /// Creates a disk without a fuse, from which nothing is loaded.
     pub fn new(alloc: Global, disk: MemDisk) -> Self
-        requires { sectors_needed ≤ mem_size disk }
+        ensures { inner_of (unloaded_disk result) ≡ disk }
     {
         let mut disk = FuseDisk::new(disk, 0);
         disk.set(None);
@@ -39,11 +44,12 @@ impl Unloaded {
         ensures { IfErr result.1 (λ stop. stop ≡ Stop.Memory) }
     {
         let Unloaded { desk, disk } = self;
+        let sectors = disk.sectors();
         match World::open(alloc, disk, now) {
             Ok(world) => {
                 let _ = desk.close();
                 let printed = telling::put_opening(alloc, world.opening(), out);
-                (Stage::Loaded(Loaded::new(world)), printed)
+                (Stage::Loaded(Loaded::new(world, sectors)), printed)
             }
             Err((fault, disk)) => {
                 let printed = telling::put_open_fault(fault, out);
@@ -75,9 +81,37 @@ impl Unloaded {
         self.disk.set(Some(calls));
     }
 
+    /// Returns the number of sectors of the disk.
+    pub fn sectors(&self) -> u64
+        ensures { result ≡ sectors_of (unloaded_disk self.now) }
+    {
+        self.disk.sectors()
+    }
+
+    /// Puts a poke down. The fuse neither counts its calls nor fails them.
+    pub fn poke(self, poke: &Poke) -> (Self, Result<(), Stop>)
+        requires { sector_of poke.now < sectors_of (unloaded_disk self) }
+        ensures put { OnOk result.1 (IsPoked (poke.now ∷ []) (moment_of (inner_of (unloaded_disk self))).content (moment_of (inner_of (unloaded_disk result.0)))) }
+        ensures fuse { calls_left (unloaded_disk result.0) ≡ calls_left (unloaded_disk self) }
+        ensures cause { Counts (mem_failures (inner_of (unloaded_disk self))) (mem_failures (inner_of (unloaded_disk result.0))) (is_err result.1) }
+        ensures err { IfErr result.1 (λ stop. stop ≡ Stop.Device) }
+    {
+        let Unloaded { desk, disk } = self;
+        let calls = disk.calls_left();
+        let mut disk = disk.into_inner();
+        let put = poke.put(&mut disk);
+        let mut disk = FuseDisk::new(disk, 0);
+        disk.set(calls);
+        let unloaded = Unloaded { desk, disk };
+        match put {
+            Ok(()) => (unloaded, Ok(())),
+            Err(_) => (unloaded, Err(Stop::Device)),
+        }
+    }
+
     /// Returns the disk without its fuse.
     pub fn into_disk(self) -> MemDisk
-        ensures { sectors_needed ≤ mem_size result }
+        ensures disk { result ≡ inner_of (unloaded_disk self) }
     {
         let Unloaded { desk, disk } = self;
         let _ = desk.close();
