@@ -69,7 +69,7 @@ impl<D: SectorDisk> Log<D> {
 
     /// Returns the number of the last command: the base number, and the commands of the tail.
     pub fn number(&self) -> u64
-        ensures { result ≡ number_of self.now }
+        ensures number { result ≡ number_of self.now }
         ensures in_range { result ≤ COMMAND_NUMBER_MAX }
     {
         self.number
