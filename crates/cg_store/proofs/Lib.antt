@@ -2,6 +2,4 @@ pub mod Spelled
 pub mod Longer
 pub mod Whole
 pub mod Reading
-pub mod Loaded
-pub mod Kept
 pub mod Standing
