@@ -1,5 +1,5 @@
 -- The room of a log: what may still be appended to it.
-use Rattle.std.specs.Prelude.{◌≡◌, ℕ, ◌+◌, ◌-◌, ◌<◌, ◌≤◌, Bool, true, ◌&&◌, ◌||◌, nat_lt, if◌then◌else◌}
+use Rattle.std.specs.Prelude.{ℕ, ◌-◌, ◌<◌, Bool, ◌&&◌, ◌||◌, nat_lt, if◌then◌else◌}
 use Rattle.cg_frame.specs.Frames.{next_gate}
 use Rattle.cg_gate.specs.declared.layout.TheConstants.{SEGMENT_SECTORS}
 use Rattle.cg_root.specs.Roots.{root_ids}

@@ -1,5 +1,5 @@
 //! One more frame in the last tail.
-ghost use Rattle.std.specs.Prelude.{◌≡◌, ◌⊎◌, ℕ, ◌+◌, ◌^◌, ◌≤◌, ◌<◌, [], ◌∷◌, ◌++◌, Bool, ◌≢◌, true, false, length, IfErr, IfOk, OnOk, IsErrOf, MatchResult, is_err};
+ghost use Rattle.std.specs.Prelude.{◌≡◌, ◌⊎◌, ℕ, ◌+◌, ◌^◌, ◌≤◌, ◌<◌, [], ◌∷◌, ◌++◌, Bool, ◌≢◌, true, false, length, IfErr, IfOk, OnErr, OnOk, IsErrOf, MatchResult, is_err};
 ghost use Rattle.cg_disk.specs.Disk.{Counts, LeavesOnly, TakesCalls, present};
 ghost use Rattle.cg_frame.specs.Frames.{next_gate};
 ghost use Rattle.cg_frame.specs.declared.segment.TheConstants.{LARGEST_PAYLOAD_BYTES};
@@ -75,6 +75,7 @@ impl<D: SectorDisk> Log<D> {
             LeavesOnly (D.history (disk_of self.old)) (D.history (disk_of self.new))
             (CarriesBeforeOrAfter (D.size (disk_of self.old)) (number_of self.old) (frames_of has.base) (frames_of (tails has)) frame.now.0 frame.now.1) }
         ensures number { OnOk result (number_of self.new ≡ number_of self.old + count) }
+        ensures same_number { OnErr result (number_of self.new ≡ number_of self.old) }
         ensures end { OnOk result (end_of self.new ≡ next_gate (end_of self.old) (length frame.now.1)) }
         ensures same_root { root_of self.new ≡ root_of self.old }
         ensures clock { D.is_honest (disk_of self.old) ≡ true →
@@ -112,6 +113,7 @@ impl<D: SectorDisk> Log<D> {
             LeavesOnly (D.history (disk_of self.old)) (D.history (disk_of self.new))
             (CarriesBeforeOrAfter (D.size (disk_of self.old)) (number_of self.old) (frames_of has.base) (frames_of (tails has)) count payload.now) }
         ensures number { OnOk result (number_of self.new ≡ number_of self.old + count) }
+        ensures same_number { OnErr result (number_of self.new ≡ number_of self.old) }
         ensures serves { OnOk result (has_failed self.new ≡ false) }
         ensures tail { OnOk result ((id : ℕ) × IsNextTail (D.size (disk_of self.old)) (root_of self.old) id (root_of self.new)) }
         ensures end { OnOk result (end_of self.new ≡ next_gate 0 (length payload.now)) }
@@ -152,6 +154,7 @@ impl<D: SectorDisk> Log<D> {
             (AllCarry (present (D.history (disk_of self.new))) (D.size (disk_of self.old)) (number_of self.old + count)
             (frames_of has.base) (frames_of (tails has) ++ (count, payload.now) ∷ [])) }
         ensures number { OnOk result (number_of self.new ≡ number_of self.old + count) }
+        ensures same_number { OnErr result (number_of self.new ≡ number_of self.old) }
         ensures room { OnOk result (room_of D.size self.new ≡ room_after (room_of D.size self.old) (length payload.now)) }
         ensures full { IsErrOf result LogFault.Full → (COMMAND_NUMBER_MAX < number_of self.old + count)
             ⊎ (has_room (room_of D.size self.old) (length payload.now) ≡ false) }

@@ -1,11 +1,11 @@
-use Rattle.std.proofs.Common.{◌≡◌, ◌<◌, ◌≤◌, ◌∙◌, ℕ, List, inl, inr, refl, sym, subst, ap, arith, length, true, rules}
+use Rattle.std.proofs.Common.{◌≡◌, ◌<◌, ◌≤◌, ◌∙◌, ℕ, List, inl, inr, refl, subst, ap, arith, length, true, rules}
 use Rattle.std.proofs.lemmas.Result.{err_from_is_err_and}
 use Rattle.cg_disk.specs.Disk.{present}
 use Rattle.cg_log.specs.Carried.{appended, rolled}
 use Rattle.cg_log.specs.Log.{LogHas, disk_of, end_of, number_of, root_of}
 use Rattle.cg_frame.specs.Frames.{next_gate}
 use Rattle.cg_gate.specs.declared.layout.TheConstants.{SEGMENT_SECTORS}
-use Rattle.cg_log.specs.Room.{has_room, room_after, room_at}
+use Rattle.cg_log.specs.Room.{has_room, room_at}
 use Rattle.cg_log.proofs.Moves.{AllCarry-appended, still-append-images}
 use Rattle.cg_log.proofs.Room.{always, calls-next, calls-tail, fits-none, has-no-room, has-room-next, has-room-tail, room-next, room-tail}
 use Rattle.cg_log.proofs.log.Log.append.Goals as goal
