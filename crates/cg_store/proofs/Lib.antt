@@ -3,3 +3,4 @@ pub mod Longer
 pub mod Whole
 pub mod Reading
 pub mod Standing
+pub mod Refused

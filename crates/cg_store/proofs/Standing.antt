@@ -5,6 +5,8 @@ use Rattle.cg_disk.proofs.Moments.{IsImage-content, LeavesOnly-starts, LeavesOnl
 use Rattle.cg_fold.specs.Durable.{State, after}
 use Rattle.cg_log.specs.Carried.{Content, HoldsContent, tails, AllCarry as AllCarryLog, CarriesBeforeOrAfter as LogBeforeOrAfter}
 use Rattle.cg_log.specs.Log as log_model
+use Rattle.cg_log.specs.Log.{LogHas}
+use Rattle.cg_log.specs.Rolled.{IsAppended}
 use Rattle.cg_log.specs.Segments.{Frames, frames_of}
 use Rattle.cg_log.specs.declared.numbers.TheConstants.{COMMAND_NUMBER_MAX}
 use Rattle.cg_log.proofs.Images as log
@@ -67,3 +69,48 @@ module _ {D : Type 0} {g : _} (honest : D → Bool) (history : D → History) wh
         holds = coe 0 1 (i. HoldsContent (present (history (disk i))) (sectors i) (root i) (end i) (number i) stands.has) stands.holds;
         spelled = stands.spelled;
       }
+
+  -- ---- one more batch
+
+  LogHas-stands : (size : D → ℕ) (old : Store D g) (n : ℕ) (state : State) → old.sectors ≡ size (disk_of old) → (stands : StandsAt honest history old n state) → LogHas honest history size old.log stands.has
+  LogHas-stands size old n state size_is stands = record {
+    is_honest = stands.is_honest;
+    holds = subst (λ (s : ℕ). HoldsContent (present (history (disk_of old))) s (log_model.root_of old.log) (log_model.end_of old.log) (front_of old) stands.has) size_is stands.holds;
+  }
+
+  module _ (size : D → ℕ) (old : Store D g) (size_is : old.sectors ≡ size (disk_of old)) (commands : List Command) (payload : List ℕ) (count : ℕ) (is : IsFrameOf (count, payload) commands) (n : ℕ) (state : State) (stands : StandsAt honest history old n state) where
+    had : LogHas honest history size old.log stands.has
+    had = LogHas-stands size old n state size_is stands
+
+    pub images-appended : (now : History)
+        → ((has : Content) → LogHas honest history size old.log has
+        → LeavesOnly (history (disk_of old)) now (LogBeforeOrAfter (size (disk_of old)) (front_of old) (frames_of has.base) (frames_of (tails has)) count payload))
+        → LeavesOnly (history (disk_of old)) now (CarriesBeforeOrAfter (sectors_of old) n state commands)
+    images-appended now leaves =
+        let all = leaves stands.has had in
+        let here = coe 0 1 (i. LeavesOnly (history (disk_of old)) now (LogBeforeOrAfter (sym size_is i) (stands.front_is i) (frames_of stands.has.base) (frames_of (tails stands.has)) count payload)) all in
+        LeavesOnly-weaker (history (disk_of old)) now _ (CarriesBeforeOrAfter (sectors_of old) n state commands)
+        (Carries-appended (sectors_of old) n (frames_of stands.has.base) (frames_of (tails stands.has)) state commands payload count is.number stands.spelled is) here
+
+    pub StandsAt-appended : (new : Store D g) → new.sectors ≡ size (disk_of new) → front_of new ≡ front_of old + count
+        → ((has : Content) → LogHas honest history size old.log has → (grown : Content) × (IsAppended has count payload grown × LogHas honest history size new.log grown))
+        → ((has : Content) → LogHas honest history size old.log has
+        → AllCarryLog (present (history (disk_of new))) (size (disk_of new)) (front_of old + count) (frames_of has.base) (frames_of (tails has) ++ (count, payload) ∷ []))
+        → StandsAt honest history new (n + length commands) (after state commands)
+    StandsAt-appended new new_size number grows all =
+        let grown = grows stands.has had in
+        let holds = grown.1.1.holds in
+        let spelled = Spell-tail (frames_of stands.has.base) (frames_of (tails stands.has)) state (count, payload) commands stands.spelled is in
+        record {
+          is_honest = grown.1.1.is_honest;
+          front_is = number ∙ (λ i. stands.front_is i + is.number i);
+          has = grown.0;
+          holds = subst (λ (s : ℕ). HoldsContent (present (history (disk_of new))) s (log_model.root_of new.log) (log_model.end_of new.log) (front_of new) grown.0) (sym new_size) holds;
+          spelled = Spell-held (present (history (disk_of new))) (size (disk_of new)) (log_model.root_of new.log) (log_model.end_of new.log) (front_of new) grown.0 new.log.in_range holds
+              (front_of old + count) (frames_of stands.has.base) (frames_of (tails stands.has) ++ (count, payload) ∷ []) (after state commands) (all stands.has had) spelled;
+        }
+
+  -- before the first write
+  pub images-still : (old : Store D g) (n : ℕ) (state : State) (commands : List Command) → StandsAt honest history old n state → LeavesOnly (history (disk_of old)) (history (disk_of old)) (CarriesBeforeOrAfter (sectors_of old) n state commands)
+  images-still old n state commands stands =
+      LeavesOnly-starts (history (disk_of old)) (CarriesBeforeOrAfter (sectors_of old) n state commands) (λ image left. inl (StandsAt-carry old n state stands image left))
