@@ -1,5 +1,5 @@
 -- When a store refuses a batch.
-use Rattle.std.proofs.Common.{◌≡◌, ◌≢◌, ◌⊎◌, inl, inr, ℕ, ◌+◌, ◌<◌, ◌≤◌, ◌∙◌, sym, ap, Bool, true, false, ◌&&◌, nat_le, List, length, Some, None, arith, rules}
+use Rattle.std.proofs.Common.{◌≡◌, ◌≢◌, ◌⊎◌, inl, inr, ℕ, ◌+◌, ◌<◌, ◌≤◌, ◌∙◌, sym, refl, Bool, true, false, ◌&&◌, nat_le, List, length, Some, None, arith, rules}
 use Rattle.std.proofs.lemmas.Bool.Decides.{nat_tests}
 use Rattle.std.proofs.lemmas.Grind.{common_steps}
 use Rattle.cg_log.specs.Room.{Room, room_at, has_room as log_has_room}
@@ -28,8 +28,8 @@ module _ (sectors size : ℕ) (size_is : sectors ≡ size) (root : Root) (end fr
       last_false (log_has_room (room_at sectors root end) (length (spelling commands))) (nat_le (front + length commands) COMMAND_NUMBER_MAX) two
     where
       last_false : (a b : Bool) → b ≡ false → (a && b) ≡ false
-      last_false true b no = no
-      last_false false b no = cc
+      last_false true b is = is
+      last_false false b is = refl
   has-no-room (inr none) =
       let one : log_has_room (room_at sectors root end) (length (spelling commands)) ≡ false = same_room ∙ none in
       rw one

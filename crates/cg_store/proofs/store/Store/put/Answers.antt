@@ -1,9 +1,10 @@
-use Rattle.std.proofs.Common.{◌≡◌, ◌≢◌, inl, inr, ℕ, ◌+◌, ◌∷◌, [], ◌++◌, ◌∙◌, ap, sym, subst, refl, true, false, Option}
+use Rattle.std.proofs.Common.{◌≡◌, ◌≢◌, inl, inr, ℕ, ◌+◌, ◌∷◌, [], ◌++◌, ◌∙◌, ap, sym, subst, refl, true, false, Option, Err}
 use Rattle.cg_disk.specs.Disk.{present}
 use Rattle.cg_log.specs.Carried.{tails, AllCarry as AllCarryLog}
 use Rattle.cg_log.specs.Log as log_model
 use Rattle.cg_log.specs.Segments.{frames_of}
 use Rattle.cg_log.specs.declared.fault.LogFault.TheVariants as log_fault
+use Rattle.cg_store.specs.Carried.{IsFrameOf}
 use Rattle.cg_store.specs.Faults.{IsToldOf}
 use Rattle.cg_store.specs.Store.{disk_of, front_of, has_failed, room_of}
 use Rattle.cg_store.specs.declared.fault.StoreFault.{StoreFault}
@@ -21,25 +22,25 @@ returns-then-batch-number-clause-images g c n state stands = images-still g.D.Se
 pub returns-in-Ok-clause-images : goal.returns-in-Ok-clause-images
 returns-in-Ok-clause-images g c n state stands =
     let self = c.args.self.now in
-    let is = record { decoded = c.as_bytes.ensures.decoded; lawful = c.as_bytes.ensures.lawful; number = c.len-count.ensures } in
+    let is : IsFrameOf (c.len-count.result, c.as_bytes.result.now) c.args.batch.now.commands = record { decoded = c.as_bytes.ensures.decoded; lawful = c.as_bytes.ensures.lawful; number = c.len-count.ensures } in
     images-appended g.D.SectorDisk.is_honest g.D.SectorDisk.history g.D.SectorDisk.size self self.size c.args.batch.now.commands c.as_bytes.result.now c.len-count.result is n state stands _ c.append.ensures.images
 
 pub returns-in-Err-Memory-clause-images : goal.returns-in-Err-Memory-clause-images
 returns-in-Err-Memory-clause-images g c n state stands =
     let self = c.args.self.now in
-    let is = record { decoded = c.as_bytes.ensures.decoded; lawful = c.as_bytes.ensures.lawful; number = c.len-count.ensures } in
+    let is : IsFrameOf (c.len-count.result, c.as_bytes.result.now) c.args.batch.now.commands = record { decoded = c.as_bytes.ensures.decoded; lawful = c.as_bytes.ensures.lawful; number = c.len-count.ensures } in
     images-appended g.D.SectorDisk.is_honest g.D.SectorDisk.history g.D.SectorDisk.size self self.size c.args.batch.now.commands c.as_bytes.result.now c.len-count.result is n state stands _ c.append.ensures.images
 
 pub returns-in-Err-Device-clause-images : goal.returns-in-Err-Device-clause-images
 returns-in-Err-Device-clause-images g c n state stands =
     let self = c.args.self.now in
-    let is = record { decoded = c.as_bytes.ensures.decoded; lawful = c.as_bytes.ensures.lawful; number = c.len-count.ensures } in
+    let is : IsFrameOf (c.len-count.result, c.as_bytes.result.now) c.args.batch.now.commands = record { decoded = c.as_bytes.ensures.decoded; lawful = c.as_bytes.ensures.lawful; number = c.len-count.ensures } in
     images-appended g.D.SectorDisk.is_honest g.D.SectorDisk.history g.D.SectorDisk.size self self.size c.args.batch.now.commands c.as_bytes.result.now c.len-count.result is n state stands _ c.append.ensures.images
 
 pub returns-in-Err-Full-clause-images : goal.returns-in-Err-Full-clause-images
 returns-in-Err-Full-clause-images g c n state stands =
     let self = c.args.self.now in
-    let is = record { decoded = c.as_bytes.ensures.decoded; lawful = c.as_bytes.ensures.lawful; number = c.len-count.ensures } in
+    let is : IsFrameOf (c.len-count.result, c.as_bytes.result.now) c.args.batch.now.commands = record { decoded = c.as_bytes.ensures.decoded; lawful = c.as_bytes.ensures.lawful; number = c.len-count.ensures } in
     images-appended g.D.SectorDisk.is_honest g.D.SectorDisk.history g.D.SectorDisk.size self self.size c.args.batch.now.commands c.as_bytes.result.now c.len-count.result is n state stands _ c.append.ensures.images
 
 pub returns-in-Ok-clause-ok : goal.returns-in-Ok-clause-ok
@@ -49,7 +50,7 @@ returns-in-Ok-clause-ok g c n state stands =
     let commands = c.args.batch.now.commands in
     let payload = c.as_bytes.result.now in
     let count = c.len-count.result in
-    let is = record { decoded = c.as_bytes.ensures.decoded; lawful = c.as_bytes.ensures.lawful; number = c.len-count.ensures } in
+    let is : IsFrameOf (c.len-count.result, c.as_bytes.result.now) c.args.batch.now.commands = record { decoded = c.as_bytes.ensures.decoded; lawful = c.as_bytes.ensures.lawful; number = c.len-count.ensures } in
     let old_size : self.sectors ≡ disk.size (disk_of self) = self.size in
     let log = c.append.new.self in
     let same : disk.size (log_model.disk_of log) ≡ disk.size (disk_of self) = c.append.ensures.same_size in
@@ -116,5 +117,5 @@ returns-in-Err-Full-clause-told g c =
     let size = g.D.SectorDisk.size (disk_of self) in
     let serves : has_failed self ≡ false = sym c.has_failed.ensures ∙ c.if-has_failed.false in
     let next : batch.first ≡ front_of self + 1 = c.if-batch-number.false ∙ ap (λ (k : ℕ). k + 1) c.number.ensures.number in
-    let none = has-no-room self.sectors size self.size (log_model.root_of self.log) (log_model.end_of self.log) (front_of self) c.len-count.result batch.commands c.as_bytes.result.now c.as_bytes.ensures.spelled c.len-count.ensures (c.in-Err-Full.ensures.full c.in-Err-Full.field-0-is) in
+    let none = has-no-room self.sectors size self.size (log_model.root_of self.log) (log_model.end_of self.log) (front_of self) c.len-count.result batch.commands c.as_bytes.result.now c.as_bytes.ensures.spelled c.len-count.ensures (c.in-Err-Full.ensures.full (ap Err c.in-Err-Full.field-0-is)) in
     subst (λ (o : Option StoreFault). IsToldOf o store_fault.Full) (sym (refused-full (has_failed self) (room_of self) (front_of self) batch.first batch.commands serves next none)) refl
