@@ -1,7 +1,6 @@
 -- What an opening finds on a disk.
 use Rattle.std.proofs.Common.{◌≡◌, ℕ, Bool, true, false, not, ◌++◌, subst, refl}
 use Rattle.cg_disk.specs.Disk.{Image}
-use Rattle.cg_fold.specs.Durable.{State}
 use Rattle.cg_log.specs.Carried.{Carries as LogCarries}
 use Rattle.cg_log.specs.Segments.{Frames}
 use Rattle.cg_log.proofs.Images as log

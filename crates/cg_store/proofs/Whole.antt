@@ -1,8 +1,8 @@
 -- The one content of an image, and what a fault says of it.
-use Rattle.std.proofs.Common.{◌≡◌, ◌⊎◌, inl, inr, ℕ, ◌≤◌, Bool, ◌++◌, subst, refl}
+use Rattle.std.proofs.Common.{◌≡◌, ◌⊎◌, inl, inr, ℕ, ◌≤◌, ◌++◌, subst, refl}
 use Rattle.cg_disk.specs.Disk.{Image}
 use Rattle.cg_fold.specs.Durable.{State}
-use Rattle.cg_log.specs.Faults.{Tells as LogTells, is_device}
+use Rattle.cg_log.specs.Faults.{Tells as LogTells}
 use Rattle.cg_log.specs.Segments.{Frames}
 use Rattle.cg_log.specs.declared.fault.LogFault.{LogFault}
 use Rattle.cg_log.specs.declared.fault.LogFault.TheVariants as log_fault
@@ -10,7 +10,7 @@ use Rattle.cg_log.specs.declared.numbers.TheConstants.{COMMAND_NUMBER_MAX}
 use Rattle.cg_log.proofs.Images as log
 use Rattle.cg_root.proofs.Unique.{CountingRoot-good, CountingRoot-some}
 use Rattle.cg_store.specs.Carried.{AreMade, Carries, Spell}
-use Rattle.cg_store.specs.Faults.{Tells, is_loading_failure, of_log}
+use Rattle.cg_store.specs.Faults.{Tells, of_log}
 use Rattle.cg_store.specs.declared.fault.OpenFault.{OpenFault}
 use Rattle.cg_store.specs.declared.fault.OpenFault.TheVariants as open_fault
 use Rattle.cg_store.proofs.Spelled.{Spell-made, Spell-unique}
@@ -44,12 +44,3 @@ Tells-of_log image sectors log_fault.BadRoot told = told
 Tells-of_log image sectors log_fault.BadFrame told = told
 Tells-of_log image sectors log_fault.NoRoot told = told
 Tells-of_log image sectors log_fault.Failed told = absurd told
-
-pub failure-of_log : (fault : LogFault) → is_loading_failure (of_log fault) ≡ is_device fault
-failure-of_log log_fault.Memory = refl
-failure-of_log log_fault.Device = refl
-failure-of_log log_fault.Full = refl
-failure-of_log log_fault.BadRoot = refl
-failure-of_log log_fault.BadFrame = refl
-failure-of_log log_fault.NoRoot = refl
-failure-of_log log_fault.Failed = refl

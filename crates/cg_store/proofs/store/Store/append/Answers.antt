@@ -1,5 +1,4 @@
 use Rattle.std.proofs.Common.{ℕ, ◌+◌, length, subst}
-use Rattle.cg_disk.specs.Disk.{present}
 use Rattle.cg_fold.specs.Durable.{after}
 use Rattle.cg_store.specs.Carried.{AllCarry}
 use Rattle.cg_store.specs.Store.{disk_of}
