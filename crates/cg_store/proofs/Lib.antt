@@ -2,6 +2,6 @@ pub mod Spelled
 pub mod Longer
 pub mod Whole
 pub mod Reading
-pub mod Loaded
-pub mod Kept
+pub mod Opened
 pub mod Standing
+pub mod Refused

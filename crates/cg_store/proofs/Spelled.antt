@@ -1,16 +1,16 @@
 -- The batches of frames.
-use Rattle.std.proofs.Common.{◌≡◌, ℕ, ◌+◌, List, [], ◌∷◌, ◌++◌, length, sym, ap, ◌∙◌, refl, arith, Ok, append-nil}
+use Rattle.std.proofs.Common.{◌≡◌, ℕ, List, [], ◌∷◌, ◌++◌, sym, ap, ◌∙◌, subst, refl, Ok, append-nil, append_assoc}
 use Rattle.std.proofs.lemmas.Grind.{flat_map-append}
-use Rattle.std.proofs.lemmas.List.{length-append}
 use Rattle.std.proofs.lemmas.List.Concat.{flat_map-cons}
-use Rattle.std.proofs.lemmas.List.Sums.{fold-append, sum_by-cons}
+use Rattle.std.proofs.lemmas.List.Sums.{fold-append}
 use Rattle.cg_record.specs.declared.command.Command.{Command}
 use Rattle.cg_record.specs.Lawful.{AreCommands}
 use Rattle.cg_record.specs.Reading.{commands_of}
 use Rattle.cg_record.specs.Spelling.{spelling}
 use Rattle.cg_record.proofs.CommandLaws.{commands_again}
 use Rattle.cg_fold.specs.Durable.{State, after, effect, empty, folded}
-use Rattle.cg_store.specs.Carried.{AreCommandsTo, AreFramesOf, IsFrameOf, Spell, counted, joined}
+use Rattle.cg_log.specs.Segments.{Frames}
+use Rattle.cg_store.specs.Carried.{AreMade, AreFramesOf, IsFrameOf, Spell, joined}
 use Rattle.cg_store.specs.Loading.{IsNoText}
 
 -- ---- one more batch
@@ -20,37 +20,39 @@ joined-push batches commands =
     flat_map-append (λ (c : List Command). c) batches (commands ∷ [])
     ∙ ap (λ l. joined batches ++ l) (flat_map-cons (λ (c : List Command). c) commands [] ∙ append-nil commands)
 
-frames-push : (frames : List (ℕ × List ℕ)) (batches : List (List Command)) (frame : ℕ × List ℕ) (commands : List Command)
+frames-push : (frames : Frames) (batches : List (List Command)) (frame : ℕ × List ℕ) (commands : List Command)
     → AreFramesOf frames batches → IsFrameOf frame commands → AreFramesOf (frames ++ frame ∷ []) (batches ++ commands ∷ [])
 frames-push [] [] frame commands are is = (is, tt)
 frames-push [] (b ∷ batches) frame commands are is = absurd are
 frames-push (f ∷ frames) [] frame commands are is = absurd are
 frames-push (f ∷ frames) (b ∷ batches) frame commands are is = (are.0, frames-push frames batches frame commands are.1 is)
 
-pub Spell-nil : Spell [] 0 empty
-Spell-nil = record { batches = []; frames_are = tt; number = refl; state_is = refl }
+pub Spell-nil : Spell [] empty
+Spell-nil = record { batches = []; frames_are = tt; state_is = refl }
 
-pub Spell-push : (frames : List (ℕ × List ℕ)) (n : ℕ) (state : State) (count : ℕ) (payload : List ℕ) (commands : List Command)
-    → Spell frames n state → IsFrameOf (count, payload) commands → Spell (frames ++ (count, payload) ∷ []) (n + count) (after state commands)
-Spell-push frames n state count payload commands spell is =
-    let all = joined-push spell.batches commands in
-    record {
-      batches = spell.batches ++ commands ∷ [];
-      frames_are = frames-push frames spell.batches (count, payload) commands spell.frames_are is;
-      number = omega (arith, spell.number, is.number, ap length all, length-append (joined spell.batches) commands);
-      state_is = ap (λ s. after s commands) spell.state_is ∙ sym (fold-append effect empty (joined spell.batches) commands) ∙ sym (ap folded all);
-    }
+pub Spell-push : (frames : Frames) (state : State) (frame : ℕ × List ℕ) (commands : List Command) → Spell frames state → IsFrameOf frame commands → Spell (frames ++ frame ∷ []) (after state commands)
+Spell-push frames state frame commands spell is = record {
+  batches = spell.batches ++ commands ∷ [];
+  frames_are = frames-push frames spell.batches frame commands spell.frames_are is;
+  state_is = ap (λ s. after s commands) spell.state_is ∙ sym (fold-append effect empty (joined spell.batches) commands) ∙ sym (ap folded (joined-push spell.batches commands));
+}
+
+-- one more frame in the tail
+pub Spell-tail : (base tail : Frames) (state : State) (frame : ℕ × List ℕ) (commands : List Command)
+    → Spell (base ++ tail) state → IsFrameOf frame commands → Spell (base ++ (tail ++ frame ∷ [])) (after state commands)
+Spell-tail base tail state frame commands spell is =
+    subst (λ (l : Frames). Spell l (after state commands)) (append_assoc base tail (frame ∷ [])) (Spell-push (base ++ tail) state frame commands spell is)
 
 -- ---- a frame that cannot be decoded stays so
 
 -- the last of these frames is one of a batch, and so are the others
-record Split (frames : List (ℕ × List ℕ)) (frame : ℕ × List ℕ) : Type 0 where
+record Split (frames : Frames) (frame : ℕ × List ℕ) : Type 0 where
   pub batches : List (List Command)
   pub last : List Command
   pub frames_are : AreFramesOf frames batches
   pub last_is : IsFrameOf frame last
 
-split : (frames : List (ℕ × List ℕ)) (frame : ℕ × List ℕ) (batches : List (List Command)) → AreFramesOf (frames ++ frame ∷ []) batches → Split frames frame
+split : (frames : Frames) (frame : ℕ × List ℕ) (batches : List (List Command)) → AreFramesOf (frames ++ frame ∷ []) batches → Split frames frame
 split [] frame [] are = absurd are
 split [] frame (b ∷ []) are = record { batches = []; last = b; frames_are = tt; last_is = are.0 }
 split [] frame (b ∷ c ∷ batches) are = absurd are.1
@@ -59,13 +61,13 @@ split (f ∷ frames) frame (b ∷ batches) are =
     let rest = split frames frame batches are.1 in record { batches = b ∷ rest.batches; last = rest.last; frames_are = (are.0, rest.frames_are); last_is = rest.last_is }
 
 -- some frame is not one of a batch
-abbrev pub SpellsNone : List (ℕ × List ℕ) → Type 0
+abbrev pub SpellsNone : Frames → Type 0
 SpellsNone frames = (batches : List (List Command)) → ¬ AreFramesOf frames batches
 
-pub none-push : (frames : List (ℕ × List ℕ)) (frame : ℕ × List ℕ) → SpellsNone frames → SpellsNone (frames ++ frame ∷ [])
+pub none-push : (frames : Frames) (frame : ℕ × List ℕ) → SpellsNone frames → SpellsNone (frames ++ frame ∷ [])
 none-push frames frame none batches are = let parts = split frames frame batches are in none parts.batches parts.frames_are
 
-pub none-at : (frames : List (ℕ × List ℕ)) (count : ℕ) (payload : List ℕ) → IsNoText count payload → SpellsNone (frames ++ (count, payload) ∷ [])
+pub none-at : (frames : Frames) (count : ℕ) (payload : List ℕ) → IsNoText count payload → SpellsNone (frames ++ (count, payload) ∷ [])
 none-at frames count payload no_text batches are = let parts = split frames (count, payload) batches are in no_text parts.last parts.last_is
 
 -- ---- frames have exactly one list of batches
@@ -77,7 +79,7 @@ commands-unique a b of_a of_b is =
     let both : Ok a ≡ Ok b = sym read_a ∙ ap commands_of is ∙ read_b in
     cc
 
-batches-unique : (frames : List (ℕ × List ℕ)) (a b : List (List Command)) → AreFramesOf frames a → AreFramesOf frames b → a ≡ b
+batches-unique : (frames : Frames) (a b : List (List Command)) → AreFramesOf frames a → AreFramesOf frames b → a ≡ b
 batches-unique [] [] [] of_a of_b = refl
 batches-unique [] [] (y ∷ b) of_a of_b = absurd of_b
 batches-unique [] (x ∷ a) b of_a of_b = absurd of_a
@@ -89,23 +91,8 @@ batches-unique (f ∷ frames) (x ∷ a) (y ∷ b) of_a of_b =
     let tail = batches-unique frames a b of_a.1 of_b.1 in
     ap (λ (c : List Command). c ∷ a) head ∙ ap (λ (l : List (List Command)). y ∷ l) tail
 
-pub Spell-unique : (frames : List (ℕ × List ℕ)) (n m : ℕ) (state other : State) → Spell frames n state → Spell frames m other → (n ≡ m) × (state ≡ other)
-Spell-unique frames n m state other a b =
-    let all = ap joined (batches-unique frames a.batches b.batches a.frames_are b.frames_are) in
-    (a.number ∙ ap length all ∙ sym b.number, a.state_is ∙ ap folded all ∙ sym b.state_is)
-
--- ---- the number of commands is the sum of the counts
-
-counted-batches : (frames : List (ℕ × List ℕ)) (batches : List (List Command)) → AreFramesOf frames batches → counted frames ≡ length (joined batches)
-counted-batches [] [] are = refl
-counted-batches [] (b ∷ batches) are = absurd are
-counted-batches (f ∷ frames) [] are = absurd are
-counted-batches (f ∷ frames) (b ∷ batches) are =
-    let rest = counted-batches frames batches are.1 in
-    omega (arith, rest, are.0.number, sum_by-cons (λ (f : ℕ × List ℕ). f.0) f frames, ap length (flat_map-cons (λ (c : List Command). c) b batches), length-append b (joined batches))
-
-pub Spell-counted : (frames : List (ℕ × List ℕ)) (n : ℕ) (state : State) → Spell frames n state → counted frames ≡ n
-Spell-counted frames n state spell = counted-batches frames spell.batches spell.frames_are ∙ sym spell.number
+pub Spell-unique : (frames : Frames) (state other : State) → Spell frames state → Spell frames other → state ≡ other
+Spell-unique frames state other a b = a.state_is ∙ ap folded (ap joined (batches-unique frames a.batches b.batches a.frames_are b.frames_are)) ∙ sym b.state_is
 
 -- ---- all commands of frames are lawful
 
@@ -113,16 +100,11 @@ both-lawful : (xs ys : List Command) → AreCommands xs → AreCommands ys → A
 both-lawful [] ys a b = b
 both-lawful (x ∷ xs) ys a b = (a.0, both-lawful xs ys a.1 b)
 
-joined-lawful : (frames : List (ℕ × List ℕ)) (batches : List (List Command)) → AreFramesOf frames batches → AreCommands (joined batches)
+joined-lawful : (frames : Frames) (batches : List (List Command)) → AreFramesOf frames batches → AreCommands (joined batches)
 joined-lawful [] [] are = tt
 joined-lawful [] (b ∷ batches) are = absurd are
 joined-lawful (f ∷ frames) [] are = absurd are
 joined-lawful (f ∷ frames) (b ∷ batches) are = both-lawful b (joined batches) are.0.lawful (joined-lawful frames batches are.1)
 
-pub Spell-commands : (frames : List (ℕ × List ℕ)) (n : ℕ) (state : State) → Spell frames n state → AreCommandsTo n state
-Spell-commands frames n state spell = record {
-  commands = joined spell.batches;
-  lawful = joined-lawful frames spell.batches spell.frames_are;
-  number = spell.number;
-  state_is = spell.state_is;
-}
+pub Spell-made : (frames : Frames) (state : State) → Spell frames state → AreMade state
+Spell-made frames state spell = record { commands = joined spell.batches; lawful = joined-lawful frames spell.batches spell.frames_are; state_is = spell.state_is }

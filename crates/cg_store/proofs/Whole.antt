@@ -1,55 +1,46 @@
--- Images with the same sectors, and the one content of an image.
-use Rattle.std.proofs.Common.{◌≡◌, ◌⊎◌, inl, inr, ℕ, ◌+◌, List, get_or, sym, ap, ◌∙◌, subst, refl}
-use Rattle.std.proofs.Math.Dec.{lit<}
+-- The one content of an image, and what a fault says of it.
+use Rattle.std.proofs.Common.{◌≡◌, ◌⊎◌, inl, inr, ℕ, ◌≤◌, ◌++◌, subst, refl}
 use Rattle.cg_disk.specs.Disk.{Image}
-use Rattle.cg_frame.specs.Frames.{HasFramesTo, IsClosed}
-use Rattle.cg_frame.proofs.Standing.{Chain-same, HasFrames-unique}
 use Rattle.cg_fold.specs.Durable.{State}
-use Rattle.cg_store.specs.Carried.{AreCommandsTo, Carries, IsWhole, Spell, first_segment}
-use Rattle.cg_store.specs.Faults.{Tells}
+use Rattle.cg_log.specs.Faults.{Tells as LogTells}
+use Rattle.cg_log.specs.Segments.{Frames}
+use Rattle.cg_log.specs.declared.fault.LogFault.{LogFault}
+use Rattle.cg_log.specs.declared.fault.LogFault.TheVariants as log_fault
+use Rattle.cg_log.specs.declared.numbers.TheConstants.{COMMAND_NUMBER_MAX}
+use Rattle.cg_log.proofs.Images as log
+use Rattle.cg_root.proofs.Unique.{CountingRoot-good, CountingRoot-some}
+use Rattle.cg_store.specs.Carried.{AreMade, Carries, Spell}
+use Rattle.cg_store.specs.Faults.{Tells, of_log}
 use Rattle.cg_store.specs.declared.fault.OpenFault.{OpenFault}
-use Rattle.cg_store.specs.declared.fault.OpenFault.TheVariants as variants
-use Rattle.cg_store.specs.declared.segment.TheConstants.{FIRST_SEGMENT_SECTOR}
-use Rattle.cg_store.proofs.Spelled.{Spell-commands, Spell-unique}
-
-pub closed-same : (a b : Image) (at : ℕ) → ((s : ℕ) → b s ≡ a s) → IsClosed a at → IsClosed b at
-closed-same a b at same closed = λ opened. closed (sym (ap (λ (l : List ℕ). get_or l 0 0) (same at)) ∙ opened)
-
-pub frames-same : (a b : Image) (frames : List (ℕ × List ℕ)) (end : ℕ) → ((s : ℕ) → b s ≡ a s) → HasFramesTo a first_segment frames end → HasFramesTo b first_segment frames end
-frames-same a b frames end same has = record {
-  chain = Chain-same a b first_segment 0 frames end (λ s _ _. same s) has.chain;
-  closed = closed-same a b (FIRST_SEGMENT_SECTOR + end) same has.closed;
-}
-
-whole-same : (a b : Image) (frames : List (ℕ × List ℕ)) → ((s : ℕ) → b s ≡ a s) → IsWhole a frames → IsWhole b frames
-whole-same a b frames same whole = record { has = (whole.has.0, frames-same a b frames whole.has.0 same whole.has.1); in_range = whole.in_range }
-
-pub Carries-same : (a b : Image) (n : ℕ) (state : State) → ((s : ℕ) → b s ≡ a s) → Carries a n state → Carries b n state
-Carries-same a b n state same carries = record { frames = carries.frames; whole = whole-same a b carries.frames same carries.whole; spelled = carries.spelled }
-
-pub Tells-same : (a b : Image) (fault : OpenFault) → ((s : ℕ) → b s ≡ a s) → Tells a fault → Tells b fault
-Tells-same a b variants.Memory same tells = tt
-Tells-same a b variants.Device same tells = tt
-Tells-same a b variants.BadFrame same tells = λ frames whole. tells frames (whole-same b a frames (λ s. sym (same s)) whole)
-Tells-same a b variants.BadRecord same tells =
-    ((tells.0.0, whole-same a b tells.0.0 same tells.0.1), λ n state carries. tells.1 n state (Carries-same b a n state (λ s. sym (same s)) carries))
-
--- an image has exactly one list of frames
-pub whole-unique : (image : Image) (frames others : List (ℕ × List ℕ)) → IsWhole image frames → IsWhole image others → frames ≡ others
-whole-unique image frames others a b = HasFrames-unique image first_segment frames others (lit< tt) a.has b.has
+use Rattle.cg_store.specs.declared.fault.OpenFault.TheVariants as open_fault
+use Rattle.cg_store.proofs.Spelled.{Spell-made, Spell-unique}
 
 -- an image has exactly one number and state
-pub Carries-unique : (image : Image) (n m : ℕ) (state other : State) → Carries image n state → Carries image m other → (n ≡ m) × (state ≡ other)
-Carries-unique image n m state other a b =
-    Spell-unique b.frames n m state other (subst (λ (l : List (ℕ × List ℕ)). Spell l n state) (whole-unique image a.frames b.frames a.whole b.whole) a.spelled) b.spelled
+pub Carries-unique : (image : Image) (sectors n m : ℕ) (state other : State) → Carries image sectors n state → Carries image sectors m other → (n ≡ m) × (state ≡ other)
+Carries-unique image sectors n m state other a b =
+    let one = log.Carries-unique image sectors n m a.base b.base a.tail b.tail a.log b.log in
+    let frames : a.base ++ a.tail ≡ b.base ++ b.tail = λ i. (one.1) i ++ (one.2) i in
+    (one.0, Spell-unique (b.base ++ b.tail) state other (subst (λ (l : Frames). Spell l state) frames a.spelled) b.spelled)
 
 -- the state of an image is made by lawful commands
-pub Carries-commands : (image : Image) (n : ℕ) (state : State) → Carries image n state → AreCommandsTo n state
-Carries-commands image n state carries = Spell-commands carries.frames n state carries.spelled
+pub Carries-commands : (image : Image) (sectors n : ℕ) (state : State) → Carries image sectors n state → AreMade state × (n ≤ COMMAND_NUMBER_MAX)
+Carries-commands image sectors n state c = (Spell-made (c.base ++ c.tail) state c.spelled, c.log.in_range)
 
 -- an image with content has no damage
-pub carried-fault : (image : Image) (n : ℕ) (state : State) (fault : OpenFault) → Carries image n state → Tells image fault → (fault ≡ variants.Memory) ⊎ (fault ≡ variants.Device)
-carried-fault image n state variants.Memory carries tells = inl refl
-carried-fault image n state variants.Device carries tells = inr refl
-carried-fault image n state variants.BadFrame carries tells = absurd (tells carries.frames carries.whole)
-carried-fault image n state variants.BadRecord carries tells = absurd (tells.1 n state carries)
+pub carried-fault : (image : Image) (sectors n : ℕ) (state : State) (fault : OpenFault) → Carries image sectors n state → Tells image sectors fault → (fault ≡ open_fault.Memory) ⊎ (fault ≡ open_fault.Device)
+carried-fault image sectors n state open_fault.Memory c told = inl refl
+carried-fault image sectors n state open_fault.Device c told = inr refl
+carried-fault image sectors n state open_fault.NoRoot c told = absurd (CountingRoot-some image sectors c.log.root c.log.stored.counting told)
+carried-fault image sectors n state open_fault.BadRoot c told = absurd (CountingRoot-good image sectors c.log.root c.log.stored.counting told)
+carried-fault image sectors n state open_fault.BadFrame c told = absurd (told.none n c.base c.tail c.log)
+carried-fault image sectors n state open_fault.BadRecord c told = absurd (told.none n state c)
+
+-- the fault of a log says the same of an image
+pub Tells-of_log : (image : Image) (sectors : ℕ) (fault : LogFault) → LogTells image sectors fault → Tells image sectors (of_log fault)
+Tells-of_log image sectors log_fault.Memory told = tt
+Tells-of_log image sectors log_fault.Device told = tt
+Tells-of_log image sectors log_fault.Full told = absurd told
+Tells-of_log image sectors log_fault.BadRoot told = told
+Tells-of_log image sectors log_fault.BadFrame told = told
+Tells-of_log image sectors log_fault.NoRoot told = told
+Tells-of_log image sectors log_fault.Failed told = absurd told

@@ -1,5 +1,5 @@
 //! The append of a batch.
-ghost use Rattle.std.specs.Prelude.{◌≡◌, ◌≢◌, ℕ, ◌+◌, ◌≤◌, true, false, length, Option, IfErr, OnOk, IsErrOf, MatchResult, None, is_err};
+ghost use Rattle.std.specs.Prelude.{◌≡◌, ◌≢◌, ℕ, ◌+◌, ◌≤◌, true, false, length, Option, IfErr, OnErr, OnOk, IsErrOf, MatchResult, None, is_err};
 ghost use Rattle.cg_disk.specs.Disk.{Counts, LeavesOnly, TakesCalls};
 ghost use Rattle.cg_fold.specs.Durable.{State, after};
 ghost use Rattle.cg_log.specs.Room.{fits_tail};
@@ -26,6 +26,7 @@ impl<D: SectorDisk> Store<D> {
         ensures images { (n : ℕ) (state : State) → StandsAt D.is_honest D.history self.old n state
             → LeavesOnly (D.history (disk_of self.old)) (D.history (disk_of self.new)) (CarriesBeforeOrAfter (sectors_of self.old) n state batch.now.commands) }
         ensures number { OnOk result (front_of self.new ≡ front_of self.old + length batch.now.commands) }
+        ensures same_number { OnErr result (front_of self.new ≡ front_of self.old) }
         ensures room { OnOk result (room_of self.new ≡ room_after (room_of self.old) batch.now.commands) }
         ensures serves { OnOk result (has_failed self.new ≡ has_failed self.old) }
         ensures told { MatchResult result
@@ -72,6 +73,7 @@ impl<D: SectorDisk> Store<D> {
             → OnOk result (AllCarry (D.history (disk_of self.new)) (sectors_of self.old) (n + length batch.commands) (after state batch.commands)) }
         ensures batch { MatchResult result (λ receipt. batch_of receipt ≡ batch) (λ refused. refused.1 ≡ batch) }
         ensures number { OnOk result (front_of self.new ≡ front_of self.old + length batch.commands) }
+        ensures same_number { OnErr result (front_of self.new ≡ front_of self.old) }
         ensures room { OnOk result (room_of self.new ≡ room_after (room_of self.old) batch.commands) }
         ensures serves { OnOk result (has_failed self.new ≡ has_failed self.old) }
         // The fault, and when it is reported.

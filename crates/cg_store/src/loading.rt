@@ -3,11 +3,11 @@ ghost use Rattle.std.specs.Prelude.{◌≡◌, ◌⊎◌, ℕ, ◌∷◌, [], �
 ghost use Rattle.std.specs.Option.{MatchOption};
 ghost use Rattle.cg_disk.specs.Disk.{Counts, Image, Stays};
 ghost use Rattle.cg_fold.specs.Durable.{State, after, empty};
-ghost use Rattle.cg_log.specs.Openings.{HasRead as HasReadTo, disk_under, has_fault, is_at_end};
+ghost use Rattle.cg_log.specs.Openings.{HasRead as HasReadTo, disk_under, is_at_end};
 ghost use Rattle.cg_log.specs.Segments.{Frames};
 ghost use Rattle.cg_store.specs.Carried.{IsFrameOf};
 ghost use Rattle.cg_store.specs.Faults.{Tells};
-ghost use Rattle.cg_store.specs.Loading.{Adds, HasRead, IsNoText, IsRead, failed_loading};
+ghost use Rattle.cg_store.specs.Loading.{Adds, HasRead, HasReadAll, IsNoText, IsRead, failed_loading};
 
 use crate::fault::OpenFault;
 use cg_disk::SectorDisk;
@@ -118,10 +118,9 @@ pub(crate) fn read_frames<D: SectorDisk>(
     alloc: Global,
     opening: &mut Opening<D>,
 ) -> Result<Loading, OpenFault>
-    requires serves { has_fault opening.old ≡ false }
     // Of an honest disk these are all frames; whatever the disk gives, some.
     ensures read { (image : Image) → HasReadTo D.is_honest D.history D.size opening.old image [] → IfOk result (λ loading.
-        (all : Frames) × (HasReadTo D.is_honest D.history D.size opening.new image all × HasRead all loading)) }
+        HasReadAll D.is_honest D.history D.size opening.new image loading) }
     ensures some { IfOk result (λ loading. (frames : Frames) × HasRead frames loading) }
     ensures tells { (image : Image) → HasReadTo D.is_honest D.history D.size opening.old image [] →
         IfErr result (Tells image (D.size (disk_under opening.old))) }

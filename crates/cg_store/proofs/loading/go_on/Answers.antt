@@ -1,10 +1,9 @@
-use Rattle.std.proofs.Common.{◌+◌}
 use Rattle.cg_store.proofs.Reading.{read-more, unread-push}
 use Rattle.cg_store.proofs.loading.go_on.Goals as goal
 
 pub returns-then-not-all_read : goal.returns-then-not-all_read
-returns-then-not-all_read c frames n read = unread-push c.args.all_read frames n (n + c.args.frame.now.count) c.args.frame.now.count c.args.frame.now.payload.items c.args.durable.now c.args.durable.now c.if-not-all_read.true read
+returns-then-not-all_read c frames read = unread-push c.args.all_read frames c.args.count c.args.payload.now c.args.durable.now c.args.durable.now c.if-not-all_read.true read
 
 pub returns : goal.returns
-returns c frames n read =
-    read-more c.args.all_read c.in_ok-is_text.is_text frames n c.args.frame.now.count c.args.frame.now.payload.items c.args.durable.now c.add_commands.new.durable c.if-not-all_read.false read c.in_ok-is_text.ensures
+returns c frames read =
+    read-more c.args.all_read c.in_ok-is_text.is_text frames c.args.count c.args.payload.now c.args.durable.now c.add_commands.new.durable c.if-not-all_read.false read c.in_ok-is_text.ensures
