@@ -42,7 +42,7 @@ use Rattle.cg_world.specs.declared.step.StepNote.{StepNote}
 use Rattle.cg_world.specs.declared.step.StepNote.TheVariants.{Done, Nothing, InFlight, Full, Device}
 use Rattle.cg_world.proofs.Ordered.{all-later, chain, due-front, later, later-back, none-left-due, order-holding, order-later}
 use Rattle.cg_world.proofs.Histories.{replies-made}
-use Rattle.cg_world.proofs.Recorded.{made-records}
+use Rattle.cg_world.proofs.Recorded.{made-lawful}
 use Rattle.cg_world.proofs.Replied.{replies_by, replies_in, replies_to}
 use Rattle.cg_world.proofs.Resting.{turn-stays-failed}
 
@@ -244,7 +244,7 @@ leave (p ∷ ps) w h noted serves =
 
 pub opened-orderly : (n : ℕ) (state : Durable) (now : ℕ) → AreCommandsTo n state → IsOrderlyAt (Serving (opened n (revive state now)))
 unfolding AreInOrder
-opened-orderly n state now made = record { balanced = desks_stay_balanced.loaded n state now (made-records n state made); in_order = tt; none_due = refl }
+opened-orderly n state now made = record { balanced = desks_stay_balanced.loaded n state now (made-lawful n state made).records; in_order = tt; none_due = refl }
 
 pub leaves : (ps : List (Step × StepNote)) (w : Sight) → IsOrderly w → AreNotes ps w → LeavesWhenSettled ps w
 leaves ps w h noted serves =

@@ -2,6 +2,7 @@
 use Rattle.std.specs.Prelude.{◌≡◌, ◌≤◌, ℕ, Bool, true, false, Result, Ok, Err}
 use Rattle.cg_disk.specs.Disk.{History, Image}
 use Rattle.cg_fold.specs.Durable.{State, counts_of}
+use Rattle.cg_group.specs.Laws.{AreCompleted}
 use Rattle.cg_held.specs.Kept.{AreRecords}
 use Rattle.cg_held.specs.Reviving.{revive}
 use Rattle.cg_log.specs.declared.numbers.TheConstants.{COMMAND_NUMBER_MAX}
@@ -27,7 +28,12 @@ abbrev pub disk_after : {D : Type 0} {g : _} → Result (World D g) (OpenFault �
 disk_after (Ok world) = disk_of (store_of world)
 disk_after (Err refused) = refused.1
 
--- Lawful commands make lawful records, and so does what an image carries.
+-- a state that recovery may start from: each record is lawful, and none has generation 0
+pub record IsLawfulState (state : State) : Type 0 where
+  pub records : AreRecords state
+  pub completed : AreCompleted state
+
+-- Lawful commands make such a state, and so does what an image carries.
 pub record LoadingsAreLawful : Type 0 where
-  pub made : (state : State) → AreMade state → AreRecords state
-  pub carried : (image : Image) (sectors n : ℕ) (state : State) → Carries image sectors n state → AreRecords state
+  pub made : (state : State) → AreMade state → IsLawfulState state
+  pub carried : (image : Image) (sectors n : ℕ) (state : State) → Carries image sectors n state → IsLawfulState state

@@ -18,8 +18,8 @@ pub fn runs_make_histories()
     ensures { RunsMakeHistories }
 {}
 
-/// Lawful commands make lawful records, which is what the laws of groups and of the desk require of recovery. An opening
-/// finds such commands whatever the disk gives.
+/// Lawful commands make lawful records, none of generation 0, which is what the laws of groups and of the desk require of
+/// recovery. An opening finds such commands whatever the disk gives.
 pub fn loadings_are_lawful()
     ensures { LoadingsAreLawful }
 {}
