@@ -98,20 +98,20 @@ pair-moves P n state front more p =
     subst (λ (k : ℕ). P k (after state (front ++ more))) (omega (arith, length-append front more))
     (subst (λ (s : Durable). P (n + length front + length more) s) (sym (fold-append effect state front more)) p)
 
-pub carries-more : (n : ℕ) (state : Durable) (commands more all : List Command) → all ≡ commands ++ more → (image : Image) → CarriesFront n state commands image → CarriesFront n state all image
-carries-more n state commands more all is image carries = record {
+pub carries-more : (sectors n : ℕ) (state : Durable) (commands more all : List Command) → all ≡ commands ++ more → (image : Image) → CarriesFront sectors n state commands image → CarriesFront sectors n state all image
+carries-more sectors n state commands more all is image carries = record {
   front = carries.front;
   rest = carries.rest ++ more;
   whole = is ∙ ap (λ (l : List Command). l ++ more) carries.whole ∙ append_assoc carries.front carries.rest more;
   carried = carries.carried;
 }
 
-pub carries-behind : (n : ℕ) (state : Durable) (front commands all : List Command) → all ≡ front ++ commands → (image : Image) → CarriesFront (n + length front) (after state front) commands image → CarriesFront n state all image
-carries-behind n state front commands all is image carries = record {
+pub carries-behind : (sectors n : ℕ) (state : Durable) (front commands all : List Command) → all ≡ front ++ commands → (image : Image) → CarriesFront sectors (n + length front) (after state front) commands image → CarriesFront sectors n state all image
+carries-behind sectors n state front commands all is image carries = record {
   front = front ++ carries.front;
   rest = carries.rest;
   whole = is ∙ ap (λ (l : List Command). front ++ l) carries.whole ∙ sym (append_assoc front carries.front carries.rest);
-  carried = pair-moves (λ k s. Carries image k s) n state front carries.front carries.carried;
+  carried = pair-moves (λ k s. Carries image sectors k s) n state front carries.front carries.carried;
 }
 
 pub sound-snoc : (notes : List StepNote) (note : StepNote) → list_any is_failure notes ≡ false → is_failure note ≡ false → list_any is_failure (notes ++ note ∷ []) ≡ false

@@ -14,7 +14,8 @@ use Rattle.cg_request.specs.Asking.{asked}
 use Rattle.cg_group.specs.Machine.{step}
 use Rattle.cg_held.specs.Reviving.{revive}
 use Rattle.cg_names.specs.declared.code.Code.TheVariants.{CoordinatorNotAvailable}
-use Rattle.cg_store.specs.Carried.{AreCommandsTo}
+use Rattle.cg_log.specs.Room.{Room}
+use Rattle.cg_store.specs.Carried.{AreMade}
 use Rattle.cg_desk.specs.Balanced.{IsBalanced, IsOwedAt}
 use Rattle.cg_desk.specs.Books.{Books, IsTake, is_short, letting_go, returning, served, settling, taking}
 use Rattle.cg_desk.specs.Desks.{Answer, State, Loading, Serving, Failed, IsTakenFrom, at_rest, gone_on, opened, request_on, return_to, serving, settle_on, settled_of, tick_on}
@@ -119,13 +120,13 @@ same-leaves : (b : Books) → IsOrderlyDesk b → Leaves (Serving b) (Serving b)
 same-leaves b h = quiet-leaves b b h h.balanced refl refl refl
 
 -- each step of a world that serves, up to a failure of its disk
-request-leaves : (short : Bool) (b : Books) (stored : Bool) (end : ℕ) (ticket : Ticket) (r : Asked) (now : ℕ) (fresh : List ℕ) → KeepsCalls b.machine (record { ticket = ticket } ∷ []) (asked r ticket fresh) now → IsOrderlyDesk b
+request-leaves : (short : Bool) (b : Books) (stored : Bool) (room : Room) (ticket : Ticket) (r : Asked) (now : ℕ) (fresh : List ℕ) → KeepsCalls b.machine (record { ticket = ticket } ∷ []) (asked r ticket fresh) now → IsOrderlyDesk b
     → let o : Option (Event × ℕ) = if short then None else Some (asked r ticket fresh, now) in
     let a : Answer = if short then record { after = Serving b; out = answer ticket (Refused CoordinatorNotAvailable) ∷ [] } else serving (served b (record { ticket = ticket } ∷ []) (asked r ticket fresh) now) in
-    let t : Turn = answered (is_some o) (record { desk = Serving b; appended = stored; end = end }) a in
+    let t : Turn = answered (is_some o) (record { desk = Serving b; appended = stored; room = room }) a in
     Leaves (Serving b) t.after.desk (replies_to o b) t.left
-request-leaves true b stored end ticket r now fresh keeps h = same-leaves b h
-request-leaves false b stored end ticket r now fresh keeps h = served-leaves b (record { ticket = ticket } ∷ []) (asked r ticket fresh) now keeps h
+request-leaves true b stored room ticket r now fresh keeps h = same-leaves b h
+request-leaves false b stored room ticket r now fresh keeps h = served-leaves b (record { ticket = ticket } ∷ []) (asked r ticket fresh) now keeps h
 
 tick-leaves : (short : Bool) (b : Books) (now : ℕ) → IsOrderlyDesk b
     → let o : Option (Event × ℕ) = if short then None else Some (event.Tick, now) in
@@ -141,29 +142,29 @@ taking-leaves b h = quiet-leaves b (taking b) h (record { made = h.balanced.made
 returning-leaves : (b : Books) → IsOrderlyDesk b → Leaves (Serving b) (Serving (returning b)) [] []
 returning-leaves b h = quiet-leaves b (returning b) h (record { made = h.balanced.made; owed = h.balanced.owed }) refl refl refl
 
-pub turn-leaves : (s : Step) (note : StepNote) (b : Books) (stored : Bool) (end : ℕ) → IsOrderlyDesk b
-    → let w : Sight = record { desk = Serving b; appended = stored; end = end } in
+pub turn-leaves : (s : Step) (note : StepNote) (b : Books) (stored : Bool) (room : Room) → IsOrderlyDesk b
+    → let w : Sight = record { desk = Serving b; appended = stored; room = room } in
     is_serving (turn s note w).after.desk ≡ true → Leaves (Serving b) (turn s note w).after.desk (replies_in s (Serving b)) (turn s note w).left
 unfolding turn request_on tick_on gone_on settle_on
-turn-leaves (Request ticket r now fresh) note b stored end h is =
-    request-leaves (is_short b) b stored end ticket r now fresh (events_keep_calls.request b.machine r (record { ticket = ticket }) fresh now h.balanced.made) h
-turn-leaves (Gone session now) note b stored end h is = served-leaves b [] (event.Gone session) now (gone-keeps b.machine session now) h
-turn-leaves (Tick now) note b stored end h is = tick-leaves (is_short b) b now h
-turn-leaves Take Done b stored end h is = taking-leaves b h
-turn-leaves Take Nothing b stored end h is = same-leaves b h
-turn-leaves Take InFlight b stored end h is = same-leaves b h
-turn-leaves Take Full b stored end h is = same-leaves b h
-turn-leaves Take Device b stored end h is = same-leaves b h
-turn-leaves Append Done b stored end h is = same-leaves b h
-turn-leaves Append Nothing b stored end h is = same-leaves b h
-turn-leaves Append InFlight b stored end h is = same-leaves b h
-turn-leaves Append Full b stored end h is = returning-leaves b h
-turn-leaves Append Device b stored end h is = absurd (false≢true is)
-turn-leaves Settle Done b stored end h is = settled-leaves b (length (in_flight (Serving b))) h
-turn-leaves Settle Nothing b stored end h is = same-leaves b h
-turn-leaves Settle InFlight b stored end h is = same-leaves b h
-turn-leaves Settle Full b stored end h is = same-leaves b h
-turn-leaves Settle Device b stored end h is = same-leaves b h
+turn-leaves (Request ticket r now fresh) note b stored room h is =
+    request-leaves (is_short b) b stored room ticket r now fresh (events_keep_calls.request b.machine r (record { ticket = ticket }) fresh now h.balanced.made) h
+turn-leaves (Gone session now) note b stored room h is = served-leaves b [] (event.Gone session) now (gone-keeps b.machine session now) h
+turn-leaves (Tick now) note b stored room h is = tick-leaves (is_short b) b now h
+turn-leaves Take Done b stored room h is = taking-leaves b h
+turn-leaves Take Nothing b stored room h is = same-leaves b h
+turn-leaves Take InFlight b stored room h is = same-leaves b h
+turn-leaves Take Full b stored room h is = same-leaves b h
+turn-leaves Take Device b stored room h is = same-leaves b h
+turn-leaves Append Done b stored room h is = same-leaves b h
+turn-leaves Append Nothing b stored room h is = same-leaves b h
+turn-leaves Append InFlight b stored room h is = same-leaves b h
+turn-leaves Append Full b stored room h is = returning-leaves b h
+turn-leaves Append Device b stored room h is = absurd (false≢true is)
+turn-leaves Settle Done b stored room h is = settled-leaves b (length (in_flight (Serving b))) h
+turn-leaves Settle Nothing b stored room h is = same-leaves b h
+turn-leaves Settle InFlight b stored room h is = same-leaves b h
+turn-leaves Settle Full b stored room h is = same-leaves b h
+turn-leaves Settle Device b stored room h is = same-leaves b h
 
 -- a desk that does not serve is orderly
 rests-orderly : (s : State) → is_serving s ≡ false → IsOrderlyAt s
@@ -177,9 +178,9 @@ turn-orderly s note w h = by-state w.desk refl
     by-after : (b : Books) → w.desk ≡ Serving b → (serves : Bool) → is_serving (turn s note w).after.desk ≡ serves → IsOrderly (turn s note w).after
     by-after b is false rests = rests-orderly (turn s note w).after.desk rests
     by-after b is true serves =
-        let same : w ≡ (let v : Sight = record { desk = Serving b; appended = w.appended; end = w.end } in v) = ap (λ (d : State). let v : Sight = record { desk = d; appended = w.appended; end = w.end } in v) is in
+        let same : w ≡ (let v : Sight = record { desk = Serving b; appended = w.appended; room = w.room } in v) = ap (λ (d : State). let v : Sight = record { desk = d; appended = w.appended; room = w.room } in v) is in
         subst (λ (v : Sight). IsOrderly (turn s note v).after) (sym same)
-        (turn-leaves s note b w.appended w.end (subst (λ (d : State). IsOrderlyAt d) is h) (subst (λ (v : Sight). is_serving (turn s note v).after.desk ≡ true) same serves)).orderly
+        (turn-leaves s note b w.appended w.room (subst (λ (d : State). IsOrderlyAt d) is h) (subst (λ (v : Sight). is_serving (turn s note v).after.desk ≡ true) same serves)).orderly
 
     by-state : (d : State) → w.desk ≡ d → IsOrderly (turn s note w).after
     by-state Loading is = rests-orderly (turn s note w).after.desk (turn-stays-failed s note w (ap is_serving is))
@@ -211,9 +212,9 @@ step-leaves s note w h serves = by-state w.desk refl
     by-state Loading is = absurd (false≢true (sym (turn-stays-failed s note w (ap is_serving is)) ∙ serves))
     by-state (Failed n m) is = absurd (false≢true (sym (turn-stays-failed s note w (ap is_serving is)) ∙ serves))
     by-state (Serving b) is =
-        let same : w ≡ (let v : Sight = record { desk = Serving b; appended = w.appended; end = w.end } in v) = ap (λ (d : State). let v : Sight = record { desk = d; appended = w.appended; end = w.end } in v) is in
+        let same : w ≡ (let v : Sight = record { desk = Serving b; appended = w.appended; room = w.room } in v) = ap (λ (d : State). let v : Sight = record { desk = d; appended = w.appended; room = w.room } in v) is in
         subst (λ (v : Sight). Leaves v.desk (turn s note v).after.desk (replies_in s v.desk) (turn s note v).left) (sym same)
-        (turn-leaves s note b w.appended w.end (subst (λ (d : State). IsOrderlyAt d) is h) (subst (λ (v : Sight). is_serving (turn s note v).after.desk ≡ true) same serves))
+        (turn-leaves s note b w.appended w.room (subst (λ (d : State). IsOrderlyAt d) is h) (subst (λ (v : Sight). is_serving (turn s note v).after.desk ≡ true) same serves))
 
 grows : (ps : List (Step × StepNote)) (w : Sight) → IsOrderly w → is_serving (after_run ps w).desk ≡ true → settled_of w.desk ≤ settled_of (after_run ps w).desk
 unfolding after_run
@@ -242,9 +243,9 @@ leave (p ∷ ps) w h noted serves =
     ∙ chain (settled_of next.desk) last 0 one.top hs (replies_by ps next) (grows ps next one.orderly serves) one.in_order
     ∙ ap (λ (l : List HeldStep). map sent (replies_of (due last l))) (append_assoc (held_in w.desk) (replies_in p.0 w.desk) (replies_by ps next))
 
-pub opened-orderly : (n : ℕ) (state : Durable) (now : ℕ) → AreCommandsTo n state → IsOrderlyAt (Serving (opened n (revive state now)))
+pub opened-orderly : (n : ℕ) (state : Durable) (now : ℕ) → AreMade state → IsOrderlyAt (Serving (opened n (revive state now)))
 unfolding AreInOrder
-opened-orderly n state now made = record { balanced = desks_stay_balanced.loaded n state now (made-lawful n state made).records; in_order = tt; none_due = refl }
+opened-orderly n state now made = record { balanced = desks_stay_balanced.loaded n state now (made-lawful state made).records; in_order = tt; none_due = refl }
 
 pub leaves : (ps : List (Step × StepNote)) (w : Sight) → IsOrderly w → AreNotes ps w → LeavesWhenSettled ps w
 leaves ps w h noted serves =

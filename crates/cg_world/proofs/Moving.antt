@@ -1,5 +1,5 @@
 -- The batch on its way between the desk and the store.
-use Rattle.std.proofs.Common.{◌≡◌, ◌≢◌, inl, inr, ℕ, ◌+◌, Bool, true, false, List, [], length, Option, None, Some, refl, sym, ap, ◌∙◌, subst, arith}
+use Rattle.std.proofs.Common.{◌≡◌, ◌≢◌, inl, inr, ℕ, ◌+◌, ◌≤◌, Bool, true, false, List, [], length, Option, None, Some, refl, sym, ap, ◌∙◌, subst, arith}
 use Rattle.std.proofs.lemmas.Bool.{eqb-false, false≢true}
 use Rattle.std.specs.Prelude.{if◌then◌else◌, nat_eq}
 use Rattle.cg_record.specs.declared.command.Command.{Command}
@@ -7,7 +7,8 @@ use Rattle.cg_store.specs.declared.batch.Batch.{Batch}
 use Rattle.cg_store.specs.declared.receipt.Receipt.{Receipt}
 use Rattle.cg_store.specs.declared.fault.StoreFault.{StoreFault}
 use Rattle.cg_store.specs.declared.fault.StoreFault.TheVariants as store_fault
-use Rattle.cg_store.specs.Batches.{has_room, refusal_of}
+use Rattle.cg_log.specs.Room.{Room}
+use Rattle.cg_store.specs.Batches.{calls_for, has_room, refusal_of, room_after}
 use Rattle.cg_store.specs.Faults.{IsToldOf}
 use Rattle.cg_store.specs.Receipts.{batch_of}
 use Rattle.cg_desk.specs.Books.{Books, IsFlying, IsTake, IsWhy, letting_go, next_batch, settling, taking}
@@ -18,10 +19,10 @@ use Rattle.cg_desk.specs.declared.fault.SettleFault.{SettleFault}
 use Rattle.cg_desk.specs.declared.fault.SettleFault.TheVariants as settle_fault
 use Rattle.cg_desk.specs.declared.outgoing.Outgoing.{Outgoing}
 use Rattle.cg_world.specs.Agreeing.{Agree, flying, flying_in, is_serving, moving, seen, stored_in}
-use Rattle.cg_world.specs.Sights.{sight}
+use Rattle.cg_world.specs.Sights.{no_room, room_left, sight}
 use Rattle.cg_world.specs.declared.world.World.{World}
 use Rattle.cg_world.specs.Transits.{batch_in, is_appended, receipt_in, without_batch, without_receipt}
-use Rattle.cg_world.specs.Turns.{IsIdle, appended, in_flight, take_from}
+use Rattle.cg_world.specs.Turns.{IsIdle, Turn, appended, in_flight, take_from}
 use Rattle.cg_world.specs.declared.step.StepNote.TheVariants as note
 use Rattle.cg_world.specs.declared.transit.Transit.{Transit}
 use Rattle.cg_world.specs.declared.transit.Transit.TheVariants.{Empty, Taken, Appended}
@@ -126,16 +127,16 @@ took s after t batch front failed o some home is h = from-some s after (subst (�
 -- Appending.
 
 -- with this batch in flight a store refuses only if it has no room
-pub refuses : (failed : Bool) (end front first : ℕ) (commands : List Command) → failed ≡ false → first ≡ front + 1
-    → refusal_of failed end front first commands ≡ (if has_room end front commands then None else Some store_fault.Full)
+pub refuses : (failed : Bool) (room : Room) (front first : ℕ) (commands : List Command) → failed ≡ false → first ≡ front + 1
+    → refusal_of failed room front first commands ≡ (if has_room room front commands then None else Some store_fault.Full)
 unfolding refusal_of
-refuses failed end front first commands serves next =
+refuses failed room front first commands serves next =
     let order : nat_eq first (front + 1) ≡ true = ap (λ (k : ℕ). nat_eq k (front + 1)) next ∙ nat_eq-same (front + 1) in
     by-cases failed (nat_eq first (front + 1)) serves order
   where
     by-cases : (f o : Bool) → f ≡ false → o ≡ true
-        → (if f then Some store_fault.Failed else (if o then (if has_room end front commands then None else Some store_fault.Full) else Some store_fault.OutOfOrder))
-        ≡ (if has_room end front commands then None else Some store_fault.Full)
+        → (if f then Some store_fault.Failed else (if o then (if has_room room front commands then None else Some store_fault.Full) else Some store_fault.OutOfOrder))
+        ≡ (if has_room room front commands then None else Some store_fault.Full)
     by-cases true o serves order = absurd (false≢true (sym serves))
     by-cases false true serves order = refl
     by-cases false false serves order = absurd (false≢true order)
@@ -161,18 +162,18 @@ told-means true fault (inl is) = subst (λ (f : StoreFault). Means true f) (sym 
 told-means true fault (inr is) = subst (λ (f : StoreFault). Means true f) (sym is) refl
 told-means false fault is = subst (λ (f : StoreFault). Means false f) (sym is) refl
 
-pub refusal-means : (failed : Bool) (end front first : ℕ) (commands : List Command) (fault : StoreFault) → failed ≡ false → first ≡ front + 1
-    → IsToldOf (refusal_of failed end front first commands) fault → Means (has_room end front commands) fault
-refusal-means failed end front first commands fault serves next told =
-    told-means (has_room end front commands) fault (subst (λ (o : Option StoreFault). IsToldOf o fault) (refuses failed end front first commands serves next) told)
+pub refusal-means : (failed : Bool) (room : Room) (front first : ℕ) (commands : List Command) (fault : StoreFault) → failed ≡ false → first ≡ front + 1
+    → IsToldOf (refusal_of failed room front first commands) fault → Means (has_room room front commands) fault
+refusal-means failed room front first commands fault serves next told =
+    told-means (has_room room front commands) fault (subst (λ (o : Option StoreFault). IsToldOf o fault) (refuses failed room front first commands serves next) told)
 
-pub none-means : (failed : Bool) (end front first : ℕ) (commands : List Command) → failed ≡ false → first ≡ front + 1
-    → refusal_of failed end front first commands ≡ None → has_room end front commands ≡ true
-none-means failed end front first commands serves next none = room (has_room end front commands) (sym (refuses failed end front first commands serves next) ∙ none)
+pub none-means : (failed : Bool) (room : Room) (front first : ℕ) (commands : List Command) → failed ≡ false → first ≡ front + 1
+    → refusal_of failed room front first commands ≡ None → has_room room front commands ≡ true
+none-means failed room front first commands serves next none = holds (has_room room front commands) (sym (refuses failed room front first commands serves next) ∙ none)
   where
-    room : (r : Bool) → (if r then None else Some store_fault.Full) ≡ None → r ≡ true
-    room true is = refl
-    room false is = absurd (cc is)
+    holds : (r : Bool) → (if r then None else Some store_fault.Full) ≡ None → r ≡ true
+    holds true is = refl
+    holds false is = absurd (cc is)
 
 -- the batch that waits for the store
 pub waiting-moves : (t : Transit) (batch : Batch) → batch_in t ≡ Some batch → (moving t ≡ Some (seen batch)) × (stored_in t ≡ []) × (is_appended t ≡ false)
@@ -281,7 +282,7 @@ pub receipt-flies : (s : State) (t : Transit) (receipt : Receipt) (front : ℕ) 
 receipt-flies s t receipt front failed is h = flies s t (batch_of receipt) front failed (receipt-moves t receipt is).0 h
 
 -- what a store returns for the batch that waits for it
-module _ (s : State) (t : Transit) (batch : Batch) (end front : ℕ) (failed : Bool) (waits : batch_in t ≡ Some batch) (h : Agree s t front failed) where
+module _ (s : State) (t : Transit) (batch : Batch) (room : Room) (front : ℕ) (failed : Bool) (waits : batch_in t ≡ Some batch) (h : Agree s t front failed) where
   goes-now : Goes s t batch front failed
   goes-now = goes s t batch front failed waits h
 
@@ -297,29 +298,63 @@ module _ (s : State) (t : Transit) (batch : Batch) (end front : ℕ) (failed : B
   pub not-appended : is_appended t ≡ false
   not-appended = goes-now.waits
 
-  told-of : (fault : StoreFault) → IsToldOf (refusal_of failed end front batch.first batch.commands) fault → Means (has_room end (settled_of s) (in_flight s)) fault
+  -- the store still serves, so it has its room
+  room-is : room_left failed room ≡ room
+  room-is = ap (λ (b : Bool). room_left b room) goes-now.flight.serves
+
+  told-of : (fault : StoreFault) → IsToldOf (refusal_of failed room front batch.first batch.commands) fault → Means (has_room (room_left failed room) (settled_of s) (in_flight s)) fault
   told-of fault told =
-      subst (λ (cs : List Command). Means (has_room end (settled_of s) cs) fault) (sym goes-now.flight.commands)
-      (subst (λ (n : ℕ). Means (has_room end n batch.commands) fault) goes-now.front_is
-      (refusal-means failed end front batch.first batch.commands fault goes-now.flight.serves goes-now.next told))
+      subst (λ (r : Room). Means (has_room r (settled_of s) (in_flight s)) fault) (sym room-is)
+      (subst (λ (cs : List Command). Means (has_room room (settled_of s) cs) fault) (sym goes-now.flight.commands)
+      (subst (λ (n : ℕ). Means (has_room room n batch.commands) fault) goes-now.front_is
+      (refusal-means failed room front batch.first batch.commands fault goes-now.flight.serves goes-now.next told)))
 
-  pub never-out-of-order : (fault : StoreFault) → fault ≡ store_fault.OutOfOrder → IsToldOf (refusal_of failed end front batch.first batch.commands) fault → ⊥
+  pub never-out-of-order : (fault : StoreFault) → fault ≡ store_fault.OutOfOrder → IsToldOf (refusal_of failed room front batch.first batch.commands) fault → ⊥
   unfolding Means
-  never-out-of-order fault is told = subst (λ (f : StoreFault). Means (has_room end (settled_of s) (in_flight s)) f) is (told-of fault told)
+  never-out-of-order fault is told = subst (λ (f : StoreFault). Means (has_room (room_left failed room) (settled_of s) (in_flight s)) f) is (told-of fault told)
 
-  pub never-failed : (fault : StoreFault) → fault ≡ store_fault.Failed → IsToldOf (refusal_of failed end front batch.first batch.commands) fault → ⊥
+  pub never-failed : (fault : StoreFault) → fault ≡ store_fault.Failed → IsToldOf (refusal_of failed room front batch.first batch.commands) fault → ⊥
   unfolding Means
-  never-failed fault is told = subst (λ (f : StoreFault). Means (has_room end (settled_of s) (in_flight s)) f) is (told-of fault told)
+  never-failed fault is told = subst (λ (f : StoreFault). Means (has_room (room_left failed room) (settled_of s) (in_flight s)) f) is (told-of fault told)
 
-  pub full-for : (fault : StoreFault) → fault ≡ store_fault.Full → IsToldOf (refusal_of failed end front batch.first batch.commands) fault
-      → ((if is_appended t then false else is_out s) ≡ true) × (has_room end (settled_of s) (in_flight s) ≡ false)
+  pub full-for : (fault : StoreFault) → fault ≡ store_fault.Full → IsToldOf (refusal_of failed room front batch.first batch.commands) fault
+      → ((if is_appended t then false else is_out s) ≡ true) × (has_room (room_left failed room) (settled_of s) (in_flight s) ≡ false)
   unfolding Means
-  full-for fault is told = (goes-now.taken, subst (λ (f : StoreFault). Means (has_room end (settled_of s) (in_flight s)) f) is (told-of fault told))
+  full-for fault is told = (goes-now.taken, subst (λ (f : StoreFault). Means (has_room (room_left failed room) (settled_of s) (in_flight s)) f) is (told-of fault told))
 
-  pub room-for : (fault : StoreFault) → fault ≡ store_fault.Device → IsToldOf (refusal_of failed end front batch.first batch.commands) fault
-      → ((if is_appended t then false else is_out s) ≡ true) × (has_room end (settled_of s) (in_flight s) ≡ true)
+  pub room-for : (fault : StoreFault) → fault ≡ store_fault.Device → IsToldOf (refusal_of failed room front batch.first batch.commands) fault
+      → ((if is_appended t then false else is_out s) ≡ true) × (has_room (room_left failed room) (settled_of s) (in_flight s) ≡ true)
   unfolding Means
-  room-for fault is told = (goes-now.taken, subst (λ (f : StoreFault). Means (has_room end (settled_of s) (in_flight s)) f) is (told-of fault told))
+  room-for fault is told = (goes-now.taken, subst (λ (f : StoreFault). Means (has_room (room_left failed room) (settled_of s) (in_flight s)) f) is (told-of fault told))
+
+  pub done-for : refusal_of failed room front batch.first batch.commands ≡ None
+      → ((if is_appended t then false else is_out s) ≡ true) × (has_room (room_left failed room) (settled_of s) (in_flight s) ≡ true)
+  done-for none =
+      let fit : has_room room front batch.commands ≡ true = none-means failed room front batch.first batch.commands goes-now.flight.serves goes-now.next none in (
+        goes-now.taken,
+        ap (λ (r : Room). has_room r (settled_of s) (in_flight s)) room-is
+            ∙ ap (λ (cs : List Command). has_room room (settled_of s) cs) goes-now.flight.commands
+            ∙ ap (λ (n : ℕ). has_room room n batch.commands) (sym goes-now.front_is)
+            ∙ fit,
+      )
+
+  -- what the store promises of the room that it had holds of the room that the world sees
+  pub calls-seen : (old now : ℕ) → now ≤ old + calls_for room batch.commands → now ≤ old + calls_for (room_left failed room) (in_flight s)
+  calls-seen old now le =
+      subst (λ (r : Room). now ≤ old + calls_for r (in_flight s)) (sym room-is)
+      (subst (λ (cs : List Command). now ≤ old + calls_for room cs) (sym goes-now.flight.commands) le)
+
+  -- the world after the batch was appended
+  pub appended-turn : (failed_now : Bool) (room_now : Room) → failed_now ≡ failed → room_now ≡ room_after room batch.commands
+      → appended note.Done (record { desk = s; appended = is_appended t; room = room_left failed room })
+      ≡ record { after = record { desk = s; appended = true; room = room_left failed_now room_now }; at_once = []; left = [] }
+  appended-turn failed_now room_now serves grown =
+      let there : room_left failed_now room_now ≡ room_after (room_left failed room) (in_flight s) =
+          ap (λ (b : Bool). room_left b room_now) (serves ∙ goes-now.flight.serves)
+          ∙ grown
+          ∙ ap (λ (cs : List Command). room_after room cs) (sym goes-now.flight.commands)
+          ∙ ap (λ (r : Room). room_after r (in_flight s)) (sym room-is) in
+      ap (λ (r : Room). let v : Turn = record { after = record { desk = s; appended = true; room = r }; at_once = []; left = [] } in v) (sym there)
 
 -- the transit is empty after its batch was removed
 pub batch-out : (t t_now : Transit) (batch : Batch) → batch_in t ≡ Some batch → t_now ≡ without_batch t → t_now ≡ Empty
@@ -333,10 +368,11 @@ receipt-out (Taken b) t_now receipt is now = absurd (cc is)
 receipt-out (Appended r) t_now receipt is now = now
 
 -- a world whose disk failed
-pub failed-turn : (s after : State) (t t_now : Transit) (end end_now : ℕ) (out : List Outgoing) → is_appended t ≡ false → t_now ≡ Empty → after ≡ Failed (numbered_of s) (settled_of s) → end_now ≡ end → out ≡ failing_on s
-    → appended note.Device (record { desk = s; appended = is_appended t; end = end }) ≡ record { after = record { desk = after; appended = is_appended t_now; end = end_now }; at_once = out; left = [] }
-failed-turn s after t t_now end end_now out waits empty is same left =
+pub failed-turn : (s after : State) (t t_now : Transit) (failed failed_now : Bool) (room room_now : Room) (out : List Outgoing) → is_appended t ≡ false → t_now ≡ Empty → after ≡ Failed (numbered_of s) (settled_of s) → failed_now ≡ true → out ≡ failing_on s
+    → appended note.Device (record { desk = s; appended = is_appended t; room = room_left failed room }) ≡ record { after = record { desk = after; appended = is_appended t_now; room = room_left failed_now room_now }; at_once = out; left = [] }
+failed-turn s after t t_now failed failed_now room room_now out waits empty is broken left =
     let home : is_appended t_now ≡ false = ap is_appended empty in
+    let none : room_left failed_now room_now ≡ no_room = ap (λ (b : Bool). room_left b room_now) broken in
     cc
 
 -- a world whose batch was settled

@@ -18,7 +18,7 @@ use Rattle.cg_record.specs.declared.member.Member.{Member}
 use Rattle.cg_record.specs.Lawful.{AreCommands, IsCommand}
 use Rattle.cg_record.specs.Rosters.{IsRoster, RosterParts, has_id_of_other, leader_after, may_replace, replaced_in, roster_of, seated, takes_place_of}
 use Rattle.cg_record.proofs.Replacing.{seated_roster}
-use Rattle.cg_store.specs.Carried.{AreCommandsTo}
+use Rattle.cg_store.specs.Carried.{AreMade}
 use Rattle.cg_store.proofs.Whole.{Carries-commands}
 use Rattle.cg_world.specs.Opening.{IsLawfulState, LoadingsAreLawful}
 
@@ -101,8 +101,8 @@ sound-lawful state h = record { records = λ group. first (kept_in state group) 
     second None is = tt
     second (Some r) is = is.1
 
-pub made-lawful : (n : ℕ) (state : State) → AreCommandsTo n state → IsLawfulState state
-made-lawful n state made = sound-lawful state (subst AreSound (sym made.state_is) (after-lawful made.commands empty made.lawful empty-lawful))
+pub made-lawful : (state : State) → AreMade state → IsLawfulState state
+made-lawful state made = sound-lawful state (subst AreSound (sym made.state_is) (after-lawful made.commands empty made.lawful empty-lawful))
 
 pub loadings_are_lawful : LoadingsAreLawful
-loadings_are_lawful = record { made = made-lawful; carried = λ image n state carries. made-lawful n state (Carries-commands image n state carries) }
+loadings_are_lawful = record { made = made-lawful; carried = λ image sectors n state carries. made-lawful state (Carries-commands image sectors n state carries).0 }

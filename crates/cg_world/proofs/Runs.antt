@@ -6,7 +6,7 @@ use Rattle.cg_disk.specs.Disk.{History, Image, LeavesOnly}
 use Rattle.cg_disk.proofs.Moments.{LeavesOnly-then, LeavesOnly-weaker}
 use Rattle.cg_fold.specs.Durable.{State as Durable, after}
 use Rattle.cg_record.specs.declared.command.Command.{Command}
-use Rattle.cg_store.specs.Store.{IsUnchanged, StandsAt, disk_of}
+use Rattle.cg_store.specs.Store.{IsUnchanged, StandsAt, disk_of, sectors_of}
 use Rattle.cg_store.proofs.Standing.{StandsAt-unchanged}
 use Rattle.cg_desk.specs.Desks.{settled_of}
 use Rattle.cg_desk.specs.declared.outgoing.Outgoing.{Outgoing}
@@ -14,7 +14,7 @@ use Rattle.cg_world.specs.Agreeing.{is_serving}
 use Rattle.cg_world.specs.Carrying.{CarriesAtLeast, CarriesFront, HasStored, HoldsAtLeast}
 use Rattle.cg_world.specs.Faults.{is_failure}
 use Rattle.cg_world.specs.Replying.{IsOrderly}
-use Rattle.cg_world.specs.Running.{IsRun, KeepsSettled, refusal_of_first}
+use Rattle.cg_world.specs.Running.{IsRun, KeepsSettled, calls_in, refusal_of_first}
 use Rattle.cg_world.specs.Runs.{AreNotes, after_run, made_in, outs_of, to_store, unstored}
 use Rattle.cg_world.specs.Sights.{Sight, sight, store_of}
 use Rattle.cg_world.specs.Steps.{IsTaken}
@@ -41,9 +41,10 @@ module _ {D : Type 0} {g : _} (honest : D → Bool) (history : D → History) wh
     pub out : outs ≡ outs_of (zip steps notes) (sight old)
     pub after : sight now ≡ after_run (zip steps notes) (sight old)
     pub sound : list_any is_failure notes ≡ false
-    pub images : (n : ℕ) (state : Durable) → StandsAt honest history (store_of old) n state → LeavesOnly (history (disk_of (store_of old))) (history (disk_of (store_of now))) (CarriesFront n state (to_store (zip steps notes) (sight old)))
+    pub images : (n : ℕ) (state : Durable) → StandsAt honest history (store_of old) n state → LeavesOnly (history (disk_of (store_of old))) (history (disk_of (store_of now))) (CarriesFront (sectors_of (store_of old)) n state (to_store (zip steps notes) (sight old)))
     pub stored : (n : ℕ) (state : Durable) → StandsAt honest history (store_of old) n state → HasStored honest history (store_of now) n state (to_store (zip steps notes) (sight old)) (unstored (sight now))
-    pub steps_keep : (n : ℕ) (state : Durable) → StandsAt honest history (store_of old) n state → KeepsSettled (history (disk_of (store_of now))) (zip steps notes) (sight old) (history (disk_of (store_of old))).now
+    pub steps_keep : (n : ℕ) (state : Durable) → StandsAt honest history (store_of old) n state → KeepsSettled (sectors_of (store_of old)) (history (disk_of (store_of now))) (zip steps notes) (sight old) (history (disk_of (store_of old))).now
+    pub same_sectors : sectors_of (store_of now) ≡ sectors_of (store_of old)
     pub failed : is_serving (sight old).desk ≡ false → (disk_of (store_of now) ≡ disk_of (store_of old)) × (is_serving (sight now).desk ≡ false)
 
   pub going-start : (steps : List Step) (old : World D g) → Going steps steps [] [] old old
@@ -61,14 +62,15 @@ module _ {D : Type 0} {g : _} (honest : D → Bool) (history : D → History) wh
       whole = ap (λ ps. to_store ps (sight old)) (zip-none steps) ∙ nothing-yet (sight old);
       stands = subst (λ (k : ℕ). StandsAt honest history (store_of old) k state) (sym (omega arith)) stands;
     };
-    steps_keep = λ n state stands. subst (λ ps. KeepsSettled (history (disk_of (store_of old))) ps (sight old) (history (disk_of (store_of old))).now) (sym (zip-none steps))
-        (settled-start (history (disk_of (store_of old))) (sight old) (holds-at honest history (store_of old) (settled_of (sight old).desk) n state old.agree.enough stands));
+    steps_keep = λ n state stands. subst (λ ps. KeepsSettled (sectors_of (store_of old)) (history (disk_of (store_of old))) ps (sight old) (history (disk_of (store_of old))).now) (sym (zip-none steps))
+        (settled-start (sectors_of (store_of old)) (history (disk_of (store_of old))) (sight old) (holds-at honest history (store_of old) (sectors_of (store_of old)) (settled_of (sight old).desk) n state refl old.agree.enough stands));
+    same_sectors = refl;
     failed = λ is. (refl, is);
   }
 
   -- what the store has, is settled and more
-  at-entry : (old : World D g) (n : ℕ) (state : Durable) (commands : List Command) → StandsAt honest history (store_of old) n state → (image : Image) → CarriesFront n state commands image → CarriesAtLeast (settled_of (sight old).desk) image
-  at-entry old n state commands stands image carries = record { number = n + length carries.front; state = after state carries.front; enough = omega (arith, old.agree.enough, stands.front_is); carried = carries.carried }
+  at-entry : (sectors : ℕ) (old : World D g) (n : ℕ) (state : Durable) (commands : List Command) → StandsAt honest history (store_of old) n state → (image : Image) → CarriesFront sectors n state commands image → CarriesAtLeast sectors (settled_of (sight old).desk) image
+  at-entry sectors old n state commands stands image carries = record { number = n + length carries.front; state = after state carries.front; enough = omega (arith, old.agree.enough, stands.front_is); carried = carries.carried }
 
   -- one more step
   module _ (steps rest : List Step) (s : Step) (notes : List StepNote) (outs : List (List Outgoing)) (old now new : World D g) (note : StepNote) (out : List Outgoing)
@@ -95,6 +97,14 @@ module _ {D : Type 0} {g : _} (honest : D → Bool) (history : D → History) wh
         ∙ sym (outs-snoc ps (s, note) (sight old))
         ∙ ap (λ qs. outs_of qs (sight old)) (sym longer)
 
+    step-images : (k : ℕ) (st : Durable) → StandsAt honest history (store_of now) k st
+        → LeavesOnly (history (disk_of (store_of now))) (history (disk_of (store_of new))) (CarriesFront (sectors_of (store_of old)) k st (to_store ((s, note) ∷ []) (sight now)))
+    step-images k st stands =
+        subst (λ (z : ℕ). LeavesOnly (history (disk_of (store_of now))) (history (disk_of (store_of new))) (CarriesFront z k st (to_store ((s, note) ∷ []) (sight now)))) so_far.same_sectors (step.images k st stands)
+
+    step-holds : (k : ℕ) (st : Durable) → StandsAt honest history (store_of now) k st → HoldsAtLeast (sectors_of (store_of old)) (settled_of (sight new).desk) (history (disk_of (store_of new)))
+    step-holds k st stands = subst (λ (z : ℕ). HoldsAtLeast z (settled_of (sight new).desk) (history (disk_of (store_of new)))) so_far.same_sectors (step.holds k st stands)
+
     pub more-after : sight new ≡ after_run (zip steps (notes ++ note ∷ [])) (sight old)
     unfolding ps
     more-after =
@@ -114,18 +124,18 @@ module _ {D : Type 0} {g : _} (honest : D → Bool) (history : D → History) wh
           after-now : sight now ≡ after_run ps (sight old)
           after-now = so_far.after
 
-      pub more-images : LeavesOnly (history (disk_of (store_of old))) (history (disk_of (store_of new))) (CarriesFront n state (to_store (zip steps (notes ++ note ∷ [])) (sight old)))
+      pub more-images : LeavesOnly (history (disk_of (store_of old))) (history (disk_of (store_of new))) (CarriesFront (sectors_of (store_of old)) n state (to_store (zip steps (notes ++ note ∷ [])) (sight old)))
       unfolding ps
       more-images =
-          subst (λ qs. LeavesOnly (history (disk_of (store_of old))) (history (disk_of (store_of new))) (CarriesFront n state (to_store qs (sight old)))) (sym longer)
-          (LeavesOnly-then (history (disk_of (store_of old))) (history (disk_of (store_of now))) (history (disk_of (store_of new))) (CarriesFront n state (to_store (ps ++ (s, note) ∷ []) (sight old)))
-          (LeavesOnly-weaker (history (disk_of (store_of old))) (history (disk_of (store_of now))) (CarriesFront n state (to_store ps (sight old))) (CarriesFront n state (to_store (ps ++ (s, note) ∷ []) (sight old)))
-          (carries-more n state (to_store ps (sight old)) (made_in s (after_run ps (sight old)).desk) (to_store (ps ++ (s, note) ∷ []) (sight old)) (stored-grows ps (s, note) (sight old)))
+          subst (λ qs. LeavesOnly (history (disk_of (store_of old))) (history (disk_of (store_of new))) (CarriesFront (sectors_of (store_of old)) n state (to_store qs (sight old)))) (sym longer)
+          (LeavesOnly-then (history (disk_of (store_of old))) (history (disk_of (store_of now))) (history (disk_of (store_of new))) (CarriesFront (sectors_of (store_of old)) n state (to_store (ps ++ (s, note) ∷ []) (sight old)))
+          (LeavesOnly-weaker (history (disk_of (store_of old))) (history (disk_of (store_of now))) (CarriesFront (sectors_of (store_of old)) n state (to_store ps (sight old))) (CarriesFront (sectors_of (store_of old)) n state (to_store (ps ++ (s, note) ∷ []) (sight old)))
+          (carries-more (sectors_of (store_of old)) n state (to_store ps (sight old)) (made_in s (after_run ps (sight old)).desk) (to_store (ps ++ (s, note) ∷ []) (sight old)) (stored-grows ps (s, note) (sight old)))
           (so_far.images n state stands))
           (LeavesOnly-weaker (history (disk_of (store_of now))) (history (disk_of (store_of new)))
-          (CarriesFront (n + length before.front) (after state before.front) (to_store ((s, note) ∷ []) (sight now))) (CarriesFront n state (to_store (ps ++ (s, note) ∷ []) (sight old)))
-          (carries-behind n state before.front (to_store ((s, note) ∷ []) (sight now)) (to_store (ps ++ (s, note) ∷ []) (sight old)) parts)
-          (step.images (n + length before.front) (after state before.front) before.stands)))
+          (CarriesFront (sectors_of (store_of old)) (n + length before.front) (after state before.front) (to_store ((s, note) ∷ []) (sight now))) (CarriesFront (sectors_of (store_of old)) n state (to_store (ps ++ (s, note) ∷ []) (sight old)))
+          (carries-behind (sectors_of (store_of old)) n state before.front (to_store ((s, note) ∷ []) (sight now)) (to_store (ps ++ (s, note) ∷ []) (sight old)) parts)
+          (step-images (n + length before.front) (after state before.front) before.stands)))
 
       pub more-stored : note ≢ Device → HasStored honest history (store_of new) n state (to_store (zip steps (notes ++ note ∷ [])) (sight old)) (unstored (sight new))
       unfolding ps
@@ -137,21 +147,21 @@ module _ {D : Type 0} {g : _} (honest : D → Bool) (history : D → History) wh
             stands = pair-moves (λ k st. StandsAt honest history (store_of new) k st) n state before.front then.front then.stands;
           }
 
-      pub more-steps : KeepsSettled (history (disk_of (store_of new))) (zip steps (notes ++ note ∷ [])) (sight old) (history (disk_of (store_of old))).now
+      pub more-steps : KeepsSettled (sectors_of (store_of old)) (history (disk_of (store_of new))) (zip steps (notes ++ note ∷ [])) (sight old) (history (disk_of (store_of old))).now
       unfolding ps
       more-steps =
-          subst (λ qs. KeepsSettled (history (disk_of (store_of new))) qs (sight old) (history (disk_of (store_of old))).now) (sym longer)
-          (settled-snoc (history (disk_of (store_of now))) (history (disk_of (store_of new))) ps (s, note) (sight old) (history (disk_of (store_of old))).now
-          (subst (λ (w : Sight). LeavesOnly (history (disk_of (store_of now))) (history (disk_of (store_of new))) (CarriesAtLeast (settled_of w.desk))) so_far.after
-          (LeavesOnly-weaker (history (disk_of (store_of now))) (history (disk_of (store_of new))) (CarriesFront (n + length before.front) (after state before.front) (to_store ((s, note) ∷ []) (sight now))) (CarriesAtLeast (settled_of (sight now).desk))
-          (at-entry now (n + length before.front) (after state before.front) (to_store ((s, note) ∷ []) (sight now)) before.stands)
-          (step.images (n + length before.front) (after state before.front) before.stands)))
-          (step.clock before.stands.is_honest)
-          (subst (λ (w : Sight). HoldsAtLeast (settled_of w.desk) (history (disk_of (store_of new)))) (sym step.after ∙ ap (λ (w : Sight). (turn s note w).after) so_far.after) (step.holds (n + length before.front) (after state before.front) before.stands))
+          subst (λ qs. KeepsSettled (sectors_of (store_of old)) (history (disk_of (store_of new))) qs (sight old) (history (disk_of (store_of old))).now) (sym longer)
+          (settled-snoc (sectors_of (store_of old)) (history (disk_of (store_of now))) (history (disk_of (store_of new))) ps (s, note) (sight old) (history (disk_of (store_of old))).now
+          (subst (λ (w : Sight). LeavesOnly (history (disk_of (store_of now))) (history (disk_of (store_of new))) (CarriesAtLeast (sectors_of (store_of old)) (settled_of w.desk))) so_far.after
+          (LeavesOnly-weaker (history (disk_of (store_of now))) (history (disk_of (store_of new))) (CarriesFront (sectors_of (store_of old)) (n + length before.front) (after state before.front) (to_store ((s, note) ∷ []) (sight now))) (CarriesAtLeast (sectors_of (store_of old)) (settled_of (sight now).desk))
+          (at-entry (sectors_of (store_of old)) now (n + length before.front) (after state before.front) (to_store ((s, note) ∷ []) (sight now)) before.stands)
+          (step-images (n + length before.front) (after state before.front) before.stands)))
+          (subst (λ (w : Sight). (history (disk_of (store_of new))).now ≤ (history (disk_of (store_of now))).now + calls_in s w) so_far.after (step.clock before.stands.is_honest))
+          (subst (λ (w : Sight). HoldsAtLeast (sectors_of (store_of old)) (settled_of w.desk) (history (disk_of (store_of new)))) (sym step.after ∙ ap (λ (w : Sight). (turn s note w).after) so_far.after) (step-holds (n + length before.front) (after state before.front) before.stands))
           (so_far.steps_keep n state stands))
 
-      pub more-left : HoldsAtLeast (settled_of (sight new).desk) (history (disk_of (store_of new)))
-      more-left = step.holds (n + length before.front) (after state before.front) before.stands
+      pub more-left : HoldsAtLeast (sectors_of (store_of old)) (settled_of (sight new).desk) (history (disk_of (store_of new)))
+      more-left = step-holds (n + length before.front) (after state before.front) before.stands
 
     pub more-failed : is_serving (sight old).desk ≡ false → (disk_of (store_of new) ≡ disk_of (store_of old)) × (is_serving (sight new).desk ≡ false)
     more-failed is =
@@ -174,19 +184,20 @@ module _ {D : Type 0} {g : _} (honest : D → Bool) (history : D → History) wh
     stored = λ n state stands. more-stored steps rest s notes outs old now new note out so_far step idle n state stands (λ is. false≢true (sym sound ∙ ap is_failure is));
     steps_keep = more-steps steps rest s notes outs old now new note out so_far step idle;
     failed = more-failed steps rest s notes outs old now new note out so_far step idle;
+    same_sectors = step.same_sectors ∙ so_far.same_sectors;
   }
 
   -- What images carry since the beginning has all that was settled then.
-  entered : (old now : World D g) (commands : List Command) → ((n : ℕ) (state : Durable) → StandsAt honest history (store_of old) n state → LeavesOnly (history (disk_of (store_of old))) (history (disk_of (store_of now))) (CarriesFront n state commands))
-      → (n : ℕ) (state : Durable) → StandsAt honest history (store_of old) n state → LeavesOnly (history (disk_of (store_of old))) (history (disk_of (store_of now))) (CarriesAtLeast (settled_of (sight old).desk))
+  entered : (old now : World D g) (commands : List Command) → ((n : ℕ) (state : Durable) → StandsAt honest history (store_of old) n state → LeavesOnly (history (disk_of (store_of old))) (history (disk_of (store_of now))) (CarriesFront (sectors_of (store_of old)) n state commands))
+      → (n : ℕ) (state : Durable) → StandsAt honest history (store_of old) n state → LeavesOnly (history (disk_of (store_of old))) (history (disk_of (store_of now))) (CarriesAtLeast (sectors_of (store_of old)) (settled_of (sight old).desk))
   entered old now commands images n state stands =
-      LeavesOnly-weaker (history (disk_of (store_of old))) (history (disk_of (store_of now))) (CarriesFront n state commands) (CarriesAtLeast (settled_of (sight old).desk)) (at-entry old n state commands stands) (images n state stands)
+      LeavesOnly-weaker (history (disk_of (store_of old))) (history (disk_of (store_of now))) (CarriesFront (sectors_of (store_of old)) n state commands) (CarriesAtLeast (sectors_of (store_of old)) (settled_of (sight old).desk)) (at-entry (sectors_of (store_of old)) old n state commands stands) (images n state stands)
 
-  held-now : (old now : World D g) (commands rest : List Command) → ((n : ℕ) (state : Durable) → StandsAt honest history (store_of old) n state → HasStored honest history (store_of now) n state commands rest)
-      → (n : ℕ) (state : Durable) → StandsAt honest history (store_of old) n state → HoldsAtLeast (settled_of (sight now).desk) (history (disk_of (store_of now)))
-  held-now old now commands rest stored n state stands =
+  held-now : (old now : World D g) (commands rest : List Command) → sectors_of (store_of now) ≡ sectors_of (store_of old) → ((n : ℕ) (state : Durable) → StandsAt honest history (store_of old) n state → HasStored honest history (store_of now) n state commands rest)
+      → (n : ℕ) (state : Durable) → StandsAt honest history (store_of old) n state → HoldsAtLeast (sectors_of (store_of old)) (settled_of (sight now).desk) (history (disk_of (store_of now)))
+  held-now old now commands rest size stored n state stands =
       let there = stored n state stands in
-      holds-at honest history (store_of now) (settled_of (sight now).desk) (n + length there.front) (after state there.front) now.agree.enough there.stands
+      holds-at honest history (store_of now) (sectors_of (store_of old)) (settled_of (sight now).desk) (n + length there.front) (after state there.front) size now.agree.enough there.stands
 
   -- all steps were taken
   pub run-done : (steps : List Step) (notes : List StepNote) (outs : List (List Outgoing)) (old now : World D g) (trace : Trace) → Going steps [] notes outs old now
@@ -206,12 +217,13 @@ module _ {D : Type 0} {g : _} (honest : D → Bool) (history : D → History) wh
       disk = record {
         prefix = going.images n state stands;
         at_entry = entered old now (to_store (zip steps notes) (sight old)) going.images n state stands;
-        at_exit = subst (λ (w : Sight). HoldsAtLeast (settled_of w.desk) (history (disk_of (store_of now)))) going.after (held-now old now (to_store (zip steps notes) (sight old)) (unstored (sight now)) going.stored n state stands);
+        at_exit = subst (λ (w : Sight). HoldsAtLeast (sectors_of (store_of old)) (settled_of w.desk) (history (disk_of (store_of now)))) going.after (held-now old now (to_store (zip steps notes) (sight old)) (unstored (sight now)) going.same_sectors going.stored n state stands);
         at_steps = going.steps_keep n state stands;
       };
       store = λ _. going.stored n state stands;
     };
     settled = now.agree.enough;
+    sectors = going.same_sectors;
     grows = subst (λ (w : Sight). settled_of (sight old).desk ≤ settled_of w.desk) (sym going.after) (run-grows (zip steps notes) (sight old));
     rests = λ f. (going.failed f).0;
   })
@@ -228,8 +240,8 @@ module _ {D : Type 0} {g : _} (honest : D → Bool) (history : D → History) wh
         whole = there.whole ∙ ap (λ (w : Sight). there.front ++ unstored w) (sym same);
         stands = StandsAt-unchanged honest history (store_of now) (store_of new) (n + length there.front) (after state there.front) store there.stands;
       } in
-      let images-new : (n : ℕ) (state : Durable) → StandsAt honest history (store_of old) n state → LeavesOnly (history (disk_of (store_of old))) (history (disk_of (store_of new))) (CarriesFront n state (to_store (zip steps notes) (sight old))) = λ n state stands.
-      subst (λ (d : D). LeavesOnly (history (disk_of (store_of old))) (history d) (CarriesFront n state (to_store (zip steps notes) (sight old)))) (sym store.disk) (going.images n state stands) in
+      let images-new : (n : ℕ) (state : Durable) → StandsAt honest history (store_of old) n state → LeavesOnly (history (disk_of (store_of old))) (history (disk_of (store_of new))) (CarriesFront (sectors_of (store_of old)) n state (to_store (zip steps notes) (sight old))) = λ n state stands.
+      subst (λ (d : D). LeavesOnly (history (disk_of (store_of old))) (history d) (CarriesFront (sectors_of (store_of old)) n state (to_store (zip steps notes) (sight old)))) (sym store.log.disk) (going.images n state stands) in
       subst (λ (t : Trace). IsRun honest history steps old new t) (sym is) (record {
         traced = record {
           notes = going.noted;
@@ -245,14 +257,15 @@ module _ {D : Type 0} {g : _} (honest : D → Bool) (history : D → History) wh
           disk = record {
             prefix = images-new n state stands;
             at_entry = entered old new (to_store (zip steps notes) (sight old)) images-new n state stands;
-            at_exit = subst (λ (w : Sight). HoldsAtLeast (settled_of w.desk) (history (disk_of (store_of new)))) (same ∙ going.after) (held-now old new (to_store (zip steps notes) (sight old)) (unstored (sight new)) stored-new n state stands);
-            at_steps = subst (λ (d : D). KeepsSettled (history d) (zip steps notes) (sight old) (history (disk_of (store_of old))).now) (sym store.disk) (going.steps_keep n state stands);
+            at_exit = subst (λ (w : Sight). HoldsAtLeast (sectors_of (store_of old)) (settled_of w.desk) (history (disk_of (store_of new)))) (same ∙ going.after) (held-now old new (to_store (zip steps notes) (sight old)) (unstored (sight new)) (store.sectors ∙ going.same_sectors) stored-new n state stands);
+            at_steps = subst (λ (d : D). KeepsSettled (sectors_of (store_of old)) (history d) (zip steps notes) (sight old) (history (disk_of (store_of old))).now) (sym store.log.disk) (going.steps_keep n state stands);
           };
           store = λ _. stored-new n state stands;
         };
         settled = new.agree.enough;
+        sectors = store.sectors ∙ going.same_sectors;
         grows = subst (λ (w : Sight). settled_of (sight old).desk ≤ settled_of w.desk) (sym (same ∙ going.after)) (run-grows (zip steps notes) (sight old));
-        rests = λ f. store.disk ∙ (going.failed f).0;
+        rests = λ f. store.log.disk ∙ (going.failed f).0;
       })
 
   -- the disk failed in a step
@@ -275,12 +288,13 @@ module _ {D : Type 0} {g : _} (honest : D → Bool) (history : D → History) wh
       disk = record {
         prefix = more-images steps rest s notes outs old now new note out going step idle n state stands;
         at_entry = entered old new (to_store (zip steps (notes ++ note ∷ [])) (sight old)) (more-images steps rest s notes outs old now new note out going step idle) n state stands;
-        at_exit = subst (λ (w : Sight). HoldsAtLeast (settled_of w.desk) (history (disk_of (store_of new)))) after-now (more-left steps rest s notes outs old now new note out going step idle n state stands);
+        at_exit = subst (λ (w : Sight). HoldsAtLeast (sectors_of (store_of old)) (settled_of w.desk) (history (disk_of (store_of new)))) after-now (more-left steps rest s notes outs old now new note out going step idle n state stands);
         at_steps = more-steps steps rest s notes outs old now new note out going step idle n state stands;
       };
       store = λ serves. absurd (false≢true (sym serves));
     };
     settled = new.agree.enough;
+    sectors = step.same_sectors ∙ going.same_sectors;
     grows = subst (λ (w : Sight). settled_of (sight old).desk ≤ settled_of w.desk) (sym after-now) (run-grows (zip steps (notes ++ note ∷ [])) (sight old));
     rests = λ f. (more-failed steps rest s notes outs old now new note out going step idle f).0;
   })
@@ -328,4 +342,4 @@ module _ {D : Type 0} {g : _} (honest : D → Bool) (history : D → History) wh
   pub run-none : (steps : List Step) (old : World D g) (last : Option Outgoing) (trace : Trace) → steps ≢ [] → last ≡ refusal_of_first steps → trace ≡ record { out = []; notes = []; last = last; stopped = Some cause.Memory } → IsRun honest history steps old old trace
   run-none [] old last trace some told is = absurd (some refl)
   run-none (s ∷ ss) old last trace some told is =
-      run-wanting (s ∷ ss) ss s [] [] old old old last trace (going-start (s ∷ ss) old) refl (record { disk = refl; end = refl; front = refl; failed = refl }) told is
+      run-wanting (s ∷ ss) ss s [] [] old old old last trace (going-start (s ∷ ss) old) refl (record { log = record { disk = refl; root = refl; end = refl; number = refl; failed = refl }; sectors = refl }) told is

@@ -121,29 +121,29 @@ run-rests (p ∷ ps) w is =
 
 -- images of later moments
 
-since-grows : (mid new : History) (since count more : ℕ) → count ≤ more → LeavesOnly mid new (CarriesAtLeast more) → CarriesSince mid since count → CarriesSince new since count
-since-grows mid new since count more le run has k from to image is = elim (cases_lt k mid.now) [
+since-grows : (sectors : ℕ) (mid new : History) (since count more : ℕ) → count ≤ more → LeavesOnly mid new (CarriesAtLeast sectors more) → CarriesSince sectors mid since count → CarriesSince sectors new since count
+since-grows sectors mid new since count more le run has k from to image is = elim (cases_lt k mid.now) [
   | inl before ↦ has k from (omega arith) image (subst (λ (m : Moment). IsImage m image) (run.keeps k (omega arith)) is)
   | inr after ↦ less (run.each k after to image is)
 ]
   where
-    less : CarriesAtLeast more image → CarriesAtLeast count image
+    less : CarriesAtLeast sectors more image → CarriesAtLeast sectors count image
     less carries = record { number = carries.number; state = carries.state; enough = omega (arith, le, carries.enough); carried = carries.carried }
 
-pub settled-start : (h : History) (w : Sight) → HoldsAtLeast (settled_of w.desk) h → KeepsSettled h [] w h.now
+pub settled-start : (sectors : ℕ) (h : History) (w : Sight) → HoldsAtLeast sectors (settled_of w.desk) h → KeepsSettled sectors h [] w h.now
 unfolding KeepsSettled
-settled-start h w holds = (refl, λ k from to image is. holds image (subst (λ (j : ℕ). IsImage (h.at j) image) (let e : k ≡ h.now = omega arith in e) is))
+settled-start sectors h w holds = (refl, λ k from to image is. holds image (subst (λ (j : ℕ). IsImage (h.at j) image) (let e : k ≡ h.now = omega arith in e) is))
 
 -- one more step
-pub settled-snoc : (mid new : History) (ps : List (Step × StepNote)) (p : Step × StepNote) (w : Sight) (since : ℕ)
-    → LeavesOnly mid new (CarriesAtLeast (settled_of (after_run ps w).desk)) → new.now ≤ mid.now + calls_in p.0
-    → HoldsAtLeast (settled_of (turn p.0 p.1 (after_run ps w)).after.desk) new → KeepsSettled mid ps w since → KeepsSettled new (ps ++ p ∷ []) w since
+pub settled-snoc : (sectors : ℕ) (mid new : History) (ps : List (Step × StepNote)) (p : Step × StepNote) (w : Sight) (since : ℕ)
+    → LeavesOnly mid new (CarriesAtLeast sectors (settled_of (after_run ps w).desk)) → new.now ≤ mid.now + calls_in p.0 (after_run ps w)
+    → HoldsAtLeast sectors (settled_of (turn p.0 p.1 (after_run ps w)).after.desk) new → KeepsSettled sectors mid ps w since → KeepsSettled sectors new (ps ++ p ∷ []) w since
 unfolding KeepsSettled after_run
-settled-snoc mid new [] p w since run clock holds kept = (
-  since-grows mid new since (settled_of w.desk) (settled_of w.desk) (omega arith) run kept.1,
-  (new.now, omega (arith, run.later, kept.0), omega (arith, clock, kept.0), settled-start new (turn p.0 p.1 w).after holds),
+settled-snoc sectors mid new [] p w since run clock holds kept = (
+  since-grows sectors mid new since (settled_of w.desk) (settled_of w.desk) (omega arith) run kept.1,
+  (new.now, omega (arith, run.later, kept.0), omega (arith, clock, kept.0), settled-start sectors new (turn p.0 p.1 w).after holds),
 )
-settled-snoc mid new (q ∷ ps) p w since run clock holds kept = (
-  since-grows mid new since (settled_of w.desk) (settled_of (after_run ps (turn q.0 q.1 w).after).desk) (omega (arith, (turn-settles q.0 q.1 w).grows, run-grows ps (turn q.0 q.1 w).after)) run kept.0,
-  (kept.1.0, kept.1.1, kept.1.2, settled-snoc mid new ps p (turn q.0 q.1 w).after kept.1.0 run clock holds kept.1.3),
+settled-snoc sectors mid new (q ∷ ps) p w since run clock holds kept = (
+  since-grows sectors mid new since (settled_of w.desk) (settled_of (after_run ps (turn q.0 q.1 w).after).desk) (omega (arith, (turn-settles q.0 q.1 w).grows, run-grows ps (turn q.0 q.1 w).after)) run kept.0,
+  (kept.1.0, kept.1.1, kept.1.2, settled-snoc sectors mid new ps p (turn q.0 q.1 w).after kept.1.0 run clock holds kept.1.3),
 )

@@ -8,14 +8,17 @@ use Rattle.cg_request.specs.declared.asking.Request.{Request as Asked}
 use Rattle.cg_request.specs.declared.ticket.Ticket.{Ticket}
 use Rattle.cg_request.specs.Asking.{asked}
 use Rattle.cg_record.specs.declared.command.Command.{Command}
+use Rattle.cg_log.specs.Log as log_model
+use Rattle.cg_log.specs.Room.{Room}
 use Rattle.cg_store.specs.Carried.{CarriesBeforeOrAfter}
-use Rattle.cg_store.specs.Store.{IsUnchanged, StandsAt, disk_of, front_of}
+use Rattle.cg_store.specs.Batches.{calls_for}
+use Rattle.cg_store.specs.Store.{IsUnchanged, StandsAt, disk_of, front_of, has_failed, room_of, sectors_of}
 use Rattle.cg_store.proofs.Standing.{StandsAt-unchanged}
 use Rattle.cg_desk.specs.Desks.{Answer, State, gone_on, request_on, settled_of, tick_on}
 use Rattle.cg_desk.specs.declared.outgoing.Outgoing.{Outgoing}
 use Rattle.cg_world.specs.Carrying.{CarriesAtLeast, CarriesFront}
 use Rattle.cg_world.specs.Runs.{to_store, unstored, unstored_at}
-use Rattle.cg_world.specs.Sights.{Sight, sight, store_of}
+use Rattle.cg_world.specs.Sights.{Sight, room_left, sight, store_of}
 use Rattle.cg_world.specs.Steps.{IsTaken}
 use Rattle.cg_world.specs.Turns.{IsAppendNote, IsNoteOf, IsSettleNote, IsTakeNote, Turn, answered, appended, event_at, in_flight, is_taken, out_of, quiet, settled, taken, turn}
 use Rattle.cg_world.specs.declared.step.Step.{Step}
@@ -35,28 +38,41 @@ module _ {D : Type 0} {g : _} (honest : D → Bool) (history : D → History) (o
     noted = noted;
     after = now;
     left = left;
-    images = images-stay honest history (store_of old) (store_of new) (to_store ((step, note) ∷ []) (sight old)) same.disk;
+    images = images-stay honest history (store_of old) (store_of new) (to_store ((step, note) ∷ []) (sight old)) same.log.disk;
     stored = λ n state stands _. stored-none honest history (store_of new) (to_store ((step, note) ∷ []) (sight old)) (unstored (sight new)) (rest ∙ ap unstored now) n state
         (StandsAt-unchanged honest history (store_of old) (store_of new) n state same stands);
-    holds = λ n state stands. holds-at honest history (store_of new) (settled_of (sight new).desk) n state new.agree.enough (StandsAt-unchanged honest history (store_of old) (store_of new) n state same stands);
-    clock = λ _. omega (arith, ap (λ (d : D). (history d).now) same.disk);
+    holds = λ n state stands. holds-at honest history (store_of new) (sectors_of (store_of old)) (settled_of (sight new).desk) n state same.sectors new.agree.enough (StandsAt-unchanged honest history (store_of old) (store_of new) n state same stands);
+    same_sectors = same.sectors;
+    clock = λ _. omega (arith, ap (λ (d : D). (history d).now) same.log.disk);
   }
 
   unchanged : store_of new ≡ store_of old → IsUnchanged (store_of old) (store_of new)
-  unchanged same = record { disk = ap disk_of same; end = ap (λ s. s.end) same; front = ap front_of same; failed = ap (λ s. s.has_failed) same }
+  unchanged same = record {
+    log = record {
+      disk = ap disk_of same;
+      root = ap (λ s. log_model.root_of s.log) same;
+      end = ap (λ s. log_model.end_of s.log) same;
+      number = ap front_of same;
+      failed = ap has_failed same;
+    };
+    sectors = ap sectors_of same;
+  }
 
-  same-sight : (desk : State) → desk ≡ (sight new).desk → (sight new).appended ≡ (sight old).appended → (sight new).end ≡ (sight old).end
-      → (let w : Sight = record { desk = desk; appended = (sight old).appended; end = (sight old).end } in w) ≡ sight new
+  same-room : store_of new ≡ store_of old → (sight new).room ≡ (sight old).room
+  same-room same = ap (λ s. room_left (has_failed s) (room_of s)) same
+
+  same-sight : (desk : State) → desk ≡ (sight new).desk → (sight new).appended ≡ (sight old).appended → (sight new).room ≡ (sight old).room
+      → (let w : Sight = record { desk = desk; appended = (sight old).appended; room = (sight old).room } in w) ≡ sight new
   same-sight desk a b c =
-      ap (λ (d : State). let w : Sight = record { desk = d; appended = (sight old).appended; end = (sight old).end } in w) a
-      ∙ ap (λ (f : Bool). let w : Sight = record { desk = (sight new).desk; appended = f; end = (sight old).end } in w) (sym b)
-      ∙ ap (λ (e : ℕ). let w : Sight = record { desk = (sight new).desk; appended = (sight new).appended; end = e } in w) (sym c)
+      ap (λ (d : State). let w : Sight = record { desk = d; appended = (sight old).appended; room = (sight old).room } in w) a
+      ∙ ap (λ (f : Bool). let w : Sight = record { desk = (sight new).desk; appended = f; room = (sight old).room } in w) (sym b)
+      ∙ ap (λ (r : Room). let w : Sight = record { desk = (sight new).desk; appended = (sight new).appended; room = r } in w) (sym c)
 
   -- a call of the desk changes nothing else of its world
   answered-after : (met : Bool) (a : Answer) (out : List Outgoing) → a ≡ record { after = (sight new).desk; out = out } → (sight new).appended ≡ (sight old).appended → store_of new ≡ store_of old
       → ((answered met (sight old) a).after ≡ sight new) × (out_of (answered met (sight old) a) ≡ out)
-  answered-after true a out is same store = (same-sight a.after (ap (λ (x : Answer). x.after) is) same (ap (λ s. s.end) store), ap (λ (x : Answer). x.out) is)
-  answered-after false a out is same store = (same-sight a.after (ap (λ (x : Answer). x.after) is) same (ap (λ s. s.end) store), append-nil a.out ∙ ap (λ (x : Answer). x.out) is)
+  answered-after true a out is same store = (same-sight a.after (ap (λ (x : Answer). x.after) is) same (same-room store), ap (λ (x : Answer). x.out) is)
+  answered-after false a out is same store = (same-sight a.after (ap (λ (x : Answer). x.after) is) same (same-room store), append-nil a.out ∙ ap (λ (x : Answer). x.out) is)
 
   pub request-step : (step : Step) (ticket : Ticket) (r : Asked) (now : ℕ) (fresh : List ℕ) (out : List Outgoing) → step ≡ Request ticket r now fresh
       → request_on (sight old).desk (record { ticket = ticket }) (asked r ticket fresh) now ≡ record { after = (sight new).desk; out = out }
@@ -98,13 +114,14 @@ module _ {D : Type 0} {g : _} (honest : D → Bool) (history : D → History) (o
       (at-rest Settle note out noted (ap (λ (t : Turn). t.after) now) (ap out_of now) (unchanged store) (after-settle (sight old) note noted))
 
   -- the batch that was taken goes to the disk
-  module _ (images : (n : ℕ) (state : Durable) → StandsAt honest history (store_of old) n state → LeavesOnly (history (disk_of (store_of old))) (history (disk_of (store_of new))) (CarriesBeforeOrAfter n state (in_flight (sight old).desk)))
-      (clock : honest (disk_of (store_of old)) ≡ true → (history (disk_of (store_of new))).now ≤ (history (disk_of (store_of old))).now + 4) where
+  module _ (images : (n : ℕ) (state : Durable) → StandsAt honest history (store_of old) n state → LeavesOnly (history (disk_of (store_of old))) (history (disk_of (store_of new))) (CarriesBeforeOrAfter (sectors_of (store_of old)) n state (in_flight (sight old).desk)))
+      (clock : honest (disk_of (store_of old)) ≡ true → (history (disk_of (store_of new))).now ≤ (history (disk_of (store_of old))).now + calls_for (sight old).room (in_flight (sight old).desk))
+      (size : sectors_of (store_of new) ≡ sectors_of (store_of old)) where
     goes-to : (note : StepNote) → is_taken (sight old) ≡ true → (n : ℕ) (state : Durable) → StandsAt honest history (store_of old) n state
-        → LeavesOnly (history (disk_of (store_of old))) (history (disk_of (store_of new))) (CarriesFront n state (to_store ((Append, note) ∷ []) (sight old)))
+        → LeavesOnly (history (disk_of (store_of old))) (history (disk_of (store_of new))) (CarriesFront (sectors_of (store_of old)) n state (to_store ((Append, note) ∷ []) (sight old)))
     goes-to note taken n state stands =
-        LeavesOnly-weaker (history (disk_of (store_of old))) (history (disk_of (store_of new))) (CarriesBeforeOrAfter n state (in_flight (sight old).desk)) (CarriesFront n state (to_store ((Append, note) ∷ []) (sight old)))
-        (carries-either n state (in_flight (sight old).desk) (unstored_at true (sight old).desk) (to_store ((Append, note) ∷ []) (sight old)) (to-append (sight old) note ∙ flight-first (sight old) taken))
+        LeavesOnly-weaker (history (disk_of (store_of old))) (history (disk_of (store_of new))) (CarriesBeforeOrAfter (sectors_of (store_of old)) n state (in_flight (sight old).desk)) (CarriesFront (sectors_of (store_of old)) n state (to_store ((Append, note) ∷ []) (sight old)))
+        (carries-either (sectors_of (store_of old)) n state (in_flight (sight old).desk) (unstored_at true (sight old).desk) (to_store ((Append, note) ∷ []) (sight old)) (to-append (sight old) note ∙ flight-first (sight old) taken))
         (images n state stands)
 
     appended-step : (out : List Outgoing) → IsAppendNote (sight old) Done → appended Done (sight old) ≡ record { after = sight new; at_once = out; left = [] }
@@ -121,7 +138,8 @@ module _ {D : Type 0} {g : _} (honest : D → Bool) (history : D → History) (o
         whole = to-append (sight old) Done ∙ flight-first (sight old) noted.0 ∙ ap (λ (l : List Command). in_flight (sight old).desk ++ l) (ap (λ (t : Turn). unstored t.after) now);
         stands = stands-now n state stands;
       };
-      holds = λ n state stands. holds-at honest history (store_of new) (settled_of (sight new).desk) (n + length (in_flight (sight old).desk)) (after state (in_flight (sight old).desk)) new.agree.enough (stands-now n state stands);
+      holds = λ n state stands. holds-at honest history (store_of new) (sectors_of (store_of old)) (settled_of (sight new).desk) (n + length (in_flight (sight old).desk)) (after state (in_flight (sight old).desk)) size new.agree.enough (stands-now n state stands);
+      same_sectors = size;
       clock = clock;
     }
 
@@ -135,11 +153,12 @@ module _ {D : Type 0} {g : _} (honest : D → Bool) (history : D → History) (o
       stored = λ n state stands serves. absurd (serves refl);
       holds = λ n state stands image left. at-least n state (settled_of (sight new).desk) image
           (subst (λ (k : ℕ). k ≤ n) (ap (λ (t : Turn). settled_of t.after.desk) now) (omega (arith, old.agree.enough, stands.front_is)))
-          (LeavesOnly-present (history (disk_of (store_of old))) (history (disk_of (store_of new))) (CarriesBeforeOrAfter n state (in_flight (sight old).desk)) (images n state stands) image left);
+          (LeavesOnly-present (history (disk_of (store_of old))) (history (disk_of (store_of new))) (CarriesBeforeOrAfter (sectors_of (store_of old)) n state (in_flight (sight old).desk)) (images n state stands) image left);
+      same_sectors = size;
       clock = clock;
     }
       where
-        at-least : (n : ℕ) (state : Durable) (count : ℕ) (image : Image) → count ≤ n → CarriesBeforeOrAfter n state (in_flight (sight old).desk) image → CarriesAtLeast count image
+        at-least : (n : ℕ) (state : Durable) (count : ℕ) (image : Image) → count ≤ n → CarriesBeforeOrAfter (sectors_of (store_of old)) n state (in_flight (sight old).desk) image → CarriesAtLeast (sectors_of (store_of old)) count image
         at-least n state count image enough (inl carries) = record { number = n; state = state; enough = enough; carried = carries }
         at-least n state count image enough (inr carries) = record { number = n + length (in_flight (sight old).desk); state = after state (in_flight (sight old).desk); enough = omega (arith, enough); carried = carries }
 

@@ -9,7 +9,7 @@ use Rattle.cg_desk.specs.Books.{Books, is_short, taking}
 use Rattle.cg_desk.specs.Desks.{Answer, State, Loading, Serving, Failed, failing_on, gone_on, is_out, numbered_of, request_on, return_to, settle_on, settled_of, tick_on}
 use Rattle.cg_desk.specs.Flights.{Idle, unsettled}
 use Rattle.cg_desk.specs.declared.outgoing.Outgoing.{Outgoing}
-use Rattle.cg_world.specs.Sights.{Sight}
+use Rattle.cg_world.specs.Sights.{Sight, no_room}
 use Rattle.cg_world.specs.declared.step.Step.{Step}
 use Rattle.cg_world.specs.declared.step.Step.TheVariants.{Request, Gone, Tick, Take, Append, Settle}
 use Rattle.cg_world.specs.declared.step.StepNote.{StepNote}
@@ -72,13 +72,13 @@ abbrev pub taken : StepNote → Sight → Turn
 taken Done w = quiet (record w { desk = take_from w.desk })
 taken note w = quiet w
 
--- appends the batch; or gives it back; or the disk fails
+-- appends the batch; or gives it back; or the disk fails, and then there is no room any more
 abbrev pub appended : StepNote → Sight → Turn
 appended Done w = quiet (record w { appended = true; room = room_after w.room (in_flight w.desk) })
 appended Nothing w = quiet w
 appended InFlight w = quiet w
 appended Full w = quiet (record w { desk = return_to w.desk })
-appended Device w = record { after = record w { desk = Failed (numbered_of w.desk) (settled_of w.desk) }; at_once = failing_on w.desk; left = [] }
+appended Device w = record { after = record w { desk = Failed (numbered_of w.desk) (settled_of w.desk); room = no_room }; at_once = failing_on w.desk; left = [] }
 
 -- settles the batch
 abbrev pub settled : StepNote → Sight → Turn

@@ -2,7 +2,7 @@
 ghost use Rattle.std.specs.Prelude.{◌≡◌, ℕ};
 ghost use Rattle.cg_disk.specs.Fuse.{blown_calls, calls_left, inner_of};
 ghost use Rattle.cg_fold.specs.Durable.{State};
-ghost use Rattle.cg_store.specs.Store.{StandsAt, disk_of};
+ghost use Rattle.cg_store.specs.Store.{StandsAt, disk_of, sectors_of};
 
 use crate::world::World;
 use cg_disk::{FuseDisk, SectorDisk};
@@ -18,6 +18,7 @@ impl<D: SectorDisk> World<FuseDisk<D>> {
         ensures blown { blown_calls (disk_of (store_of self.new)) ≡ blown_calls (disk_of (store_of self.old)) }
         ensures sight { sight self.new ≡ sight self.old }
         ensures opening { opening_of self.new ≡ opening_of self.old }
+        ensures same_sectors { sectors_of (store_of self.new) ≡ sectors_of (store_of self.old) }
         ensures stands { (n : ℕ) (state : State) → StandsAt (⟦<FuseDisk<D> as SectorDisk>⟧.is_honest) (⟦<FuseDisk<D> as SectorDisk>⟧.history) (store_of self.old) n state
             → StandsAt (⟦<FuseDisk<D> as SectorDisk>⟧.is_honest) (⟦<FuseDisk<D> as SectorDisk>⟧.history) (store_of self.new) n state }
     {

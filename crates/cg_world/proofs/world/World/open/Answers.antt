@@ -9,7 +9,8 @@ returns-clause-opened g c = (
   c.in-Ok.found.1,
   c.in-Ok.found.2,
   record {
-    made = c.in-Ok.ensures.made;
+    made = c.in-Ok.ensures.made.0;
+    few = c.in-Ok.ensures.made.1;
     desk = c.in-Ok-serve.ensures;
     fresh = refl;
     found = ap (λ (p : ℕ × ℕ). let t : ℕ × ℕ × ℕ = (c.in-Ok.found.1, p.0, p.1) in t) c.counts-records.ensures;
@@ -21,7 +22,8 @@ pub returns-clause-carried : goal.returns-clause-carried
 returns-clause-carried g c = λ honest n state carries.
     let same = c.in-Ok.ensures.carried honest n state carries in
     same-opened g.D.SectorDisk.is_honest g.D.SectorDisk.history c.args.now _ c.in-Ok.found.1 n c.in-Ok.found.2 state same.0 same.1 (record {
-      made = c.in-Ok.ensures.made;
+      made = c.in-Ok.ensures.made.0;
+    few = c.in-Ok.ensures.made.1;
       desk = c.in-Ok-serve.ensures;
       fresh = refl;
       found = ap (λ (p : ℕ × ℕ). let t : ℕ × ℕ × ℕ = (c.in-Ok.found.1, p.0, p.1) in t) c.counts-records.ensures;
@@ -29,10 +31,10 @@ returns-clause-carried g c = λ honest n state carries.
     })
 
 pub returns-clause-orderly : goal.returns-clause-orderly
-returns-clause-orderly g c = subst IsOrderlyAt (sym c.in-Ok-serve.ensures) (opened-orderly c.in-Ok.found.1 c.in-Ok.found.2 c.args.now c.in-Ok.ensures.made)
+returns-clause-orderly g c = subst IsOrderlyAt (sym c.in-Ok-serve.ensures) (opened-orderly c.in-Ok.found.1 c.in-Ok.found.2 c.args.now c.in-Ok.ensures.made.0)
 
 pub invariant_of-result : goal.invariant_of-result
 invariant_of-result g c = record {
-  orderly = ∣ subst IsOrderlyAt (sym c.in-Ok-serve.ensures) (opened-orderly c.in-Ok.found.1 c.in-Ok.found.2 c.args.now c.in-Ok.ensures.made) ∣₁;
+  orderly = ∣ subst IsOrderlyAt (sym c.in-Ok-serve.ensures) (opened-orderly c.in-Ok.found.1 c.in-Ok.found.2 c.args.now c.in-Ok.ensures.made.0) ∣₁;
   agree = search rules;
 }

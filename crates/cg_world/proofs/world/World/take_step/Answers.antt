@@ -24,7 +24,7 @@ returns-in_ok-note-in-Take-clause-ok g c =
 
 pub returns-in_ok-note-in-Append-clause-ok : goal.returns-in_ok-note-in-Append-clause-ok
 returns-in_ok-note-in-Append-clause-ok g c =
-    append-step g.D.SectorDisk.is_honest g.D.SectorDisk.history c.args.self.now c.append.new.self c.append.ensures.images c.append.ensures.clock c.args.step c.in_ok-note-in-Append.note c.from_vec-in-Append.result
+    append-step g.D.SectorDisk.is_honest g.D.SectorDisk.history c.args.self.now c.append.new.self c.append.ensures.images c.append.ensures.clock c.append.ensures.same_sectors c.args.step c.in_ok-note-in-Append.note c.from_vec-in-Append.result
     c.in-Append.is c.in_ok-note-in-Append.ensures.note (rw (sym c.from_vec-in-Append.ensures) at c.in_ok-note-in-Append.ensures.after) c.in_ok-note-in-Append.ensures.stored c.in_ok-note-in-Append.ensures.unchanged
 
 pub returns-in_ok-note-in-Settle-clause-ok : goal.returns-in_ok-note-in-Settle-clause-ok
