@@ -1,8 +1,9 @@
 //! Formatting a disk.
 ghost use Rattle.std.specs.Prelude.{◌≡◌, ◌≢◌, ◌↔◌, ◌+◌, ◌≤◌, ◌<◌, [], true, IfErr, IfOk, OnOk, IsErrOf, is_err};
-ghost use Rattle.cg_disk.specs.Disk.{Counts, present};
+ghost use Rattle.cg_disk.specs.Disk.{Changes, Counts, present};
 ghost use Rattle.cg_gate.specs.Gates.{IsClosedGate};
 ghost use Rattle.cg_gate.specs.Layout.{segment_count, first_sector};
+ghost use Rattle.cg_gate.specs.declared.layout.TheConstants.{FIRST_SEGMENT_SECTOR};
 ghost use Rattle.cg_log.specs.Carried.{AllCarry, KeepsLog};
 ghost use Rattle.cg_log.specs.Faults.{is_device_failure, IsWritingFault};
 ghost use Rattle.cg_log.specs.Formatted.{first_root, nothing};
@@ -46,6 +47,7 @@ fn close_root_gates<D: SectorDisk>(disk: &mut D) -> Result<(), DiskFault>
 
     ensures zero { D.is_honest disk.old ≡ true → OnOk result (AllClosed (present (D.history disk.new)) (gate_of Slot.Zero)) }
     ensures one { D.is_honest disk.old ≡ true → OnOk result (AllClosed (present (D.history disk.new)) (gate_of Slot.One)) }
+    ensures time { D.is_honest disk.old ≡ true → Changes 0 FIRST_SEGMENT_SECTOR (D.history disk.old) (D.history disk.new) }
     ensures cause { Counts (D.failures disk.old) (D.failures disk.new) (is_err result) }
     ensures same_size { D.size disk.new ≡ D.size disk.old }
     ensures same_honesty { D.is_honest disk.new ≡ D.is_honest disk.old }
@@ -65,6 +67,7 @@ fn close_gates<D: SectorDisk>(disk: &mut D) -> Result<(), DiskFault>
     ensures one { D.is_honest disk.old ≡ true → OnOk result (AllClosed (present (D.history disk.new)) (gate_of Slot.One)) }
     ensures first { D.is_honest disk.old ≡ true → OnOk result (AllClosed (present (D.history disk.new)) (first_sector 0)) }
     ensures room { 4 ≤ D.size disk.old }
+    ensures time { D.is_honest disk.old ≡ true → Changes 0 (FIRST_SEGMENT_SECTOR + 1) (D.history disk.old) (D.history disk.new) }
     ensures cause { Counts (D.failures disk.old) (D.failures disk.new) (is_err result) }
     ensures same_size { D.size disk.new ≡ D.size disk.old }
     ensures same_honesty { D.is_honest disk.new ≡ D.is_honest disk.old }
@@ -83,6 +86,8 @@ pub fn format<D: SectorDisk>(alloc: Global, disk: &mut D) -> Result<(), LogFault
     ensures empty { D.is_honest disk.old ≡ true → OnOk result
         (AllCarry (present (D.history disk.new)) (D.size disk.old) 0 [] []) }
     ensures full { IsErrOf result LogFault.Full ↔ (segment_count (D.size disk.old) ≡ 0) }
+    // It changes the root slots and the first gate of the first segment, and no other sector.
+    ensures time { D.is_honest disk.old ≡ true → Changes 0 (FIRST_SEGMENT_SECTOR + 1) (D.history disk.old) (D.history disk.new) }
     ensures unchanged { IfErr result (λ fault. fault ≢ LogFault.Device → disk.new ≡ disk.old) }
     ensures faults { IfErr result IsWritingFault }
     ensures device { Counts (D.failures disk.old) (D.failures disk.new) (is_device_failure result) }
