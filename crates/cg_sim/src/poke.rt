@@ -28,13 +28,6 @@ impl Poke {
         Ok(Poke { sector, content })
     }
 
-    /// Returns the position of the sector.
-    pub fn sector(&self) -> u64
-        ensures { result ≡ sector_of self.now }
-    {
-        self.sector
-    }
-
     /// Writes the sector and syncs the disk.
     pub fn put<D: SectorDisk>(&self, disk: &mut D) -> Result<(), DiskFault>
         requires { sector_of self.now < D.size disk.old }

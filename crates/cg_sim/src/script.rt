@@ -25,7 +25,7 @@ use std::io::{self, BufRead, Write};
 /// Exit status of a script that came to its end.
 pub const STATUS_DONE: u8 = 0;
 
-/// Exit status after a bad script line, or a `load` while something is loaded.
+/// Exit status after a script line that is bad, or that may not come where it stands.
 pub const STATUS_BAD_LINE: u8 = 1;
 
 /// Exit status after words on the command line that are not understood, and after a call for help.

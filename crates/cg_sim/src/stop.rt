@@ -5,13 +5,13 @@ use std::io::{self, ErrorKind};
 /// Cause that ends a script early.
 #[derive(Clone, Copy, Debug, Drop, PartialEq, Eq)]
 pub enum Stop {
-    /// The line with this number is bad, or a `load` while something is loaded.
+    /// The line with this number is bad, or may not come where it stands.
     BadLine(u64),
     /// A read or a write failed.
     Io,
     /// An allocation failed outside a request.
     Memory,
-    /// The disk failed while it was formatted.
+    /// The disk failed in a format or a `poke`.
     Device,
 }
 
