@@ -1,5 +1,6 @@
 //! Appends on a disk that fails, the order of batches, formats, and the faults of damaged disks.
 ghost use Rattle.std.specs.Prelude.{◌≡◌, IfOk, length};
+ghost use Rattle.cg_disk.specs.Mem.{mem_size};
 
 use super::*;
 use cg_disk::{Crash, FuseDisk, MemDisk, SectorDisk};
@@ -12,7 +13,9 @@ use std::test::Fail;
 const DISK_SECTORS: u64 = FIRST_SEGMENT_SECTOR + 2 * SEGMENT_SECTORS;
 
 // Makes a formatted disk.
-fn formatted(alloc: Global) -> Result<MemDisk, Fail> {
+fn formatted(alloc: Global) -> Result<MemDisk, Fail>
+    ensures { IfOk result (λ disk. mem_size disk ≡ 4100) }
+{
     let mut disk = MemDisk::new(alloc, DISK_SECTORS)?;
     format(alloc, &mut disk)?;
     Ok(disk)
