@@ -1,5 +1,5 @@
 -- Facts about a store with n commands and a state.
-use Rattle.std.proofs.Common.{◌≡◌, inl, inr, ℕ, ◌+◌, ◌≤◌, Bool, List, [], ◌∷◌, ◌++◌, length, sym, ap, ◌∙◌, subst}
+use Rattle.std.proofs.Common.{◌≡◌, inl, inr, ℕ, ◌+◌, ◌≤◌, Bool, List, [], ◌∷◌, ◌++◌, length, sym, ap, ◌∙◌, subst, Ok}
 use Rattle.cg_disk.specs.Disk.{History, Image, IsImage, LeavesOnly, Moment, present}
 use Rattle.cg_disk.proofs.Moments.{IsImage-content, LeavesOnly-starts, LeavesOnly-weaker}
 use Rattle.cg_fold.specs.Durable.{State, after}
@@ -11,6 +11,8 @@ use Rattle.cg_log.specs.Segments.{Frames, frames_of}
 use Rattle.cg_log.specs.declared.numbers.TheConstants.{COMMAND_NUMBER_MAX}
 use Rattle.cg_log.proofs.Images as log
 use Rattle.cg_record.specs.declared.command.Command.{Command}
+use Rattle.cg_record.specs.Lawful.{AreCommands}
+use Rattle.cg_record.specs.Reading.{commands_of}
 use Rattle.cg_root.specs.declared.root.Root.{Root}
 use Rattle.cg_store.specs.Carried.{AllCarry, Carries, CarriesBeforeOrAfter, IsFrameOf, Spell}
 use Rattle.cg_store.specs.Store.{IsUnchanged, StandsAt, disk_of, front_of, sectors_of}
@@ -38,11 +40,11 @@ module _ (m : Moment) (sectors : ℕ) (root : Root) (end number : ℕ) (has : Co
 
 -- ---- one more frame
 
-pub Carries-appended : (sectors n : ℕ) (base tail : Frames) (state : State) (commands : List Command) (payload : List ℕ) (count : ℕ) → count ≡ length commands
-    → Spell (base ++ tail) state → IsFrameOf (count, payload) commands → (image : Image) → LogBeforeOrAfter sectors n base tail count payload image → CarriesBeforeOrAfter sectors n state commands image
-Carries-appended sectors n base tail state commands payload count count_is spelled is image (inl before) = inl (record { base = base; tail = tail; log = before; spelled = spelled })
-Carries-appended sectors n base tail state commands payload count count_is spelled is image (inr now) =
-    inr (subst (λ (k : ℕ). Carries image sectors (n + k) (after state commands)) count_is
+Carries-appended : (sectors n : ℕ) (base tail : Frames) (state : State) (commands : List Command) (payload : List ℕ) (count : ℕ) → Spell (base ++ tail) state → IsFrameOf (count, payload) commands
+    → (image : Image) → LogBeforeOrAfter sectors n base tail count payload image → CarriesBeforeOrAfter sectors n state commands image
+Carries-appended sectors n base tail state commands payload count spelled is image (inl before) = inl (record { base = base; tail = tail; log = before; spelled = spelled })
+Carries-appended sectors n base tail state commands payload count spelled is image (inr now) =
+    inr (subst (λ (k : ℕ). Carries image sectors (n + k) (after state commands)) is.number
     (record { base = base; tail = tail ++ (count, payload) ∷ []; log = now; spelled = Spell-tail base tail state (count, payload) commands spelled is }))
 
 -- ---- stores
@@ -78,7 +80,10 @@ module _ {D : Type 0} {g : _} (honest : D → Bool) (history : D → History) wh
     holds = subst (λ (s : ℕ). HoldsContent (present (history (disk_of old))) s (log_model.root_of old.log) (log_model.end_of old.log) (front_of old) stands.has) size_is stands.holds;
   }
 
-  module _ (size : D → ℕ) (old : Store D g) (size_is : old.sectors ≡ size (disk_of old)) (commands : List Command) (payload : List ℕ) (count : ℕ) (is : IsFrameOf (count, payload) commands) (n : ℕ) (state : State) (stands : StandsAt honest history old n state) where
+  module _ (size : D → ℕ) (old : Store D g) (size_is : old.sectors ≡ size (disk_of old)) (commands : List Command) (payload : List ℕ) (count : ℕ) (decoded : commands_of payload ≡ Ok commands) (lawful : AreCommands commands) (number : count ≡ length commands) (n : ℕ) (state : State) (stands : StandsAt honest history old n state) where
+    is : IsFrameOf (count, payload) commands
+    is = record { decoded = decoded; lawful = lawful; number = number }
+
     had : LogHas honest history size old.log stands.has
     had = LogHas-stands size old n state size_is stands
 
@@ -90,20 +95,20 @@ module _ {D : Type 0} {g : _} (honest : D → Bool) (history : D → History) wh
         let all = leaves stands.has had in
         let here = coe 0 1 (i. LeavesOnly (history (disk_of old)) now (LogBeforeOrAfter (sym size_is i) (stands.front_is i) (frames_of stands.has.base) (frames_of (tails stands.has)) count payload)) all in
         LeavesOnly-weaker (history (disk_of old)) now _ (CarriesBeforeOrAfter (sectors_of old) n state commands)
-        (Carries-appended (sectors_of old) n (frames_of stands.has.base) (frames_of (tails stands.has)) state commands payload count is.number stands.spelled is) here
+        (Carries-appended (sectors_of old) n (frames_of stands.has.base) (frames_of (tails stands.has)) state commands payload count stands.spelled is) here
 
     pub StandsAt-appended : (new : Store D g) → new.sectors ≡ size (disk_of new) → front_of new ≡ front_of old + count
         → ((has : Content) → LogHas honest history size old.log has → (grown : Content) × (IsAppended has count payload grown × LogHas honest history size new.log grown))
         → ((has : Content) → LogHas honest history size old.log has
         → AllCarryLog (present (history (disk_of new))) (size (disk_of new)) (front_of old + count) (frames_of has.base) (frames_of (tails has) ++ (count, payload) ∷ []))
         → StandsAt honest history new (n + length commands) (after state commands)
-    StandsAt-appended new new_size number grows all =
+    StandsAt-appended new new_size front grows all =
         let grown = grows stands.has had in
         let holds = grown.1.1.holds in
         let spelled = Spell-tail (frames_of stands.has.base) (frames_of (tails stands.has)) state (count, payload) commands stands.spelled is in
         record {
           is_honest = grown.1.1.is_honest;
-          front_is = number ∙ (λ i. stands.front_is i + is.number i);
+          front_is = front ∙ (λ i. stands.front_is i + number i);
           has = grown.0;
           holds = subst (λ (s : ℕ). HoldsContent (present (history (disk_of new))) s (log_model.root_of new.log) (log_model.end_of new.log) (front_of new) grown.0) (sym new_size) holds;
           spelled = Spell-held (present (history (disk_of new))) (size (disk_of new)) (log_model.root_of new.log) (log_model.end_of new.log) (front_of new) grown.0 new.log.in_range holds

@@ -15,6 +15,10 @@ use Rattle.cg_store.specs.declared.fault.OpenFault.{OpenFault}
 use Rattle.cg_store.specs.declared.fault.OpenFault.TheVariants as open_fault
 use Rattle.cg_store.proofs.Spelled.{Spell-made, Spell-unique}
 
+-- images with the same sectors carry the same
+pub Carries-same : (a b : Image) (sectors n : ℕ) (state : State) → ((s : ℕ) → b s ≡ a s) → Carries a sectors n state → Carries b sectors n state
+Carries-same a b sectors n state same c = record { base = c.base; tail = c.tail; log = log.Carries-same a b sectors n c.base c.tail same c.log; spelled = c.spelled }
+
 -- an image has exactly one number and state
 pub Carries-unique : (image : Image) (sectors n m : ℕ) (state other : State) → Carries image sectors n state → Carries image sectors m other → (n ≡ m) × (state ≡ other)
 Carries-unique image sectors n m state other a b =

@@ -1,10 +1,9 @@
-use Rattle.std.proofs.Common.{◌≡◌, ◌≢◌, inl, inr, ℕ, ◌+◌, ◌∷◌, [], ◌++◌, ◌∙◌, ap, sym, subst, refl, true, false, Option, Err}
+use Rattle.std.proofs.Common.{◌≡◌, ◌≢◌, inl, inr, ℕ, ◌+◌, ◌∷◌, [], ◌++◌, ◌∙◌, ap, sym, subst, refl, true, false, Option, Err, arith}
 use Rattle.cg_disk.specs.Disk.{present}
 use Rattle.cg_log.specs.Carried.{tails, AllCarry as AllCarryLog}
 use Rattle.cg_log.specs.Log as log_model
 use Rattle.cg_log.specs.Segments.{frames_of}
 use Rattle.cg_log.specs.declared.fault.LogFault.TheVariants as log_fault
-use Rattle.cg_store.specs.Carried.{IsFrameOf}
 use Rattle.cg_store.specs.Faults.{IsToldOf}
 use Rattle.cg_store.specs.Store.{disk_of, front_of, has_failed, room_of}
 use Rattle.cg_store.specs.declared.fault.StoreFault.{StoreFault}
@@ -22,26 +21,22 @@ returns-then-batch-number-clause-images g c n state stands = images-still g.D.Se
 pub returns-in-Ok-clause-images : goal.returns-in-Ok-clause-images
 returns-in-Ok-clause-images g c n state stands =
     let self = c.args.self.now in
-    let is : IsFrameOf (c.len-count.result, c.as_bytes.result.now) c.args.batch.now.commands = record { decoded = c.as_bytes.ensures.decoded; lawful = c.as_bytes.ensures.lawful; number = c.len-count.ensures } in
-    images-appended g.D.SectorDisk.is_honest g.D.SectorDisk.history g.D.SectorDisk.size self self.size c.args.batch.now.commands c.as_bytes.result.now c.len-count.result is n state stands _ c.append.ensures.images
+    images-appended g.D.SectorDisk.is_honest g.D.SectorDisk.history g.D.SectorDisk.size self self.size c.args.batch.now.commands c.as_bytes.result.now c.len-count.result c.as_bytes.ensures.decoded c.as_bytes.ensures.lawful c.len-count.ensures n state stands _ c.append.ensures.images
 
 pub returns-in-Err-Memory-clause-images : goal.returns-in-Err-Memory-clause-images
 returns-in-Err-Memory-clause-images g c n state stands =
     let self = c.args.self.now in
-    let is : IsFrameOf (c.len-count.result, c.as_bytes.result.now) c.args.batch.now.commands = record { decoded = c.as_bytes.ensures.decoded; lawful = c.as_bytes.ensures.lawful; number = c.len-count.ensures } in
-    images-appended g.D.SectorDisk.is_honest g.D.SectorDisk.history g.D.SectorDisk.size self self.size c.args.batch.now.commands c.as_bytes.result.now c.len-count.result is n state stands _ c.append.ensures.images
+    images-appended g.D.SectorDisk.is_honest g.D.SectorDisk.history g.D.SectorDisk.size self self.size c.args.batch.now.commands c.as_bytes.result.now c.len-count.result c.as_bytes.ensures.decoded c.as_bytes.ensures.lawful c.len-count.ensures n state stands _ c.append.ensures.images
 
 pub returns-in-Err-Device-clause-images : goal.returns-in-Err-Device-clause-images
 returns-in-Err-Device-clause-images g c n state stands =
     let self = c.args.self.now in
-    let is : IsFrameOf (c.len-count.result, c.as_bytes.result.now) c.args.batch.now.commands = record { decoded = c.as_bytes.ensures.decoded; lawful = c.as_bytes.ensures.lawful; number = c.len-count.ensures } in
-    images-appended g.D.SectorDisk.is_honest g.D.SectorDisk.history g.D.SectorDisk.size self self.size c.args.batch.now.commands c.as_bytes.result.now c.len-count.result is n state stands _ c.append.ensures.images
+    images-appended g.D.SectorDisk.is_honest g.D.SectorDisk.history g.D.SectorDisk.size self self.size c.args.batch.now.commands c.as_bytes.result.now c.len-count.result c.as_bytes.ensures.decoded c.as_bytes.ensures.lawful c.len-count.ensures n state stands _ c.append.ensures.images
 
 pub returns-in-Err-Full-clause-images : goal.returns-in-Err-Full-clause-images
 returns-in-Err-Full-clause-images g c n state stands =
     let self = c.args.self.now in
-    let is : IsFrameOf (c.len-count.result, c.as_bytes.result.now) c.args.batch.now.commands = record { decoded = c.as_bytes.ensures.decoded; lawful = c.as_bytes.ensures.lawful; number = c.len-count.ensures } in
-    images-appended g.D.SectorDisk.is_honest g.D.SectorDisk.history g.D.SectorDisk.size self self.size c.args.batch.now.commands c.as_bytes.result.now c.len-count.result is n state stands _ c.append.ensures.images
+    images-appended g.D.SectorDisk.is_honest g.D.SectorDisk.history g.D.SectorDisk.size self self.size c.args.batch.now.commands c.as_bytes.result.now c.len-count.result c.as_bytes.ensures.decoded c.as_bytes.ensures.lawful c.len-count.ensures n state stands _ c.append.ensures.images
 
 pub returns-in-Ok-clause-ok : goal.returns-in-Ok-clause-ok
 returns-in-Ok-clause-ok g c n state stands =
@@ -50,11 +45,10 @@ returns-in-Ok-clause-ok g c n state stands =
     let commands = c.args.batch.now.commands in
     let payload = c.as_bytes.result.now in
     let count = c.len-count.result in
-    let is : IsFrameOf (c.len-count.result, c.as_bytes.result.now) c.args.batch.now.commands = record { decoded = c.as_bytes.ensures.decoded; lawful = c.as_bytes.ensures.lawful; number = c.len-count.ensures } in
     let old_size : self.sectors ≡ disk.size (disk_of self) = self.size in
     let log = c.append.new.self in
     let same : disk.size (log_model.disk_of log) ≡ disk.size (disk_of self) = c.append.ensures.same_size in
-    StandsAt-appended disk.is_honest disk.history disk.size self old_size commands payload count is n state stands _ (old_size ∙ sym same) c.in-Ok.ensures.number c.in-Ok.ensures.stored
+    StandsAt-appended disk.is_honest disk.history disk.size self old_size commands payload count c.as_bytes.ensures.decoded c.as_bytes.ensures.lawful c.len-count.ensures n state stands _ (old_size ∙ sym same) c.in-Ok.ensures.number c.in-Ok.ensures.stored
     (λ has had. subst (λ (s : ℕ). AllCarryLog (present (disk.history (log_model.disk_of log))) s (front_of self + count) (frames_of has.base) (frames_of (tails has) ++ (count, payload) ∷ [])) (sym same) (c.in-Ok.ensures.after has had))
 
 -- ---- the refusal
@@ -71,7 +65,7 @@ returns-then-batch-number-clause-told g c =
     let self = c.args.self.now in
     let batch = c.args.batch.now in
     let serves : has_failed self ≡ false = sym c.has_failed.ensures ∙ c.if-has_failed.false in
-    let other : batch.first ≢ front_of self + 1 = λ same. c.if-batch-number.true (same ∙ ap (λ (k : ℕ). k + 1) (sym c.number.ensures.number)) in
+    let other : batch.first ≢ front_of self + 1 = omega (arith, c.number.ensures.number) in
     subst (λ (o : Option StoreFault). IsToldOf o store_fault.OutOfOrder) (sym (refused-order (has_failed self) (room_of self) (front_of self) batch.first batch.commands serves other)) refl
 
 pub returns-in-Ok-clause-told : goal.returns-in-Ok-clause-told
@@ -80,7 +74,7 @@ returns-in-Ok-clause-told g c =
     let batch = c.args.batch.now in
     let size = g.D.SectorDisk.size (disk_of self) in
     let serves : has_failed self ≡ false = sym c.has_failed.ensures ∙ c.if-has_failed.false in
-    let next : batch.first ≡ front_of self + 1 = c.if-batch-number.false ∙ ap (λ (k : ℕ). k + 1) c.number.ensures.number in
+    let next : batch.first ≡ front_of self + 1 = omega (arith, c.number.ensures.number) in
     let room = has-room self.sectors size self.size (log_model.root_of self.log) (log_model.end_of self.log) (front_of self) c.len-count.result batch.commands c.as_bytes.result.now c.as_bytes.ensures.spelled c.len-count.ensures c.in-Ok.ensures.clear c.in-Ok.ensures.few in
     refused-not (has_failed self) (room_of self) (front_of self) batch.first batch.commands serves next room
 
@@ -90,7 +84,7 @@ returns-in-Err-Memory-clause-told g c =
     let batch = c.args.batch.now in
     let size = g.D.SectorDisk.size (disk_of self) in
     let serves : has_failed self ≡ false = sym c.has_failed.ensures ∙ c.if-has_failed.false in
-    let next : batch.first ≡ front_of self + 1 = c.if-batch-number.false ∙ ap (λ (k : ℕ). k + 1) c.number.ensures.number in
+    let next : batch.first ≡ front_of self + 1 = omega (arith, c.number.ensures.number) in
     let fault = c.in-Err-Memory.field-0 in
     let not_failed : fault ≢ log_fault.Failed = λ e. (cc (c.in-Err-Memory.field-0-is, e)) in
     let not_full : fault ≢ log_fault.Full = λ e. (cc (c.in-Err-Memory.field-0-is, e)) in
@@ -103,7 +97,7 @@ returns-in-Err-Device-clause-told g c =
     let batch = c.args.batch.now in
     let size = g.D.SectorDisk.size (disk_of self) in
     let serves : has_failed self ≡ false = sym c.has_failed.ensures ∙ c.if-has_failed.false in
-    let next : batch.first ≡ front_of self + 1 = c.if-batch-number.false ∙ ap (λ (k : ℕ). k + 1) c.number.ensures.number in
+    let next : batch.first ≡ front_of self + 1 = omega (arith, c.number.ensures.number) in
     let fault = c.in-Err-Device.field-0 in
     let not_failed : fault ≢ log_fault.Failed = λ e. (cc (c.in-Err-Device.field-0-is, e)) in
     let not_full : fault ≢ log_fault.Full = λ e. (cc (c.in-Err-Device.field-0-is, e)) in
@@ -116,6 +110,6 @@ returns-in-Err-Full-clause-told g c =
     let batch = c.args.batch.now in
     let size = g.D.SectorDisk.size (disk_of self) in
     let serves : has_failed self ≡ false = sym c.has_failed.ensures ∙ c.if-has_failed.false in
-    let next : batch.first ≡ front_of self + 1 = c.if-batch-number.false ∙ ap (λ (k : ℕ). k + 1) c.number.ensures.number in
+    let next : batch.first ≡ front_of self + 1 = omega (arith, c.number.ensures.number) in
     let none = has-no-room self.sectors size self.size (log_model.root_of self.log) (log_model.end_of self.log) (front_of self) c.len-count.result batch.commands c.as_bytes.result.now c.as_bytes.ensures.spelled c.len-count.ensures (c.in-Err-Full.ensures.full (ap Err c.in-Err-Full.field-0-is)) in
     subst (λ (o : Option StoreFault). IsToldOf o store_fault.Full) (sym (refused-full (has_failed self) (room_of self) (front_of self) batch.first batch.commands serves next none)) refl
