@@ -4,10 +4,9 @@ use Rattle.cg_disk.specs.Disk.{History, Image, IsImage, IsSynced, LeavesOnly, Mo
 use Rattle.cg_disk.proofs.Moments.{LeavesOnly-present, LeavesOnly-synced, LeavesOnly-weaker}
 use Rattle.cg_fold.specs.Durable.{State as Durable, after}
 use Rattle.cg_record.specs.declared.command.Command.{Command}
-use Rattle.cg_log.proofs.Images.{Carries-same as log-same}
 use Rattle.cg_store.specs.Carried.{Carries}
 use Rattle.cg_store.specs.Store.{StandsAt, disk_of, sectors_of}
-use Rattle.cg_store.proofs.Whole.{Carries-unique}
+use Rattle.cg_store.proofs.Whole.{Carries-same, Carries-unique}
 use Rattle.cg_desk.specs.Desks.{Serving, opened, settled_of}
 use Rattle.cg_held.specs.Reviving.{revive}
 use Rattle.cg_world.specs.Agreeing.{is_serving}
@@ -24,15 +23,6 @@ use Rattle.cg_world.specs.declared.world.World.{World}
 use Rattle.cg_world.proofs.Going.{pair-moves}
 use Rattle.cg_world.proofs.Histories.{nothing}
 use Rattle.cg_world.proofs.Settling.{run-rests}
-
--- images with the same sectors
-Carries-same : (a b : Image) (sectors n : ℕ) (state : Durable) → ((s : ℕ) → b s ≡ a s) → Carries a sectors n state → Carries b sectors n state
-Carries-same a b sectors n state same carries = record {
-  base = carries.base;
-  tail = carries.tail;
-  log = log-same a b sectors n carries.base carries.tail same carries.log;
-  spelled = carries.spelled;
-}
 
 -- an image carries the pair plus a prefix of these commands, and no fewer than were settled
 pub record Leaves (sectors n : ℕ) (state : Durable) (commands : List Command) (settled : ℕ) (image : Image) : Type 0 where

@@ -1,9 +1,11 @@
 use Rattle.std.proofs.Common.{◌∙◌, sym, rules}
 use Rattle.std.proofs.Math.Logic.{∥∥₁_map}
 use Rattle.cg_store.specs.Store.{front_of, has_failed, room_of}
+use Rattle.cg_store.proofs.Standing.{images-still}
 use Rattle.cg_desk.specs.Desks.{state_of}
+use Rattle.cg_world.specs.Turns.{in_flight}
 use Rattle.cg_world.proofs.Leaving.{owed-now, returned-kept}
-use Rattle.cg_world.proofs.Moving.{batch-out, failed-turn, done-for, full-for, its-commands, never-failed, never-out-of-order, not-appended, room-for}
+use Rattle.cg_world.proofs.Moving.{appended-turn, batch-out, done-for, failed-turn, full-for, its-commands, never-failed, never-out-of-order, not-appended, room-for}
 use Rattle.cg_world.proofs.world.World.append.Goals as goal
 
 pub unreachable-requires-in-Err-OutOfOrder-default : goal.unreachable-requires-in-Err-OutOfOrder-default
@@ -11,6 +13,9 @@ unreachable-requires-in-Err-OutOfOrder-default g c = never-out-of-order (state_o
 
 pub unreachable-requires-in-Err-Failed-default : goal.unreachable-requires-in-Err-Failed-default
 unreachable-requires-in-Err-Failed-default g c = never-failed (state_of c.args.self.now.desk) c.args.self.now.transit c.in-Some.batch (room_of c.args.self.now.store) (front_of c.args.self.now.store) (has_failed c.args.self.now.store) (sym c.take_batch.ensures.value ∙ c.in-Some.is) c.args.self.now.agree c.in-Err-Failed-default.field-0-0 c.in-Err-Failed-default.field-0-0-is c.in-Err-Failed-default.ensures.told
+
+pub returns-in_default-clause-images : goal.returns-in_default-clause-images
+returns-in_default-clause-images g c = λ n state stands. images-still g.D.SectorDisk.is_honest g.D.SectorDisk.history c.args.self.now.store n state (in_flight (state_of c.args.self.now.desk)) stands
 
 pub returns-in-Ok-clause-images : goal.returns-in-Ok-clause-images
 returns-in-Ok-clause-images g c = λ n state stands. rw (sym (its-commands (state_of c.args.self.now.desk) c.args.self.now.transit c.in-Some.batch (room_of c.args.self.now.store) (front_of c.args.self.now.store) (has_failed c.args.self.now.store) (sym c.take_batch.ensures.value ∙ c.in-Some.is) c.args.self.now.agree)) at c.append.ensures.images n state stands
