@@ -33,8 +33,8 @@ use Rattle.cg_desk.proofs.Living.{events_keep_calls, made-step}
 use Rattle.cg_desk.proofs.Owing.{leave-served, leave-settled, owed-served, owed-settled}
 use Rattle.cg_world.specs.Agreeing.{is_serving}
 use Rattle.cg_world.specs.Orderly.{AreInOrder, IsOrderlyAt, IsOrderlyDesk, due}
-use Rattle.cg_world.specs.Replying.{IsOrderly, LeavesWhenSettled, RepliesLeaveWhenSettled, held_in, left_by, replies_at}
-use Rattle.cg_world.specs.Runs.{AreNotes, after_run, events_of}
+use Rattle.cg_world.specs.Replying.{IsOrderly, LeavesWhenSettled, RepliesLeaveWhenSettled, held_in, left_by}
+use Rattle.cg_world.specs.Runs.{AreNotes, after_run}
 use Rattle.cg_world.specs.Sights.{Sight}
 use Rattle.cg_world.specs.Turns.{Turn, answered, in_flight, settled, turn}
 use Rattle.cg_world.specs.declared.step.Step.{Step}

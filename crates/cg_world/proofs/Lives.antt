@@ -1,6 +1,6 @@
 -- Runs and lives in a row.
 use Rattle.std.proofs.Common.{◌≡◌, ◌⊎◌, inl, inr, ℕ, ◌+◌, ◌≤◌, Bool, true, false, List, [], ◌∷◌, ◌++◌, append_assoc, append-nil, length, length-append, refl, sym, ap, ◌∙◌, subst, arith}
-use Rattle.cg_disk.specs.Disk.{History, Image, IsImage, IsSynced, LeavesOnly, Moment, Stays, present}
+use Rattle.cg_disk.specs.Disk.{History, Image, IsImage, IsSynced, LeavesOnly, Stays, present}
 use Rattle.cg_disk.proofs.Moments.{LeavesOnly-present, LeavesOnly-synced, LeavesOnly-weaker}
 use Rattle.cg_fold.specs.Durable.{State as Durable, after}
 use Rattle.cg_record.specs.declared.command.Command.{Command}
@@ -10,10 +10,10 @@ use Rattle.cg_store.proofs.Whole.{Carries-same, Carries-unique}
 use Rattle.cg_desk.specs.Desks.{Serving, opened, settled_of}
 use Rattle.cg_held.specs.Reviving.{revive}
 use Rattle.cg_world.specs.Agreeing.{is_serving}
-use Rattle.cg_world.specs.Carrying.{CarriesAtLeast, CarriesFront, HasStored}
+use Rattle.cg_world.specs.Carrying.{CarriesAtLeast, CarriesFront}
 use Rattle.cg_world.specs.Lives.{AreLives, AreRuns, IsLife, Life, LifeKeeps, LivesKeep, NeverFalls, NothingSettledIsLost, Ran, numbered_by, world_after}
 use Rattle.cg_world.specs.Opening.{IsOpened}
-use Rattle.cg_world.specs.Running.{DiskKeeps, RunKeeps, IsRun, went}
+use Rattle.cg_world.specs.Running.{IsRun, went}
 use Rattle.cg_world.specs.Runs.{made_by, to_store, unstored, unstored_at}
 use Rattle.cg_world.specs.Sights.{Sight, sight, store_of}
 use Rattle.cg_world.specs.Faults.{stopped_by_device}
@@ -21,7 +21,6 @@ use Rattle.cg_world.specs.declared.step.Step.{Step}
 use Rattle.cg_world.specs.declared.trace.Trace.{Trace}
 use Rattle.cg_world.specs.declared.world.World.{World}
 use Rattle.cg_world.proofs.Going.{pair-moves}
-use Rattle.cg_world.proofs.Histories.{nothing}
 use Rattle.cg_world.proofs.Settling.{run-rests}
 
 -- an image carries the pair plus a prefix of these commands, and no fewer than were settled

@@ -1,5 +1,5 @@
 -- The batch on its way between the desk and the store.
-use Rattle.std.proofs.Common.{◌≡◌, ◌≢◌, inl, inr, ℕ, ◌+◌, ◌≤◌, Bool, true, false, List, [], length, Option, None, Some, refl, sym, ap, ◌∙◌, subst, arith}
+use Rattle.std.proofs.Common.{◌≡◌, ◌≢◌, inl, inr, ℕ, ◌+◌, Bool, true, false, List, [], length, Option, None, Some, refl, sym, ap, ◌∙◌, subst, arith}
 use Rattle.std.proofs.lemmas.Bool.{eqb-false, false≢true}
 use Rattle.std.specs.Prelude.{if◌then◌else◌, nat_eq}
 use Rattle.cg_record.specs.declared.command.Command.{Command}
@@ -8,7 +8,7 @@ use Rattle.cg_store.specs.declared.receipt.Receipt.{Receipt}
 use Rattle.cg_store.specs.declared.fault.StoreFault.{StoreFault}
 use Rattle.cg_store.specs.declared.fault.StoreFault.TheVariants as store_fault
 use Rattle.cg_log.specs.Room.{Room}
-use Rattle.cg_store.specs.Batches.{calls_for, has_room, refusal_of, room_after}
+use Rattle.cg_store.specs.Batches.{has_room, refusal_of, room_after}
 use Rattle.cg_store.specs.Faults.{IsToldOf}
 use Rattle.cg_store.specs.Receipts.{batch_of}
 use Rattle.cg_desk.specs.Books.{Books, IsFlying, IsTake, IsWhy, letting_go, next_batch, settling, taking}
@@ -338,23 +338,18 @@ module _ (s : State) (t : Transit) (batch : Batch) (room : Room) (front : ℕ) (
             ∙ fit,
       )
 
-  -- what the store promises of the room that it had holds of the room that the world sees
-  pub calls-seen : (old now : ℕ) → now ≤ old + calls_for room batch.commands → now ≤ old + calls_for (room_left failed room) (in_flight s)
-  calls-seen old now le =
-      subst (λ (r : Room). now ≤ old + calls_for r (in_flight s)) (sym room-is)
-      (subst (λ (cs : List Command). now ≤ old + calls_for room cs) (sym goes-now.flight.commands) le)
-
   -- the world after the batch was appended
-  pub appended-turn : (failed_now : Bool) (room_now : Room) → failed_now ≡ failed → room_now ≡ room_after room batch.commands
+  pub appended-turn : (failed_now : Bool) (room_now : Room) (out : List Outgoing) → failed_now ≡ failed → room_now ≡ room_after room batch.commands → out ≡ []
       → appended note.Done (record { desk = s; appended = is_appended t; room = room_left failed room })
-      ≡ record { after = record { desk = s; appended = true; room = room_left failed_now room_now }; at_once = []; left = [] }
-  appended-turn failed_now room_now serves grown =
+      ≡ record { after = record { desk = s; appended = true; room = room_left failed_now room_now }; at_once = out; left = [] }
+  appended-turn failed_now room_now out serves grown none =
       let there : room_left failed_now room_now ≡ room_after (room_left failed room) (in_flight s) =
-          ap (λ (b : Bool). room_left b room_now) (serves ∙ goes-now.flight.serves)
-          ∙ grown
-          ∙ ap (λ (cs : List Command). room_after room cs) (sym goes-now.flight.commands)
-          ∙ ap (λ (r : Room). room_after r (in_flight s)) (sym room-is) in
+      ap (λ (b : Bool). room_left b room_now) (serves ∙ goes-now.flight.serves)
+      ∙ grown
+      ∙ ap (λ (cs : List Command). room_after room cs) (sym goes-now.flight.commands)
+      ∙ ap (λ (r : Room). room_after r (in_flight s)) (sym room-is) in
       ap (λ (r : Room). let v : Turn = record { after = record { desk = s; appended = true; room = r }; at_once = []; left = [] } in v) (sym there)
+      ∙ ap (λ (l : List Outgoing). let v : Turn = record { after = record { desk = s; appended = true; room = room_left failed_now room_now }; at_once = l; left = [] } in v) (sym none)
 
 -- the transit is empty after its batch was removed
 pub batch-out : (t t_now : Transit) (batch : Batch) → batch_in t ≡ Some batch → t_now ≡ without_batch t → t_now ≡ Empty

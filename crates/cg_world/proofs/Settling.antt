@@ -1,8 +1,8 @@
 -- What is settled grows, and each image since then has it.
-use Rattle.std.proofs.Common.{◌≡◌, inl, inr, ℕ, ◌+◌, ◌≤◌, Bool, true, false, List, [], ◌∷◌, ◌++◌, length, refl, sym, ap, ◌∙◌, subst, arith}
-use Rattle.std.specs.Prelude.{if◌then◌else◌, is_some, Option, None, Some}
+use Rattle.std.proofs.Common.{◌≡◌, inl, inr, ℕ, ◌+◌, ◌≤◌, Bool, true, false, List, [], ◌∷◌, ◌++◌, length, refl, sym, ◌∙◌, subst, arith}
+use Rattle.std.specs.Prelude.{if◌then◌else◌, is_some}
 use Rattle.std.proofs.lemmas.Bool.{cases_lt, false≢true}
-use Rattle.cg_disk.specs.Disk.{History, Image, IsImage, LeavesOnly, Moment, present}
+use Rattle.cg_disk.specs.Disk.{History, IsImage, LeavesOnly, Moment}
 use Rattle.cg_member.specs.declared.reply.Reply.TheVariants.{Refused}
 use Rattle.cg_names.specs.declared.code.Code.TheVariants.{CoordinatorNotAvailable}
 use Rattle.cg_request.specs.declared.event.Event.{Event}
@@ -18,7 +18,7 @@ use Rattle.cg_world.specs.Carrying.{CarriesAtLeast, CarriesSince, HoldsAtLeast}
 use Rattle.cg_world.specs.Running.{KeepsSettled, calls_in}
 use Rattle.cg_world.specs.Runs.{after_run}
 use Rattle.cg_world.specs.Sights.{Sight}
-use Rattle.cg_world.specs.Turns.{answered, appended, event_at, in_flight, settled, take_from, taken, turn}
+use Rattle.cg_world.specs.Turns.{answered, event_at, in_flight, take_from, turn}
 use Rattle.cg_world.specs.declared.step.Step.{Step}
 use Rattle.cg_world.specs.declared.step.Step.TheVariants.{Request, Gone, Tick, Take, Append, Settle}
 use Rattle.cg_world.specs.declared.step.StepNote.{StepNote}

@@ -51,4 +51,4 @@ pub returns-in-Ok-clause-note : goal.returns-in-Ok-clause-note
 returns-in-Ok-clause-note g c = done-for (state_of c.args.self.now.desk) c.args.self.now.transit c.in-Some.batch (room_of c.args.self.now.store) (front_of c.args.self.now.store) (has_failed c.args.self.now.store) (sym c.take_batch.ensures.value ∙ c.in-Some.is) c.args.self.now.agree c.in-Ok.ensures.told
 
 pub returns-in-Ok-clause-after : goal.returns-in-Ok-clause-after
-returns-in-Ok-clause-after g c = appended-turn (state_of c.args.self.now.desk) c.args.self.now.transit c.in-Some.batch (room_of c.args.self.now.store) (front_of c.args.self.now.store) (has_failed c.args.self.now.store) (sym c.take_batch.ensures.value ∙ c.in-Some.is) c.args.self.now.agree (has_failed c.append.new.self) (room_of c.append.new.self) c.in-Ok.ensures.serves c.in-Ok.ensures.room
+returns-in-Ok-clause-after g c = appended-turn (state_of c.args.self.now.desk) c.args.self.now.transit c.in-Some.batch (room_of c.args.self.now.store) (front_of c.args.self.now.store) (has_failed c.args.self.now.store) (sym c.take_batch.ensures.value ∙ c.in-Some.is) c.args.self.now.agree (has_failed c.append.new.self) (room_of c.append.new.self) c.new-in-Ok.result.items c.in-Ok.ensures.serves c.in-Ok.ensures.room (search rules)

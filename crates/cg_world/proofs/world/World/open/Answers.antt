@@ -23,7 +23,7 @@ returns-clause-carried g c = λ honest n state carries.
     let same = c.in-Ok.ensures.carried honest n state carries in
     same-opened g.D.SectorDisk.is_honest g.D.SectorDisk.history c.args.now _ c.in-Ok.found.1 n c.in-Ok.found.2 state same.0 same.1 (record {
       made = c.in-Ok.ensures.made.0;
-    few = c.in-Ok.ensures.made.1;
+      few = c.in-Ok.ensures.made.1;
       desk = c.in-Ok-serve.ensures;
       fresh = refl;
       found = ap (λ (p : ℕ × ℕ). let t : ℕ × ℕ × ℕ = (c.in-Ok.found.1, p.0, p.1) in t) c.counts-records.ensures;
