@@ -1,4 +1,4 @@
-//! Readers and writers that fail, and a stop after each number of device calls.
+//! Readers and writers that fail, a stop after each number of device calls, and words of the command line.
 use super::*;
 use std::alloc::{AllocError, Global};
 use std::io::Read;
