@@ -126,20 +126,29 @@ pub fn put_opening(alloc: Global, opening: (u64, u64, u64), out: &mut Vec<u8>) -
     Ok(())
 }
 
+// Returns the line for a load that failed; out of memory has none.
+fn open_fault_line(fault: OpenFault) -> &'static [u8]
+    ensures { result.now ≡ open_fault_text fault }
+{
+    match fault {
+        OpenFault::Memory => b"",
+        OpenFault::Device => b"FAULT Device\n",
+        OpenFault::NoRoot => b"FAULT NoRoot\n",
+        OpenFault::BadRoot => b"FAULT BadRoot\n",
+        OpenFault::BadFrame => b"FAULT BadFrame\n",
+        OpenFault::BadRecord => b"FAULT BadRecord\n",
+    }
+}
+
 /// Prints why a load failed. Out of memory ends the script.
 pub fn put_open_fault(fault: OpenFault, out: &mut Vec<u8>) -> Result<(), Stop>
     ensures ok { OnOk result (out.new.items ≡ out.old.items ++ open_fault_text fault) }
     ensures wanting { fault ≡ OpenFault.Memory → result ≡ Err Stop.Memory }
     ensures err { IfErr result (λ stop. stop ≡ Stop.Memory) }
 {
-    let line: &[u8] = match fault {
-        OpenFault::Memory => return Err(Stop::Memory),
-        OpenFault::Device => b"FAULT Device\n",
-        OpenFault::NoRoot => b"FAULT NoRoot\n",
-        OpenFault::BadRoot => b"FAULT BadRoot\n",
-        OpenFault::BadFrame => b"FAULT BadFrame\n",
-        OpenFault::BadRecord => b"FAULT BadRecord\n",
-    };
-    out.extend_from_slice(line)?;
+    if fault == OpenFault::Memory {
+        return Err(Stop::Memory);
+    }
+    out.extend_from_slice(open_fault_line(fault))?;
     Ok(())
 }
