@@ -1,5 +1,5 @@
 -- The sector of a poke: its bytes, and zeros after them.
-use Rattle.std.proofs.Common.{◌≡◌, ℕ, ◌*◌, ◌-◌, ◌/◌, ◌≤◌, Bool, true, false, ◌&&◌, List, [], ◌++◌, length, take, drop, replicate, refl, ap, ◌∙◌, Ok, Err, arith, take_all}
+use Rattle.std.proofs.Common.{◌≡◌, ℕ, ◌-◌, ◌/◌, ◌≤◌, List, [], ◌++◌, length, take, drop, replicate, refl, ◌∙◌, Ok, Err, arith, take_all}
 use Rattle.std.specs.Prelude.{IsTrue, Result, nat_le}
 use Rattle.std.specs.Result.{result_unwrap_or}
 use Rattle.std.proofs.lemmas.Bool.{leb-true}

@@ -1,5 +1,5 @@
 -- Known bytes grow by what is written.
-use Rattle.std.proofs.Common.{◌≡◌, ◌⊎◌, inl, inr, ℕ, List, [], ◌++◌, Option, None, Some, Result, Ok, Err, sym, ap, ◌∙◌, append_assoc}
+use Rattle.std.proofs.Common.{◌≡◌, ◌⊎◌, inl, inr, ℕ, List, ◌++◌, Option, None, Some, Result, Err, ap, ◌∙◌, append_assoc}
 use Rattle.std.specs.Io.KnownBytes.{Appends}
 use Rattle.cg_sim.specs.declared.stop.Stop.{Stop}
 use Rattle.cg_sim.specs.declared.stop.Stop.TheVariants.{Io}

@@ -1,5 +1,5 @@
 -- How a script ends.
-use Rattle.std.specs.Prelude.{◌≡◌, ◌⊎◌, ℕ, List, [], ◌++◌, Option, codes}
+use Rattle.std.specs.Prelude.{◌≡◌, ◌⊎◌, ℕ, List, [], ◌++◌, Option}
 use Rattle.std.specs.Io.KnownBytes.{Appends}
 use Rattle.cg_sim.specs.declared.script.TheConstants.{STATUS_BAD_LINE, STATUS_DONE, STATUS_IO, STATUS_SHORT}
 use Rattle.cg_sim.specs.declared.stop.Stop.{Stop}

@@ -1,4 +1,4 @@
-use Rattle.std.proofs.Common.{◌∙◌, ◌∷◌, [], codes}
+use Rattle.std.proofs.Common.{◌∷◌, [], codes}
 use Rattle.std.specs.Fmt.{decimal}
 use Rattle.cg_sim.proofs.Known.{appends_three}
 use Rattle.cg_sim.proofs.script.tell_bad_line.Goals as goal
