@@ -106,7 +106,9 @@ fn through<R: Clock, D: SectorDisk + Drop>(
     let outcome = timed_all(rt, alloc, &mut desk, &mut store, batches, tally);
     let _ = desk.close();
     outcome?;
-    Ok(store.into_disk())
+    let disk = store.into_disk();
+    ensure!(disk.sectors() >= DISK_SECTORS, "the disk has shrunk");
+    Ok(disk)
 }
 
 // Steps the machine without a desk, and after each batch calls the disk alone, so that both follow a sync as they do in
