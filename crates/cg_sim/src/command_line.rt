@@ -41,7 +41,7 @@ fn segments_arg<'a>(alloc: Global) -> Arg<'a>
         .long("segments")
         .value_name("N")
         .value_parser(value_parser!(u64).range(1..=SEGMENTS_MAX as i64))
-        .help("Segments of 1 MiB on the disk, 1 to 200, of which the first is used [default: 8]")
+        .help("Segments of 1 MiB on the disk, 1 to 200 [default: 8]")
 }
 
 fn command<'a>(alloc: Global) -> Result<Command<'a>, AllocError>
