@@ -51,7 +51,7 @@ def task(words):
         all_refused = all_refused and refused
         print(line, flush=True)
         with open(f"{crate.folder}/out/edits", "a", encoding="utf-8") as file:
-            file.write(f"{key_of(crate, edit)} {'refused' if refused else 'not-refused'} {os.path.relpath(edit, crate.folder)}\n")
+            file.write(f"{key_of(crate.stamp(), edit)} {'refused' if refused else 'not-refused'} {os.path.relpath(edit, crate.folder)}\n")
 
     try_edits(crate, rest, report)
     return not all_refused
@@ -76,7 +76,8 @@ def outcomes(crate):
     if os.path.isfile(path):
         with open(path, encoding="utf-8") as file:
             said = {key: word == "refused" for key, word, _ in map(str.split, file)}
-    keys = {edit: key_of(crate, edit) for edit in edits_of(crate)}
+    stamp = crate.stamp()
+    keys = {edit: key_of(stamp, edit) for edit in edits_of(crate)}
     return {edit: said[key] for edit, key in keys.items() if key in said}
 
 

@@ -19,10 +19,11 @@ def edits_of(crate, folders=FOLDERS):
     return found
 
 
-def key_of(crate, edit):
-    """Returns a sum of the edit, of the crate and of all that the crate uses: an outcome holds as long as it is the same."""
+def key_of(stamp, edit):
+    """Returns a sum of the edit and of its crate's stamp, the sum of the crate and of all that it uses: an outcome holds as long as
+    it is the same."""
     with open(edit, "rb") as file:
-        return hashlib.sha256(crate.stamp().encode() + file.read()).hexdigest()[:24]
+        return hashlib.sha256(stamp.encode() + file.read()).hexdigest()[:24]
 
 
 def _module_of(path):
