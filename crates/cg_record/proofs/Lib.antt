@@ -9,6 +9,7 @@ pub mod GroupLaws
 pub mod CommandLaws
 pub mod Steps
 pub mod Again
+pub mod Decoding
 pub mod Told
 pub mod TextLens
 pub mod Replacing

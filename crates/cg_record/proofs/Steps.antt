@@ -6,6 +6,7 @@ use Rattle.cg_record.specs.declared.fault.RecordFault.{RecordFault}
 use Rattle.cg_record.specs.declared.fault.RecordFault.TheVariants.{Memory}
 use Rattle.cg_record.specs.declared.command.Command.{Command}
 use Rattle.cg_record.specs.Fields.{Read, ◌>>=◌, many_at}
+use Rattle.cg_record.specs.Decoding.{after_front}
 use Rattle.cg_record.specs.Reading.{Fails, command_at, commands_to_end}
 use Rattle.cg_record.proofs.CommandLaws.{to_end_step, to_end_nil}
 
@@ -37,20 +38,16 @@ many_end at count i front bytes total le so_far =
 
 -- ---- commands
 
--- the commands in front, followed by those that are still decoded
-abbrev pub behind_front : List Command → Result (List Command) RecordFault → Result (List Command) RecordFault
-behind_front front read = read >>= λ others. Ok (front ++ others)
-
-regroup : (front : List Command) (x : Command) (read : Result (List Command) RecordFault) → behind_front front (read >>= λ others. Ok (x ∷ others)) ≡ behind_front (front ++ x ∷ []) read
+regroup : (front : List Command) (x : Command) (read : Result (List Command) RecordFault) → after_front front (read >>= λ others. Ok (x ∷ others)) ≡ after_front (front ++ x ∷ []) read
 regroup front x (Ok others) = ap (λ (l : List Command). Ok l) (sym (append_assoc front (x ∷ []) others))
 regroup front x (Err fault) = refl
 
 -- the remaining bytes after some commands, each of which has at least one byte
 pub record IsLeft (version : Version) (bytes : List ℕ) (front : List Command) (rest : List ℕ) (total : Result (List Command) RecordFault) : Type 0 where
   pub enough : length rest + length front ≤ length bytes
-  pub so_far : behind_front front (commands_to_end version (length bytes - length front) rest) ≡ total
+  pub so_far : after_front front (commands_to_end version (length bytes - length front) rest) ≡ total
 
-front_nil : (read : Result (List Command) RecordFault) → behind_front [] read ≡ read
+front_nil : (read : Result (List Command) RecordFault) → after_front [] read ≡ read
 front_nil (Ok others) = refl
 front_nil (Err fault) = refl
 
@@ -61,9 +58,9 @@ commands_start version bytes =
 
 -- the decoding of the next command where bytes are left
 pub left_step : (version : Version) (bytes : List ℕ) (front : List Command) (rest : List ℕ) (most : ℕ) (total : Result (List Command) RecordFault) → IsLeft version bytes front rest total → 1 ≤ length rest → length bytes - length front ≡ suc most
-    → behind_front front (command_at version rest >>= λ first. commands_to_end version most first.1 >>= λ others. Ok (first.0 ∷ others)) ≡ total
+    → after_front front (command_at version rest >>= λ first. commands_to_end version most first.1 >>= λ others. Ok (first.0 ∷ others)) ≡ total
 left_step version bytes front rest most total left some k =
-    sym (ap (λ (n : ℕ). behind_front front (commands_to_end version n rest)) k ∙ ap (behind_front front) (to_end_step version most rest some)) ∙ left.so_far
+    sym (ap (λ (n : ℕ). after_front front (commands_to_end version n rest)) k ∙ ap (after_front front) (to_end_step version most rest some)) ∙ left.so_far
 
 pub commands_on : (version : Version) (bytes : List ℕ) (front : List Command) (rest : List ℕ) (total : Result (List Command) RecordFault) (x : Command) (after : List ℕ) → IsLeft version bytes front rest total → command_at version rest ≡ Ok (x, after) → length after < length rest → IsLeft version bytes (front ++ x ∷ []) after total
 commands_on version bytes front rest total x after left h shorter =
@@ -71,7 +68,7 @@ commands_on version bytes front rest total x after left h shorter =
     let most = length bytes - length (front ++ x ∷ []) in
     let k : length bytes - length front ≡ suc (length bytes - length (front ++ x ∷ [])) = omega (arith, left.enough) in
     let step = left_step version bytes front rest (length bytes - length (front ++ x ∷ [])) total left (omega arith) k in
-    let taken : behind_front front (commands_to_end version (length bytes - length (front ++ x ∷ [])) after >>= λ others. Ok (x ∷ others)) ≡ total = rw h at step in
+    let taken : after_front front (commands_to_end version (length bytes - length (front ++ x ∷ [])) after >>= λ others. Ok (x ∷ others)) ≡ total = rw h at step in
     record { enough = omega (arith, left.enough); so_far = sym (regroup front x (commands_to_end version (length bytes - length (front ++ x ∷ [])) after)) ∙ taken }
 
 pub commands_fail : (fault : RecordFault) (version : Version) (bytes : List ℕ) (front : List Command) (rest : List ℕ) (total : Result (List Command) RecordFault) → IsLeft version bytes front rest total → 1 ≤ length rest → Fails fault (command_at version rest) → Fails fault total
@@ -87,5 +84,5 @@ commands_fail fault version bytes front rest total left some h =
 pub commands_end : (version : Version) (bytes : List ℕ) (front : List Command) (rest : List ℕ) (total : Result (List Command) RecordFault) → IsLeft version bytes front rest total → length rest < 1 → total ≡ Ok front
 commands_end version bytes front rest total left none =
     let nothing : rest ≡ [] = nil_from_length rest (omega arith) in
-    sym left.so_far ∙ ap (λ (l : List ℕ). behind_front front (commands_to_end version (length bytes - length front) l)) nothing
-    ∙ ap (behind_front front) (to_end_nil version (length bytes - length front)) ∙ ap (λ (l : List Command). Ok l) (append-nil front)
+    sym left.so_far ∙ ap (λ (l : List ℕ). after_front front (commands_to_end version (length bytes - length front) l)) nothing
+    ∙ ap (after_front front) (to_end_nil version (length bytes - length front)) ∙ ap (λ (l : List Command). Ok l) (append-nil front)

@@ -6,3 +6,4 @@ pub mod Members
 pub mod Lawful
 pub mod Spelling
 pub mod Reading
+pub mod Decoding

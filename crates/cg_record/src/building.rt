@@ -1,8 +1,9 @@
 //! The decoder that builds commands, in one pass over the bytes.
 
-ghost use Rattle.std.specs.Prelude.{◌≡◌, ◌<◌, [], length, IfOk};
+ghost use Rattle.std.specs.Prelude.{◌≡◌, ◌<◌, [], ◌∷◌, length, IfOk};
+ghost use Rattle.cg_record.specs.Decoding.{after_front, left_in};
 ghost use Rattle.cg_record.specs.Keys.{AreEntries, HasDistinctKeys};
-ghost use Rattle.cg_record.specs.Lawful.{IsKey, IsKept};
+ghost use Rattle.cg_record.specs.Lawful.{IsCommand, IsKey, IsKept};
 ghost use Rattle.cg_record.specs.Reading.{Builds, entry_at, entries_at, committed_at, body_at, command_at, commands_to_end, commands_of};
 
 use crate::command::Command;
@@ -127,14 +128,16 @@ fn body_at(
     }
 }
 
+/// Decodes the next command.
 #[tactic(auto, unfolding(crate::specs::Reading::command_at))]
-fn command_at(
+pub fn command_at(
     alloc: Global,
     version: Version,
     bytes: &[u8],
 ) -> Result<(Command, &[u8]), RecordFault>
     ensures builds { Builds (λ x. (x.0, x.1.now)) result (command_at version bytes.now) }
     ensures shorter { IfOk result (λ x. length x.1.now < length bytes.now) }
+    ensures left { IfOk result (λ x. IsCommand x.0 × (left_in version bytes.now ≡ after_front (x.0 ∷ []) (left_in version x.1.now))) }
 {
     let (kind, rest) = byte_at(bytes)?;
     body_at(alloc, version, kind, rest)

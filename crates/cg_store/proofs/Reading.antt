@@ -1,6 +1,13 @@
 -- The frames that were read so far.
-use Rattle.std.proofs.Common.{◌≡◌, ℕ, Bool, true, false, List, [], ◌∷◌, ◌++◌, sym, subst}
-use Rattle.cg_fold.specs.Durable.{State, empty}
+use Rattle.std.proofs.Common.{◌≡◌, ℕ, ◌+◌, ◌-◌, ◌<◌, Bool, true, false, List, [], ◌∷◌, ◌++◌, length, Result, Ok, Err, refl, sym, ap, ◌∙◌, subst, append_assoc, arith}
+use Rattle.std.proofs.lemmas.List.{length-append}
+use Rattle.std.proofs.lemmas.List.Sums.{fold-append}
+use Rattle.cg_record.specs.Decoding.{after_front}
+use Rattle.cg_record.specs.Lawful.{AreCommands, IsCommand}
+use Rattle.cg_record.specs.Reading.{commands_of}
+use Rattle.cg_record.specs.declared.command.Command.{Command}
+use Rattle.cg_record.specs.declared.fault.RecordFault.{RecordFault}
+use Rattle.cg_fold.specs.Durable.{State, after, effect, empty}
 use Rattle.cg_log.specs.Segments.{Frames}
 use Rattle.cg_store.specs.Carried.{Spell}
 use Rattle.cg_store.specs.Loading.{Adds, IsRead}
@@ -26,7 +33,35 @@ pub read-more : (was is : Bool) (frames : Frames) (count : ℕ) (payload : List 
 read-more true is frames count payload before now all read adds = read-push is frames count payload before now read adds
 read-more false is frames count payload before now all read adds = absurd (cc)
 
--- all payloads were decoded, or one was not
+-- ---- the commands of one payload
+
+-- these commands were decoded and applied, and the decoder has the others
+pub record HasApplied (payload : List ℕ) (count left : ℕ) (before now : State) (decoder : Result (List Command) RecordFault) : Type 0 where
+  pub front : List Command
+  pub lawful : AreCommands front
+  pub decoded : commands_of payload ≡ after_front front decoder
+  pub counted : left + length front ≡ count
+  pub state_is : now ≡ after before front
+
+after-both : (front : List Command) (command : Command) (decoder : Result (List Command) RecordFault) → after_front front (after_front (command ∷ []) decoder) ≡ after_front (front ++ command ∷ []) decoder
+after-both front command (Ok others) = ap (λ (l : List Command). Ok l) (sym (append_assoc front (command ∷ []) others))
+after-both front command (Err fault) = refl
+
+lawful-push : (front : List Command) (command : Command) → AreCommands front → IsCommand command → AreCommands (front ++ command ∷ [])
+lawful-push [] command are is = (is, tt)
+lawful-push (x ∷ front) command are is = (are.0, lawful-push front command are.1 is)
+
+pub applied-more : (payload : List ℕ) (count left : ℕ) (before now : State) (decoder next : Result (List Command) RecordFault) (command : Command)
+    → HasApplied payload count left before now decoder → 0 < left → IsCommand command → decoder ≡ after_front (command ∷ []) next → HasApplied payload count (left - 1) before (effect now command) next
+applied-more payload count left before now decoder next command applied some is e = record {
+  front = applied.front ++ command ∷ [];
+  lawful = lawful-push applied.front command applied.lawful is;
+  decoded = applied.decoded ∙ ap (after_front applied.front) e ∙ after-both applied.front command next;
+  counted = omega (arith, applied.counted, length-append applied.front (command ∷ []));
+  state_is = ap (λ (s : State). effect s command) applied.state_is ∙ sym (fold-append effect before applied.front (command ∷ []));
+}
+
+-- ---- all payloads were decoded, or one was not
 
 pub all-read : (is : Bool) (frames : Frames) (state : State) → is ≡ true → IsRead is frames state → Spell frames state
 all-read true frames state all read = read

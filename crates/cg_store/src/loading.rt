@@ -13,7 +13,7 @@ use crate::fault::OpenFault;
 use cg_disk::SectorDisk;
 use cg_fold::Durable;
 use cg_log::Opening;
-use cg_record::{Command, RecordFault};
+use cg_record::{Decoder, RecordFault};
 use std::alloc::{AllocError, Global};
 
 /// The progress of a recovery, from the first frame on.
@@ -25,41 +25,8 @@ pub(crate) struct Loading {
     pub durable: Durable,
 }
 
-// Decodes the payload of a frame. Returns `None` if it has a fault, or another number of commands than the frame
-// counts.
-fn commands_in(
-    alloc: Global,
-    count: u64,
-    payload: &[u8],
-) -> Result<Option<Vec<Command>>, AllocError>
-    ensures { IfOk result (λ o. MatchOption o
-        (IsNoText count payload.now)
-        (λ v. IsFrameOf (count, payload.now) v.items)) }
-{
-    match cg_record::read(alloc, payload) {
-        Ok(commands) if commands.len() as u64 == count => Ok(Some(commands)),
-        Ok(_) => Ok(None),
-        Err(RecordFault::Memory) => Err(AllocError),
-        Err(
-            RecordFault::Short
-            | RecordFault::BadKind
-            | RecordFault::BadName
-            | RecordFault::BadLength
-            | RecordFault::Repeated,
-        ) => Ok(None),
-    }
-}
-
-fn apply_all(durable: &mut Durable, commands: &[Command]) -> Result<(), AllocError>
-    ensures { OnOk result (durable.new ≡ after durable.old commands.now) }
-{
-    for command in commands {
-        durable.apply(command)?;
-    }
-    Ok(())
-}
-
-// Applies the commands of a frame. Returns `false` if its payload cannot be decoded.
+// Applies the commands of a frame, one at a time. Returns `false` if its payload has a fault, or another number of
+// commands than the frame counts: the state does not matter then.
 fn add_commands(
     alloc: Global,
     durable: &mut Durable,
@@ -68,11 +35,22 @@ fn add_commands(
 ) -> Result<bool, AllocError>
     ensures { IfOk result (λ is. Adds is count payload.now durable.old durable.new) }
 {
-    let Some(commands) = commands_in(alloc, count, payload)? else {
+    let Ok(mut decoder) = Decoder::new(payload) else {
         return Ok(false);
     };
-    apply_all(durable, &commands)?;
-    Ok(true)
+    let mut left = count;
+    loop {
+        match decoder.next(alloc) {
+            Ok(Some(command)) if left > 0 => {
+                durable.apply(&command)?;
+                left -= 1;
+            }
+            Ok(Some(_)) => return Ok(false),
+            Ok(None) => return Ok(left == 0),
+            Err(RecordFault::Memory) => return Err(AllocError),
+            Err(_) => return Ok(false),
+        }
+    }
 }
 
 // Applies the commands of a frame, unless an earlier payload could not be decoded: the state does not matter then.
