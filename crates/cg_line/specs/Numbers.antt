@@ -1,5 +1,5 @@
 -- Numbers on a line: decimal, without leading zeros and without a plus.
-use Rattle.std.specs.Prelude.{ℕ, ℤ, pos, negsuc, ◌+◌, ◌-◌, ◌*◌, Bool, false, not, ◌&&◌, ◌==◌, nat_le, List, [], ◌∷◌, drop, if◌then◌else◌}
+use Rattle.std.specs.Prelude.{ℕ, ℤ, pos, negsuc, ◌+◌, ◌-◌, ◌*◌, Bool, false, not, ◌&&◌, ◌==◌, nat_le, List, [], ◌∷◌, drop, Option, Some, None, if◌then◌else◌}
 use Rattle.std.specs.List.{list_all, fold}
 
 -- an ASCII digit
@@ -23,6 +23,10 @@ is_plain (d ∷ e ∷ ds) = not (d == 48) && list_all is_digit (d ∷ e ∷ ds)
 -- a number from 0 to `most`
 unfoldable pub is_number : ℕ → List ℕ → Bool
 is_number most word = is_plain word && nat_le (value_of word) most
+
+-- the number from 0 to `most` that the word spells
+unfoldable pub number_of : ℕ → List ℕ → Option ℕ
+number_of most word = if is_number most word then Some (value_of word) else None
 
 -- the word begins with a minus
 abbrev pub is_negative : List ℕ → Bool

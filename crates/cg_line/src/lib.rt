@@ -3,6 +3,7 @@
 #![tactic(auto)]
 
 mod backend;
+pub mod decimal;
 mod ending;
 mod line_fault;
 mod parsing;

@@ -1,32 +1,18 @@
 -- The number of digits grows with each digit.
-use Rattle.std.proofs.Common.{◌≡◌, ℕ, ◌+◌, ◌-◌, ◌*◌, ◌^◌, ◌<◌, ◌≤◌, List, [], ◌∷◌, length, drop, get_or, ap, arith, Bool, true, false, refl, not, eqb}
+use Rattle.std.proofs.Common.{ℕ, ◌+◌, ◌-◌, ◌*◌, ◌^◌, ◌<◌, ◌≤◌, List, [], ◌∷◌, length, arith, not, eqb}
 use Rattle.std.specs.Prelude.{IsTrue, ◌&&◌}
 use Rattle.std.proofs.lemmas.Bool.Decides.{nat_tests}
 use Rattle.std.proofs.lemmas.Bool.{leb-true}
 use Rattle.std.proofs.Math.Dec.{leb, lit<}
 use Rattle.cg_sim.specs.declared.text.TheConstants.{SESSION_DIGITS_MAX}
 use Rattle.std.proofs.Math.Nat.{pow-succ', pow-le-pow_right, mul-le-mul_right, mul_assoc}
-use Rattle.std.proofs.Math.Seq.{drop-cons}
-use Rattle.std.proofs.Math.Numerals.{add-one}
 use Rattle.std.specs.List.{list_all}
-use Rattle.cg_sim.specs.Text.{is_digit, is_session, value_from, value_of}
-
-pub value_from-le : (n : ℕ) (digits : List ℕ) → n ≤ value_from n digits
-value_from-le n [] = omega arith
-value_from-le n (d ∷ ds) = omega (arith, value_from-le (10 * n + (d - 48)) ds)
-
--- one of the remaining digits
-pub value_from-drop : (n : ℕ) (digits : List ℕ) (i : ℕ) → i < length digits
-    → value_from n (drop i digits) ≡ value_from (10 * n + (get_or digits i 0 - 48)) (drop (i + 1) digits)
-value_from-drop n digits i below = rw add-one (ap (value_from n) (drop-cons digits i 0 below))
+use Rattle.cg_line.specs.Numbers.{is_digit, value_from, value_of}
+use Rattle.cg_line.proofs.Value.{both_of}
+use Rattle.cg_sim.specs.Text.{is_session}
 
 digit-le : (d n : ℕ) → IsTrue (is_digit d) → 10 * n + (d - 48) ≤ 10 * n + 9
 digit-le d n is = grind (arith, nat_tests)
-
--- two tests that pass together
-pub both_of : (a b : Bool) → IsTrue (a && b) → IsTrue a × IsTrue b
-both_of true b are = (refl, are)
-both_of false b are = absurd (cc)
 
 -- the number of n digits is below the n-th power of ten
 pub value_from-lt : (n : ℕ) (digits : List ℕ) → IsTrue (list_all is_digit digits) → value_from n digits < (n + 1) * 10 ^ length digits

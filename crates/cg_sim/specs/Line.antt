@@ -3,7 +3,8 @@ use Rattle.std.specs.Prelude.{ℕ, List, length, nat_lt, Bool, true, false, Opti
 use Rattle.std.specs.Option.{option_map}
 use Rattle.std.specs.Str.{bytes_eq}
 use Rattle.cg_disk.specs.declared.mem.Crash.TheVariants.{Keep, Lose}
-use Rattle.cg_sim.specs.Text.{◌>>=◌, cut_of, is_skipped, number_of, session_of}
+use Rattle.cg_line.specs.Numbers.{number_of}
+use Rattle.cg_sim.specs.Text.{◌>>=◌, cut_of, is_skipped, session_of}
 use Rattle.cg_sim.specs.SectorText.{sector_text_of}
 use Rattle.cg_sim.specs.declared.text.TheConstants.{NUMBER_MAX}
 use Rattle.cg_sim.specs.declared.line.TheConstants.{SCRIPT_LINE_BYTES_MAX}

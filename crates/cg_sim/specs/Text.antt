@@ -1,8 +1,9 @@
--- Words and numbers on a line.
-use Rattle.std.specs.Prelude.{ℕ, ◌+◌, ◌-◌, ◌*◌, Bool, true, false, not, ◌&&◌, ◌==◌, nat_le, List, [], ◌∷◌, length, take, drop, codes, Option, None, Some, if◌then◌else◌}
+-- Words on a line.
+use Rattle.std.specs.Prelude.{ℕ, Bool, true, false, not, ◌&&◌, ◌==◌, nat_le, List, [], ◌∷◌, length, take, drop, codes, Option, None, Some, if◌then◌else◌}
 use Rattle.std.specs.Option.{option_map}
-use Rattle.std.specs.List.{list_all, fold}
+use Rattle.std.specs.List.{list_all}
 use Rattle.std.specs.Str.{bytes_eq}
+use Rattle.cg_line.specs.Numbers.{is_digit, value_of}
 use Rattle.cg_sim.specs.declared.text.TheConstants.{SESSION_DIGITS_MAX}
 
 -- each line of a `do` takes the value of the line above; without a value the whole has none
@@ -15,28 +16,6 @@ None >>= f = None
 unfoldable pub cut_of : ℕ → List ℕ → Option (List ℕ × List ℕ)
 cut_of mark [] = None
 cut_of mark (b ∷ bs) = if b == mark then Some ([], bs) else option_map (λ parts. (b ∷ parts.0, parts.1)) (cut_of mark bs)
-
--- an ASCII digit
-abbrev pub is_digit : ℕ → Bool
-is_digit b = nat_le 48 b && nat_le b 57
-
--- the number in base ten of digits that follow a number
-abbrev pub value_from : ℕ → List ℕ → ℕ
-value_from n digits = fold (λ n d. 10 * n + (d - 48)) n digits
-
--- the number of digits in base ten
-unfoldable pub value_of : List ℕ → ℕ
-value_of digits = value_from 0 digits
-
--- the only spelling of a number: at least one digit, and no leading zero
-abbrev pub is_plain : List ℕ → Bool
-is_plain [] = false
-is_plain (d ∷ []) = is_digit d
-is_plain (d ∷ e ∷ ds) = not (d == 48) && list_all is_digit (d ∷ e ∷ ds)
-
--- a decimal number without leading zeros, of at most `most`
-unfoldable pub number_of : ℕ → List ℕ → Option ℕ
-number_of most text = if is_plain text && nat_le (value_of text) most then Some (value_of text) else None
 
 -- the text after `front`, if the text begins with it
 unfoldable pub behind_of : List ℕ → List ℕ → Option (List ℕ)

@@ -1,13 +1,15 @@
 //! Parsing script lines. No function here allocates.
 ghost use Rattle.std.specs.Prelude.{◌≡◌};
 ghost use Rattle.std.specs.Option.{option_map};
-ghost use Rattle.cg_sim.specs.Text.{draws_uuid, is_skipped, joiner_of, number_of};
+ghost use Rattle.cg_line.specs.Numbers.{number_of};
+ghost use Rattle.cg_sim.specs.Text.{draws_uuid, is_skipped, joiner_of};
 ghost use Rattle.cg_sim.specs.declared.text.TheConstants.{NUMBER_MAX};
 
 use crate::request_line::RequestLine;
 use crate::sector_text::SectorText;
 use crate::text::{self, NUMBER_MAX};
 use cg_disk::Crash;
+use cg_line::decimal::number;
 use cg_names::Moment;
 
 /// Longest script line, in bytes without its line feed: the longest request line, and room for the session before it.
@@ -129,7 +131,7 @@ impl<'a> Line<'a> {
         ensures { result ≡ poke_line_of rest.now }
     {
         let (sector, bytes) = text::cut(rest, b' ')?;
-        let sector = text::number(sector, NUMBER_MAX)?;
+        let sector = number(sector, NUMBER_MAX)?;
         let bytes = SectorText::read(bytes)?;
         Some(Line::Poke(sector, bytes))
     }
@@ -159,7 +161,7 @@ impl<'a> Line<'a> {
             return Some(Line::Gone(text::session_number(rest)?));
         }
         if word == b"fuse".as_slice() {
-            return Some(Line::Fuse(text::number(rest, NUMBER_MAX)?));
+            return Some(Line::Fuse(number(rest, NUMBER_MAX)?));
         }
         if word == b"poke".as_slice() {
             return Line::poke_line(rest);
@@ -180,7 +182,7 @@ fn is_skipped(text: &[u8]) -> bool
 fn moment_in(text: &[u8]) -> Option<Moment>
     ensures { result ≡ number_of NUMBER_MAX text.now }
 {
-    let millis = text::number(text, NUMBER_MAX)?;
+    let millis = number(text, NUMBER_MAX)?;
     Some(Moment::from_millis(millis))
 }
 

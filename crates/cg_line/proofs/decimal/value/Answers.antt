@@ -1,8 +1,8 @@
 use Rattle.std.proofs.Common.{◌+◌, ◌*◌, ◌-◌, ◌≤◌, ◌<◌, length, drop, get_or, sym, ap, ◌∙◌, arith}
 use Rattle.std.proofs.Math.ListN.{drop_of_length-le}
-use Rattle.cg_sim.specs.Text.{value_of, value_from}
-use Rattle.cg_sim.proofs.Value.{value_from-le, value_from-drop}
-use Rattle.cg_sim.proofs.text.value.Goals as goal
+use Rattle.cg_line.specs.Numbers.{value_of, value_from}
+use Rattle.cg_line.proofs.Value.{value_from-le, value_from-drop}
+use Rattle.cg_line.proofs.decimal.value.Goals as goal
 
 pub returns-in_err-value : goal.returns-in_err-value
 unfolding value_of

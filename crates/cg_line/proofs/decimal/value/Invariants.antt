@@ -1,6 +1,6 @@
 use Rattle.std.proofs.Common.{◌≡◌, drop}
-use Rattle.cg_sim.specs.Text.{value_from}
-use Rattle.cg_sim.proofs.text.value.Given as goal
+use Rattle.cg_line.specs.Numbers.{value_from}
+use Rattle.cg_line.proofs.decimal.value.Given as goal
 
 abbrev pub invariant-loop-digit : goal.invariant-loop-digit
 invariant-loop-digit l = value_from l.value (drop l.digit-index l.digits) ≡ value_from 0 l.digits
