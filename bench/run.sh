@@ -29,7 +29,12 @@ frames)
     "${bound[@]}" out/bench frames "$file"
     ;;
 load)
-    "${bound[@]}" env time -f "peak: %M KiB" out/bench load "$file"
+    "${bound[@]}" out/bench load "$file"
+    # One load alone for its peak of memory, by GNU time, in KiB: the second line less the first.
+    out/bench load "$file" fill
+    env time -f "peak without a load: %M KiB" out/bench >/dev/null
+    env time -f "peak with one load: %M KiB" out/bench load "$file" open
+    out/bench load "$file" remove
     ;;
 desk)
     "${bound[@]}" out/bench desk commits "$file"

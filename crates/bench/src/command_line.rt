@@ -1,6 +1,7 @@
 //! The command line: which benchmark runs, and over which file.
 use crate::desk::DeskPart;
 use crate::fold::part::{NAMES, Part, named};
+use crate::load::once::{self, LoadPart};
 use clap::{Arg, ArgMatches, Command};
 use std::alloc::{AllocError, Global};
 
@@ -21,6 +22,8 @@ pub enum Benchmark<'a> {
     Lines,
     /// Logs that are loaded from this file.
     Load(&'a str),
+    /// One load from this file, or what it needs, run once.
+    LoadPart(LoadPart, &'a str),
 }
 
 fn file<'a>(alloc: Global) -> Arg<'a> {
@@ -41,6 +44,16 @@ fn fold<'a>(alloc: Global) -> Result<Command<'a>, AllocError> {
         .help("One part, run once, for its peak of memory");
     Command::new(alloc, "fold")
         .about("The durable state: apply, snapshot, load and step")
+        .arg(part)
+}
+
+fn load<'a>(alloc: Global) -> Result<Command<'a>, AllocError> {
+    let part = Arg::new(alloc, "PART")
+        .value_parser(once::NAMES.as_slice())
+        .help("One part, run once, for its peak of memory");
+    Command::new(alloc, "load")
+        .about("Logs loaded, beside a plain read, and appends that roll")
+        .arg(file(alloc))?
         .arg(part)
 }
 
@@ -66,9 +79,6 @@ fn desk<'a>(alloc: Global) -> Result<Command<'a>, AllocError> {
 pub fn command<'a>(alloc: Global) -> Result<Command<'a>, AllocError> {
     let groups = Command::new(alloc, "groups").about("Events of the group machine per second");
     let lines = Command::new(alloc, "lines").about("Bytes of lines read and printed per second");
-    let load = Command::new(alloc, "load")
-        .about("Logs loaded, beside a plain read, and appends that roll")
-        .arg(file(alloc))?;
     Command::new(alloc, "bench")
         .about("Measures one part of the coordinator, and prints what it took")
         .subcommand_required(true)
@@ -77,7 +87,7 @@ pub fn command<'a>(alloc: Global) -> Result<Command<'a>, AllocError> {
         .subcommand(fold(alloc)?)?
         .subcommand(desk(alloc)?)?
         .subcommand(lines)?
-        .subcommand(load)
+        .subcommand(load(alloc)?)
 }
 
 fn desk_part<'a>(matches: &ArgMatches<'a>) -> Option<DeskPart<'a>> {
@@ -93,6 +103,14 @@ fn fold_part(matches: &ArgMatches<'_>) -> Option<Part> {
     named(matches.get_str("PART")?)
 }
 
+fn load_of<'a>(matches: &ArgMatches<'a>) -> Option<Benchmark<'a>> {
+    let file = matches.get_str("FILE")?;
+    match matches.get_str("PART").and_then(once::named) {
+        None => Some(Benchmark::Load(file)),
+        Some(part) => Some(Benchmark::LoadPart(part, file)),
+    }
+}
+
 /// Returns the selected benchmark. A command line that `command` accepts always selects one.
 pub fn chosen<'a>(matches: &ArgMatches<'a>) -> Option<Benchmark<'a>> {
     match matches.subcommand()? {
@@ -104,7 +122,7 @@ pub fn chosen<'a>(matches: &ArgMatches<'a>) -> Option<Benchmark<'a>> {
         },
         ("desk", desk) => desk_part(desk).map(Benchmark::Desk),
         ("lines", _) => Some(Benchmark::Lines),
-        ("load", load) => load.get_str("FILE").map(Benchmark::Load),
+        ("load", load) => load_of(load),
         _ => None,
     }
 }

@@ -1,5 +1,6 @@
 //! Loading of full logs, beside a plain read of the same bytes; and appends that roll, beside those that do not.
 mod fill;
+pub mod once;
 mod reading;
 
 use crate::desk::batch::batch_of;
@@ -19,7 +20,13 @@ use std::rt::{Clock, Files};
 const ROUNDS: u32 = 6;
 
 /// Commits of the batches that are compared: the last is more than a frame holds, and is cut to what fits.
-const COMMITS: [usize; 3] = [1, 256, 40_000];
+const COMMITS: [usize; 3] = [1, 256, MANY_COMMITS];
+
+/// Commits that are more than a frame holds.
+const MANY_COMMITS: usize = 40_000;
+
+/// Segments of the largest log.
+const SEGMENTS_MOST: u64 = 200;
 
 /// Times of the loads and of the plain reads.
 #[derive(Drop)]
@@ -89,6 +96,13 @@ fn print_appends<R: Print>(rt: &R, appends: Appends) -> Result<()> {
     Ok(())
 }
 
+// Returns the sectors of a disk with so many segments.
+fn sectors_of(segments: u64) -> u64 {
+    segments
+        .saturating_mul(SEGMENT_SECTORS)
+        .saturating_add(FIRST_SEGMENT_SECTOR)
+}
+
 fn measure_log<R: Clock + Files + Print>(
     rt: &R,
     alloc: Global,
@@ -97,11 +111,8 @@ fn measure_log<R: Clock + Files + Print>(
     batch: &Batch,
 ) -> Result<()> {
     let commits = batch.commands.len();
-    let sectors = segments
-        .saturating_mul(SEGMENT_SECTORS)
-        .saturating_add(FIRST_SEGMENT_SECTOR);
     let mut appends = Appends::new(alloc);
-    let disk = FileDisk::open(rt, path, Some(sectors))?;
+    let disk = FileDisk::open(rt, path, Some(sectors_of(segments)))?;
     let frames = filled(rt, alloc, disk, batch, &mut appends)?;
     println!(rt; "{segments} segments, {frames} frames of {commits} commits")?;
     let Times { plain, log, store } = timed(rt, alloc, path, segments)?;
@@ -116,7 +127,7 @@ fn measure_log<R: Clock + Files + Print>(
 /// creates and removes.
 pub fn measure<R: Clock + Files + Print + Alloc<A = Global>>(rt: &R, path: &str) -> Result<()> {
     let alloc = rt.alloc();
-    for segments in [8, 200] {
+    for segments in [8, SEGMENTS_MOST] {
         for commits in COMMITS {
             measure_log(rt, alloc, path, segments, &batch_of(alloc, commits)?)?;
         }

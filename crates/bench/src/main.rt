@@ -55,5 +55,8 @@ fn run<R: Clock + Files + Print + Alloc<A = Global>>(
         Benchmark::Desk(part) => desk::measure(rt, part).context("measuring the desk"),
         Benchmark::Lines => lines::measure(rt).context("measuring lines"),
         Benchmark::Load(file) => load::measure(rt, file).context("measuring loading"),
+        Benchmark::LoadPart(part, file) => load::once::run(rt, part, file).context(
+            "running a part",
+        ),
     }
 }

@@ -1,0 +1,71 @@
+//! One load alone, so that the peak memory of the process is that of the load.
+use crate::desk::batch::batch_of;
+use crate::load::fill::{Appends, filled};
+use crate::load::{MANY_COMMITS, SEGMENTS_MOST, sectors_of};
+use anyhow::Result;
+use cg_disk::FileDisk;
+use cg_store::Store;
+use std::alloc::Global;
+use std::fs;
+use std::rt::{Clock, Files};
+
+/// Part of the measurement of memory.
+#[derive(Clone, Copy)]
+pub enum LoadPart {
+    /// Fills a log with frames of as many commits as fit, and leaves the file.
+    Fill,
+    /// Loads the store from the file once.
+    Open,
+    /// Removes the file.
+    Remove,
+}
+
+/// Names of the parts on the command line.
+pub static NAMES: [&str; 3] = ["fill", "open", "remove"];
+
+/// Returns the part with this name.
+pub fn named(word: &str) -> Option<LoadPart> {
+    match word {
+        "fill" => Some(LoadPart::Fill),
+        "open" => Some(LoadPart::Open),
+        "remove" => Some(LoadPart::Remove),
+        _ => None,
+    }
+}
+
+fn fill<R: Clock + Files + Print + Alloc<A = Global>>(rt: &R, path: &str) -> Result<()> {
+    let alloc = rt.alloc();
+    let batch = batch_of(alloc, MANY_COMMITS)?;
+    let disk = FileDisk::open(rt, path, Some(sectors_of(SEGMENTS_MOST)))?;
+    let frames = filled(rt, alloc, disk, &batch, &mut Appends::new(alloc))?;
+    println!(rt; "{frames} frames of {} commits", batch.commands.len())?;
+    Ok(())
+}
+
+fn open<R: Files + Print + Alloc<A = Global>>(rt: &R, path: &str) -> Result<()> {
+    let disk = FileDisk::open(rt, path, None)?;
+    match Store::open(rt.alloc(), disk) {
+        Ok((_, number, durable)) => {
+            let (records, offsets) = durable.counts();
+            println!(rt; "{number} commands, {records} records, {offsets} offsets")?;
+            Ok(())
+        }
+        Err((fault, _)) => Err(fault.into()),
+    }
+}
+
+/// Runs a part over the file.
+pub fn run<R: Clock + Files + Print + Alloc<A = Global>>(
+    rt: &R,
+    part: LoadPart,
+    path: &str,
+) -> Result<()> {
+    match part {
+        LoadPart::Fill => fill(rt, path),
+        LoadPart::Open => open(rt, path),
+        LoadPart::Remove => {
+            fs::remove_file(rt, path)?;
+            Ok(())
+        }
+    }
+}
