@@ -360,11 +360,6 @@ module _ (sessions fewer : ℕ → Bool) (now session : ℕ) (kept : (q : ℕ) �
   unfolding gone_in
   left_group g h = left_members g.members h
 
-pub known-left_all : (homes fewer : ℕ → List ℕ → Bool) (now session : ℕ) → ((q : ℕ) (id : List ℕ) → (Some session ≡ Some q → ⊥) → homes q id ≡ true → fewer q id ≡ true) → (groups : List Group) → AreKnown homes groups → AreKnown fewer (groups_after (gone_in now session) groups)
-known-left_all homes fewer now session kept [] h = tt
-known-left_all homes fewer now session kept (g ∷ gs) h =
-    (stays fewer g.id (gone_in now session g) (framed-gone_in now session g) (left_group (at homes g.id) (at fewer g.id) now session (λ q apart k. kept q g.id apart k) g h.0), known-left_all homes fewer now session kept gs h.1)
-
 -- the session index after an event
 pub known-after : (homes : ℕ → List ℕ → Bool) (now : ℕ) (groups after : List Group) (e : Event) (made : Effects) → Owns homes e → met (at_moment now groups) e ≡ outcome (at_moment now after) made → AreKnown homes groups → AreKnown homes after
 known-after homes now groups after e made own is h =

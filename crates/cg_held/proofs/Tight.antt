@@ -55,10 +55,6 @@ if_more P R more Nothing p = tt
 if_more P R more (Join t) p = more t.session p
 if_more P R more (Sync t) p = more t.session p
 
-pub each_more_sessions : (P R : ℕ → Type 0) → ((q : ℕ) → P q → R q) → (ms : List Member) → Each (λ (m : Member). IfParked P m.waits) ms → Each (λ (m : Member). IfParked R m.waits) ms
-each_more_sessions P R more [] h = tt
-each_more_sessions P R more (m ∷ ms) h = (if_more P R more m.waits h.0, each_more_sessions P R more ms h.1)
-
 -- after an update of the index: doubted sessions keep the group only if a call of them is parked in it
 pub let_go : (doubted sure final : BTreeMap ℕ (BTreeMap (List ℕ) Home)) (groups : List Group) (id : List ℕ)
     → ((q : ℕ) → is_certain final q id ≡ true → is_certain sure q id ≡ true)

@@ -21,12 +21,6 @@ both_false true b e = absurd cc
 both_false false b e = (refl, e)
 
 -- the ids are below a bound
-pub below_front : (n : ℕ) (xs ys : List ℕ) → IsTrue (list_all (λ id. nat_lt id n) (xs ++ ys)) → IsTrue (list_all (λ id. nat_lt id n) xs)
-below_front n [] ys is = refl
-below_front n (x ∷ xs) ys is =
-    let parts = both_true (nat_lt x n) (list_all (λ id. nat_lt id n) (xs ++ ys)) is in
-    ap (λ (b : Bool). b && list_all (λ id. nat_lt id n) xs) parts.0 ∙ below_front n xs ys parts.1
-
 pub below_back : (n : ℕ) (xs ys : List ℕ) → IsTrue (list_all (λ id. nat_lt id n) (xs ++ ys)) → IsTrue (list_all (λ id. nat_lt id n) ys)
 below_back n [] ys is = is
 below_back n (x ∷ xs) ys is = below_back n xs ys (both_true (nat_lt x n) (list_all (λ id. nat_lt id n) (xs ++ ys)) is).1

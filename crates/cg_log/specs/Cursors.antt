@@ -18,7 +18,7 @@ abbrev pub index_of : ℕ → List ℕ → ℕ
 index_of id [] = 0
 index_of id (x ∷ ids) = if id == x then 0 else 1 + index_of id ids
 
--- the segments of the base, and the tails before the one of this id; without an id, all
+-- the segments of the base, and the tails before the one of this id; all where there is no id, or no tail has it
 abbrev pub segments_before : Option ℕ → Content → List Filled
 segments_before None has = segments_of has
 segments_before (Some id) has = has.base ++ take (index_of id (ids_of (tails has))) (tails has)

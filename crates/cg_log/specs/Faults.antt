@@ -8,7 +8,7 @@ use Rattle.cg_log.specs.Segments.{Frames}
 use Rattle.cg_log.specs.declared.fault.LogFault.{LogFault}
 use Rattle.cg_log.specs.declared.fault.LogFault.TheVariants as log_fault
 
--- an image has a root that counts, and carries nothing
+-- an image has a root that counts, and carries nothing: a segment of the root is damaged, or the commands pass the last number
 pub record HasBadFrame (image : Image) (sectors : ℕ) : Type 0 where
   pub root : Root
   pub counting : CountingRoot image sectors root

@@ -25,15 +25,16 @@ pub record IsReadTo (image : Image) (root : Root) (index pos number : ℕ) (read
   pub read_is : read ≡ frames_of done ++ seen
   pub number_is : number ≡ root.base_number + counted (frames_of (drop (length root.base) (done ++ (id_at root index, seen) ∷ [])))
 
--- the number of the last command after a frame of the segment at an index: a base has no part in it
+-- the number of the last command after one more frame of that many commands: the counts of a base segment's frames are not
+-- added, since the base number has them already
 abbrev pub number_with : Root → ℕ → ℕ → ℕ → ℕ
 number_with root index number count = if nat_lt index (length root.base) then number else number + count
 
--- no segments of a root's ids have frames that an image has
+-- a segment that the root names has no chain of frames in the image: a gate is open with no frame after it
 abbrev pub HasBadSegment : Image → Root → Type 0
 HasBadSegment image root = (segments : List Filled) → root_ids root ≡ ids_of segments → ¬ AreStored image segments
 
--- what comes after these frames: a closed gate, one more frame, or a segment that has no frames
+-- what comes after these frames: the closed gate after the last of all, one more frame, or damage in a segment of the root
 abbrev pub FindsNext : Image → Root → ℕ → Frames → ℕ → SegmentReader → Result (Option ℕ) LogFault → Type 0
 FindsNext image root number read index reader (Ok None) =
     IsReadTo image root index (position_of reader) number read × IsClosed image (first_sector (id_at root index) + position_of reader)

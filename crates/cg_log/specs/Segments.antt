@@ -27,11 +27,6 @@ ids_of segments = map (λ (s : Filled). s.0) segments
 abbrev pub frames_of : List Filled → Frames
 frames_of segments = flat_map (λ (s : Filled). s.1) segments
 
--- the frames of the segments before the one of this id
-abbrev pub frames_before : ℕ → List Filled → Frames
-frames_before id [] = []
-frames_before id (s ∷ segments) = if s.0 == id then [] else s.1 ++ frames_before id segments
-
 -- the number of commands, by the counts of the frames
 abbrev pub counted : Frames → ℕ
 counted frames = sum_by (λ (frame : ℕ × List ℕ). frame.0) frames

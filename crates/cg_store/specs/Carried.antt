@@ -59,6 +59,6 @@ abbrev pub ImagesCarryOnePair : Type 0
 ImagesCarryOnePair =
     (image : Image) (sectors n m : ℕ) (state other : State) → Carries image sectors n state → Carries image sectors m other → (n ≡ m) × (state ≡ other)
 
--- the state of an image is one that lawful commands make, and its number one of a command
+-- the state of an image is one that lawful commands make, and its number is at most the last that a command can have
 abbrev pub ImagesCarryCommands : Type 0
 ImagesCarryCommands = (image : Image) (sectors n : ℕ) (state : State) → Carries image sectors n state → AreMade state × (n ≤ COMMAND_NUMBER_MAX)

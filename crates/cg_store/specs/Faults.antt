@@ -21,7 +21,8 @@ pub record HasLog (image : Image) (sectors : ℕ) : Type 0 where
   pub tail : Frames
   pub log : LogCarries image sectors number base tail
 
--- the log of an image is sound, and the image carries nothing: some frame has no decodable commands
+-- the log of an image is sound, and the image carries nothing: the payload of some frame cannot be decoded, or has another
+-- number of commands than the frame counts
 pub record HasBadRecord (image : Image) (sectors : ℕ) : Type 0 where
   pub has : HasLog image sectors
   pub none : (n : ℕ) (state : State) → ¬ Carries image sectors n state
@@ -45,7 +46,7 @@ of_log log_fault.BadFrame = open_fault.BadFrame
 of_log log_fault.NoRoot = open_fault.NoRoot
 of_log log_fault.Failed = open_fault.NoRoot
 
--- an opening failed because of the disk, by its fault and by its result
+-- the fault of an opening is one of the disk
 abbrev pub is_loading_failure : OpenFault → Bool
 is_loading_failure open_fault.Memory = false
 is_loading_failure open_fault.Device = true
@@ -54,11 +55,12 @@ is_loading_failure open_fault.BadRoot = false
 is_loading_failure open_fault.BadFrame = false
 is_loading_failure open_fault.BadRecord = false
 
+-- an opening failed because of the disk
 abbrev pub failed_opening : {T D : Type 0} → Result T (OpenFault × D) → Bool
 failed_opening (Ok x) = false
 failed_opening (Err refused) = is_loading_failure refused.0
 
--- an append failed because of the disk
+-- the fault of an append is one of the disk
 abbrev pub is_append_failure : StoreFault → Bool
 is_append_failure store_fault.Memory = false
 is_append_failure store_fault.Device = true
@@ -66,10 +68,12 @@ is_append_failure store_fault.Full = false
 is_append_failure store_fault.OutOfOrder = false
 is_append_failure store_fault.Failed = false
 
+-- an append failed because of the disk
 abbrev pub failed_put : {T : Type 0} → Result T StoreFault → Bool
 failed_put (Ok x) = false
 failed_put (Err fault) = is_append_failure fault
 
+-- the same where the refused batch is returned with the fault
 abbrev pub failed_append : {T B : Type 0} → Result T (StoreFault × B) → Bool
 failed_append (Ok x) = false
 failed_append (Err refused) = is_append_failure refused.0

@@ -21,12 +21,12 @@ failed_loading (Err fault) = is_loading_failure fault
 abbrev pub IsNoText : ℕ → List ℕ → Type 0
 IsNoText count payload = (commands : List Command) → ¬ IsFrameOf (count, payload) commands
 
--- the state after a payload, or the fact that it cannot be decoded
+-- the state after the commands of a payload, or the fact that it is not one of as many commands as its frame counts
 abbrev pub Adds : Bool → ℕ → List ℕ → State → State → Type 0
 Adds true count payload before now = (commands : List Command) × IsFrameOf (count, payload) commands × (now ≡ after before commands)
 Adds false count payload before now = IsNoText count payload
 
--- the state after these frames, or the fact that one of them cannot be decoded
+-- the state after these frames, or the fact that one of them has no such payload
 abbrev pub IsRead : Bool → Frames → State → Type 0
 IsRead true frames state = Spell frames state
 IsRead false frames state = (batches : List (List Command)) → ¬ AreFramesOf frames batches

@@ -1,4 +1,5 @@
--- JOIN (protocol guide, "JoinGroup"; KIP-345): its checks, in the order of the refusals.
+-- JOIN (protocol guide, "JoinGroup"; KIP-345): its checks, in the order of the refusals. The name of its group
+-- (24) and its timeouts (26) were checked before.
 use Rattle.std.specs.Prelude.{ℕ, Bool, false, nat_le, List, length, Option, Some, None, Result, Ok, is_some}
 use Rattle.cg_names.specs.declared.code.Code.{Code}
 use Rattle.cg_names.specs.declared.code.Code.TheVariants.{CoordinatorNotAvailable, InconsistentGroupProtocol, UnknownMemberId, GroupMaxSizeReached}
@@ -44,7 +45,7 @@ join_held now r fresh ticket (Some id) g = do
 
 -- JOIN in a group that is not loaded
 unfoldable pub join_unheld : ℕ → JoinRequest → List ℕ → Ticket → ℕ → List ℕ → Result Turn Code
-join_unheld now r fresh ticket held id = do
+join_unheld now r fresh ticket loaded id = do
   _ ← refused_if (is_some r.member) UnknownMemberId
-  _ ← refused_if (nat_le GROUPS_MAX held) CoordinatorNotAvailable
+  _ ← refused_if (nat_le GROUPS_MAX loaded) CoordinatorNotAvailable
   Ok (join_new now r (drawn (own_name r) fresh) ticket (new_group id))

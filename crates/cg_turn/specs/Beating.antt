@@ -13,7 +13,7 @@ use Rattle.cg_member.specs.Fencing.{member_check}
 use Rattle.cg_member.specs.Membership.{hearing, is_preparing}
 use Rattle.cg_member.specs.Refusing.{◌>>=◌, refused_if}
 
--- while a rebalance is under way, a BEAT gets 27
+-- in PreparingRebalance, a BEAT gets 27; in CompletingRebalance, between its JOINED and its SYNC, it gets OK
 unfoldable pub beat_reply : Group → Reply
 beat_reply g = if is_preparing g.phase then reply.Refused RebalanceInProgress else reply.Done
 

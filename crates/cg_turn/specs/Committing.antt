@@ -79,8 +79,8 @@ commit_held now generation instance member entries ticket g = do
 
 -- COMMIT in a group that is not loaded: the group is created, without members
 unfoldable pub commit_unheld : ℤ → List CommitEntry → Ticket → ℕ → List ℕ → Result Turn Code
-commit_unheld generation entries ticket held id = do
+commit_unheld generation entries ticket loaded id = do
   _ ← refused_if (not (is_negative generation)) IllegalGeneration
   _ ← refused_if (is_too_large entries) OffsetMetadataTooLarge
-  _ ← refused_if (nat_le GROUPS_MAX held) CoordinatorNotAvailable
+  _ ← refused_if (nat_le GROUPS_MAX loaded) CoordinatorNotAvailable
   Ok (committed entries ticket (new_group id))

@@ -159,21 +159,21 @@ pub fn join_held(
 
 /// Returns the error code of a JOIN in a group that is not loaded, if it is refused. No allocation.
 #[tactic(auto, unfolding(crate::specs::Admission::join_unheld))]
-pub fn unheld_refusal(r: &JoinRequest, held: usize) -> Option<Code>
+pub fn unheld_refusal(r: &JoinRequest, loaded: usize) -> Option<Code>
     ensures { MatchOption result
-        ((now : ℕ) (fresh : List ℕ) (ticket : Ticket) (id : List ℕ) → is_ok (join_unheld now r.now fresh ticket held id) ≡ true)
-        (λ code. (now : ℕ) (fresh : List ℕ) (ticket : Ticket) (id : List ℕ) → join_unheld now r.now fresh ticket held id ≡ Err code) }
+        ((now : ℕ) (fresh : List ℕ) (ticket : Ticket) (id : List ℕ) → is_ok (join_unheld now r.now fresh ticket loaded id) ≡ true)
+        (λ code. (now : ℕ) (fresh : List ℕ) (ticket : Ticket) (id : List ℕ) → join_unheld now r.now fresh ticket loaded id ≡ Err code) }
 {
     if r.member.is_some() {
         return Some(Code::UnknownMemberId);
     }
-    if GROUPS_MAX <= held {
+    if GROUPS_MAX <= loaded {
         return Some(Code::CoordinatorNotAvailable);
     }
     None
 }
 
-/// Returns the step of a JOIN in a group that is not loaded, or its error code. `held` is the number of loaded groups.
+/// Returns the step of a JOIN in a group that is not loaded, or its error code. `loaded` is the number of loaded groups.
 #[tactic(auto, unfolding(crate::specs::Admission::join_unheld, cg_member::specs::Joining::new_group, cg_member::specs::Membership::find_member, cg_member::specs::Membership::find_instance))]
 pub fn join_unheld(
     alloc: Global,
@@ -181,13 +181,13 @@ pub fn join_unheld(
     r: CheckedJoin,
     fresh: Uuid,
     ticket: Ticket,
-    held: usize,
+    loaded: usize,
     id: GroupId,
 ) -> Result<Result<Turn, Code>, AllocError>
-    ensures ok { IfOk result (λ o. o ≡ join_unheld now r fresh ticket held id) }
-    ensures err { OnErr result (is_ok (join_unheld now r fresh ticket held id) ≡ true) }
+    ensures ok { IfOk result (λ o. o ≡ join_unheld now r fresh ticket loaded id) }
+    ensures err { OnErr result (is_ok (join_unheld now r fresh ticket loaded id) ≡ true) }
 {
-    if let Some(code) = unheld_refusal(&r.request, held) {
+    if let Some(code) = unheld_refusal(&r.request, loaded) {
         return Ok(Err(code));
     }
     let member = drawn(alloc, &r.request, fresh)?;

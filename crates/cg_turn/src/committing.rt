@@ -72,19 +72,19 @@ pub fn kept(alloc: Global, committed: Committed, ticket: Ticket) -> Effects
     }
 }
 
-/// Returns the entries that a COMMIT stores in a group that is not loaded, or its error code. `held` is the number of
+/// Returns the entries that a COMMIT stores in a group that is not loaded, or its error code. `loaded` is the number of
 /// loaded groups. Only a COMMIT that is not refused needs an allocation.
 #[tactic(auto, unfolding(crate::specs::Committing::commit_unheld, crate::specs::Committing::keeping_entries))]
 pub fn committing_unheld(
     alloc: Global,
     generation: i32,
     entries: Commits,
-    held: usize,
+    loaded: usize,
 ) -> Result<Result<Entries, Code>, AllocError>
     ensures ok { IfOk result (λ o. MatchResult o
-        (λ kept. (ticket : Ticket) (id : List ℕ) → commit_unheld generation entries ticket held id ≡ Ok (keeping_entries kept ticket (new_group id)))
-        (λ code. (ticket : Ticket) (id : List ℕ) → commit_unheld generation entries ticket held id ≡ Err code)) }
-    ensures err { OnErr result ((ticket : Ticket) (id : List ℕ) → is_ok (commit_unheld generation entries ticket held id) ≡ true) }
+        (λ kept. (ticket : Ticket) (id : List ℕ) → commit_unheld generation entries ticket loaded id ≡ Ok (keeping_entries kept ticket (new_group id)))
+        (λ code. (ticket : Ticket) (id : List ℕ) → commit_unheld generation entries ticket loaded id ≡ Err code)) }
+    ensures err { OnErr result ((ticket : Ticket) (id : List ℕ) → is_ok (commit_unheld generation entries ticket loaded id) ≡ true) }
 {
     if generation >= 0 {
         return Ok(Err(Code::IllegalGeneration));
@@ -92,7 +92,7 @@ pub fn committing_unheld(
     if entries.is_too_large() {
         return Ok(Err(Code::OffsetMetadataTooLarge));
     }
-    if GROUPS_MAX <= held {
+    if GROUPS_MAX <= loaded {
         return Ok(Err(Code::CoordinatorNotAvailable));
     }
     match entries.into_entries(alloc)? {

@@ -76,7 +76,7 @@ numbered_by world [] = []
 numbered_by world (r ∷ rs) = made_by (went r.steps r.trace) (sight world) ++ numbered_by r.after rs
 
 -- a life that loads n commands, which make the state: its crash leaves these and a prefix of the commands that it numbered,
--- and no fewer than were settled in any run that was over, so all on which a reply rests that left
+-- and no fewer than were settled in any run that was over: all on which the replies rest that left in those runs
 pub record LifeKeeps {D : Type 0} {g : _} (honest : D → Bool) (history : D → History) (sectors n : ℕ) (state : State) (life : Life D (World D g)) (stored : List Command) : Type 0 where
   pub loads : IsOpened honest history life.opened_at life.world n state
   pub never_falls : NeverFalls life.world life.runs

@@ -22,8 +22,8 @@ use Rattle.cg_world.specs.Turns.{turn}
 use Rattle.cg_world.specs.declared.step.Step.{Step}
 use Rattle.cg_world.specs.declared.step.StepNote.{StepNote}
 
--- the replies of these events, each with the number of the last command made up to the end of its event: its sequence
--- number; commands are counted on from `numbered`
+-- the replies of these events, each with its need: the number of the last command made up to the end of its event; commands
+-- are counted on from `numbered`
 unfoldable pub replies_made : ℕ → List (Event × ℕ) → Machine → List HeldStep
 replies_made numbered [] s = []
 replies_made numbered (e ∷ es) s =
@@ -53,7 +53,7 @@ abbrev pub IsOrderly : Sight → Type 0
 IsOrderly w = IsOrderlyAt w.desk
 
 -- the release law: up to a failure of the disk, what has left in a run are the replies, held at its beginning or made by
--- its events, whose sequence number is settled at its end, in the order in which they were made
+-- its events, whose need is settled at its end, in the order in which they were made
 abbrev pub LeavesWhenSettled : List (Step × StepNote) → Sight → Type 0
 LeavesWhenSettled ps w =
     is_serving (after_run ps w).desk ≡ true
