@@ -35,7 +35,7 @@ IsOwedAt Loading = Unit {0}
 IsOwedAt (Failed numbered settled) = Unit {0}
 IsOwedAt (Serving b) = IsOwed b
 
--- a desk that has just recovered is balanced, and each of its calls keeps it balanced
+-- a desk that has just recovered is balanced, and each of its functions keeps it balanced
 pub record DesksStayBalanced : Type 0 where
   pub loaded : (number : ℕ) (durable : Durable) (now : ℕ) → AreRecords durable → IsBalancedAt (Serving (opened number (revive durable now)))
   pub request : (s : State) (r : Request) (token : ReplyToken) (fresh : List ℕ) (now : ℕ) → IsBalancedAt s → IsBalancedAt (request_on s token (asked r (call_of token) fresh) now).after

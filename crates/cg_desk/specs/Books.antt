@@ -35,11 +35,11 @@ pub record Served : Type 0 where
   pub books : Books
   pub out : List Outgoing
 
--- fewer command numbers are left than a request may use
+-- fewer command numbers are left than are kept in reserve
 abbrev pub is_short : Books → Bool
 is_short b = nat_lt (COMMAND_NUMBER_MAX - b.numbered) (SPARE_NUMBERS + SPARE_NUMBERS_PER_GROUP * length b.machine.groups)
 
--- numbers the commands of a step, then holds its replies, with the number of the last command as their sequence number
+-- numbers the commands of a step, then holds its replies, with the number of the last command as their need
 abbrev pub numbering : Books → Effects → Books
 numbering b effects = record b {
   numbered = b.numbered + length effects.commands;

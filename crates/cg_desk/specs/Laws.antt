@@ -12,7 +12,7 @@ use Rattle.cg_desk.specs.Fronts.{in_frame}
 use Rattle.cg_desk.specs.declared.outgoing.Outgoing.{Outgoing}
 use Rattle.cg_desk.specs.declared.token.ReplyToken.{ReplyToken}
 
--- Each request gets exactly one reply.
+-- Each request gets at most one reply, and is pending until then.
 
 -- the tokens of pending requests
 abbrev pub tokens_of : State → List ReplyToken

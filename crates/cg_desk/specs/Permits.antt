@@ -2,6 +2,6 @@
 use Rattle.std.specs.Prelude.{ℕ}
 use Rattle.cg_desk.specs.declared.permit.Permit.{Permit}
 
--- the greatest sequence number of a reply that may leave
+-- the greatest need of a reply that may leave
 abbrev pub front_of : Permit → ℕ
 front_of permit = permit.front

@@ -1,4 +1,4 @@
--- The codes of a reply that depends on no command.
+-- The codes by which a token may be spent without a permit: such a reply rests on no command.
 use Rattle.std.specs.Prelude.{Bool, true, false}
 use Rattle.cg_names.specs.declared.code.Code.{Code}
 use Rattle.cg_names.specs.declared.code.Code.TheVariants.{UnknownServerError, CoordinatorLoadInProgress, CoordinatorNotAvailable, InvalidRequest}

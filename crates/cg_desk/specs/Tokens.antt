@@ -4,7 +4,7 @@ use Rattle.std.specs.List.{position, remove}
 use Rattle.cg_request.specs.declared.ticket.Ticket.{Ticket}
 use Rattle.cg_desk.specs.declared.token.ReplyToken.{ReplyToken}
 
--- the ticket of the pending request
+-- the ticket of the pending request; in the names of this crate a call is a request of a client
 abbrev pub call_of : ReplyToken → Ticket
 call_of token = token.ticket
 

@@ -5,8 +5,8 @@ ghost use Rattle.cg_desk.specs.Balanced.{DesksHaveDistinctMembers, DesksStayBala
 ghost use Rattle.cg_desk.specs.Made.{EventsKeepCalls};
 ghost use Rattle.cg_desk.specs.Turns.{TurnsKeepTheirCalls};
 
-/// Each request gets exactly one reply: the tickets of pending requests change only by the ticket that comes in and the
-/// tickets of the replies that leave.
+/// Each request gets at most one reply, and is pending until then: the tickets of pending requests change only by the
+/// ticket that comes in and the tickets of the replies that leave.
 pub fn tickets_are_kept()
     ensures { TicketsAreKept }
 {}

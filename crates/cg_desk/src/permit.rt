@@ -1,7 +1,7 @@
 //! Permission to release replies.
 ghost use Rattle.std.specs.Prelude.{◌≡◌};
 
-/// Permission to release the replies whose sequence number is at most `front`. Only a desk makes one, and it stays
+/// Permission to release the replies whose need is at most `front`. Only a desk makes one, and it stays
 /// inside the desk.
 #[derive(Clone, Copy, Debug)]
 pub struct Permit {
@@ -18,7 +18,7 @@ impl Permit {
         Permit { front: settled }
     }
 
-    /// Returns the greatest sequence number of a reply that may leave.
+    /// Returns the greatest need of a reply that may leave.
     pub(crate) fn front(&self) -> u64
         ensures { result ≡ front_of self.now }
     {

@@ -13,7 +13,7 @@ pub record IsBatch (commands : List Command) : Type 0 where
   pub some : 1 ≤ length commands
   pub small : length (spelling commands) ≤ LARGEST_PAYLOAD_BYTES
 
--- there is room for the frame, and there are sequence numbers left after `front`
+-- there is room for the frame, and there are command numbers left after `front`
 abbrev pub has_room : Room → ℕ → List Command → Bool
 has_room room front commands = log_has_room room (length (spelling commands)) && nat_le (front + length commands) COMMAND_NUMBER_MAX
 

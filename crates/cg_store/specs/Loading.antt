@@ -21,7 +21,8 @@ failed_loading (Err fault) = is_loading_failure fault
 abbrev pub IsNoText : ℕ → List ℕ → Type 0
 IsNoText count payload = (commands : List Command) → ¬ IsFrameOf (count, payload) commands
 
--- the state after the commands of a payload, or the fact that it is not one of as many commands as its frame counts
+-- the state after the commands of a payload, or the fact that it does not decode to as many lawful commands as its frame
+-- counts
 abbrev pub Adds : Bool → ℕ → List ℕ → State → State → Type 0
 Adds true count payload before now = (commands : List Command) × IsFrameOf (count, payload) commands × (now ≡ after before commands)
 Adds false count payload before now = IsNoText count payload

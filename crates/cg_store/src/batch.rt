@@ -9,7 +9,7 @@ use cg_frame::LARGEST_PAYLOAD_BYTES;
 /// Commands that are appended together: at least one, and at most as many as fit one frame.
 #[derive(Debug, Drop)]
 pub struct Batch {
-    /// Sequence number of the first command; the others have the numbers after it.
+    /// Number of the first command; the others have the numbers after it.
     pub first: u64,
     pub commands: Commands,
     ghost whole: { IsBatch commands },

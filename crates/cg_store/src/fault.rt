@@ -23,8 +23,8 @@ pub enum OpenFault {
     /// A root gate is open and its body breaks a rule, or both are open and the epochs are equal.
     #[error("a bad root")]
     BadRoot,
-    /// A segment that the root names has an open gate without a frame after it, or there are more commands than sequence
-    /// numbers.
+    /// A segment that the root names has an open gate without a frame after it, or there are more commands than
+    /// command numbers.
     #[error("a frame is damaged")]
     BadFrame,
     /// A payload cannot be decoded, or the number of its commands differs from the count of its frame.
@@ -65,7 +65,7 @@ pub enum StoreFault {
     /// The disk failed. The batch may be on disk or not, and every further append reports `Failed`.
     #[error("the disk failed")]
     Device,
-    /// The frame does not fit the last segment and no other is free, or there are too few sequence numbers left. The
+    /// The frame does not fit the last segment and no other is free, or there are too few command numbers left. The
     /// store is unchanged.
     #[error("the store is full")]
     Full,

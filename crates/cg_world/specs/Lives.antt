@@ -92,10 +92,11 @@ LivesKeep honest history sectors n state (life ∷ lives) =
     (stored : List Command) × LifeKeeps honest history sectors n state life stored × LivesKeep honest history sectors (n + length stored) (after state stored) lives
 
 -- The headline over several lives: whatever lives follow each other on a disk whose first image has n commands, each of
--- them keeps what was settled in it, and the next one loads just this. Of the openings of this world's kind.
+-- them keeps what was settled in its complete runs, and the next one loads just what it kept. The world gives only the type
+-- of the disk.
 pub record NothingSettledIsLost {D : Type 0} {g : _} (honest : D → Bool) (history : D → History) (world : World D g) : Type 0 where
   pub lives : (first : Image) (sectors n : ℕ) (state : State) (lives : List (Life D (World D g))) → Carries first sectors n state
       → AreLives honest history sectors first lives → LivesKeep honest history sectors n state lives
-  -- a crash in an opening, before there is a world, leaves what the disk had
+  -- a crash in an opening of a synced disk, before there is a world, leaves what the disk had
   pub opening : (old new : History) (sectors n : ℕ) (state : State) → IsSynced (present old) → Stays old new
       → Carries (present old).content sectors n state → LeavesOnly old new (λ image. Carries image sectors n state)

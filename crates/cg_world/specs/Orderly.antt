@@ -6,14 +6,14 @@ use Rattle.cg_desk.specs.Books.{Books}
 use Rattle.cg_desk.specs.Desks.{State, Loading, Serving, Failed}
 use Rattle.cg_desk.specs.declared.held.HeldStep.{HeldStep}
 
--- the sequence number of the replies is settled
+-- the need of the replies is settled
 abbrev pub is_due : ℕ → HeldStep → Bool
 is_due settled h = nat_le h.need settled
 
 abbrev pub due : ℕ → List HeldStep → List HeldStep
 due settled held = filter (is_due settled) held
 
--- the sequence numbers of held replies are in ascending order, and none is above the number of the last command
+-- the needs of held replies are in ascending order, and none is above the number of the last command
 unfoldable pub AreInOrder : ℕ → ℕ → List HeldStep → Type 0
 AreInOrder low top [] = Unit {0}
 AreInOrder low top (h ∷ hs) = (low ≤ h.need) × (h.need ≤ top) × AreInOrder h.need top hs

@@ -48,7 +48,7 @@ unfoldable pub left_by : List (Step × StepNote) → Sight → List Outgoing
 left_by [] w = []
 left_by (p ∷ ps) w = (turn p.0 p.1 w).left ++ left_by ps (turn p.0 p.1 w).after
 
--- such a desk in a world
+-- the desk of this world is orderly
 abbrev pub IsOrderly : Sight → Type 0
 IsOrderly w = IsOrderlyAt w.desk
 
@@ -60,7 +60,7 @@ LeavesWhenSettled ps w =
     → left_by ps w ≡ map sent (replies_of (due (settled_of (after_run ps w).desk) (held_in w.desk ++ replies_at (events_of ps w) w.desk)))
 
 -- The release law holds of every run after an opening, whatever its disk. Each prefix of a run is a run, so each reply
--- leaves in the first step after which its sequence number is settled.
+-- leaves in the first step after which its need is settled.
 pub record RepliesLeaveWhenSettled : Type 0 where
   pub opened : (n : ℕ) (state : Durable) (now : ℕ) → AreMade state → IsOrderlyAt (Serving (opened n (revive state now)))
   pub stays : (ps : List (Step × StepNote)) (w : Sight) → IsOrderly w → AreNotes ps w → IsOrderly (after_run ps w)

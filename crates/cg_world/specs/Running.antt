@@ -78,7 +78,8 @@ calls_in Take w = 0
 calls_in Append w = calls_for w.room (in_flight w.desk)
 calls_in Settle w = 0
 
--- from the moment after each step on, every image carries at least the commands that were settled then
+-- from a moment on that comes at most the step's calls after the step began, every image carries at least the commands that
+-- were settled after the step
 unfoldable pub KeepsSettled : ℕ → History → List (Step × StepNote) → Sight → ℕ → Type 0
 KeepsSettled sectors history [] w since = (since ≡ history.now) × CarriesSince sectors history since (settled_of w.desk)
 KeepsSettled sectors history (p ∷ ps) w since =
