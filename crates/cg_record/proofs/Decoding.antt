@@ -12,7 +12,7 @@ use Rattle.cg_record.specs.Reading.{Builds, Fails, command_at, commands_to_end}
 use Rattle.cg_record.specs.Spelling.{command_text}
 use Rattle.cg_record.proofs.Laws.{IsBytes}
 use Rattle.cg_record.proofs.CommandLaws.{reads_command, text_not_empty, to_end_nil, to_end_step}
-use Rattle.cg_record.proofs.Steps.{fails_then}
+use Rattle.cg_record.proofs.Steps.{commands_fail, commands_start}
 
 -- what follows a step may be replaced where the step gives the same
 same_then : {A B : Type 0} (r : Result A RecordFault) (f g : A → Result B RecordFault) → ((x : A) → r ≡ Ok x → f x ≡ g x) → (r >>= f) ≡ (r >>= g)
@@ -58,7 +58,7 @@ left_on view (Err fault) version bytes fits built = tt
 
 pub left_fail : (fault : RecordFault) (version : Version) (bytes : List ℕ) → 1 ≤ length bytes → Fails fault (command_at version bytes) → Fails fault (left_in version bytes)
 left_fail fault version bytes some fails =
-    fails_then fault (command_at version bytes) (λ first. commands_to_end version (length bytes - 1) first.1 >>= λ others. Ok (first.0 ∷ others)) (left_in version bytes) fails (sym (left_step version bytes some))
+    commands_fail fault version bytes [] bytes (left_in version bytes) (commands_start version bytes) some fails
 
 pub left_end : (version : Version) (bytes : List ℕ) → length bytes < 1 → left_in version bytes ≡ Ok []
 left_end version bytes none =

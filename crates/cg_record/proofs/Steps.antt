@@ -38,7 +38,7 @@ many_end at count i front bytes total le so_far =
 
 -- ---- commands
 
-regroup : (front : List Command) (x : Command) (read : Result (List Command) RecordFault) → after_front front (read >>= λ others. Ok (x ∷ others)) ≡ after_front (front ++ x ∷ []) read
+pub regroup : (front : List Command) (x : Command) (read : Result (List Command) RecordFault) → after_front front (read >>= λ others. Ok (x ∷ others)) ≡ after_front (front ++ x ∷ []) read
 regroup front x (Ok others) = ap (λ (l : List Command). Ok l) (sym (append_assoc front (x ∷ []) others))
 regroup front x (Err fault) = refl
 

@@ -11,7 +11,8 @@ use Rattle.cg_fold.specs.Durable.{State, after, effect, empty}
 use Rattle.cg_log.specs.Segments.{Frames}
 use Rattle.cg_store.specs.Carried.{Spell}
 use Rattle.cg_store.specs.Loading.{Adds, IsRead}
-use Rattle.cg_store.proofs.Spelled.{Spell-nil, Spell-push, none-at, none-push}
+use Rattle.cg_record.proofs.Steps.{regroup}
+use Rattle.cg_store.proofs.Spelled.{both-lawful, Spell-nil, Spell-push, none-at, none-push}
 
 pub IsRead-none : (is : Bool) (state : State) → is ≡ true → state ≡ empty → IsRead is [] state
 IsRead-none true state all nothing = subst (Spell []) (sym nothing) Spell-nil
@@ -43,20 +44,12 @@ pub record HasApplied (payload : List ℕ) (count left : ℕ) (before now : Stat
   pub counted : left + length front ≡ count
   pub state_is : now ≡ after before front
 
-after-both : (front : List Command) (command : Command) (decoder : Result (List Command) RecordFault) → after_front front (after_front (command ∷ []) decoder) ≡ after_front (front ++ command ∷ []) decoder
-after-both front command (Ok others) = ap (λ (l : List Command). Ok l) (sym (append_assoc front (command ∷ []) others))
-after-both front command (Err fault) = refl
-
-lawful-push : (front : List Command) (command : Command) → AreCommands front → IsCommand command → AreCommands (front ++ command ∷ [])
-lawful-push [] command are is = (is, tt)
-lawful-push (x ∷ front) command are is = (are.0, lawful-push front command are.1 is)
-
 pub applied-more : (payload : List ℕ) (count left : ℕ) (before now : State) (decoder next : Result (List Command) RecordFault) (command : Command)
     → HasApplied payload count left before now decoder → 0 < left → IsCommand command → decoder ≡ after_front (command ∷ []) next → HasApplied payload count (left - 1) before (effect now command) next
 applied-more payload count left before now decoder next command applied some is e = record {
   front = applied.front ++ command ∷ [];
-  lawful = lawful-push applied.front command applied.lawful is;
-  decoded = applied.decoded ∙ ap (after_front applied.front) e ∙ after-both applied.front command next;
+  lawful = both-lawful applied.front (command ∷ []) applied.lawful (is, tt);
+  decoded = applied.decoded ∙ ap (after_front applied.front) e ∙ regroup applied.front command next;
   counted = omega (arith, applied.counted, length-append applied.front (command ∷ []));
   state_is = ap (λ (s : State). effect s command) applied.state_is ∙ sym (fold-append effect before applied.front (command ∷ []));
 }

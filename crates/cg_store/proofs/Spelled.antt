@@ -96,7 +96,7 @@ Spell-unique frames state other a b = a.state_is ∙ ap folded (ap joined (batch
 
 -- ---- all commands of frames are lawful
 
-both-lawful : (xs ys : List Command) → AreCommands xs → AreCommands ys → AreCommands (xs ++ ys)
+pub both-lawful : (xs ys : List Command) → AreCommands xs → AreCommands ys → AreCommands (xs ++ ys)
 both-lawful [] ys a b = b
 both-lawful (x ∷ xs) ys a b = (a.0, both-lawful xs ys a.1 b)
 
