@@ -2,6 +2,7 @@
 ghost use Rattle.std.specs.Prelude.{◌≡◌, ◌++◌, IfOk, OnOk, OnErr};
 ghost use Rattle.std.specs.Option.{option_copied};
 ghost use Rattle.std.specs.FinMap as finmap;
+ghost use Rattle.std.specs.Vec.Iter.{into_iter_items};
 ghost use Rattle.cg_fold.specs.Key.{key_of};
 ghost use Rattle.cg_fold.specs.Durable.{counts_of, effect, empty, with_record};
 ghost use Rattle.cg_fold.specs.Snapshot.{Ascending, group_commands, groups_in, in_order, snapshot_of};
@@ -15,6 +16,7 @@ use cg_names::{GroupId, Topic};
 use cg_record::{Assigned, Command, Committed, Deleted, Emptied, Partition, Replaced};
 use std::alloc::{AllocError, Global};
 use std::marker::Model;
+use std::vec::IntoIter;
 
 /// The durable state: the effect of all commands so far. Contracts see the maps of `State`.
 ///
@@ -171,6 +173,15 @@ impl Durable {
         snapshots::push_record(commands, group, self.group(group))?;
         snapshots::push_commits(self.alloc, commands, group, self.offsets.of_group(group))?;
         Ok(())
+    }
+
+    // Returns the commands that build one group.
+    pub(crate) fn commands_of(&self, group: &GroupId) -> Result<IntoIter<Command>, AllocError>
+        ensures { IfOk result (λ commands. into_iter_items commands ≡ group_commands self.now group.now) }
+    {
+        let mut commands = Vec::new(self.alloc);
+        self.push_group(&mut commands, group)?;
+        Ok(commands.into_iter())
     }
 
     /// Returns commands that build this state from the empty one: for each group its record, then its offsets. Copies

@@ -13,6 +13,7 @@ mod records;
 mod renewals;
 mod rows;
 mod shelves;
+mod snapshot;
 mod snapshots;
 #[cfg(test)]
 mod tests;
@@ -22,3 +23,4 @@ pub use key::{OffsetKey, StoredOffset};
 pub use law::snapshots_make_the_state_anew;
 pub use offsets::Offsets;
 pub use record::GroupRecord;
+pub use snapshot::Snapshot;
