@@ -12,11 +12,11 @@ use Rattle.cg_log.specs.Free.{is_among, free_below}
 use Rattle.cg_log.specs.Segments.{Filled, ids_of}
 use Rattle.cg_log.proofs.Filled.{AreApart}
 
-both_true : (a b : Bool) → (a && b) ≡ true → (a ≡ true) × (b ≡ true)
+pub both_true : (a b : Bool) → (a && b) ≡ true → (a ≡ true) × (b ≡ true)
 both_true true b e = (refl, e)
 both_true false b e = absurd cc
 
-both_false : (a b : Bool) → (a || b) ≡ false → (a ≡ false) × (b ≡ false)
+pub both_false : (a b : Bool) → (a || b) ≡ false → (a ≡ false) × (b ≡ false)
 both_false true b e = absurd cc
 both_false false b e = (refl, e)
 

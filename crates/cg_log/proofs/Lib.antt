@@ -9,3 +9,6 @@ pub mod ReadTo
 pub mod Closed
 pub mod Next
 pub mod Whole
+pub mod Taken
+pub mod Kept
+pub mod Switched

@@ -155,19 +155,19 @@ module _ (sectors : ℕ) (current next : Root) (has : Content) (id : ℕ) (more 
     tail = AreStored-append image (tails has) ((id, []) ∷ []) tail ((0, record { chain = refl; closed = subst (IsClosed image) (sym (add-zero (first_sector id))) closed }), tt);
   }
 
-pub IsLawful-rolled : (sectors : ℕ) (current next : Root) (id : ℕ) → HasOneMoreTail current next id → IsLeastFree sectors (root_ids current) id → IsLawful sectors current → next.epoch < 2 ^ 63 → IsLawful sectors next
-IsLawful-rolled sectors current next id more free lawful small = record {
+pub IsLawful-rolled : (sectors : ℕ) (fresh : List ℕ) (current next : Root) (id : ℕ) → HasOneMoreTail current next id → IsLeastFree sectors (root_ids current ++ fresh) id → IsLawful sectors current → next.epoch < 2 ^ 63 → IsLawful sectors next
+IsLawful-rolled sectors fresh current next id more free lawful small = record {
   epoch_from = omega (arith, more.epoch);
   epoch_to = small;
   base_number = omega (arith, more.base_number, lawful.base_number);
   tail = omega (arith, ap length more.tail, length-append current.tail (id ∷ []));
   ids =
       let all : root_ids next ≡ root_ids current ++ id ∷ [] = (λ i. more.base i ++ more.tail i) ∙ sym (append_assoc current.base current.tail (id ∷ [])) in
-      subst (AreSegments (segment_count sectors)) (sym all) (AreSegments-push id (segment_count sectors) (root_ids current) lawful.ids free.below free.free);
+      subst (AreSegments (segment_count sectors)) (sym all) (AreSegments-push id (segment_count sectors) (root_ids current) lawful.ids free.below (is_among-front id (root_ids current) fresh free.free));
 }
 
 -- the gates of the two slots lie apart
-gates_apart : (slot : Slot) → (gate_of slot < gate_of (other_slot slot)) ⊎ (gate_of (other_slot slot) + 2 ≤ gate_of slot)
+pub gates_apart : (slot : Slot) → (gate_of slot < gate_of (other_slot slot)) ⊎ (gate_of (other_slot slot) + 2 ≤ gate_of slot)
 gates_apart Zero = inl (omega arith)
 gates_apart One = inr (omega arith)
 

@@ -3,6 +3,7 @@ use Rattle.std.proofs.Common.{◌≡◌, inl, inr, ℕ, zero, suc, ◌<◌, ◌�
 use Rattle.std.specs.Prelude.{◌&&◌, ◌||◌, nat_lt, nat_eq, if◌then◌else◌}
 use Rattle.std.proofs.lemmas.Bool.{cases_lt}
 use Rattle.std.proofs.lemmas.Bool.Decides.{nat_tests}
+use Rattle.std.proofs.lemmas.List.Folds.{list_any-append}
 use Rattle.cg_frame.specs.Frames.{next_gate}
 use Rattle.cg_gate.specs.Layout.{segment_count}
 use Rattle.cg_gate.specs.declared.layout.TheConstants.{SEGMENT_SECTORS}
@@ -17,7 +18,7 @@ use Rattle.cg_log.specs.declared.fault.LogFault.TheVariants as log_fault
 
 -- ---- free ids
 
-or-true : (b : Bool) → (b || true) ≡ true
+pub or-true : (b : Bool) → (b || true) ≡ true
 or-true true = refl
 or-true false = refl
 
@@ -25,7 +26,7 @@ among-other : (k id : ℕ) (ids : List ℕ) → nat_eq k id ≡ false → is_amo
 among-other k id [] differs = ap (λ (b : Bool). b || false) differs
 among-other k id (x ∷ ids) differs = ap (λ (b : Bool). nat_eq k x || b) (among-other k id ids differs)
 
-among-last : (id : ℕ) (ids : List ℕ) → is_among id (ids ++ id ∷ []) ≡ true
+pub among-last : (id : ℕ) (ids : List ℕ) → is_among id (ids ++ id ∷ []) ≡ true
 among-last id [] =
     let same : nat_eq id id ≡ true = grind (arith, nat_tests) in
     ap (λ (b : Bool). b || false) same
@@ -72,89 +73,109 @@ append-once : (a b : List ℕ) (id : ℕ) → a ++ (b ++ id ∷ []) ≡ (a ++ b)
 append-once [] b id = refl
 append-once (x ∷ a) b id = ap (λ (l : List ℕ). x ∷ l) (append-once a b id)
 
+or-swap : (a b c : Bool) → ((a || (b || false)) || c) ≡ ((a || c) || (b || false))
+or-swap true b c = refl
+or-swap false true c = sym (or-true c)
+or-swap false false true = refl
+or-swap false false false = refl
+
+-- an id may stand before others or after them
+among-moved : (k id : ℕ) (xs ys : List ℕ) → is_among k ((xs ++ id ∷ []) ++ ys) ≡ is_among k ((xs ++ ys) ++ id ∷ [])
+among-moved k id xs ys =
+    list_any-append (nat_eq k) (xs ++ id ∷ []) ys ∙ ap (λ (b : Bool). b || is_among k ys) (list_any-append (nat_eq k) xs (id ∷ []))
+    ∙ or-swap (is_among k xs) (nat_eq k id) (is_among k ys)
+    ∙ ap (λ (b : Bool). b || (nat_eq k id || false)) (sym (list_any-append (nat_eq k) xs ys)) ∙ sym (list_any-append (nat_eq k) (xs ++ ys) (id ∷ []))
+
+free-as : (xs ys : List ℕ) → ((k : ℕ) → is_among k xs ≡ is_among k ys) → (n : ℕ) → free_below n xs ≡ free_below n ys
+unfolding free_below
+free-as xs ys same zero = refl
+free-as xs ys same (suc n) = free-step (is_among n xs) (is_among n ys) _ _ (same n) (free-as xs ys same n)
+
 -- ---- a new tail
 
 -- a new tail takes one free segment and one root
-pub next-segments : (sectors : ℕ) (current next : Root) (id : ℕ) → IsNextTail sectors current id next
-    → free_count_of sectors (root_ids current) ≡ free_count_of sectors (root_ids next) + 1
-next-segments sectors current next id is =
+pub next-segments : (sectors : ℕ) (fresh : List ℕ) (current next : Root) (id : ℕ) → IsNextTail sectors (root_ids current ++ fresh) current id next
+    → free_count_of sectors (root_ids current ++ fresh) ≡ free_count_of sectors (root_ids next ++ fresh) + 1
+next-segments sectors fresh current next id is =
     let ids : root_ids next ≡ root_ids current ++ id ∷ [] =
     ap (λ b. b ++ next.tail) is.more.base ∙ ap (λ t. current.base ++ t) is.more.tail ∙ append-once current.base current.tail id in
-    free-less (root_ids current) id (segment_count sectors) is.free.below is.free.free ∙ ap (λ l. free_count_of sectors l + 1) (sym ids)
+    free-less (root_ids current ++ fresh) id (segment_count sectors) is.free.below is.free.free
+    ∙ ap (λ (n : ℕ). n + 1) (sym (free-as ((root_ids current ++ id ∷ []) ++ fresh) ((root_ids current ++ fresh) ++ id ∷ []) (λ k. among-moved k id (root_ids current) fresh) (segment_count sectors)))
+    ∙ ap (λ (l : List ℕ). free_count_of sectors (l ++ fresh) + 1) (sym ids)
 
-module _ (sectors : ℕ) (current : Root) where
-  pub can-next : (end : ℕ) → HasNext sectors current → can_roll (room_at sectors current end) ≡ true
+module _ (sectors : ℕ) (taken : List ℕ) (current : Root) where
+  pub can-next : (end : ℕ) → HasNext sectors taken current → can_roll (room_at sectors taken current end) ≡ true
   unfolding can_roll
   can-next end has =
-      let some = free-less (root_ids current) has.id (segment_count sectors) has.free.below has.free.free in
-      let segment : nat_lt 0 (free_count_of sectors (root_ids current)) ≡ true = grind (arith, nat_tests) in
+      let some = free-less taken has.id (segment_count sectors) has.free.below has.free.free in
+      let segment : nat_lt 0 (free_count_of sectors taken) ≡ true = grind (arith, nat_tests) in
       let epoch : nat_lt 0 (EPOCH_MAX - current.epoch) ≡ true = grind (arith, nat_tests, has.epoch) in
       rw (segment, epoch) refl
 
-  pub cannot-full : (end : ℕ) → IsFullFor sectors current → can_roll (room_at sectors current end) ≡ false
+  pub cannot-full : (end : ℕ) → IsFullFor sectors taken current → can_roll (room_at sectors taken current end) ≡ false
   unfolding can_roll
   cannot-full end (inl none) =
-      let no_segment = free-none (root_ids current) (segment_count sectors) none in
+      let no_segment = free-none taken (segment_count sectors) none in
       rw no_segment refl
   cannot-full end (inr last) =
       let no_root : EPOCH_MAX - current.epoch ≡ 0 = omega (arith, last) in
-      no_more (nat_lt 0 (free_count_of sectors (root_ids current))) (EPOCH_MAX - current.epoch) no_root
+      no_more (nat_lt 0 (free_count_of sectors taken)) (EPOCH_MAX - current.epoch) no_root
     where
       no_more : (b : Bool) (n : ℕ) → n ≡ 0 → (b && nat_lt 0 n) ≡ false
       no_more true n none = ap (λ m. nat_lt 0 m) none
       no_more false n none = refl
 
-  pub room-rolled : (next : Root) (id end : ℕ) → IsNextTail sectors current id next → room_at sectors next 0 ≡ rolled_room (room_at sectors current end)
-  room-rolled next id end is =
-      let segments : free_count_of sectors (root_ids next) ≡ free_count_of sectors (root_ids current) - 1 = omega (arith, next-segments sectors current next id is) in
-      let roots : EPOCH_MAX - next.epoch ≡ EPOCH_MAX - current.epoch - 1 = omega (arith, is.more.epoch) in
-      let same : Room → Room = λ r. r in
-      ap (λ (s : ℕ). same (record { sectors = SEGMENT_SECTORS; segments = s; roots = EPOCH_MAX - next.epoch })) segments
-      ∙ ap (λ (r : ℕ). same (record { sectors = SEGMENT_SECTORS; segments = free_count_of sectors (root_ids current) - 1; roots = r })) roots
+pub room-rolled : (sectors : ℕ) (fresh : List ℕ) (current next : Root) (id end : ℕ) → IsNextTail sectors (root_ids current ++ fresh) current id next → room_at sectors (root_ids next ++ fresh) next 0 ≡ rolled_room (room_at sectors (root_ids current ++ fresh) current end)
+room-rolled sectors fresh current next id end is =
+    let segments : free_count_of sectors (root_ids next ++ fresh) ≡ free_count_of sectors (root_ids current ++ fresh) - 1 = omega (arith, next-segments sectors fresh current next id is) in
+    let roots : EPOCH_MAX - next.epoch ≡ EPOCH_MAX - current.epoch - 1 = omega (arith, is.more.epoch) in
+    let same : Room → Room = λ r. r in
+    ap (λ (s : ℕ). same (record { sectors = SEGMENT_SECTORS; segments = s; roots = EPOCH_MAX - next.epoch })) segments
+    ∙ ap (λ (r : ℕ). same (record { sectors = SEGMENT_SECTORS; segments = free_count_of sectors (root_ids current ++ fresh) - 1; roots = r })) roots
 
 -- ---- an append
 
-module _ (sectors : ℕ) (root : Root) (end bytes : ℕ) where
-  pub fits-tail : next_gate end bytes < SEGMENT_SECTORS → fits_tail (room_at sectors root end) bytes ≡ true
+module _ (sectors : ℕ) (taken : List ℕ) (root : Root) (end bytes : ℕ) where
+  pub fits-tail : next_gate end bytes < SEGMENT_SECTORS → fits_tail (room_at sectors taken root end) bytes ≡ true
   unfolding fits_tail
   fits-tail fits = grind (arith, nat_tests, fits)
 
-  pub fits-none : SEGMENT_SECTORS ≤ next_gate end bytes → fits_tail (room_at sectors root end) bytes ≡ false
+  pub fits-none : SEGMENT_SECTORS ≤ next_gate end bytes → fits_tail (room_at sectors taken root end) bytes ≡ false
   unfolding fits_tail
   fits-none past = grind (arith, nat_tests, past)
 
-  pub has-room-tail : next_gate end bytes < SEGMENT_SECTORS → has_room (room_at sectors root end) bytes ≡ true
+  pub has-room-tail : next_gate end bytes < SEGMENT_SECTORS → has_room (room_at sectors taken root end) bytes ≡ true
   unfolding has_room
   has-room-tail fits = rw (fits-tail fits) refl
 
-  pub has-room-next : SEGMENT_SECTORS ≤ next_gate end bytes → HasNext sectors root → has_room (room_at sectors root end) bytes ≡ true
+  pub has-room-next : SEGMENT_SECTORS ≤ next_gate end bytes → HasNext sectors taken root → has_room (room_at sectors taken root end) bytes ≡ true
   unfolding has_room
-  has-room-next past has = rw (fits-none past, can-next sectors root end has) refl
+  has-room-next past has = rw (fits-none past, can-next sectors taken root end has) refl
 
-  pub has-no-room : SEGMENT_SECTORS ≤ next_gate end bytes → IsFullFor sectors root → has_room (room_at sectors root end) bytes ≡ false
+  pub has-no-room : SEGMENT_SECTORS ≤ next_gate end bytes → IsFullFor sectors taken root → has_room (room_at sectors taken root end) bytes ≡ false
   unfolding has_room
-  has-no-room past full = rw (fits-none past, cannot-full sectors root end full) refl
+  has-no-room past full = rw (fits-none past, cannot-full sectors taken root end full) refl
 
-  pub calls-tail : next_gate end bytes < SEGMENT_SECTORS → calls_for (room_at sectors root end) bytes ≡ 4
+  pub calls-tail : next_gate end bytes < SEGMENT_SECTORS → calls_for (room_at sectors taken root end) bytes ≡ 4
   unfolding calls_for
   calls-tail fits = rw (fits-tail fits) refl
 
-  pub calls-next : SEGMENT_SECTORS ≤ next_gate end bytes → calls_for (room_at sectors root end) bytes ≡ 12
+  pub calls-next : SEGMENT_SECTORS ≤ next_gate end bytes → calls_for (room_at sectors taken root end) bytes ≡ 12
   unfolding calls_for
   calls-next past = rw (fits-none past) refl
 
-  pub room-tail : next_gate end bytes < SEGMENT_SECTORS → room_at sectors root (next_gate end bytes) ≡ room_after (room_at sectors root end) bytes
+  pub room-tail : next_gate end bytes < SEGMENT_SECTORS → room_at sectors taken root (next_gate end bytes) ≡ room_after (room_at sectors taken root end) bytes
   unfolding room_after
   room-tail fits =
       let left : SEGMENT_SECTORS - next_gate end bytes ≡ SEGMENT_SECTORS - end - next_gate 0 bytes = omega arith in
       let same : Room → Room = λ r. r in
       rw (fits-tail fits)
-      (ap (λ (s : ℕ). same (record { sectors = s; segments = free_count_of sectors (root_ids root); roots = EPOCH_MAX - root.epoch })) left)
+      (ap (λ (s : ℕ). same (record { sectors = s; segments = free_count_of sectors taken; roots = EPOCH_MAX - root.epoch })) left)
 
-  pub room-next : (next : Root) (id : ℕ) → SEGMENT_SECTORS ≤ next_gate end bytes → IsNextTail sectors root id next
-      → room_at sectors next (next_gate 0 bytes) ≡ room_after (room_at sectors root end) bytes
-  unfolding room_after
-  room-next next id past is = rw (fits-none past) (ap (λ (r : Room). room_less r bytes) (room-rolled sectors root next id end is))
+pub room-next : (sectors : ℕ) (fresh : List ℕ) (root : Root) (end bytes : ℕ) (next : Root) (id : ℕ) → SEGMENT_SECTORS ≤ next_gate end bytes → IsNextTail sectors (root_ids root ++ fresh) root id next
+    → room_at sectors (root_ids next ++ fresh) next (next_gate 0 bytes) ≡ room_after (room_at sectors (root_ids root ++ fresh) root end) bytes
+unfolding room_after
+room-next sectors fresh root end bytes next id past is = rw (fits-none sectors (root_ids root ++ fresh) root end bytes past) (ap (λ (r : Room). room_less r bytes) (room-rolled sectors fresh root next id end is))
 
 -- of every result
 pub always : {T : Type 0} (X : Type 0) (result : Result T LogFault) → X

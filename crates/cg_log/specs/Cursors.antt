@@ -1,5 +1,5 @@
 -- Positions among the frames of a log, and the frames before a tail.
-use Rattle.std.specs.Prelude.{◌≡◌, ℕ, zero, suc, ◌+◌, ◌≤◌, List, [], ◌∷◌, ◌++◌, length, take, ◌==◌, if◌then◌else◌, Option, Some, None, Result, Ok, Err}
+use Rattle.std.specs.Prelude.{◌≡◌, ℕ, zero, suc, ◌+◌, ◌≤◌, List, [], ◌∷◌, ◌++◌, length, take, drop, ◌==◌, if◌then◌else◌, Option, Some, None, Result, Ok, Err}
 use Rattle.cg_frame.specs.declared.segment.Frame.{Frame}
 use Rattle.cg_log.specs.Carried.{Content, segments_of, tails}
 use Rattle.cg_log.specs.Segments.{Frames, Filled, ids_of, frames_of, end_of_frames}
@@ -18,10 +18,17 @@ abbrev pub index_of : ℕ → List ℕ → ℕ
 index_of id [] = 0
 index_of id (x ∷ ids) = if id == x then 0 else 1 + index_of id ids
 
+-- the tails before the one of this id, and those from it on; all and none where no tail has it
+abbrev pub tails_before : ℕ → Content → List Filled
+tails_before id has = take (index_of id (ids_of (tails has))) (tails has)
+
+abbrev pub tails_from : ℕ → Content → List Filled
+tails_from id has = drop (index_of id (ids_of (tails has))) (tails has)
+
 -- the segments of the base, and the tails before the one of this id; all where there is no id, or no tail has it
 abbrev pub segments_before : Option ℕ → Content → List Filled
 segments_before None has = segments_of has
-segments_before (Some id) has = has.base ++ take (index_of id (ids_of (tails has))) (tails has)
+segments_before (Some id) has = has.base ++ tails_before id has
 
 -- how many segments these are
 abbrev pub read_limit : Root → Option ℕ → ℕ
@@ -35,6 +42,10 @@ pub record IsAfter (segments : List Filled) (index pos : ℕ) (read : Frames) : 
   pub here : frames_at segments index ≡ seen ++ rest
   pub pos_is : pos ≡ end_of_frames 0 seen
   pub read_is : read ≡ frames_of (take index segments) ++ seen
+
+-- the index of a cursor's segment
+abbrev pub segment_index : Cursor → ℕ
+segment_index cursor = cursor.segment
 
 -- a cursor is after these frames
 abbrev pub IsAt : List Filled → Cursor → Frames → Type 0

@@ -7,6 +7,7 @@ pub mod Segments
 pub mod Carried
 pub mod Free
 pub mod Room
+pub mod Fresh
 pub mod Formatted
 pub mod Rolled
 pub mod Ready
@@ -18,3 +19,4 @@ pub mod ReadTo
 pub mod Log
 pub mod Openings
 pub mod Cursors
+pub mod Switched

@@ -1,14 +1,15 @@
 -- Facts with one proof at most.
-use Rattle.std.proofs.Common.{◌≡◌, ℕ, ◌<◌, Bool, true, false, sym, ◌∙◌, ap, subst, inl, inr}
+use Rattle.std.proofs.Common.{◌≡◌, ℕ, ◌<◌, Bool, true, false, List, sym, ◌∙◌, ap, subst, inl, inr}
 use mathlib.Core.HLevel.{is_prop→PathP}
 use Rattle.std.proofs.Props.{props}
 use Rattle.std.specs.List.{IsDistinct-prop}
 use Rattle.cg_disk.specs.Disk.{Image, Moment}
 use Rattle.cg_gate.specs.Gates.{IsOpen, IsClosed}
-use Rattle.cg_root.specs.Roots.{RootAt, HasOlder, IsNewest, CountingRoot, IsLawful}
+use Rattle.cg_root.specs.Roots.{AreSegments, RootAt, HasOlder, IsNewest, CountingRoot, IsLawful}
 use Rattle.cg_root.specs.Slots.{gate_of, other_slot}
 use Rattle.cg_root.specs.declared.root.Root.{Root}
 use Rattle.cg_root.specs.declared.slot.Slot.{Slot}
+use Rattle.cg_log.specs.Fresh.{IsFreshReady}
 use Rattle.cg_log.specs.Ready.{IsReady}
 use Rattle.cg_root.proofs.Unique.{RootAt-unique}
 
@@ -52,3 +53,9 @@ IsLawful-prop sectors root = hlevel (props, IsDistinct-prop)
 -- the same of a log that has not failed, on an honest disk
 pub ready-prop : (has_failed is_honest : Bool) (m : Moment) (sectors : ℕ) (root : Root) (end : ℕ) (is_other_open : Bool) → IsProp (has_failed ≡ false → is_honest ≡ true → IsReady m sectors root end is_other_open)
 ready-prop has_failed is_honest m sectors root end is_other_open = hlevel (IsReady-prop m sectors root end is_other_open)
+
+pub AreSegments-prop : (n : ℕ) (ids : List ℕ) → IsProp (AreSegments n ids)
+AreSegments-prop n ids = hlevel (props, IsDistinct-prop)
+
+pub fresh_ready-prop : (has_failed is_honest : Bool) (m : Moment) (ids : List ℕ) (end : ℕ) → IsProp (has_failed ≡ false → is_honest ≡ true → IsFreshReady m ids end)
+fresh_ready-prop has_failed is_honest m ids end = hlevel props

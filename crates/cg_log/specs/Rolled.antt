@@ -1,7 +1,7 @@
 -- A new tail: the root that names it, and what a crash may leave of it.
 use Rattle.std.specs.Prelude.{◌≡◌, ◌≢◌, ◌⊎◌, ℕ, ◌+◌, List, [], ◌∷◌, ◌++◌}
 use Rattle.cg_disk.specs.Disk.{Image}
-use Rattle.cg_root.specs.Roots.{IsLawful, root_ids}
+use Rattle.cg_root.specs.Roots.{IsLawful}
 use Rattle.cg_root.specs.declared.format.TheConstants.{EPOCH_MAX}
 use Rattle.cg_root.specs.Slots.{other_slot}
 use Rattle.cg_root.specs.declared.root.Root.{Root}
@@ -24,15 +24,15 @@ HasOrRolled sectors current next has id image = LogAt image sectors current has 
 abbrev pub IsAppended : Content → ℕ → List ℕ → Content → Type 0
 IsAppended has count payload new = (new ≡ appended has count payload) ⊎ ((id : ℕ) × (new ≡ appended (rolled has id) count payload))
 
--- the root with one more tail, in the least free segment
-pub record IsNextTail (sectors : ℕ) (current : Root) (id : ℕ) (next : Root) : Type 0 where
+-- the root with one more tail, in the least segment that is not taken
+pub record IsNextTail (sectors : ℕ) (taken : List ℕ) (current : Root) (id : ℕ) (next : Root) : Type 0 where
   pub more : HasOneMoreTail current next id
   pub lawful : IsLawful sectors next
-  pub free : IsLeastFree sectors (root_ids current) id
+  pub free : IsLeastFree sectors taken id
 
 -- no root with one more tail can follow: no segment is free, or the epoch is the last
-abbrev pub IsFullFor : ℕ → Root → Type 0
-IsFullFor sectors current = NoneIsFree sectors (root_ids current) ⊎ (current.epoch ≡ EPOCH_MAX)
+abbrev pub IsFullFor : ℕ → List ℕ → Root → Type 0
+IsFullFor sectors taken current = NoneIsFree sectors taken ⊎ (current.epoch ≡ EPOCH_MAX)
 
 -- a tail was added, unless the last one has no frame
 abbrev pub IsRolled : Content → ℕ → Content → Type 0

@@ -1,8 +1,7 @@
 -- The room of a log: what may still be appended to it.
-use Rattle.std.specs.Prelude.{ℕ, ◌-◌, ◌<◌, Bool, ◌&&◌, ◌||◌, nat_lt, if◌then◌else◌}
+use Rattle.std.specs.Prelude.{ℕ, ◌-◌, ◌<◌, List, Bool, ◌&&◌, ◌||◌, nat_lt, if◌then◌else◌}
 use Rattle.cg_frame.specs.Frames.{next_gate}
 use Rattle.cg_gate.specs.declared.layout.TheConstants.{SEGMENT_SECTORS}
-use Rattle.cg_root.specs.Roots.{root_ids}
 use Rattle.cg_root.specs.declared.format.TheConstants.{EPOCH_MAX}
 use Rattle.cg_root.specs.declared.root.Root.{Root}
 use Rattle.cg_log.specs.Free.{free_count_of, IsLeastFree}
@@ -13,9 +12,10 @@ pub record Room : Type 0 where
   pub segments : ℕ
   pub roots : ℕ
 
--- the room on a disk of that many sectors, where the next frame of the last tail has this position
-abbrev pub room_at : ℕ → Root → ℕ → Room
-room_at sectors root end = record { sectors = SEGMENT_SECTORS - end; segments = free_count_of sectors (root_ids root); roots = EPOCH_MAX - root.epoch }
+-- the room on a disk of that many sectors, of which these segments are taken, where the next frame of the last tail has this
+-- position
+abbrev pub room_at : ℕ → List ℕ → Root → ℕ → Room
+room_at sectors taken root end = record { sectors = SEGMENT_SECTORS - end; segments = free_count_of sectors taken; roots = EPOCH_MAX - root.epoch }
 
 -- the sectors of a frame whose payload has that many bytes: its gate and its body
 abbrev pub frame_sectors : ℕ → ℕ
@@ -51,7 +51,7 @@ unfoldable pub calls_for : Room → ℕ → ℕ
 calls_for room bytes = if fits_tail room bytes then 4 else 12
 
 -- a root with one more tail can follow: a segment is free, and the epoch is not the last
-pub record HasNext (sectors : ℕ) (current : Root) : Type 0 where
+pub record HasNext (sectors : ℕ) (taken : List ℕ) (current : Root) : Type 0 where
   pub id : ℕ
-  pub free : IsLeastFree sectors (root_ids current) id
+  pub free : IsLeastFree sectors taken id
   pub epoch : current.epoch < EPOCH_MAX

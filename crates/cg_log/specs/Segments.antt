@@ -1,5 +1,5 @@
 -- Frames in several segments.
-use Rattle.std.specs.Prelude.{ℕ, List, [], ◌∷◌, ◌++◌, length, map, sum_by, ◌==◌, if◌then◌else◌}
+use Rattle.std.specs.Prelude.{ℕ, List, [], ◌∷◌, length, map, sum_by}
 use Rattle.std.specs.List.{flat_map, AllByRecursion}
 use Rattle.cg_disk.specs.Disk.{Image}
 use Rattle.cg_frame.specs.Frames.{HasFrames, next_gate}

@@ -1,5 +1,5 @@
 //! One more frame in the last tail.
-ghost use Rattle.std.specs.Prelude.{◌≡◌, ◌⊎◌, ℕ, ◌+◌, ◌^◌, ◌≤◌, ◌<◌, [], ◌∷◌, ◌++◌, Bool, ◌≢◌, true, false, length, IfErr, IfOk, OnErr, OnOk, IsErrOf, MatchResult, is_err};
+ghost use Rattle.std.specs.Prelude.{◌≡◌, ◌⊎◌, ℕ, ◌+◌, ◌^◌, ◌≤◌, ◌<◌, [], ◌∷◌, ◌++◌, List, Bool, ◌≢◌, true, false, length, IfErr, IfOk, OnErr, OnOk, IsErrOf, MatchResult, is_err};
 ghost use Rattle.cg_disk.specs.Disk.{Counts, LeavesOnly, TakesCalls, present};
 ghost use Rattle.cg_frame.specs.Frames.{next_gate};
 ghost use Rattle.cg_frame.specs.declared.segment.TheConstants.{LARGEST_PAYLOAD_BYTES};
@@ -8,9 +8,11 @@ ghost use Rattle.cg_gate.specs.declared.layout.TheConstants.{SEGMENT_SECTORS};
 ghost use Rattle.cg_root.specs.Roots.{IsLawful};
 ghost use Rattle.cg_log.specs.Carried.{AllCarry, CarriesBeforeOrAfter, Content, HoldsContent, LogAt, appended, rolled, tails};
 ghost use Rattle.cg_log.specs.Faults.{is_device_failure, IsWritingFault};
+ghost use Rattle.cg_log.specs.Fresh.{KeepsFresh};
 ghost use Rattle.cg_log.specs.Rolled.{IsAppended, IsFullFor, IsNextTail};
 ghost use Rattle.cg_log.specs.Room.{HasNext, calls_for, fits_tail, has_room, room_after};
-ghost use Rattle.cg_log.specs.Segments.{frames_of};
+ghost use Rattle.cg_log.specs.Free.{is_among};
+ghost use Rattle.cg_log.specs.Segments.{Filled, frames_of};
 ghost use Rattle.cg_log.specs.declared.numbers.TheConstants.{COMMAND_NUMBER_MAX};
 ghost use Rattle.cg_log.specs.Ready.{AllClosed, IsReady, last_id};
 
@@ -49,6 +51,8 @@ pub(crate) fn append_last<D: SectorDisk>(
         HoldsContent (present (D.history disk.old)) (D.size disk.old) root.now end number has →
         HoldsContent (present (D.history disk.new)) (D.size disk.old) root.now next (number + frame.now.0)
         (appended has frame.now.0 frame.now.1)) }
+    ensures fresh { D.is_honest disk.old ≡ true → (ids : List ℕ) → is_among (last_id root.now.tail) ids ≡ false →
+        KeepsFresh (present (D.history disk.old)) (present (D.history disk.new)) ids }
     ensures ready { D.is_honest disk.old ≡ true → IfOk result (λ next. (is_other_open : Bool) →
         IsReady (present (D.history disk.old)) (D.size disk.old) root.now end is_other_open →
         IsReady (present (D.history disk.new)) (D.size disk.old) root.now next is_other_open) }
@@ -59,7 +63,7 @@ pub(crate) fn append_last<D: SectorDisk>(
 }
 
 impl<D: SectorDisk> Log<D> {
-    ghost use Rattle.cg_log.specs.Log.{IsUnchanged, LogHas, disk_of, end_of, has_failed, number_of, room_of, root_of};
+    ghost use Rattle.cg_log.specs.Log.{HasFresh, IsUnchanged, LogHas, disk_of, end_of, fresh_end_of, fresh_of, has_failed, number_of, room_of, root_of, taken_of};
 
     // Appends a frame that fits to the last tail.
     fn put(&mut self, frame: &StagedFrame, count: u64) -> Result<(), LogFault>
@@ -78,6 +82,10 @@ impl<D: SectorDisk> Log<D> {
         ensures same_number { OnErr result (number_of self.new ≡ number_of self.old) }
         ensures end { OnOk result (end_of self.new ≡ next_gate (end_of self.old) (length frame.now.1)) }
         ensures same_root { root_of self.new ≡ root_of self.old }
+        ensures fresh { (fresh : List Filled) → HasFresh D.is_honest D.history self.old fresh →
+            HasFresh D.is_honest D.history self.new fresh }
+        ensures same_fresh { fresh_of self.new ≡ fresh_of self.old }
+        ensures same_fresh_end { fresh_end_of self.new ≡ fresh_end_of self.old }
         ensures clock { D.is_honest (disk_of self.old) ≡ true →
             TakesCalls 4 (D.history (disk_of self.old)) (D.history (disk_of self.new)) (is_err result) }
         ensures serves { OnOk result (has_failed self.new ≡ false) }
@@ -115,14 +123,18 @@ impl<D: SectorDisk> Log<D> {
         ensures number { OnOk result (number_of self.new ≡ number_of self.old + count) }
         ensures same_number { OnErr result (number_of self.new ≡ number_of self.old) }
         ensures serves { OnOk result (has_failed self.new ≡ false) }
-        ensures tail { OnOk result ((id : ℕ) × IsNextTail (D.size (disk_of self.old)) (root_of self.old) id (root_of self.new)) }
+        ensures tail { OnOk result ((id : ℕ) × IsNextTail (D.size (disk_of self.old)) (taken_of self.old) (root_of self.old) id (root_of self.new)) }
         ensures end { OnOk result (end_of self.new ≡ next_gate 0 (length payload.now)) }
+        ensures fresh { (fresh : List Filled) → HasFresh D.is_honest D.history self.old fresh →
+            HasFresh D.is_honest D.history self.new fresh }
+        ensures same_fresh { fresh_of self.new ≡ fresh_of self.old }
+        ensures same_tails { (id : ℕ) → is_among id (root_of self.old).tail ≡ true → is_among id (root_of self.new).tail ≡ true }
         ensures calls { D.is_honest (disk_of self.old) ≡ true →
             (D.history (disk_of self.new)).now ≤ (D.history (disk_of self.old)).now + 12 }
-        ensures full { IsErrOf result LogFault.Full → IsFullFor (D.size (disk_of self.old)) (root_of self.old) }
+        ensures full { IsErrOf result LogFault.Full → IsFullFor (D.size (disk_of self.old)) (taken_of self.old) (root_of self.old) }
         ensures clear { MatchResult result
-            (λ _. HasNext (D.size (disk_of self.old)) (root_of self.old))
-            (λ fault. fault ≢ LogFault.Full → HasNext (D.size (disk_of self.old)) (root_of self.old)) }
+            (λ _. HasNext (D.size (disk_of self.old)) (taken_of self.old) (root_of self.old))
+            (λ fault. fault ≢ LogFault.Full → HasNext (D.size (disk_of self.old)) (taken_of self.old) (root_of self.old)) }
         ensures unchanged { IfErr result (λ fault. fault ≢ LogFault.Device → IsUnchanged self.old self.new) }
         ensures failed { IsErrOf result LogFault.Device → has_failed self.new ≡ true }
         ensures faults { IfErr result IsWritingFault }
@@ -130,7 +142,12 @@ impl<D: SectorDisk> Log<D> {
         ensures same_size { D.size (disk_of self.new) ≡ D.size (disk_of self.old) }
         ensures same_honesty { D.is_honest (disk_of self.new) ≡ D.is_honest (disk_of self.old) }
     {
-        let tail = next_tail(self.alloc, self.disk.sectors(), &self.root)?;
+        let tail = next_tail(
+            self.alloc,
+            self.disk.sectors(),
+            &self.root,
+            self.fresh.as_slice(),
+        )?;
         let frame = stage(self.alloc, count, payload)?;
         let _ = self.add_tail(tail)?;
         self.put(&frame, count)?;
@@ -170,6 +187,11 @@ impl<D: SectorDisk> Log<D> {
             TakesCalls 4 (D.history (disk_of self.old)) (D.history (disk_of self.new)) (is_err result) }
         ensures calls { D.is_honest (disk_of self.old) ≡ true → (D.history (disk_of self.new)).now ≤
             (D.history (disk_of self.old)).now + calls_for (room_of D.size self.old) (length payload.now) }
+        // Fresh segments stay, and so does every tail.
+        ensures fresh { (fresh : List Filled) → HasFresh D.is_honest D.history self.old fresh → OnOk result
+            (HasFresh D.is_honest D.history self.new fresh) }
+        ensures same_fresh { fresh_of self.new ≡ fresh_of self.old }
+        ensures same_tails { (id : ℕ) → is_among id (root_of self.old).tail ≡ true → is_among id (root_of self.new).tail ≡ true }
         ensures unchanged { IfErr result (λ fault. fault ≢ LogFault.Device → IsUnchanged self.old self.new) }
         ensures serves { OnOk result (has_failed self.new ≡ false) }
         ensures failed { IsErrOf result LogFault.Device → has_failed self.new ≡ true }

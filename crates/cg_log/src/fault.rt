@@ -18,8 +18,9 @@ pub enum LogFault {
     /// The device failed during this call.
     #[error("the device failed")]
     Device,
-    /// `append` and `roll`: no segment is free and one is needed, or the number of a command or the epoch of a root
-    /// would be too great. `format`: the disk has no whole segment. Nothing was written.
+    /// `append`, `roll` and `fresh_append`: no segment is free and one is needed, or the number of a command or the
+    /// epoch of a root would be too great; `switch`: that epoch. `format`: the disk has no whole segment. Nothing was
+    /// written.
     #[error("the log is full")]
     Full,
     /// A root gate is open and its body breaks a rule, or both are open and the epochs are equal.

@@ -1,4 +1,4 @@
-//! Free segments: those that the root does not name.
+//! Free segments: those that the root does not name and no compaction has taken.
 ghost use Rattle.std.specs.Prelude.{◌≡◌, ◌+◌, ◌<◌, ◌≤◌, ◌++◌};
 ghost use Rattle.std.specs.Option.{MatchOption};
 ghost use Rattle.cg_gate.specs.Layout.{segment_count};
@@ -20,21 +20,26 @@ fn is_among(id: u16, ids: &[SegmentId]) -> bool
     ids.iter().any(|other| id == other.get())
 }
 
-/// Returns whether the segment is named by the root of these base and tail ids.
-fn is_named(id: u16, base: &[SegmentId], tail: &[SegmentId]) -> bool
-    ensures { result ≡ is_among id (base.now ++ tail.now) }
+/// Returns whether the segment is taken: by the root of these base and tail ids, or as a fresh one.
+fn is_taken(id: u16, base: &[SegmentId], tail: &[SegmentId], fresh: &[SegmentId]) -> bool
+    ensures { result ≡ is_among id ((base.now ++ tail.now) ++ fresh.now) }
 {
-    is_among(id, base) || is_among(id, tail)
+    is_among(id, base) || is_among(id, tail) || is_among(id, fresh)
 }
 
 /// Returns the free segment of the least id, on a disk of that many sectors.
-pub(crate) fn least_free(sectors: u64, base: &[SegmentId], tail: &[SegmentId]) -> Option<SegmentId>
+pub(crate) fn least_free(
+    sectors: u64,
+    base: &[SegmentId],
+    tail: &[SegmentId],
+    fresh: &[SegmentId],
+) -> Option<SegmentId>
     ensures { MatchOption result
-        (NoneIsFree sectors (base.now ++ tail.now))
-        (λ id. IsLeastFree sectors (base.now ++ tail.now) id) }
+        (NoneIsFree sectors ((base.now ++ tail.now) ++ fresh.now))
+        (λ id. IsLeastFree sectors ((base.now ++ tail.now) ++ fresh.now) id) }
 {
     for id in 0..segments_of(sectors) {
-        if !is_named(id, base, tail) {
+        if !is_taken(id, base, tail, fresh) {
             return Some(SegmentId::new(id));
         }
     }
@@ -42,12 +47,17 @@ pub(crate) fn least_free(sectors: u64, base: &[SegmentId], tail: &[SegmentId]) -
 }
 
 /// Returns how many segments of a disk of that many sectors are free.
-pub(crate) fn count_free(sectors: u64, base: &[SegmentId], tail: &[SegmentId]) -> u64
-    ensures { result ≡ free_count_of sectors (base.now ++ tail.now) }
+pub(crate) fn count_free(
+    sectors: u64,
+    base: &[SegmentId],
+    tail: &[SegmentId],
+    fresh: &[SegmentId],
+) -> u64
+    ensures { result ≡ free_count_of sectors ((base.now ++ tail.now) ++ fresh.now) }
 {
     let mut count = 0;
     for id in 0..segments_of(sectors) {
-        if !is_named(id, base, tail) {
+        if !is_taken(id, base, tail, fresh) {
             count += 1;
         }
     }

@@ -1,5 +1,5 @@
 //! Fault injection below a log.
-ghost use Rattle.std.specs.Prelude.{◌≡◌};
+ghost use Rattle.std.specs.Prelude.{◌≡◌, List};
 ghost use Rattle.cg_disk.specs.Fuse.{blown_calls, calls_left, inner_of};
 
 use crate::log::Log;
@@ -7,7 +7,8 @@ use cg_disk::{FuseDisk, SectorDisk};
 
 impl<D: SectorDisk> Log<FuseDisk<D>> {
     ghost use Rattle.cg_log.specs.Carried.{Content};
-    ghost use Rattle.cg_log.specs.Log.{LogHas, disk_of, end_of, has_failed, number_of, root_of};
+    ghost use Rattle.cg_log.specs.Log.{HasFresh, LogHas, disk_of, end_of, fresh_end_of, fresh_of, has_failed, number_of, root_of};
+    ghost use Rattle.cg_log.specs.Segments.{Filled};
 
     /// Sets how many more calls the disk passes before it fails each; `None` passes every call. Nothing else changes.
     pub fn set_fuse(&mut self, calls: Option<u64>)
@@ -18,6 +19,11 @@ impl<D: SectorDisk> Log<FuseDisk<D>> {
         ensures end { end_of self.new ≡ end_of self.old }
         ensures number { number_of self.new ≡ number_of self.old }
         ensures failed { has_failed self.new ≡ has_failed self.old }
+        ensures same_fresh { fresh_of self.new ≡ fresh_of self.old }
+        ensures same_fresh_end { fresh_end_of self.new ≡ fresh_end_of self.old }
+        ensures fresh { (fresh : List Filled) →
+            HasFresh (⟦<FuseDisk<D> as SectorDisk>⟧.is_honest) (⟦<FuseDisk<D> as SectorDisk>⟧.history) self.old fresh →
+            HasFresh (⟦<FuseDisk<D> as SectorDisk>⟧.is_honest) (⟦<FuseDisk<D> as SectorDisk>⟧.history) self.new fresh }
         ensures stored { (has : Content) →
             LogHas (⟦<FuseDisk<D> as SectorDisk>⟧.is_honest) (⟦<FuseDisk<D> as SectorDisk>⟧.history) (⟦<FuseDisk<D> as SectorDisk>⟧.size) self.old has →
             LogHas (⟦<FuseDisk<D> as SectorDisk>⟧.is_honest) (⟦<FuseDisk<D> as SectorDisk>⟧.history) (⟦<FuseDisk<D> as SectorDisk>⟧.size) self.new has }

@@ -8,6 +8,7 @@ mod cursor;
 mod fault;
 mod formatted;
 mod free;
+mod fresh;
 mod fusing;
 mod laws;
 mod loading;
@@ -18,6 +19,7 @@ mod rolling;
 mod scanning;
 mod sealed_read;
 mod segment;
+mod switch;
 #[cfg(test)]
 mod tests;
 

@@ -84,7 +84,7 @@ pub struct Opening<D: SectorDisk> {
 }
 
 impl<D: SectorDisk> Opening<D> {
-    ghost use Rattle.cg_log.specs.Log.{LogHas, disk_of, has_failed, number_of};
+    ghost use Rattle.cg_log.specs.Log.{LogHas, disk_of, fresh_of, has_failed, number_of};
     ghost use Rattle.cg_log.specs.Openings.{HasRead, disk_begun, disk_under, has_fault, is_at_end, left_to_read, number_so_far, payload_read};
 
     /// Begins to open the log on a disk: syncs the disk once, and reads the root. Writes nothing. A fault comes with the
@@ -260,6 +260,7 @@ impl<D: SectorDisk> Opening<D> {
         ensures disk { disk_of result ≡ disk_under self }
         ensures number { number_of result ≡ number_so_far self }
         ensures serves { has_failed result ≡ false }
+        ensures fresh { fresh_of result ≡ [] }
     {
         let Opening {
             alloc,
@@ -279,6 +280,8 @@ impl<D: SectorDisk> Opening<D> {
             number,
             is_other_open,
             has_failed: false,
+            fresh: Vec::new(alloc),
+            fresh_end: 0,
         }
     }
 

@@ -1,11 +1,11 @@
 //! Reading the frames of a log in order.
-ghost use Rattle.std.specs.Prelude.{◌≡◌, ◌≢◌, ℕ, ◌+◌, ◌≤◌, ◌<◌, [], ◌∷◌, ◌++◌, List, true, false, length, take, slice_index, IfErr, IfSome, IsTrue, IsErrOf, OnOk, nat_lt};
+ghost use Rattle.std.specs.Prelude.{◌≡◌, ◌≢◌, ℕ, ◌+◌, ◌≤◌, ◌<◌, [], ◌∷◌, ◌++◌, List, true, false, length, take, slice_index, IfErr, IfSome, IsTrue, IsErrOf, IfOk, OnOk, ◌⊎◌, nat_lt};
 ghost use Rattle.std.specs.List.{list_all};
 ghost use Rattle.cg_disk.specs.Disk.{Counts, Stays, present};
 ghost use Rattle.cg_gate.specs.Layout.{segment_count};
 ghost use Rattle.cg_gate.specs.declared.layout.TheConstants.{SEGMENT_SECTORS};
 ghost use Rattle.cg_log.specs.Carried.{Content, segments_of};
-ghost use Rattle.cg_log.specs.Cursors.{IsAt, Reads, index_of, read_limit, segments_before};
+ghost use Rattle.cg_log.specs.Cursors.{IsAt, Reads, index_of, read_limit, segment_index, segments_before};
 ghost use Rattle.cg_log.specs.Faults.{is_device_failure, IsReadingFault};
 ghost use Rattle.cg_log.specs.Segments.{Filled, Frames, ids_of, AreStored};
 ghost use Rattle.cg_root.specs.Roots.{root_ids};
@@ -18,8 +18,8 @@ use cg_frame::Frame;
 use cg_root::SegmentId;
 use std::alloc::Global;
 
-// Returns the index of an id; where it is not among these, how many there are.
-fn index_of(id: SegmentId, ids: &[SegmentId]) -> usize
+/// Returns the index of an id; where it is not among these, how many there are.
+pub(crate) fn index_of(id: SegmentId, ids: &[SegmentId]) -> usize
     ensures index { result ≡ index_of id ids.now }
     ensures inside { result ≤ length ids.now }
 {
@@ -53,6 +53,8 @@ fn read_from<D: SectorDisk>(
     ensures good { D.is_honest disk.old ≡ true → (segments : List Filled) (read : Frames) →
         base.now ++ tail.now ≡ ids_of segments → AreStored (present (D.history disk.old)).content segments →
         IsAt segments cursor read → ¬ IsErrOf result LogFault.BadFrame }
+    ensures before { IfOk result (λ o. IfSome o (λ found. segment_index found.1 < end)) }
+    ensures counted { IfOk result (λ o. IfSome o (λ found. 1 ≤ found.0.count)) }
     ensures faults { IfErr result IsReadingFault }
     ensures device { Counts (D.failures disk.old) (D.failures disk.new) (is_device_failure result) }
     ensures same_size { D.size disk.new ≡ D.size disk.old }
@@ -84,7 +86,7 @@ fn is_device_failure(outcome: &Result<Option<(Frame, Cursor)>, LogFault>) -> boo
 }
 
 impl<D: SectorDisk> Log<D> {
-    ghost use Rattle.cg_log.specs.Log.{LogHas, disk_of, end_of, has_failed, number_of, root_of};
+    ghost use Rattle.cg_log.specs.Log.{HasFresh, LogHas, disk_of, end_of, fresh_end_of, fresh_of, has_failed, number_of, root_of};
 
     // The index of the segment before which a reading ends, among those of the base and then the tails.
     fn limit_of(&self, until: Option<SegmentId>) -> usize
@@ -112,8 +114,16 @@ impl<D: SectorDisk> Log<D> {
             IsAt (segments_of has) cursor read → ¬ IsErrOf result LogFault.BadFrame }
         ensures stored { (has : Content) → LogHas D.is_honest D.history D.size self.old has →
             LogHas D.is_honest D.history D.size self.new has }
+        // The position after it is in a segment before that tail.
+        ensures before { IfOk result (λ o. IfSome o (λ found. segment_index found.1 < read_limit (root_of self.old) until)) }
         ensures time { D.is_honest (disk_of self.old) ≡ true →
             Stays (D.history (disk_of self.old)) (D.history (disk_of self.new)) }
+        ensures fresh { (fresh : List Filled) → HasFresh D.is_honest D.history self.old fresh →
+            HasFresh D.is_honest D.history self.new fresh }
+        ensures same_fresh { fresh_of self.new ≡ fresh_of self.old }
+        ensures same_fresh_end { fresh_end_of self.new ≡ fresh_end_of self.old }
+        ensures counted { IfOk result (λ o. IfSome o (λ found. 1 ≤ found.0.count)) }
+        ensures faults { IfErr result (λ fault. IsReadingFault fault ⊎ ((fault ≡ LogFault.Failed) × (has_failed self.old ≡ true))) }
         ensures serves { OnOk result (has_failed self.new ≡ has_failed self.old) }
         ensures failed { IsErrOf result LogFault.Device → has_failed self.new ≡ true }
         ensures refused { has_failed self.old ≡ true → IsErrOf result LogFault.Failed }

@@ -1,11 +1,13 @@
-//! The bytes of a format and of a roll, an append and a roll that are stopped at each device call, damaged disks.
-ghost use Rattle.std.specs.Prelude.{◌≡◌, ◌≤◌, IfOk};
+//! The bytes of a format and of a roll; an append, a roll and a switch that are stopped at each device call; damaged disks.
+ghost use Rattle.std.specs.Prelude.{◌≡◌, ◌≤◌, true, IfOk};
 ghost use Rattle.cg_disk.specs.Fuse.{inner_of};
 ghost use Rattle.cg_disk.specs.Mem.{mem_size};
+ghost use Rattle.cg_log.specs.Free.{is_among};
+ghost use Rattle.cg_log.specs.Log.{number_of, root_of};
 
 use crate::{Cursor, Log, LogFault, format};
 use cg_disk::{Crash, FuseDisk, MemDisk, SectorDisk};
-use cg_root::SegmentId;
+use cg_root::{SegmentId, read_root};
 use std::alloc::{AllocError, Global};
 use std::process::Abort;
 use std::test::Fail;
@@ -234,5 +236,85 @@ fn frames_are_read_in_order(rt: HostRuntime) -> Result<(), Fail> {
     assert_eq!(rt; second, 5);
     assert!(rt; next_count(&mut log, end, None)?.is_none());
     assert!(rt; next_count(&mut log, next, Some(cut))?.is_none());
+    Ok(())
+}
+
+// Begins a tail, appends two commands to it, and one frame to a fresh segment. Returns the tail, and the number of the last
+// command before it.
+fn ready_to_switch(log: &mut Log<FuseDisk<MemDisk>>) -> Result<(SegmentId, u64), LogFault>
+    ensures tail { IfOk result (λ cut. is_among cut.0 (root_of log.new).tail ≡ true) }
+    ensures number { IfOk result (λ cut. cut.1 ≤ number_of log.new) }
+{
+    let cut = log.roll()?;
+    let number = log.number();
+    log.append(2, &[6; 40])?;
+    log.fresh_append(1, &[7; 20])?;
+    Ok((cut, number))
+}
+
+// A log on a formatted disk of four segments, with one frame of three commands.
+fn with_four_segments(alloc: Global) -> Result<Log<FuseDisk<MemDisk>>, Fail> {
+    let mut disk = blank(alloc, 8196)?;
+    format(alloc, &mut disk)?;
+    let mut log = opened(alloc, disk)?;
+    log.append(3, &[5; 600])?;
+    Ok(log)
+}
+
+#[test]
+fn a_switch_frees_the_segments_that_it_leaves_out(rt: HostRuntime) -> Result<(), Fail> {
+    let alloc = rt.alloc();
+    let mut log = with_four_segments(alloc)?;
+    let (cut, number) = ready_to_switch(&mut log)?;
+    // Two tails and a fresh segment are taken.
+    assert_eq!(rt; (log.number(), log.free_count()), (5, 1));
+    log.switch(cut, number)?;
+    assert_eq!(rt; (log.number(), log.free_count()), (5, 2));
+    let mut disk = log.into_disk();
+    let root = read_root(alloc, &mut disk)?;
+    assert_eq!(rt;
+        (root.base_number, root.base.len(), root.tail.len()),
+        (3, 1, 1)
+    );
+    Ok(())
+}
+
+#[test]
+fn fresh_segments_are_taken_until_they_are_dropped(rt: HostRuntime) -> Result<(), Fail> {
+    let alloc = rt.alloc();
+    let mut log = with_four_segments(alloc)?;
+    let large = vec![in alloc; 1; 1_047_536]?;
+    for _ in 0..3 {
+        log.fresh_append(1, &large)?;
+    }
+    assert_eq!(rt; log.fresh_append(1, &[]), Err(LogFault::Full));
+    assert_eq!(rt; log.append(1, &large), Err(LogFault::Full));
+    assert_eq!(rt; log.free_count(), 0);
+    log.drop_fresh();
+    assert_eq!(rt; log.free_count(), 3);
+    Ok(())
+}
+
+// The outcome of a switch in which the device passes that many calls, and the number and the count of the first frame
+// after a crash.
+fn switched_after(alloc: Global, calls: u64, kind: Crash) -> Result<(bool, u64, u64), Fail> {
+    let mut log = with_four_segments(alloc)?;
+    let (cut, number) = ready_to_switch(&mut log)?;
+    log.set_fuse(Some(calls));
+    let is_ok = log.switch(cut, number).is_ok();
+    let mut log = opened(alloc, log.into_disk().into_inner().crash(kind))?;
+    let (first, _) = next_count(&mut log, Cursor::start(), None)?.ok_or("a frame")?;
+    Ok((is_ok, log.number(), first))
+}
+
+#[test]
+fn a_switch_that_is_stopped_is_made_or_not(rt: HostRuntime) -> Result<(), Fail> {
+    for kind in [Crash::Keep, Crash::Lose] {
+        for calls in 0..=6 {
+            let (is_ok, number, first) = switched_after(rt.alloc(), calls, kind)?;
+            assert_eq!(rt; (is_ok, number), (calls == 6, 5), "{calls}");
+            assert!(rt; first == 1 || !is_ok && first == 3, "{calls}");
+        }
+    }
     Ok(())
 }

@@ -5,10 +5,10 @@ use Rattle.cg_log.proofs.rolling.next_tail.Goals as goal
 
 pub returns-clause-next : goal.returns-clause-next
 returns-clause-next c =
-    let free = subst (λ b. IsLeastFree c.args.sectors (b ++ c.args.current.now.tail) c.in-Some.id) c.as_slice.ensures
-    (subst (λ t. IsLeastFree c.args.sectors (c.as_slice.result.now ++ t) c.in-Some.id) c.as_slice-2.ensures c.in-Some.ensures) in
+    let free = subst (λ b. IsLeastFree c.args.sectors ((b ++ c.args.current.now.tail) ++ c.args.fresh.now) c.in-Some.id) c.as_slice.ensures
+    (subst (λ t. IsLeastFree c.args.sectors ((c.as_slice.result.now ++ t) ++ c.args.fresh.now) c.in-Some.id) c.as_slice-2.ensures c.in-Some.ensures) in
     record {
       more = c.in_ok-root.ensures;
-      lawful = IsLawful-rolled c.args.sectors c.args.current.now c.in_ok-root.root c.in-Some.id c.in_ok-root.ensures free c.requires (omega (arith, c.in_ok-root.ensures.epoch, c.requires.epoch_to, c.if-current-eq-EPOCH_MAX.false));
+      lawful = IsLawful-rolled c.args.sectors c.args.fresh.now c.args.current.now c.in_ok-root.root c.in-Some.id c.in_ok-root.ensures free c.requires (omega (arith, c.in_ok-root.ensures.epoch, c.requires.epoch_to, c.if-current-eq-EPOCH_MAX.false));
       free = free;
     }

@@ -1,4 +1,4 @@
-use Rattle.std.proofs.Common.{◌≡◌, ◌≤◌, ◌∙◌, inl, inr, ap, sym, subst, arith}
+use Rattle.std.proofs.Common.{◌≡◌, ◌≤◌, ◌+◌, ◌∙◌, inl, inr, ap, sym, subst, arith}
 use Rattle.cg_disk.specs.Disk.{AllBut, LeavesOnly, present}
 use Rattle.cg_disk.proofs.Moments.{LeavesOnly-present, LeavesOnly-weaker}
 use Rattle.cg_gate.specs.Layout.{first_sector}
@@ -7,6 +7,7 @@ use Rattle.cg_root.specs.Slots.{gate_of, other_slot}
 use Rattle.cg_root.proofs.Stored.{gate_of-small}
 use Rattle.cg_log.specs.Ready.{AllClosed}
 use Rattle.cg_log.proofs.Moves.{AllClosed-kept, KeepsRoot-kept, tail-first, tail-two, tail-all, KeepsLog-rolled, IsReady-rolled}
+use Rattle.cg_log.proofs.Kept.{KeepsFresh-segment, KeepsFresh-slots, KeepsFresh-then}
 use Rattle.cg_log.proofs.rolling.publish_tail.Goals as goal
 
 pub close_other_if_open-requires-clause-root : goal.close_other_if_open-requires-clause-root
@@ -123,3 +124,55 @@ returns-clause-ready g c honest =
     let keeps2 = LeavesOnly-present h1 h2 _ root2 in
     let published = subst (λ n. KeepsRoot (present h3) n c.args.next.now) size2 (c.in_ok-publish.ensures.published honest2) in
     IsReady-rolled size c.args.current.now c.args.next.now c.args.id c.requires.more h2 h3 closed2 time3 keeps2 published
+
+pub returns-in_err-close_gate-clause-fresh : goal.returns-in_err-close_gate-clause-fresh
+returns-in_err-close_gate-clause-fresh g c honest ids none =
+    let h0 = g.D.SectorDisk.history c.args.disk.now in
+    let h1 = g.D.SectorDisk.history c.close_gate.new.disk in
+    let low : first_sector c.args.id ≤ c.first_sector.result = omega (arith, c.first_sector.ensures.first, c.get.ensures.number) in
+    let high : c.first_sector.result + 1 ≤ first_sector c.args.id + 2048 = omega (arith, c.first_sector.ensures.first, c.get.ensures.number) in
+    let first = KeepsFresh-segment c.first_sector.result 1 h0 h1 (c.close_gate.ensures.time honest) c.args.id ids low high none in
+    first
+
+pub returns-in_err-close_other_if_open-clause-fresh : goal.returns-in_err-close_other_if_open-clause-fresh
+returns-in_err-close_other_if_open-clause-fresh g c honest ids none =
+    let h0 = g.D.SectorDisk.history c.args.disk.now in
+    let h1 = g.D.SectorDisk.history c.close_gate.new.disk in
+    let low : first_sector c.args.id ≤ c.first_sector.result = omega (arith, c.first_sector.ensures.first, c.get.ensures.number) in
+    let high : c.first_sector.result + 1 ≤ first_sector c.args.id + 2048 = omega (arith, c.first_sector.ensures.first, c.get.ensures.number) in
+    let first = KeepsFresh-segment c.first_sector.result 1 h0 h1 (c.close_gate.ensures.time honest) c.args.id ids low high none in
+    let h2 = g.D.SectorDisk.history c.close_other_if_open.new.disk in
+    let honest1 = c.close_gate.ensures.same_honesty ∙ honest in
+    let slot = gate_of (other_slot c.args.current.now.slot) in
+    let second = KeepsFresh-then (present h0) (present h1) (present h2) ids first (KeepsFresh-slots slot 1 h1 h2 (c.close_other_if_open.ensures.time honest1) ids (omega (arith, gate_of-small (other_slot c.args.current.now.slot)))) in
+    second
+
+pub returns-in_err-publish-clause-fresh : goal.returns-in_err-publish-clause-fresh
+returns-in_err-publish-clause-fresh g c honest ids none =
+    let h0 = g.D.SectorDisk.history c.args.disk.now in
+    let h1 = g.D.SectorDisk.history c.close_gate.new.disk in
+    let low : first_sector c.args.id ≤ c.first_sector.result = omega (arith, c.first_sector.ensures.first, c.get.ensures.number) in
+    let high : c.first_sector.result + 1 ≤ first_sector c.args.id + 2048 = omega (arith, c.first_sector.ensures.first, c.get.ensures.number) in
+    let first = KeepsFresh-segment c.first_sector.result 1 h0 h1 (c.close_gate.ensures.time honest) c.args.id ids low high none in
+    let h2 = g.D.SectorDisk.history c.close_other_if_open.new.disk in
+    let honest1 = c.close_gate.ensures.same_honesty ∙ honest in
+    let slot = gate_of (other_slot c.args.current.now.slot) in
+    let second = KeepsFresh-then (present h0) (present h1) (present h2) ids first (KeepsFresh-slots slot 1 h1 h2 (c.close_other_if_open.ensures.time honest1) ids (omega (arith, gate_of-small (other_slot c.args.current.now.slot)))) in
+    let h3 = g.D.SectorDisk.history c.publish.new.disk in
+    let honest2 = c.close_other_if_open.ensures.same_honesty ∙ honest1 in
+    KeepsFresh-then (present h0) (present h2) (present h3) ids second (KeepsFresh-slots (gate_of c.args.next.now.slot) 2 h2 h3 (c.publish.ensures.time honest2) ids (omega (arith, gate_of-small c.args.next.now.slot)))
+
+pub returns-clause-fresh : goal.returns-clause-fresh
+returns-clause-fresh g c honest ids none =
+    let h0 = g.D.SectorDisk.history c.args.disk.now in
+    let h1 = g.D.SectorDisk.history c.close_gate.new.disk in
+    let low : first_sector c.args.id ≤ c.first_sector.result = omega (arith, c.first_sector.ensures.first, c.get.ensures.number) in
+    let high : c.first_sector.result + 1 ≤ first_sector c.args.id + 2048 = omega (arith, c.first_sector.ensures.first, c.get.ensures.number) in
+    let first = KeepsFresh-segment c.first_sector.result 1 h0 h1 (c.close_gate.ensures.time honest) c.args.id ids low high none in
+    let h2 = g.D.SectorDisk.history c.close_other_if_open.new.disk in
+    let honest1 = c.close_gate.ensures.same_honesty ∙ honest in
+    let slot = gate_of (other_slot c.args.current.now.slot) in
+    let second = KeepsFresh-then (present h0) (present h1) (present h2) ids first (KeepsFresh-slots slot 1 h1 h2 (c.close_other_if_open.ensures.time honest1) ids (omega (arith, gate_of-small (other_slot c.args.current.now.slot)))) in
+    let h3 = g.D.SectorDisk.history c.publish.new.disk in
+    let honest2 = c.close_other_if_open.ensures.same_honesty ∙ honest1 in
+    KeepsFresh-then (present h0) (present h2) (present h3) ids second (KeepsFresh-slots (gate_of c.args.next.now.slot) 2 h2 h3 (c.publish.ensures.time honest2) ids (omega (arith, gate_of-small c.args.next.now.slot)))

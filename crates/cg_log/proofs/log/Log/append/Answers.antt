@@ -1,10 +1,11 @@
-use Rattle.std.proofs.Common.{◌≡◌, ◌<◌, ◌≤◌, ◌∙◌, ℕ, List, inl, inr, refl, subst, ap, arith, length, true, rules}
+use Rattle.std.proofs.Common.{◌≡◌, ◌<◌, ◌≤◌, ◌∙◌, ◌++◌, ℕ, List, inl, inr, refl, subst, ap, arith, length, true, rules}
 use Rattle.std.proofs.lemmas.Result.{err_from_is_err_and}
 use Rattle.cg_disk.specs.Disk.{present}
 use Rattle.cg_log.specs.Carried.{appended, rolled}
-use Rattle.cg_log.specs.Log.{LogHas, disk_of, end_of, number_of, root_of}
+use Rattle.cg_log.specs.Log.{LogHas, disk_of, end_of, number_of, root_of, taken_of}
 use Rattle.cg_frame.specs.Frames.{next_gate}
 use Rattle.cg_gate.specs.declared.layout.TheConstants.{SEGMENT_SECTORS}
+use Rattle.cg_root.specs.Roots.{root_ids}
 use Rattle.cg_log.specs.Room.{has_room, room_at}
 use Rattle.cg_log.proofs.Moves.{AllCarry-appended, still-append-images}
 use Rattle.cg_log.proofs.Room.{always, calls-next, calls-tail, fits-none, has-no-room, has-room-next, has-room-tail, room-next, room-tail}
@@ -48,7 +49,7 @@ returns-in_err-put_in_new_tail-clause-full g c =
     let bytes = length c.args.payload.now in
     let past : SEGMENT_SECTORS ≤ next_gate self.end bytes = search rules in
     let p = err_from_is_err_and c.from_residual.result c.from_residual.ensures.1 in
-    rw (p.1, p.2) (λ full. inr (has-no-room size self.root self.end bytes past (c.in_err-put_in_new_tail.ensures.full full)))
+    rw (p.1, p.2) (λ full. inr (has-no-room size (taken_of self) self.root self.end bytes past (c.in_err-put_in_new_tail.ensures.full full)))
 
 pub returns-in_err-put_in_new_tail-clause-clear : goal.returns-in_err-put_in_new_tail-clause-clear
 returns-in_err-put_in_new_tail-clause-clear g c =
@@ -57,7 +58,7 @@ returns-in_err-put_in_new_tail-clause-clear g c =
     let bytes = length c.args.payload.now in
     let past : SEGMENT_SECTORS ≤ next_gate self.end bytes = search rules in
     let p = err_from_is_err_and c.from_residual.result c.from_residual.ensures.1 in
-    rw (p.1, p.2) (λ failed full. has-room-next size self.root self.end bytes past (c.in_err-put_in_new_tail.ensures.clear full))
+    rw (p.1, p.2) (λ failed full. has-room-next size (taken_of self) self.root self.end bytes past (c.in_err-put_in_new_tail.ensures.clear full))
 
 pub returns-in_err-put_in_new_tail-clause-clock : goal.returns-in_err-put_in_new_tail-clause-clock
 returns-in_err-put_in_new_tail-clause-clock g c honest fits =
@@ -65,7 +66,7 @@ returns-in_err-put_in_new_tail-clause-clock g c honest fits =
     let size = g.D.SectorDisk.size self.disk in
     let bytes = length c.args.payload.now in
     let past : SEGMENT_SECTORS ≤ next_gate self.end bytes = search rules in
-    absurd (let no = fits-none size self.root self.end bytes past in cc)
+    absurd (let no = fits-none size (taken_of self) self.root self.end bytes past in cc)
 
 pub returns-in_err-put_in_new_tail-clause-calls : goal.returns-in_err-put_in_new_tail-clause-calls
 returns-in_err-put_in_new_tail-clause-calls g c honest =
@@ -73,7 +74,7 @@ returns-in_err-put_in_new_tail-clause-calls g c honest =
     let size = g.D.SectorDisk.size self.disk in
     let bytes = length c.args.payload.now in
     let past : SEGMENT_SECTORS ≤ next_gate self.end bytes = search rules in
-    let most = calls-next size self.root self.end bytes past in
+    let most = calls-next size (taken_of self) self.root self.end bytes past in
     omega (arith, most, c.put_in_new_tail.ensures.calls honest)
 
 pub returns-then-not-fits-clause-room : goal.returns-then-not-fits-clause-room
@@ -84,9 +85,10 @@ returns-then-not-fits-clause-room g c =
     let past : SEGMENT_SECTORS ≤ next_gate self.end bytes = search rules in
     let next = c.in_ok-put_in_new_tail.ensures.tail in
     let new = c.put_in_new_tail.new.self in
-    ap (λ n. room_at n (root_of new) (end_of new)) c.put_in_new_tail.ensures.same_size
-    ∙ ap (λ e. room_at size (root_of new) e) c.in_ok-put_in_new_tail.ensures.end
-    ∙ room-next size self.root self.end bytes (root_of new) next.0 past next.1
+    ap (λ n. room_at n (taken_of new) (root_of new) (end_of new)) c.put_in_new_tail.ensures.same_size
+    ∙ ap (λ (f : List ℕ). room_at size (root_ids (root_of new) ++ f) (root_of new) (end_of new)) c.put_in_new_tail.ensures.same_fresh
+    ∙ ap (λ e. room_at size (root_ids (root_of new) ++ self.fresh.items) (root_of new) e) c.in_ok-put_in_new_tail.ensures.end
+    ∙ room-next size self.fresh.items self.root self.end bytes (root_of new) next.0 past next.1
 
 pub returns-then-not-fits-clause-clear : goal.returns-then-not-fits-clause-clear
 returns-then-not-fits-clause-clear g c =
@@ -94,7 +96,7 @@ returns-then-not-fits-clause-clear g c =
     let size = g.D.SectorDisk.size self.disk in
     let bytes = length c.args.payload.now in
     let past : SEGMENT_SECTORS ≤ next_gate self.end bytes = search rules in
-    has-room-next size self.root self.end bytes past c.in_ok-put_in_new_tail.ensures.clear
+    has-room-next size (taken_of self) self.root self.end bytes past c.in_ok-put_in_new_tail.ensures.clear
 
 pub returns-then-not-fits-clause-clock : goal.returns-then-not-fits-clause-clock
 returns-then-not-fits-clause-clock g c honest fits =
@@ -102,7 +104,7 @@ returns-then-not-fits-clause-clock g c honest fits =
     let size = g.D.SectorDisk.size self.disk in
     let bytes = length c.args.payload.now in
     let past : SEGMENT_SECTORS ≤ next_gate self.end bytes = search rules in
-    absurd (let no = fits-none size self.root self.end bytes past in cc)
+    absurd (let no = fits-none size (taken_of self) self.root self.end bytes past in cc)
 
 pub returns-then-not-fits-clause-calls : goal.returns-then-not-fits-clause-calls
 returns-then-not-fits-clause-calls g c honest =
@@ -110,7 +112,7 @@ returns-then-not-fits-clause-calls g c honest =
     let size = g.D.SectorDisk.size self.disk in
     let bytes = length c.args.payload.now in
     let past : SEGMENT_SECTORS ≤ next_gate self.end bytes = search rules in
-    let most = calls-next size self.root self.end bytes past in
+    let most = calls-next size (taken_of self) self.root self.end bytes past in
     omega (arith, most, c.put_in_new_tail.ensures.calls honest)
 
 pub returns-in_err-frame-clause-clear : goal.returns-in_err-frame-clause-clear
@@ -119,7 +121,7 @@ returns-in_err-frame-clause-clear g c =
     let size = g.D.SectorDisk.size self.disk in
     let bytes = length c.args.payload.now in
     let fits : next_gate self.end bytes < SEGMENT_SECTORS = search rules in
-    always (has_room (room_at size self.root self.end) bytes ≡ true) c.from_residual-in_err-frame.result (has-room-tail size self.root self.end bytes fits)
+    always (has_room (room_at size (taken_of self) self.root self.end) bytes ≡ true) c.from_residual-in_err-frame.result (has-room-tail size (taken_of self) self.root self.end bytes fits)
 
 pub returns-in_err-put-clause-clear : goal.returns-in_err-put-clause-clear
 returns-in_err-put-clause-clear g c =
@@ -127,7 +129,7 @@ returns-in_err-put-clause-clear g c =
     let size = g.D.SectorDisk.size self.disk in
     let bytes = length c.args.payload.now in
     let fits : next_gate self.end bytes < SEGMENT_SECTORS = search rules in
-    always (has_room (room_at size self.root self.end) bytes ≡ true) c.from_residual-in_err-put.result (has-room-tail size self.root self.end bytes fits)
+    always (has_room (room_at size (taken_of self) self.root self.end) bytes ≡ true) c.from_residual-in_err-put.result (has-room-tail size (taken_of self) self.root self.end bytes fits)
 
 pub returns-in_err-put-clause-calls : goal.returns-in_err-put-clause-calls
 returns-in_err-put-clause-calls g c honest =
@@ -135,7 +137,7 @@ returns-in_err-put-clause-calls g c honest =
     let size = g.D.SectorDisk.size self.disk in
     let bytes = length c.args.payload.now in
     let fits : next_gate self.end bytes < SEGMENT_SECTORS = search rules in
-    let most = calls-tail size self.root self.end bytes fits in
+    let most = calls-tail size (taken_of self) self.root self.end bytes fits in
     omega (arith, most, (c.put.ensures.clock honest).most)
 
 pub returns-clause-room : goal.returns-clause-room
@@ -146,10 +148,11 @@ returns-clause-room g c =
     let fits : next_gate self.end bytes < SEGMENT_SECTORS = search rules in
     let new = c.put.new.self in
     let end_is : end_of new ≡ next_gate self.end bytes = c.in_ok-put.ensures.end ∙ ap (λ (f : ℕ × List ℕ). next_gate self.end (length f.1)) c.in_ok-frame.ensures in
-    ap (λ n. room_at n (root_of new) (end_of new)) c.put.ensures.same_size
-    ∙ ap (λ r. room_at size r (end_of new)) c.put.ensures.same_root
-    ∙ ap (λ e. room_at size self.root e) end_is
-    ∙ room-tail size self.root self.end bytes fits
+    ap (λ n. room_at n (taken_of new) (root_of new) (end_of new)) c.put.ensures.same_size
+    ∙ ap (λ (f : List ℕ). room_at size (root_ids (root_of new) ++ f) (root_of new) (end_of new)) c.put.ensures.same_fresh
+    ∙ ap (λ r. room_at size (root_ids r ++ self.fresh.items) r (end_of new)) c.put.ensures.same_root
+    ∙ ap (λ e. room_at size (taken_of self) self.root e) end_is
+    ∙ room-tail size (taken_of self) self.root self.end bytes fits
 
 pub returns-clause-clear : goal.returns-clause-clear
 returns-clause-clear g c =
@@ -157,7 +160,7 @@ returns-clause-clear g c =
     let size = g.D.SectorDisk.size self.disk in
     let bytes = length c.args.payload.now in
     let fits : next_gate self.end bytes < SEGMENT_SECTORS = search rules in
-    has-room-tail size self.root self.end bytes fits
+    has-room-tail size (taken_of self) self.root self.end bytes fits
 
 pub returns-clause-calls : goal.returns-clause-calls
 returns-clause-calls g c honest =
@@ -165,5 +168,5 @@ returns-clause-calls g c honest =
     let size = g.D.SectorDisk.size self.disk in
     let bytes = length c.args.payload.now in
     let fits : next_gate self.end bytes < SEGMENT_SECTORS = search rules in
-    let most = calls-tail size self.root self.end bytes fits in
+    let most = calls-tail size (taken_of self) self.root self.end bytes fits in
     omega (arith, most, (c.put.ensures.clock honest).most)

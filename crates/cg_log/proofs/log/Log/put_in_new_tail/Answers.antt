@@ -19,7 +19,7 @@ returns-in_err-frame-clause-images g c has log =
 pub returns-in_err-add_tail-clause-images : goal.returns-in_err-add_tail-clause-images
 returns-in_err-add_tail-clause-images g c has log =
     let self = c.args.self.now in
-    before-images (g.D.SectorDisk.history self.disk) _ (g.D.SectorDisk.size self.disk) self.number c.args.count (frames_of has.base) (frames_of (tails has)) c.args.payload.now (c.add_tail.ensures.images has log)
+    before-images (g.D.SectorDisk.history self.disk) _ (g.D.SectorDisk.size self.disk) self.number c.args.count (frames_of has.base) (frames_of (tails has)) c.args.payload.now (c.add_tail.ensures.images has (record { is_honest = log.is_honest; holds = log.holds }))
 
 pub returns-in_err-put-clause-images : goal.returns-in_err-put-clause-images
 returns-in_err-put-clause-images g c has log =
@@ -29,9 +29,9 @@ returns-in_err-put-clause-images g c has log =
     let h1 = g.D.SectorDisk.history (disk_of mid) in
     let h2 = g.D.SectorDisk.history (disk_of c.put.new.self) in
     let id = c.in_ok-add_tail.field-0 in
-    let stored = c.in_ok-add_tail.ensures.stored has log in
+    let stored = c.in_ok-add_tail.ensures.stored has (record { is_honest = log.is_honest; holds = log.holds }) in
     let run = subst (λ (f : ℕ × List ℕ). LeavesOnly h1 h2 (CarriesBeforeOrAfter (g.D.SectorDisk.size (disk_of mid)) (number_of mid) (frames_of has.base) (frames_of (tails (rolled has id))) f.0 f.1)) c.in_ok-frame.ensures (c.put.ensures.images (rolled has id) stored) in
-    then-images h0 h1 h2 (g.D.SectorDisk.size self.disk) (g.D.SectorDisk.size (disk_of mid)) self.number (number_of mid) c.args.count c.args.payload.now has id c.add_tail.ensures.same_size c.add_tail.ensures.number (c.add_tail.ensures.images has log) run
+    then-images h0 h1 h2 (g.D.SectorDisk.size self.disk) (g.D.SectorDisk.size (disk_of mid)) self.number (number_of mid) c.args.count c.args.payload.now has id c.add_tail.ensures.same_size c.add_tail.ensures.number (c.add_tail.ensures.images has (record { is_honest = log.is_honest; holds = log.holds })) run
 
 pub returns-clause-images : goal.returns-clause-images
 returns-clause-images g c has log =
@@ -41,11 +41,11 @@ returns-clause-images g c has log =
     let h1 = g.D.SectorDisk.history (disk_of mid) in
     let h2 = g.D.SectorDisk.history (disk_of c.put.new.self) in
     let id = c.in_ok-add_tail.field-0 in
-    let stored = c.in_ok-add_tail.ensures.stored has log in
+    let stored = c.in_ok-add_tail.ensures.stored has (record { is_honest = log.is_honest; holds = log.holds }) in
     let run = subst (λ (f : ℕ × List ℕ). LeavesOnly h1 h2 (CarriesBeforeOrAfter (g.D.SectorDisk.size (disk_of mid)) (number_of mid) (frames_of has.base) (frames_of (tails (rolled has id))) f.0 f.1)) c.in_ok-frame.ensures (c.put.ensures.images (rolled has id) stored) in
-    then-images h0 h1 h2 (g.D.SectorDisk.size self.disk) (g.D.SectorDisk.size (disk_of mid)) self.number (number_of mid) c.args.count c.args.payload.now has id c.add_tail.ensures.same_size c.add_tail.ensures.number (c.add_tail.ensures.images has log) run
+    then-images h0 h1 h2 (g.D.SectorDisk.size self.disk) (g.D.SectorDisk.size (disk_of mid)) self.number (number_of mid) c.args.count c.args.payload.now has id c.add_tail.ensures.same_size c.add_tail.ensures.number (c.add_tail.ensures.images has (record { is_honest = log.is_honest; holds = log.holds })) run
 
 pub returns-clause-stored : goal.returns-clause-stored
 returns-clause-stored g c has log =
     let id = c.in_ok-add_tail.field-0 in
-    (id, subst (λ (f : ℕ × List ℕ). LogHas g.D.SectorDisk.is_honest g.D.SectorDisk.history g.D.SectorDisk.size c.put.new.self (appended (rolled has id) f.0 f.1)) c.in_ok-frame.ensures (c.in_ok-put.ensures.stored (rolled has id) (c.in_ok-add_tail.ensures.stored has log)))
+    (id, subst (λ (f : ℕ × List ℕ). LogHas g.D.SectorDisk.is_honest g.D.SectorDisk.history g.D.SectorDisk.size c.put.new.self (appended (rolled has id) f.0 f.1)) c.in_ok-frame.ensures (c.in_ok-put.ensures.stored (rolled has id) (c.in_ok-add_tail.ensures.stored has (record { is_honest = log.is_honest; holds = log.holds }))))

@@ -4,6 +4,7 @@ use Rattle.cg_log.specs.Carried.{segments_of}
 use Rattle.cg_log.specs.Cursors.{Reads}
 use Rattle.cg_log.specs.Segments.{ids_of}
 use Rattle.cg_log.proofs.Reading.{HoldsContent-stays, IsReady-stays, all-ids, all-stored, limit-is}
+use Rattle.cg_log.proofs.Kept.{KeepsFresh-stays}
 use Rattle.cg_log.proofs.log.Log.sealed_read.Goals as goal
 
 pub invariant_of-self-clause-ready : goal.invariant_of-self-clause-ready
@@ -38,3 +39,9 @@ returns-clause-good g c has read log start =
     let ids : c.as_slice-base.result.now ++ c.as_slice-tail.result.now ≡ ids_of (segments_of has) = rw (c.as_slice-base.ensures, c.as_slice-tail.ensures) (all-ids m size self.root has log.holds.keeps) in
     let stored = all-stored m size self.root has log.holds.keeps in
     c.read_from-outcome.ensures.good log.is_honest (segments_of has) read ids stored start
+
+pub invariant_of-self-clause-fresh_ready : goal.invariant_of-self-clause-fresh_ready
+invariant_of-self-clause-fresh_ready g c serves honest =
+    let self = c.args.self.now in
+    let honest0 = sym c.read_from-outcome.ensures.same_honesty ∙ honest in
+    (KeepsFresh-stays (g.D.SectorDisk.history self.disk) (g.D.SectorDisk.history c.read_from-outcome.new.disk) self.fresh.items (c.read_from-outcome.ensures.time honest0)).ready self.fresh_end self.fresh_inside (self.fresh_ready c.if-self.false honest0)

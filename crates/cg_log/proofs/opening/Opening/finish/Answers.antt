@@ -2,7 +2,17 @@ use Rattle.cg_disk.specs.Disk.{present}
 use Rattle.cg_frame.specs.Reader.{position_of}
 use Rattle.cg_log.proofs.Images.{carried-opened}
 use Rattle.cg_log.proofs.Whole.{HoldsContent-whole, IsReady-whole, content-whole}
+use Rattle.std.proofs.Common.{◌++◌, ℕ, List, ap, sym, ◌∙◌, subst}
+use Rattle.std.proofs.lemmas.List.{append-nil}
+use Rattle.cg_gate.specs.Layout.{segment_count}
+use Rattle.cg_root.specs.Roots.{AreSegments, root_ids}
 use Rattle.cg_log.proofs.opening.Opening.finish.Goals as goal
+
+pub invariant_of-result-clause-taken : goal.invariant_of-result-clause-taken
+invariant_of-result-clause-taken g c =
+    let self = c.args.self in
+    subst (AreSegments (segment_count (g.D.SectorDisk.size self.disk)))
+    (sym (append-nil (root_ids self.root)) ∙ ap (λ (f : List ℕ). root_ids self.root ++ f) (sym c.new.ensures.items)) self.lawful.ids
 
 pub invariant_of-result-clause-ready : goal.invariant_of-result-clause-ready
 invariant_of-result-clause-ready g c _ honest =
