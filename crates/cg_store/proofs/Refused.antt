@@ -11,26 +11,26 @@ use Rattle.cg_store.specs.declared.fault.StoreFault.TheVariants.{Full, OutOfOrde
 
 -- ---- the room
 
-module _ (sectors size : ℕ) (size_is : sectors ≡ size) (root : Root) (end front count : ℕ) (commands : List Command) (payload : List ℕ) (bytes : payload ≡ spelling commands) (count_is : count ≡ length commands) where
-  same_room : log_has_room (room_at sectors root end) (length (spelling commands)) ≡ log_has_room (room_at size root end) (length payload)
-  same_room i = log_has_room (room_at (size_is i) root end) (length (sym bytes i))
+module _ (sectors size : ℕ) (size_is : sectors ≡ size) (taken : List ℕ) (root : Root) (end front count : ℕ) (commands : List Command) (payload : List ℕ) (bytes : payload ≡ spelling commands) (count_is : count ≡ length commands) where
+  same_room : log_has_room (room_at sectors taken root end) (length (spelling commands)) ≡ log_has_room (room_at size taken root end) (length payload)
+  same_room i = log_has_room (room_at (size_is i) taken root end) (length (sym bytes i))
 
-  pub has-room : log_has_room (room_at size root end) (length payload) ≡ true → front + count ≤ COMMAND_NUMBER_MAX → has_room (room_at sectors root end) front commands ≡ true
+  pub has-room : log_has_room (room_at size taken root end) (length payload) ≡ true → front + count ≤ COMMAND_NUMBER_MAX → has_room (room_at sectors taken root end) front commands ≡ true
   has-room room few =
-      let one : log_has_room (room_at sectors root end) (length (spelling commands)) ≡ true = same_room ∙ room in
+      let one : log_has_room (room_at sectors taken root end) (length (spelling commands)) ≡ true = same_room ∙ room in
       let two : nat_le (front + length commands) COMMAND_NUMBER_MAX ≡ true = grind (arith, nat_tests) in
       rw (one, two)
 
-  pub has-no-room : (COMMAND_NUMBER_MAX < front + count) ⊎ (log_has_room (room_at size root end) (length payload) ≡ false) → has_room (room_at sectors root end) front commands ≡ false
+  pub has-no-room : (COMMAND_NUMBER_MAX < front + count) ⊎ (log_has_room (room_at size taken root end) (length payload) ≡ false) → has_room (room_at sectors taken root end) front commands ≡ false
   has-no-room (inl many) =
       let two : nat_le (front + length commands) COMMAND_NUMBER_MAX ≡ false = grind (arith, nat_tests) in
-      last_false (log_has_room (room_at sectors root end) (length (spelling commands))) (nat_le (front + length commands) COMMAND_NUMBER_MAX) two
+      last_false (log_has_room (room_at sectors taken root end) (length (spelling commands))) (nat_le (front + length commands) COMMAND_NUMBER_MAX) two
     where
       last_false : (a b : Bool) → b ≡ false → (a && b) ≡ false
       last_false true b is = is
       last_false false b is = refl
   has-no-room (inr none) =
-      let one : log_has_room (room_at sectors root end) (length (spelling commands)) ≡ false = same_room ∙ none in
+      let one : log_has_room (room_at sectors taken root end) (length (spelling commands)) ≡ false = same_room ∙ none in
       rw one
 
 -- ---- the refusal

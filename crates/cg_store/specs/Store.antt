@@ -23,7 +23,7 @@ sectors_of store = store.sectors
 
 -- what may still be appended
 abbrev pub room_of : {D : Type 0} {g : _} → Store D g → Room
-room_of store = room_at store.sectors (log_model.root_of store.log) (log_model.end_of store.log)
+room_of store = room_at store.sectors (log_model.taken_of store.log) (log_model.root_of store.log) (log_model.end_of store.log)
 
 -- the number of its last command
 abbrev pub front_of : {D : Type 0} {g : _} → Store D g → ℕ

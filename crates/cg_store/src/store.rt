@@ -24,7 +24,7 @@ impl<D: SectorDisk> Store<D> {
         self.log.number()
     }
 
-    /// Returns how many segments of the disk are free. Compares each segment with each that is in use.
+    /// Returns how many segments of the disk are free. Compares each segment with each that is taken.
     pub fn free_count(&self) -> u64
         ensures { result ≡ (room_of self.now).segments }
     {

@@ -342,4 +342,4 @@ module _ {D : Type 0} {g : _} (honest : D → Bool) (history : D → History) wh
   pub run-none : (steps : List Step) (old : World D g) (last : Option Outgoing) (trace : Trace) → steps ≢ [] → last ≡ refusal_of_first steps → trace ≡ record { out = []; notes = []; last = last; stopped = Some cause.Memory } → IsRun honest history steps old old trace
   run-none [] old last trace some told is = absurd (some refl)
   run-none (s ∷ ss) old last trace some told is =
-      run-wanting (s ∷ ss) ss s [] [] old old old last trace (going-start (s ∷ ss) old) refl (record { log = record { disk = refl; root = refl; end = refl; number = refl; failed = refl }; sectors = refl }) told is
+      run-wanting (s ∷ ss) ss s [] [] old old old last trace (going-start (s ∷ ss) old) refl (record { log = record { disk = refl; root = refl; end = refl; number = refl; failed = refl; fresh = refl; fresh_end = refl }; sectors = refl }) told is

@@ -54,6 +54,8 @@ module _ {D : Type 0} {g : _} (honest : D → Bool) (history : D → History) (o
       end = ap (λ s. log_model.end_of s.log) same;
       number = ap front_of same;
       failed = ap has_failed same;
+      fresh = ap (λ s. log_model.fresh_of s.log) same;
+      fresh_end = ap (λ s. log_model.fresh_end_of s.log) same;
     };
     sectors = ap sectors_of same;
   }

@@ -75,7 +75,7 @@ returns-in-Ok-clause-told g c =
     let size = g.D.SectorDisk.size (disk_of self) in
     let serves : has_failed self ≡ false = sym c.has_failed.ensures ∙ c.if-has_failed.false in
     let next : batch.first ≡ front_of self + 1 = omega (arith, c.number.ensures.number) in
-    let room = has-room self.sectors size self.size (log_model.root_of self.log) (log_model.end_of self.log) (front_of self) c.len-count.result batch.commands c.as_bytes.result.now c.as_bytes.ensures.spelled c.len-count.ensures c.in-Ok.ensures.clear c.in-Ok.ensures.few in
+    let room = has-room self.sectors size self.size (log_model.taken_of self.log) (log_model.root_of self.log) (log_model.end_of self.log) (front_of self) c.len-count.result batch.commands c.as_bytes.result.now c.as_bytes.ensures.spelled c.len-count.ensures c.in-Ok.ensures.clear c.in-Ok.ensures.few in
     refused-not (has_failed self) (room_of self) (front_of self) batch.first batch.commands serves next room
 
 pub returns-in-Err-Memory-clause-told : goal.returns-in-Err-Memory-clause-told
@@ -88,7 +88,7 @@ returns-in-Err-Memory-clause-told g c =
     let fault = c.in-Err-Memory.field-0 in
     let not_failed : fault ≢ log_fault.Failed = λ e. (cc (c.in-Err-Memory.field-0-is, e)) in
     let not_full : fault ≢ log_fault.Full = λ e. (cc (c.in-Err-Memory.field-0-is, e)) in
-    let room = has-room self.sectors size self.size (log_model.root_of self.log) (log_model.end_of self.log) (front_of self) c.len-count.result batch.commands c.as_bytes.result.now c.as_bytes.ensures.spelled c.len-count.ensures (c.in-Err-Memory.ensures.clear not_failed not_full) (c.in-Err-Memory.ensures.few not_failed not_full) in
+    let room = has-room self.sectors size self.size (log_model.taken_of self.log) (log_model.root_of self.log) (log_model.end_of self.log) (front_of self) c.len-count.result batch.commands c.as_bytes.result.now c.as_bytes.ensures.spelled c.len-count.ensures (c.in-Err-Memory.ensures.clear not_failed not_full) (c.in-Err-Memory.ensures.few not_failed not_full) in
     subst (λ (o : Option StoreFault). IsToldOf o store_fault.Memory) (sym (refused-not (has_failed self) (room_of self) (front_of self) batch.first batch.commands serves next room)) (inl refl)
 
 pub returns-in-Err-Device-clause-told : goal.returns-in-Err-Device-clause-told
@@ -101,7 +101,7 @@ returns-in-Err-Device-clause-told g c =
     let fault = c.in-Err-Device.field-0 in
     let not_failed : fault ≢ log_fault.Failed = λ e. (cc (c.in-Err-Device.field-0-is, e)) in
     let not_full : fault ≢ log_fault.Full = λ e. (cc (c.in-Err-Device.field-0-is, e)) in
-    let room = has-room self.sectors size self.size (log_model.root_of self.log) (log_model.end_of self.log) (front_of self) c.len-count.result batch.commands c.as_bytes.result.now c.as_bytes.ensures.spelled c.len-count.ensures (c.in-Err-Device.ensures.clear not_failed not_full) (c.in-Err-Device.ensures.few not_failed not_full) in
+    let room = has-room self.sectors size self.size (log_model.taken_of self.log) (log_model.root_of self.log) (log_model.end_of self.log) (front_of self) c.len-count.result batch.commands c.as_bytes.result.now c.as_bytes.ensures.spelled c.len-count.ensures (c.in-Err-Device.ensures.clear not_failed not_full) (c.in-Err-Device.ensures.few not_failed not_full) in
     subst (λ (o : Option StoreFault). IsToldOf o store_fault.Device) (sym (refused-not (has_failed self) (room_of self) (front_of self) batch.first batch.commands serves next room)) (inr refl)
 
 pub returns-in-Err-Full-clause-told : goal.returns-in-Err-Full-clause-told
@@ -111,5 +111,5 @@ returns-in-Err-Full-clause-told g c =
     let size = g.D.SectorDisk.size (disk_of self) in
     let serves : has_failed self ≡ false = sym c.has_failed.ensures ∙ c.if-has_failed.false in
     let next : batch.first ≡ front_of self + 1 = omega (arith, c.number.ensures.number) in
-    let none = has-no-room self.sectors size self.size (log_model.root_of self.log) (log_model.end_of self.log) (front_of self) c.len-count.result batch.commands c.as_bytes.result.now c.as_bytes.ensures.spelled c.len-count.ensures (c.in-Err-Full.ensures.full (ap Err c.in-Err-Full.field-0-is)) in
+    let none = has-no-room self.sectors size self.size (log_model.taken_of self.log) (log_model.root_of self.log) (log_model.end_of self.log) (front_of self) c.len-count.result batch.commands c.as_bytes.result.now c.as_bytes.ensures.spelled c.len-count.ensures (c.in-Err-Full.ensures.full (ap Err c.in-Err-Full.field-0-is)) in
     subst (λ (o : Option StoreFault). IsToldOf o store_fault.Full) (sym (refused-full (has_failed self) (room_of self) (front_of self) batch.first batch.commands serves next none)) refl
