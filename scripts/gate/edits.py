@@ -43,7 +43,7 @@ def _is_refused_by_module(crate, texts, kept):
     is_unread = any(rt.unread(line, texts) for line in lines) or rtlib.STALE.search(ran.stdout)
     if not counts or is_unread or int(counts[2]) >= int(counts[1]):
         return None
-    reasons = [line for line in lines if re.match(r"(note: )?\S+:\d+:\d+:", line)]
+    reasons = [line for line in lines if re.match(r"(note: )?\S+:\d+:\d+:", line) and " note: large solution" not in line]
     reasons = [line for line in reasons if not re.match(r"(\./)?proofs/.*(has no field|is not in scope|has no `|was not admitted)", line)]
     return reasons[0][:160] if reasons else None
 
