@@ -1,5 +1,5 @@
 //! Reading the frames of a log in order.
-ghost use Rattle.std.specs.Prelude.{◌≡◌, ◌≢◌, ℕ, ◌+◌, ◌≤◌, ◌<◌, [], ◌∷◌, ◌++◌, List, true, false, length, take, slice_index, IfErr, IfSome, IsTrue, IsErrOf, IfOk, OnOk, ◌⊎◌, nat_lt};
+ghost use Rattle.std.specs.Prelude.{◌≡◌, ◌≢◌, ℕ, ◌+◌, ◌≤◌, ◌<◌, [], ◌∷◌, ◌++◌, List, true, false, length, take, slice_index, IfErr, IfSome, IsTrue, IsErrOf, IfOk, MatchResult, ◌⊎◌, nat_lt};
 ghost use Rattle.std.specs.List.{list_all};
 ghost use Rattle.cg_disk.specs.Disk.{Counts, Stays, present};
 ghost use Rattle.cg_gate.specs.Layout.{segment_count};
@@ -124,7 +124,9 @@ impl<D: SectorDisk> Log<D> {
         ensures same_fresh_end { fresh_end_of self.new ≡ fresh_end_of self.old }
         ensures counted { IfOk result (λ o. IfSome o (λ found. 1 ≤ found.0.count)) }
         ensures faults { IfErr result (λ fault. IsReadingFault fault ⊎ ((fault ≡ LogFault.Failed) × (has_failed self.old ≡ true))) }
-        ensures serves { OnOk result (has_failed self.new ≡ has_failed self.old) }
+        ensures serves { MatchResult result
+            (λ _. has_failed self.new ≡ has_failed self.old)
+            (λ fault. fault ≢ LogFault.Device → has_failed self.new ≡ has_failed self.old) }
         ensures failed { IsErrOf result LogFault.Device → has_failed self.new ≡ true }
         ensures refused { has_failed self.old ≡ true → IsErrOf result LogFault.Failed }
         ensures same_root { root_of self.new ≡ root_of self.old }
