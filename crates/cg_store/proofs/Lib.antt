@@ -1,7 +1,14 @@
 pub mod Spelled
 pub mod Longer
+pub mod Lengths
 pub mod Whole
 pub mod Reading
 pub mod Opened
+pub mod Growing
+pub mod Compacted
+pub mod Folding
+pub mod Switching
 pub mod Standing
+pub mod Rooms
+pub mod Cuts
 pub mod Refused

@@ -15,12 +15,12 @@ use Rattle.cg_store.specs.Loading.{IsNoText}
 
 -- ---- one more batch
 
-joined-push : (batches : List (List Command)) (commands : List Command) → joined (batches ++ commands ∷ []) ≡ joined batches ++ commands
+pub joined-push : (batches : List (List Command)) (commands : List Command) → joined (batches ++ commands ∷ []) ≡ joined batches ++ commands
 joined-push batches commands =
     flat_map-append (λ (c : List Command). c) batches (commands ∷ [])
     ∙ ap (λ l. joined batches ++ l) (flat_map-cons (λ (c : List Command). c) commands [] ∙ append-nil commands)
 
-frames-push : (frames : Frames) (batches : List (List Command)) (frame : ℕ × List ℕ) (commands : List Command)
+pub frames-push : (frames : Frames) (batches : List (List Command)) (frame : ℕ × List ℕ) (commands : List Command)
     → AreFramesOf frames batches → IsFrameOf frame commands → AreFramesOf (frames ++ frame ∷ []) (batches ++ commands ∷ [])
 frames-push [] [] frame commands are is = (is, tt)
 frames-push [] (b ∷ batches) frame commands are is = absurd are
@@ -108,3 +108,50 @@ joined-lawful (f ∷ frames) (b ∷ batches) are = both-lawful b (joined batches
 
 pub Spell-made : (frames : Frames) (state : State) → Spell frames state → AreMade state
 Spell-made frames state spell = record { commands = joined spell.batches; lawful = joined-lawful frames spell.batches spell.frames_are; state_is = spell.state_is }
+
+-- ---- frames in two parts
+
+record Parts (xs ys : Frames) (batches : List (List Command)) : Type 0 where
+  pub front : List (List Command)
+  pub back : List (List Command)
+  pub is : batches ≡ front ++ back
+  pub front_are : AreFramesOf xs front
+  pub back_are : AreFramesOf ys back
+
+parts-of : (xs ys : Frames) (batches : List (List Command)) → AreFramesOf (xs ++ ys) batches → Parts xs ys batches
+parts-of [] ys batches are = record { front = []; back = batches; is = refl; front_are = tt; back_are = are }
+parts-of (x ∷ xs) ys [] are = absurd are
+parts-of (x ∷ xs) ys (b ∷ batches) are =
+    let rest = parts-of xs ys batches are.1 in
+    record { front = b ∷ rest.front; back = rest.back; is = ap (λ (l : List (List Command)). b ∷ l) rest.is; front_are = (are.0, rest.front_are); back_are = rest.back_are }
+
+pub frames-join : (xs ys : Frames) (a b : List (List Command)) → AreFramesOf xs a → AreFramesOf ys b → AreFramesOf (xs ++ ys) (a ++ b)
+frames-join [] ys [] b of_a of_b = of_b
+frames-join [] ys (c ∷ a) b of_a of_b = absurd of_a
+frames-join (x ∷ xs) ys [] b of_a of_b = absurd of_a
+frames-join (x ∷ xs) ys (c ∷ a) b of_a of_b = (of_a.0, frames-join xs ys a b of_a.1 of_b)
+
+folded-joined : (a b : List (List Command)) → folded (joined (a ++ b)) ≡ after (folded (joined a)) (joined b)
+folded-joined a b = ap folded (flat_map-append (λ (c : List Command). c) a b) ∙ fold-append effect empty (joined a) (joined b)
+
+first-of : (frame : ℕ × List ℕ) (left : Frames) (batches : List (List Command)) → AreFramesOf (frame ∷ left) batches → (commands : List Command) × IsFrameOf frame commands
+first-of frame left [] are = absurd are
+first-of frame left (b ∷ batches) are = (b, are.0)
+
+-- a frame among frames that spell is one of a batch
+pub Spell-next : (read left : Frames) (frame : ℕ × List ℕ) (state : State) → Spell (read ++ frame ∷ left) state → (commands : List Command) × IsFrameOf frame commands
+Spell-next read left frame state spell =
+    let parts = parts-of read (frame ∷ left) spell.batches spell.frames_are in
+    first-of frame left parts.back parts.back_are
+
+-- the first frames, or others that make the same state
+pub Spell-instead : (xs ys zs : Frames) (before state : State) (batches : List (List Command)) → Spell (xs ++ ys) state → Spell xs before → AreFramesOf zs batches → folded (joined batches) ≡ before → Spell (zs ++ ys) state
+Spell-instead xs ys zs before state batches spell front are made =
+    let parts = parts-of xs ys spell.batches spell.frames_are in
+    let here : before ≡ folded (joined parts.front) = Spell-unique xs before (folded (joined parts.front)) front (record { batches = parts.front; frames_are = parts.front_are; state_is = refl }) in
+    record {
+      batches = batches ++ parts.back;
+      frames_are = frames-join zs ys batches parts.back are parts.back_are;
+      state_is = spell.state_is ∙ ap (λ (l : List (List Command)). folded (joined l)) parts.is ∙ folded-joined parts.front parts.back
+          ∙ ap (λ (s : State). after s (joined parts.back)) (sym here ∙ sym made) ∙ sym (folded-joined batches parts.back);
+    }

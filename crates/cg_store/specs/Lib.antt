@@ -5,4 +5,6 @@ pub mod Faults
 pub mod Texts
 pub mod Batches
 pub mod Receipts
+pub mod Phases
+pub mod Compacting
 pub mod Store

@@ -1,13 +1,19 @@
 -- The model of a store.
-use Rattle.std.specs.Prelude.{◌≡◌, ◌++◌, ℕ, Bool, true, Option, Result, Ok, Err}
+use Rattle.std.specs.Prelude.{◌≡◌, ◌++◌, ℕ, List, Bool, true, Option, Result, Ok, Err}
 use Rattle.cg_disk.specs.Disk.{History, present}
 use Rattle.cg_fold.specs.Durable.{State}
 use Rattle.cg_log.specs.Carried.{Content, HoldsContent, tails}
 use Rattle.cg_log.specs.Log as log_model
 use Rattle.cg_log.specs.Room.{Room, room_at}
-use Rattle.cg_log.specs.Segments.{frames_of}
+use Rattle.cg_log.specs.Segments.{Frames, frames_of}
+use Rattle.cg_record.specs.declared.command.Command.{Command}
+use Rattle.cg_root.specs.declared.root.Root.{Root}
 use Rattle.cg_store.specs.Batches.{refusal_of}
 use Rattle.cg_store.specs.Carried.{Spell}
+use Rattle.cg_store.specs.Compacting.{Compacts, cut_in, phase_in, unwritten_in}
+use Rattle.cg_store.specs.declared.compaction.Compaction.{Compaction}
+use Rattle.cg_store.specs.declared.compaction.Cut.{Cut}
+use Rattle.cg_store.specs.declared.phase.Phase.{Phase}
 use Rattle.cg_store.specs.declared.batch.Batch.{Batch}
 use Rattle.cg_store.specs.declared.fault.StoreFault.{StoreFault}
 use Rattle.cg_store.specs.declared.fault.OpenFault.{OpenFault}
@@ -25,6 +31,37 @@ sectors_of store = store.sectors
 abbrev pub room_of : {D : Type 0} {g : _} → Store D g → Room
 room_of store = room_at store.sectors (log_model.taken_of store.log) (log_model.root_of store.log) (log_model.end_of store.log)
 
+-- the root of its log, and the position of the next frame in the last tail
+abbrev pub root_of : {D : Type 0} {g : _} → Store D g → Root
+root_of store = log_model.root_of store.log
+
+abbrev pub end_of : {D : Type 0} {g : _} → Store D g → ℕ
+end_of store = log_model.end_of store.log
+
+-- the phase of its compaction
+abbrev pub phase_of : {D : Type 0} {g : _} → Store D g → Phase
+phase_of store = phase_in store.compaction
+
+-- its compaction
+abbrev pub compaction_of : {D : Type 0} {g : _} → Store D g → Compaction
+compaction_of store = store.compaction
+
+-- where its compaction began
+abbrev pub cut_of : {D : Type 0} {g : _} → Store D g → Option Cut
+cut_of store = cut_in store.compaction
+
+-- the segments that its compaction has written so far
+abbrev pub fresh_of : {D : Type 0} {g : _} → Store D g → List ℕ
+fresh_of store = log_model.fresh_of store.log
+
+-- the position of the next frame in the last of them
+abbrev pub fresh_end_of : {D : Type 0} {g : _} → Store D g → ℕ
+fresh_end_of store = log_model.fresh_end_of store.log
+
+-- the commands of the snapshot that its compaction has not written yet
+abbrev pub unwritten_of : {D : Type 0} {g : _} → Store D g → List Command
+unwritten_of store = unwritten_in store.compaction
+
 -- the number of its last command
 abbrev pub front_of : {D : Type 0} {g : _} → Store D g → ℕ
 front_of store = log_model.number_of store.log
@@ -40,11 +77,15 @@ pub record StandsAt {D : Type 0} {g : _} (honest : D → Bool) (history : D → 
   pub has : Content
   pub holds : HoldsContent (present (history (disk_of store))) (sectors_of store) (log_model.root_of store.log) (log_model.end_of store.log) (front_of store) has
   pub spelled : Spell (frames_of has.base ++ frames_of (tails has)) state
+  -- its compaction speaks of the same frames; of those before its cut these are left to read
+  pub left : Frames
+  pub compacts : Compacts honest history store.log has (front_of store) left store.compaction
 
 -- the store did not change
 pub record IsUnchanged {D : Type 0} {g : _} (old new : Store D g) : Type 0 where
   pub log : log_model.IsUnchanged old.log new.log
   pub sectors : sectors_of new ≡ sectors_of old
+  pub compaction : new.compaction ≡ old.compaction
 
 -- the fault that needs no disk call, if there is one
 abbrev pub refusal : {D : Type 0} {g : _} → Store D g → Batch → Option StoreFault

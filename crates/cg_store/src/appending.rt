@@ -17,7 +17,7 @@ use cg_log::LogFault;
 
 impl<D: SectorDisk> Store<D> {
     ghost use Rattle.cg_store.specs.Receipts.{batch_of};
-    ghost use Rattle.cg_store.specs.Store.{IsUnchanged, StandsAt, disk_of, front_of, has_failed, refusal, room_of, sectors_of};
+    ghost use Rattle.cg_store.specs.Store.{IsUnchanged, StandsAt, compaction_of, disk_of, front_of, has_failed, phase_of, refusal, room_of, sectors_of};
 
     // Appends a batch without taking ownership of it, so that `append` can return it with a fault.
     fn put(&mut self, batch: &Batch) -> Result<(), StoreFault>
@@ -29,6 +29,8 @@ impl<D: SectorDisk> Store<D> {
         ensures same_number { OnErr result (front_of self.new ≡ front_of self.old) }
         ensures room { OnOk result (room_of self.new ≡ room_after (room_of self.old) batch.now.commands) }
         ensures serves { OnOk result (has_failed self.new ≡ has_failed self.old) }
+        ensures same_compaction { compaction_of self.new ≡ compaction_of self.old }
+        ensures same_phase { phase_of self.new ≡ phase_of self.old }
         ensures told { MatchResult result
             (λ _. refusal self.old batch.now ≡ None)
             (λ fault. IsToldOf (refusal self.old batch.now) fault) }
@@ -76,6 +78,9 @@ impl<D: SectorDisk> Store<D> {
         ensures same_number { OnErr result (front_of self.new ≡ front_of self.old) }
         ensures room { OnOk result (room_of self.new ≡ room_after (room_of self.old) batch.commands) }
         ensures serves { OnOk result (has_failed self.new ≡ has_failed self.old) }
+        // A compaction goes on.
+        ensures same_compaction { compaction_of self.new ≡ compaction_of self.old }
+        ensures same_phase { phase_of self.new ≡ phase_of self.old }
         // The fault, and when it is reported.
         ensures told { MatchResult result
             (λ _. refusal self.old batch ≡ None)

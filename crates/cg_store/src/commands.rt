@@ -1,11 +1,13 @@
 //! Commands in the encoding that is written to disk.
-ghost use Rattle.std.specs.Prelude.{◌≡◌, ◌<◌, ◌^◌, ◌↔◌, ◌++◌, ◌∷◌, [], length, IfOk, OnOk, OnErr, IsTrue, Ok};
+ghost use Rattle.std.specs.Prelude.{◌≡◌, ◌≤◌, ◌<◌, ◌+◌, ◌^◌, ◌↔◌, ◌++◌, ◌∷◌, [], false, true, length, if◌then◌else◌, IfOk, OnOk, OnErr, IsTrue, Ok};
+ghost use Rattle.cg_frame.specs.declared.segment.TheConstants.{LARGEST_PAYLOAD_BYTES};
 ghost use Rattle.cg_record.specs.Lawful.{AreCommands};
 ghost use Rattle.cg_record.specs.Reading.{commands_of};
-ghost use Rattle.cg_record.specs.Spelling.{spelling};
+ghost use Rattle.cg_record.specs.Spelling.{command_text, spelling};
 ghost use Rattle.cg_store.specs.Texts.{IsText, told};
 
-use cg_record::{Command, append_command};
+use cg_frame::LARGEST_PAYLOAD_BYTES;
+use cg_record::{Command, append_command, size};
 use std::alloc::{AllocError, Global};
 use std::marker::Model;
 
@@ -73,6 +75,27 @@ impl Commands {
         put_text(&mut self.bytes, room, command)?;
         self.len += 1;
         Ok(())
+    }
+
+    /// Appends a command if one frame holds all of them; one command fits alone. Returns whether it did. It is encoded
+    /// in `room` first, whose contents are overwritten. If an allocation fails, the commands are unchanged.
+    pub fn push_if_fits(
+        &mut self,
+        room: &mut Vec<u8>,
+        command: &Command,
+    ) -> Result<bool, AllocError>
+        ensures put { IfOk result (λ is_put. self.new ≡ self.old ++ (if is_put then command.now ∷ [] else [])) }
+        ensures fits { length (spelling self.old) ≤ LARGEST_PAYLOAD_BYTES → length (spelling self.new) ≤ LARGEST_PAYLOAD_BYTES }
+        ensures full { IfOk result (λ is_put. is_put ≡ false → LARGEST_PAYLOAD_BYTES < length (spelling self.old) + length (command_text command.now)) }
+        ensures first { IfOk result (λ is_put. self.old ≡ [] → is_put ≡ true) }
+        ensures err { OnErr result (self.new ≡ self.old) }
+    {
+        let used = self.as_bytes().len() as u64;
+        if used.saturating_add(size(command)) > LARGEST_PAYLOAD_BYTES {
+            return Ok(false);
+        }
+        self.push(room, command)?;
+        Ok(true)
     }
 
     /// Returns the number of commands, in constant time.

@@ -1,6 +1,7 @@
 //! The faults of a store.
 ghost use Rattle.std.specs.Prelude.{◌≡◌};
 ghost use Rattle.cg_store.specs.Faults.{of_log};
+ghost use Rattle.cg_store.specs.declared.fault.CompactFault.TheVariants as compact_fault;
 ghost use Rattle.cg_store.specs.declared.fault.OpenFault.TheVariants as open_fault;
 
 use cg_log::LogFault;
@@ -52,6 +53,37 @@ impl From<LogFault> for OpenFault {
             // No opening reports that a log is full or has failed.
             LogFault::NoRoot | LogFault::Full | LogFault::Failed => OpenFault::NoRoot,
         }
+    }
+}
+
+/// The reason why a call of a compaction was refused. The faults are reported in the order `Failed`, `WrongPhase`,
+/// `NoRoom`, `Memory`, `Device`; a write reports `NoRoom` once it knows the size of its frame. `NoRoom` and `Memory` end
+/// the compaction, and leave content and root.
+#[derive(Clone, Copy, Debug, PartialEq, Eq, Error)]
+pub enum CompactFault {
+    /// An allocation failed. The compaction is over.
+    #[error("no memory for the compaction")]
+    Memory,
+    /// The disk failed, and every further call reports `Failed`.
+    #[error("the disk failed")]
+    Device,
+    /// The call needs a segment and none is free, or the epoch is the last; in `compact_read`, a disk that is not honest
+    /// gave back a bad frame or record. The compaction is over.
+    #[error("no room for the compaction")]
+    NoRoom,
+    /// The compaction is in another phase, and stays there.
+    #[error("the compaction is in another phase")]
+    WrongPhase,
+    /// The disk failed in an earlier call.
+    #[error("the store has failed")]
+    Failed,
+}
+
+impl From<AllocError> for CompactFault {
+    ghost from_gives = { λ _ fault. fault ≡ compact_fault.Memory };
+
+    fn from(_: AllocError) -> Self {
+        CompactFault::Memory
     }
 }
 

@@ -7,7 +7,7 @@ use crate::store::Store;
 use cg_disk::{FuseDisk, SectorDisk};
 
 impl<D: SectorDisk> Store<FuseDisk<D>> {
-    ghost use Rattle.cg_store.specs.Store.{StandsAt, disk_of, front_of, has_failed, room_of, sectors_of};
+    ghost use Rattle.cg_store.specs.Store.{StandsAt, disk_of, front_of, has_failed, phase_of, room_of, sectors_of};
 
     /// Sets how many more calls the disk passes before it fails each; `None` passes every call. Nothing else changes.
     pub fn set_fuse(&mut self, calls: Option<u64>)
@@ -17,6 +17,7 @@ impl<D: SectorDisk> Store<FuseDisk<D>> {
         ensures room { room_of self.new ≡ room_of self.old }
         ensures same_sectors { sectors_of self.new ≡ sectors_of self.old }
         ensures front { front_of self.new ≡ front_of self.old }
+        ensures phase { phase_of self.new ≡ phase_of self.old }
         ensures failed { has_failed self.new ≡ has_failed self.old }
         ensures stands { (n : ℕ) (state : State) → StandsAt (⟦<FuseDisk<D> as SectorDisk>⟧.is_honest) (⟦<FuseDisk<D> as SectorDisk>⟧.history) self.old n state
             → StandsAt (⟦<FuseDisk<D> as SectorDisk>⟧.is_honest) (⟦<FuseDisk<D> as SectorDisk>⟧.history) self.new n state }

@@ -25,9 +25,9 @@ pub(crate) struct Loading {
     pub durable: Durable,
 }
 
-// Applies the commands of a frame, one at a time. Returns `false` if its payload has a fault, or another number of
-// commands than the frame counts: the state does not matter then.
-fn add_commands(
+/// Applies the commands of a frame, one at a time. Returns `false` if its payload has a fault, or another number of
+/// commands than the frame counts: the state does not matter then.
+pub(crate) fn add_commands(
     alloc: Global,
     durable: &mut Durable,
     count: u64,

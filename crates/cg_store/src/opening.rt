@@ -6,8 +6,10 @@ ghost use Rattle.cg_log.specs.declared.numbers.TheConstants.{COMMAND_NUMBER_MAX}
 ghost use Rattle.cg_store.specs.Carried.{AllCarry, AreMade, Carries};
 ghost use Rattle.cg_store.specs.Faults.{Tells, failed_opening};
 
+use crate::compaction::Compaction;
 use crate::fault::OpenFault;
 use crate::loading::read_frames;
+use crate::phase::Phase;
 use crate::store::Store;
 use cg_disk::SectorDisk;
 use cg_fold::Durable;
@@ -15,7 +17,7 @@ use cg_log::Opening;
 use std::alloc::Global;
 
 impl<D: SectorDisk> Store<D> {
-    ghost use Rattle.cg_store.specs.Store.{StandsAt, disk_after, disk_of, front_of, has_failed, sectors_of};
+    ghost use Rattle.cg_store.specs.Store.{StandsAt, disk_after, disk_of, front_of, has_failed, phase_of, sectors_of};
 
     /// Opens the store on a disk. Returns the store, the number of its commands and the state after them. Syncs the
     /// disk once, writes nothing, and reads each frame once, those of the base first. Reports a fault of a frame before
@@ -33,6 +35,7 @@ impl<D: SectorDisk> Store<D> {
         ensures tells { D.is_honest disk ≡ true → IfErr result (λ refused. Tells (present (D.history disk)).content (D.size disk) refused.0) }
         ensures serves { IfOk result (λ opened. (has_failed opened.0 ≡ false) × (front_of opened.0 ≡ opened.1)) }
         ensures sectors { IfOk result (λ opened. sectors_of opened.0 ≡ D.size disk) }
+        ensures phase { IfOk result (λ opened. phase_of opened.0 ≡ Phase.Idle) }
         // The first call of the disk is a sync, and no call is a write.
         ensures first { D.is_honest disk ≡ true → BeginsWithSync (D.history disk) (D.history (disk_after result)) (failed_opening result) }
         ensures content { D.is_honest disk ≡ true → Stays (D.history disk) (D.history (disk_after result)) }
@@ -54,6 +57,12 @@ impl<D: SectorDisk> Store<D> {
         }
         let log = opening.finish();
         let number = log.number();
-        Ok((Store { log, sectors }, number, loading.durable))
+        let store = Store {
+            alloc,
+            log,
+            sectors,
+            compaction: Compaction::Idle,
+        };
+        Ok((store, number, loading.durable))
     }
 }

@@ -1,17 +1,30 @@
 //! The store.
-ghost use Rattle.std.specs.Prelude.{◌≡◌, ◌≤◌};
+ghost use Rattle.std.specs.Prelude.{◌≡◌, ◌≤◌, [], true};
+ghost use Rattle.std.specs.Option.{ForSome};
+ghost use Rattle.cg_log.specs.Free.{is_among};
 ghost use Rattle.cg_log.specs.Log as log_model;
 ghost use Rattle.cg_log.specs.declared.numbers.TheConstants.{COMMAND_NUMBER_MAX};
+ghost use Rattle.cg_store.specs.Compacting.{cut_in, phase_in};
+ghost use Rattle.cg_store.specs.declared.phase.Phase.TheVariants as phase;
 
+use crate::compaction::Compaction;
 use cg_disk::SectorDisk;
 use cg_log::Log;
+use std::alloc::Global;
 
-/// The commands on a disk. The store keeps their log and the size of the disk in memory, and none of the commands.
+/// The commands on a disk. The store keeps their log and the size of the disk in memory, and none of the commands; while a
+/// compaction is under way, the state that it folds or what is left of its snapshot.
 #[derive(Drop)]
 pub struct Store<D: SectorDisk> {
+    pub(crate) alloc: Global,
     pub(crate) log: Log<D>,
     pub(crate) sectors: u64,
+    pub(crate) compaction: Compaction,
     ghost size: { sectors ≡ D.size (log_model.disk_of log) },
+    ghost cut: { ForSome (cut_in compaction) (λ cut. (is_among cut.id (log_model.root_of log).tail ≡ true) × (cut.number ≤ log_model.number_of log)) },
+    // Only a compaction that writes has fresh segments.
+    ghost idle: { phase_in compaction ≡ phase.Idle → log_model.fresh_of log ≡ [] },
+    ghost reading: { phase_in compaction ≡ phase.Reading → log_model.fresh_of log ≡ [] },
 }
 
 impl<D: SectorDisk> Store<D> {
@@ -24,7 +37,8 @@ impl<D: SectorDisk> Store<D> {
         self.log.number()
     }
 
-    /// Returns how many segments of the disk are free. Compares each segment with each that is taken.
+    /// Returns how many segments of the disk are free: the root names none of them, and no compaction has taken one.
+    /// Compares each segment with each that is in use.
     pub fn free_count(&self) -> u64
         ensures { result ≡ (room_of self.now).segments }
     {

@@ -1,4 +1,4 @@
-use Rattle.std.proofs.Common.{◌≡◌, ℕ, ◌++◌, ◌∙◌, ap, sym, subst, true}
+use Rattle.std.proofs.Common.{◌≡◌, ℕ, ◌++◌, ◌∙◌, ap, sym, subst, refl, [], true}
 use Rattle.cg_disk.specs.Disk.{present}
 use Rattle.cg_log.specs.Carried.{HoldsContent, AllCarry as AllCarryLog}
 use Rattle.cg_log.specs.Log as log_model
@@ -81,6 +81,8 @@ returns-clause-stands g c honest =
       has = held.0;
       holds = holds;
       spelled = Spell-held m sectors log.root log.end log.number held.0 log.in_range holds (number_so_far opening) found.base found.tail loading.durable all spelled;
+      left = [];
+      compacts = refl;
     }
 
 pub returns-clause-images : goal.returns-clause-images

@@ -1,4 +1,4 @@
-use Rattle.std.proofs.Common.{◌≡◌, ◌≢◌, inl, inr, ℕ, ◌+◌, ◌∷◌, [], ◌++◌, ◌∙◌, ap, sym, subst, refl, true, false, Option, Err, arith}
+use Rattle.std.proofs.Common.{◌≡◌, ◌≢◌, inl, inr, ℕ, ◌+◌, ◌≤◌, ◌∷◌, [], ◌++◌, ◌∙◌, ap, sym, subst, refl, true, false, Option, Err, arith}
 use Rattle.cg_disk.specs.Disk.{present}
 use Rattle.cg_log.specs.Carried.{tails, AllCarry as AllCarryLog}
 use Rattle.cg_log.specs.Log as log_model
@@ -8,9 +8,24 @@ use Rattle.cg_store.specs.Faults.{IsToldOf}
 use Rattle.cg_store.specs.Store.{disk_of, front_of, has_failed, room_of}
 use Rattle.cg_store.specs.declared.fault.StoreFault.{StoreFault}
 use Rattle.cg_store.specs.declared.fault.StoreFault.TheVariants as store_fault
+use Rattle.cg_store.proofs.Growing.{not-fewer}
 use Rattle.cg_store.proofs.Refused.{has-no-room, has-room, refused-failed, refused-full, refused-not, refused-order}
 use Rattle.cg_store.proofs.Standing.{StandsAt-appended, images-appended, images-still}
 use Rattle.cg_store.proofs.store.Store.put.Goals as goal
+
+pub invariant_of-self : goal.invariant_of-self
+invariant_of-self g c =
+    let self = c.args.self.now in
+    let said = c.append.ensures in
+    let old = front_of self in
+    let new = log_model.number_of c.append.new.self in
+    let more : old ≤ new = not-fewer c.append.result old new c.len-count.result said.number said.same_number in
+    record {
+      size = self.size ∙ sym said.same_size;
+      cut = λ cut is. (said.same_tails cut.id (self.cut cut is).0, omega (arith, (self.cut cut is).1, more));
+      idle = λ is. said.same_fresh ∙ self.idle is;
+      reading = λ is. said.same_fresh ∙ self.reading is;
+    }
 
 pub returns-then-has_failed-clause-images : goal.returns-then-has_failed-clause-images
 returns-then-has_failed-clause-images g c n state stands = images-still g.D.SectorDisk.is_honest g.D.SectorDisk.history c.args.self.now n state c.args.batch.now.commands stands
@@ -49,7 +64,7 @@ returns-in-Ok-clause-ok g c n state stands =
     let log = c.append.new.self in
     let same : disk.size (log_model.disk_of log) ≡ disk.size (disk_of self) = c.append.ensures.same_size in
     StandsAt-appended disk.is_honest disk.history disk.size self old_size commands payload count c.as_bytes.ensures.decoded c.as_bytes.ensures.lawful c.len-count.ensures n state stands _ (old_size ∙ sym same) c.in-Ok.ensures.number c.in-Ok.ensures.stored
-    (λ has had. subst (λ (s : ℕ). AllCarryLog (present (disk.history (log_model.disk_of log))) s (front_of self + count) (frames_of has.base) (frames_of (tails has) ++ (count, payload) ∷ [])) (sym same) (c.in-Ok.ensures.after has had))
+    (λ has had. subst (λ (s : ℕ). AllCarryLog (present (disk.history (log_model.disk_of log))) s (front_of self + count) (frames_of has.base) (frames_of (tails has) ++ (count, payload) ∷ [])) (sym same) (c.in-Ok.ensures.after has had)) refl c.in-Ok.ensures.fresh
 
 -- ---- the refusal
 

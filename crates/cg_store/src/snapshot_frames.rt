@@ -1,0 +1,128 @@
+//! The commands of a snapshot, cut into payloads of frames.
+ghost use Rattle.std.specs.Prelude.{◌≡◌, ◌≤◌, ◌<◌, ◌∷◌, ◌++◌, [], None, true, false, length, IfOk, OnOk};
+ghost use Rattle.std.specs.Option.{MatchOption, option_to_list};
+ghost use Rattle.cg_frame.specs.declared.segment.TheConstants.{LARGEST_PAYLOAD_BYTES};
+ghost use Rattle.cg_fold.specs.Snapshot.{snapshot_of};
+ghost use Rattle.cg_record.specs.Spelling.{spelling};
+ghost use Rattle.cg_store.specs.Compacting.{IsFull, IsNextFrame};
+
+use crate::commands::Commands;
+use cg_fold::{Durable, Snapshot};
+use cg_record::Command;
+use std::alloc::{AllocError, Global};
+use std::marker::Model;
+use std::mem;
+
+// Removes the next command: the one ahead, or the next of the snapshot.
+fn next_command(
+    ahead: &mut Option<Command>,
+    snapshot: &mut Snapshot,
+) -> Result<Option<Command>, AllocError>
+    ensures none { OnOk result (ahead.new ≡ None) }
+    ensures next { IfOk result (λ o. MatchOption o
+        ((option_to_list ahead.old ++ snapshot.old ≡ []) × (snapshot.new ≡ []))
+        (λ command. option_to_list ahead.old ++ snapshot.old ≡ command ∷ snapshot.new)) }
+{
+    match mem::replace(ahead, None) {
+        Some(command) => Ok(Some(command)),
+        None => {
+            let next = snapshot.next()?;
+            Ok(next)
+        }
+    }
+}
+
+// Moves the next command to the payload. Returns `false` if there is none, or it does not fit: then it is the one ahead.
+fn move_one(
+    text: &mut Commands,
+    room: &mut Vec<u8>,
+    ahead: &mut Option<Command>,
+    snapshot: &mut Snapshot,
+) -> Result<bool, AllocError>
+    ensures order { OnOk result (text.new ++ (option_to_list ahead.new ++ snapshot.new) ≡ text.old ++ (option_to_list ahead.old ++ snapshot.old)) }
+    ensures fits { length (spelling text.old) ≤ LARGEST_PAYLOAD_BYTES → length (spelling text.new) ≤ LARGEST_PAYLOAD_BYTES }
+    ensures moved { IfOk result (λ is. is ≡ true → length (option_to_list ahead.new ++ snapshot.new) < length (option_to_list ahead.old ++ snapshot.old)) }
+    ensures full { IfOk result (λ is. is ≡ false → IsFull text.new (option_to_list ahead.new ++ snapshot.new)) }
+    ensures some { IfOk result (λ is. is ≡ false → text.new ≡ [] → option_to_list ahead.new ++ snapshot.new ≡ []) }
+{
+    match next_command(ahead, snapshot)? {
+        None => Ok(false),
+        Some(command) => {
+            let is_put = text.push_if_fits(room, &command)?;
+            if !is_put {
+                *ahead = Some(command);
+            }
+            Ok(is_put)
+        }
+    }
+}
+
+// Moves commands to the payload until the next does not fit, which is the one ahead then.
+fn fill(
+    text: &mut Commands,
+    room: &mut Vec<u8>,
+    ahead: &mut Option<Command>,
+    snapshot: &mut Snapshot,
+) -> Result<(), AllocError>
+    requires { length (spelling text.old) ≤ LARGEST_PAYLOAD_BYTES }
+    ensures order { OnOk result (text.new ++ (option_to_list ahead.new ++ snapshot.new) ≡ text.old ++ (option_to_list ahead.old ++ snapshot.old)) }
+    ensures fits { OnOk result (length (spelling text.new) ≤ LARGEST_PAYLOAD_BYTES) }
+    ensures full { OnOk result (IsFull text.new (option_to_list ahead.new ++ snapshot.new)) }
+    ensures some { OnOk result (text.new ≡ [] → option_to_list ahead.new ++ snapshot.new ≡ []) }
+{
+    while move_one(text, room, ahead, snapshot)? {}
+    Ok(())
+}
+
+/// The commands of a snapshot that are left. Contracts see them in order.
+#[derive(Drop)]
+pub(crate) struct SnapshotFrames {
+    alloc: Global,
+    snapshot: Snapshot,
+    // The command that did not fit the last frame.
+    ahead: Option<Command>,
+    // Room in which a command is encoded before it joins a payload.
+    room: Vec<u8>,
+}
+
+impl Model for SnapshotFrames {
+    ghost use Rattle.std.specs.Prelude.{List, ◌++◌};
+    ghost use Rattle.std.specs.Option.{option_to_list};
+    ghost use Rattle.cg_record.specs.declared.command.Command.{Command};
+
+    ghost Value = { List Command };
+
+    ghost view = { λ s. option_to_list s.ahead ++ s.snapshot };
+}
+
+impl SnapshotFrames {
+    /// Begins with the commands that make a state.
+    pub(crate) fn new(alloc: Global, durable: Durable) -> Result<Self, AllocError>
+        ensures { IfOk result (λ frames. frames ≡ snapshot_of durable) }
+    {
+        let snapshot = Snapshot::new(alloc, durable)?;
+        Ok(SnapshotFrames {
+            alloc,
+            snapshot,
+            ahead: None,
+            room: Vec::new(alloc),
+        })
+    }
+
+    /// Removes as many commands as fit one frame, and returns them as its payload; `None` if there are no more. If an
+    /// allocation fails, some of them may be gone.
+    pub(crate) fn next(&mut self) -> Result<Option<Commands>, AllocError>
+        ensures { IfOk result (λ o. MatchOption o
+            ((self.old ≡ []) × (self.new ≡ []))
+            (λ commands. IsNextFrame commands self.old self.new)) }
+    {
+        let mut text = Commands::new(self.alloc, &[])?;
+        fill(
+            &mut text,
+            &mut self.room,
+            &mut self.ahead,
+            &mut self.snapshot,
+        )?;
+        Ok(if text.len() == 0 { None } else { Some(text) })
+    }
+}
