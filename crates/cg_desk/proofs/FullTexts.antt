@@ -19,13 +19,6 @@ pub spelling-len : (cs : List Command) → length (spelling cs) ≡ 1 + text_len
 unfolding spelling
 spelling-len cs = omega arith
 
-text_len-push : (cs : List Command) (c : Command) → text_len (cs ++ c ∷ []) ≡ text_len cs + length (command_text c)
-text_len-push [] c = omega (arith, text_len-cons c [])
-text_len-push (d ∷ cs) c = omega (arith, text_len-push cs c, text_len-cons d cs, text_len-cons d (cs ++ c ∷ []))
-
-pub longer_by : (cs : List Command) (c : Command) → length (spelling (cs ++ c ∷ [])) ≡ length (spelling cs) + length (command_text c)
-longer_by cs c = omega (arith, spelling-len cs, spelling-len (cs ++ c ∷ []), text_len-push cs c)
-
 -- a command that does not fit ends the prefix that fits
 stops-at : (b : Bool) (n : ℕ) → b ≡ false → cond b (suc n) 0 ≡ 0
 stops-at true n is = absurd (cc)

@@ -1,34 +1,13 @@
 //! The payload of the next batch: the longest prefix of the queue that fits one frame.
-ghost use Rattle.std.specs.Prelude.{◌≡◌, ◌≤◌, ◌<◌, ◌+◌, ◌++◌, ◌∷◌, [], true, false, length, if◌then◌else◌, IfOk, OnOk, OnErr};
+ghost use Rattle.std.specs.Prelude.{◌≡◌, ◌<◌, ◌+◌, ◌++◌, ◌∷◌, [], true, false, length, if◌then◌else◌, IfOk, OnOk, OnErr};
 ghost use Rattle.cg_frame.specs.declared.segment.TheConstants.{LARGEST_PAYLOAD_BYTES};
 ghost use Rattle.cg_record.specs.Spelling.{command_text, spelling};
 ghost use Rattle.cg_desk.specs.Fronts.{FitsFrame, IsFull, spelled};
 
-use cg_frame::LARGEST_PAYLOAD_BYTES;
-use cg_record::{Command, size};
+use cg_record::Command;
 use cg_store::Commands;
 use std::alloc::{AllocError, Global};
 use std::collections::VecDeque;
-
-// Appends an encoded command to the payload if one frame holds both. Returns whether it did.
-fn put_behind(
-    text: &mut Commands,
-    room: &mut Vec<u8>,
-    command: &Command,
-) -> Result<bool, AllocError>
-    ensures put { IfOk result (λ is_put. text.new ≡ text.old ++ (if is_put then command.now ∷ [] else [])) }
-    ensures fits { length (spelling text.old) ≤ LARGEST_PAYLOAD_BYTES → length (spelling text.new) ≤ LARGEST_PAYLOAD_BYTES }
-    ensures full { IfOk result (λ is_put. is_put ≡ false → LARGEST_PAYLOAD_BYTES < length (spelling text.old) + length (command_text command.now)) }
-    ensures first { IfOk result (λ is_put. text.old ≡ [] → is_put ≡ true) }
-    ensures err { OnErr result (text.new ≡ text.old) }
-{
-    let used = text.as_bytes().len() as u64;
-    if used.saturating_add(size(command)) > LARGEST_PAYLOAD_BYTES {
-        return Ok(false);
-    }
-    text.push(room, command)?;
-    Ok(true)
-}
 
 /// Appends an encoded command to the payload if one frame holds both; without a payload, begins one. Returns whether it
 /// did. If an allocation fails, the payload has the same commands as before.
@@ -46,10 +25,10 @@ pub fn spell(
     ensures err { OnErr result (spelled text.new ≡ spelled text.old) }
 {
     match text {
-        Some(text) => put_behind(text, room, command),
+        Some(text) => text.push_if_fits(room, command),
         None => {
             let mut begun = Commands::new(alloc, &[])?;
-            let is_put = put_behind(&mut begun, room, command)?;
+            let is_put = begun.push_if_fits(room, command)?;
             *text = Some(begun);
             Ok(is_put)
         }

@@ -18,7 +18,7 @@ module _ (t : Transit) (front : ℕ) (failed : Bool) where
   -- an event changes neither the batch in flight nor what is settled
   served-agrees : (b : Books) (handed : List ReplyToken) (e : Event) (now : ℕ) → Agree (Serving b) t front failed → Agree (Serving (served b handed e now).books) t front failed
   unfolding served letting_go
-  served-agrees b handed e now h = record { way = h.way; stored = h.stored; enough = h.enough; serves = h.serves }
+  served-agrees b handed e now h = record { way = h.way; stored = h.stored; enough = h.enough; serves = h.serves; rests = h.rests }
 
   request-at : (short : Bool) (b : Books) (token : ReplyToken) (e : Event) (now : ℕ) → Agree (Serving b) t front failed
       → let a : Answer = if short then record { after = Serving b; out = answer (call_of token) (Refused CoordinatorNotAvailable) ∷ [] } else serving (served b (token ∷ []) e now) in

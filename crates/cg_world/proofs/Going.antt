@@ -1,6 +1,7 @@
 -- Runs, step by step.
-use Rattle.std.proofs.Common.{◌≡◌, ℕ, ◌+◌, ◌≤◌, Bool, false, ◌||◌, List, [], ◌∷◌, ◌++◌, append_assoc, append-nil, length, length-append, drop, refl, sym, ap, ◌∙◌, subst, arith}
+use Rattle.std.proofs.Common.{◌≡◌, ℕ, ◌+◌, ◌≤◌, Bool, true, false, ◌||◌, List, [], ◌∷◌, ◌++◌, append_assoc, append-nil, length, length-append, drop, refl, sym, ap, ◌∙◌, subst, arith}
 use Rattle.std.specs.List.{list_any, zip}
+use Rattle.std.proofs.lemmas.Bool.{false≢true}
 use Rattle.std.proofs.lemmas.List.Folds.{list_any-append}
 use Rattle.std.proofs.lemmas.List.Sums.{fold-append}
 use Rattle.cg_disk.specs.Disk.{Image}
@@ -11,7 +12,8 @@ use Rattle.cg_desk.specs.declared.outgoing.Outgoing.{Outgoing}
 use Rattle.cg_world.specs.Carrying.{CarriesFront}
 use Rattle.cg_world.specs.Faults.{is_failure}
 use Rattle.cg_world.specs.Runs.{AreNotes, after_run, made_by, made_in, outs_of, to_store, unstored}
-use Rattle.cg_world.specs.Sights.{Sight}
+use Rattle.cg_world.specs.Sights.{Sight, StoreSight}
+use Rattle.cg_world.specs.StoreTurns.{AreStoreTurns, IsStoreTurn, is_append, is_read_without_room, last_store}
 use Rattle.cg_world.specs.Turns.{IsNoteOf, out_of, turn}
 use Rattle.cg_world.specs.declared.step.Step.{Step}
 use Rattle.cg_world.specs.declared.step.StepNote.{StepNote}
@@ -126,3 +128,41 @@ none-left (s ∷ ss) is = absurd (zero-is is)
   where
     zero-is : length (s ∷ ss) ≡ 0 → ⊥
     zero-is e = omega (arith, e)
+
+-- the store, step by step
+
+pub stores-snoc : (ps : List (Step × StepNote)) (p : Step × StepNote) (w : Sight) (s : StoreSight) (ts : List StoreSight) (t : StoreSight)
+    → AreStoreTurns ps w s ts → IsStoreTurn p.0 p.1 (after_run ps w) (last_store s ts) t → AreStoreTurns (ps ++ p ∷ []) w s (ts ++ t ∷ [])
+unfolding AreStoreTurns after_run last_store
+stores-snoc [] p w s [] t are is = (is, tt)
+stores-snoc [] p w s (u ∷ ts) t are is = absurd are
+stores-snoc (q ∷ ps) p w s [] t are is = absurd are
+stores-snoc (q ∷ ps) p w s (u ∷ ts) t are is = (are.0, stores-snoc ps p (turn q.0 q.1 w).after u ts t are.1 is)
+
+pub last-snoc : (s : StoreSight) (ts : List StoreSight) (t : StoreSight) → last_store s (ts ++ t ∷ []) ≡ t
+unfolding last_store
+last-snoc s [] t = refl
+last-snoc s (u ∷ ts) t = last-snoc u ts t
+
+pub no-turns : (w : Sight) (s : StoreSight) → AreStoreTurns [] w s []
+unfolding AreStoreTurns
+no-turns w s = tt
+
+pub last-none : (s : StoreSight) → last_store s [] ≡ s
+unfolding last_store
+last-none s = refl
+
+-- of two lists, neither has an append
+pub no-append : (ps : List (Step × StepNote)) (p : Step × StepNote) → list_any is_append (ps ++ p ∷ []) ≡ false → (list_any is_append ps ≡ false) × (is_append p ≡ false)
+no-append ps p none = both (list_any is_append ps) (is_append p) (sym (list_any-append is_append ps (p ∷ [])) ∙ none)
+  where
+    both : (a b : Bool) → (a || (b || false)) ≡ false → (a ≡ false) × (b ≡ false)
+    both true b e = absurd (false≢true (sym e))
+    both false true e = absurd (false≢true (sym e))
+    both false false e = (refl, refl)
+
+pub reads-snoc : (ps : List (Step × StepNote)) (p : Step × StepNote) → list_any is_read_without_room ps ≡ false → is_read_without_room p ≡ false → list_any is_read_without_room (ps ++ p ∷ []) ≡ false
+reads-snoc ps p sound is = list_any-append is_read_without_room ps (p ∷ []) ∙ ap (λ (b : Bool). b || list_any is_read_without_room (p ∷ [])) sound ∙ last-sound
+  where
+    last-sound : list_any is_read_without_room (p ∷ []) ≡ false
+    last-sound = ap (λ (b : Bool). b || false) is

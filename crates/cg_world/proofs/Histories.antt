@@ -10,7 +10,6 @@ use Rattle.cg_request.specs.Asking.{asked}
 use Rattle.cg_group.specs.Laws.{after_all, commands_of}
 use Rattle.cg_group.specs.Machine.{step}
 use Rattle.cg_held.specs.Held.{Machine}
-use Rattle.cg_log.specs.Room.{Room}
 use Rattle.cg_names.specs.declared.code.Code.TheVariants.{CoordinatorNotAvailable}
 use Rattle.cg_record.specs.declared.command.Command.{Command}
 use Rattle.cg_desk.specs.Books.{Books, is_short, letting_go, returning, served, settling, taking}
@@ -23,11 +22,11 @@ use Rattle.cg_world.specs.Agreeing.{is_serving}
 use Rattle.cg_world.specs.Replying.{RunsMakeHistories, replies_at, replies_made}
 use Rattle.cg_world.specs.Runs.{after_run, events_of, made_by, made_in}
 use Rattle.cg_world.specs.Sights.{Sight}
-use Rattle.cg_world.specs.Turns.{Turn, answered, event_at, event_of, in_flight, turn}
+use Rattle.cg_world.specs.Turns.{Turn, answered, compacted, event_at, event_of, in_flight, turn}
 use Rattle.cg_world.specs.declared.step.Step.{Step}
-use Rattle.cg_world.specs.declared.step.Step.TheVariants.{Request, Gone, Tick, Take, Append, Settle}
+use Rattle.cg_world.specs.declared.step.Step.TheVariants.{Request, Gone, Tick, Take, Append, Settle, CompactStart, CompactRead, CompactWrite, CompactSwitch}
 use Rattle.cg_world.specs.declared.step.StepNote.{StepNote}
-use Rattle.cg_world.specs.declared.step.StepNote.TheVariants.{Done, Nothing, InFlight, Full, Device}
+use Rattle.cg_world.specs.declared.step.StepNote.TheVariants.{Done, Full, Device}
 use Rattle.cg_world.proofs.Replied.{replies_by, replies_in, replies_to}
 use Rattle.cg_world.proofs.Resting.{turn-stays-failed}
 
@@ -49,13 +48,13 @@ event-after : (b : Books) (handed : List ReplyToken) (e : Event) (now : ℕ) →
 unfolding IsAfter IsNext after_all commands_of served letting_go
 event-after b handed e now = (refl, ap (λ (l : List Command). b.numbered + length l) (sym (append-nil (step b.machine e now).effects.commands)))
 
-request-next : (short : Bool) (b : Books) (stored : Bool) (room : Room) (token : ReplyToken) (e : Event) (now : ℕ) (out : List Outgoing)
+request-next : (short : Bool) (b : Books) (stored : Bool) (token : ReplyToken) (e : Event) (now : ℕ) (out : List Outgoing)
     → let o : Option (Event × ℕ) = if short then None else Some (e, now) in
     let a : Answer = if short then record { after = Serving b; out = out } else serving (served b (token ∷ []) e now) in
-    let t : Turn = answered (is_some o) (record { desk = Serving b; appended = stored; room = room }) a in
+    let t : Turn = answered (is_some o) (record { desk = Serving b; appended = stored }) a in
     IsAfter t.after.desk o b
-request-next true b stored room token e now out = none-after b b refl refl
-request-next false b stored room token e now out = event-after b (token ∷ []) e now
+request-next true b stored token e now out = none-after b b refl refl
+request-next false b stored token e now out = event-after b (token ∷ []) e now
 
 tick-next : (short : Bool) (b : Books) (now : ℕ) → let o : Option (Event × ℕ) = if short then None else Some (event.Tick, now) in
     let a : Answer = if short then at_rest (Serving b) else serving (served b [] event.Tick now) in
@@ -71,29 +70,30 @@ taking-next : (b : Books) → IsAfter (Serving (taking b)) None b
 unfolding taking
 taking-next b = none-after b (taking b) refl refl
 
+compact-next : (note : StepNote) (b : Books) (stored : Bool) → let w : Sight = record { desk = Serving b; appended = stored } in
+    IsAfter (compacted note w).after.desk None b ⊎ (is_serving (compacted note w).after.desk ≡ false)
+compact-next Device b stored = inr refl
+compact-next note b stored = inl (none-after b b refl refl)
+
 -- a step brings its event to the machine, or the disk fails
-turn-next : (s : Step) (note : StepNote) (b : Books) (stored : Bool) (room : Room) → let w : Sight = record { desk = Serving b; appended = stored; room = room } in
+turn-next : (s : Step) (note : StepNote) (b : Books) (stored : Bool) → let w : Sight = record { desk = Serving b; appended = stored } in
     IsAfter (turn s note w).after.desk (event_of s b) b ⊎ (is_serving (turn s note w).after.desk ≡ false)
 unfolding turn request_on tick_on gone_on settle_on
-turn-next (Request ticket r now fresh) note b stored room =
-    inl (request-next (is_short b) b stored room (record { ticket = ticket }) (asked r ticket fresh) now (answer ticket (Refused CoordinatorNotAvailable) ∷ []))
-turn-next (Gone session now) note b stored room = inl (event-after b [] (event.Gone session) now)
-turn-next (Tick now) note b stored room = inl (tick-next (is_short b) b now)
-turn-next Take Done b stored room = inl (taking-next b)
-turn-next Take Nothing b stored room = inl (none-after b b refl refl)
-turn-next Take InFlight b stored room = inl (none-after b b refl refl)
-turn-next Take Full b stored room = inl (none-after b b refl refl)
-turn-next Take Device b stored room = inl (none-after b b refl refl)
-turn-next Append Done b stored room = inl (none-after b b refl refl)
-turn-next Append Nothing b stored room = inl (none-after b b refl refl)
-turn-next Append InFlight b stored room = inl (none-after b b refl refl)
-turn-next Append Full b stored room = inl (none-after b (returning b) refl refl)
-turn-next Append Device b stored room = inr refl
-turn-next Settle Done b stored room = inl (settling-next b (length (in_flight (Serving b))))
-turn-next Settle Nothing b stored room = inl (none-after b b refl refl)
-turn-next Settle InFlight b stored room = inl (none-after b b refl refl)
-turn-next Settle Full b stored room = inl (none-after b b refl refl)
-turn-next Settle Device b stored room = inl (none-after b b refl refl)
+turn-next (Request ticket r now fresh) note b stored =
+    inl (request-next (is_short b) b stored (record { ticket = ticket }) (asked r ticket fresh) now (answer ticket (Refused CoordinatorNotAvailable) ∷ []))
+turn-next (Gone session now) note b stored = inl (event-after b [] (event.Gone session) now)
+turn-next (Tick now) note b stored = inl (tick-next (is_short b) b now)
+turn-next Take Done b stored = inl (taking-next b)
+turn-next Take note b stored = inl (none-after b b refl refl)
+turn-next Append Full b stored = inl (none-after b (returning b) refl refl)
+turn-next Append Device b stored = inr refl
+turn-next Append note b stored = inl (none-after b b refl refl)
+turn-next Settle Done b stored = inl (settling-next b (length (in_flight (Serving b))))
+turn-next Settle note b stored = inl (none-after b b refl refl)
+turn-next CompactStart note b stored = compact-next note b stored
+turn-next CompactRead note b stored = compact-next note b stored
+turn-next CompactWrite note b stored = compact-next note b stored
+turn-next CompactSwitch note b stored = compact-next note b stored
 
 -- a desk that does not serve brings no event
 none-of : (s : Step) (d : State) → is_serving d ≡ false → (option_to_list (event_at s d) ≡ []) × (made_in s d ≡ []) × (replies_in s d ≡ [])
@@ -215,13 +215,13 @@ module _ (p : Step × StepNote) (ps : List (Step × StepNote)) (w next : Sight) 
 makes-step : (p : Step × StepNote) (ps : List (Step × StepNote)) (w : Sight) (b : Books) → w.desk ≡ Serving b
     → ((m : Machine) (k : ℕ) → IsNext (turn p.0 p.1 w).after.desk m k → Makes ps (turn p.0 p.1 w).after m k) → Makes (p ∷ ps) w b.machine b.numbered
 unfolding made_by events_of replies_by after_run
-makes-step p ps w b desk rest = by-turn (subst (λ (v : Sight). IsAfter (turn p.0 p.1 v).after.desk (event_of p.0 b) b ⊎ (is_serving (turn p.0 p.1 v).after.desk ≡ false)) (sym whole) (turn-next p.0 p.1 b w.appended w.room))
+makes-step p ps w b desk rest = by-turn (subst (λ (v : Sight). IsAfter (turn p.0 p.1 v).after.desk (event_of p.0 b) b ⊎ (is_serving (turn p.0 p.1 v).after.desk ≡ false)) (sym whole) (turn-next p.0 p.1 b w.appended))
   where
     next : Sight
     next = (turn p.0 p.1 w).after
 
-    whole : w ≡ (let v : Sight = record { desk = Serving b; appended = w.appended; room = w.room } in v)
-    whole = ap (λ (d : State). let v : Sight = record { desk = d; appended = w.appended; room = w.room } in v) desk
+    whole : w ≡ (let v : Sight = record { desk = Serving b; appended = w.appended } in v)
+    whole = ap (λ (d : State). let v : Sight = record { desk = d; appended = w.appended } in v) desk
 
     by-turn : IsAfter (turn p.0 p.1 w).after.desk (event_of p.0 b) b ⊎ (is_serving (turn p.0 p.1 w).after.desk ≡ false) → Makes (p ∷ ps) w b.machine b.numbered
     by-turn (inl on) =
@@ -265,7 +265,7 @@ replies-made ps w = by-state w.desk refl
 
 pub runs_make_histories : RunsMakeHistories
 runs_make_histories = record {
-  commands = λ ps b stored room. (histories ps (record { desk = Serving b; appended = stored; room = room }) b.machine b.numbered (next-here b)).commands;
-  machine = λ ps b c stored room desk. ((histories ps (record { desk = Serving b; appended = stored; room = room }) b.machine b.numbered (next-here b)).last c desk).0;
-  numbered = λ ps b c stored room desk. ((histories ps (record { desk = Serving b; appended = stored; room = room }) b.machine b.numbered (next-here b)).last c desk).1;
+  commands = λ ps b stored. (histories ps (record { desk = Serving b; appended = stored }) b.machine b.numbered (next-here b)).commands;
+  machine = λ ps b c stored desk. ((histories ps (record { desk = Serving b; appended = stored }) b.machine b.numbered (next-here b)).last c desk).0;
+  numbered = λ ps b c stored desk. ((histories ps (record { desk = Serving b; appended = stored }) b.machine b.numbered (next-here b)).last c desk).1;
 }

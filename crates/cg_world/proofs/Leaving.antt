@@ -14,7 +14,6 @@ use Rattle.cg_request.specs.Asking.{asked}
 use Rattle.cg_group.specs.Machine.{step}
 use Rattle.cg_held.specs.Reviving.{revive}
 use Rattle.cg_names.specs.declared.code.Code.TheVariants.{CoordinatorNotAvailable}
-use Rattle.cg_log.specs.Room.{Room}
 use Rattle.cg_store.specs.Carried.{AreMade}
 use Rattle.cg_desk.specs.Balanced.{IsBalanced, IsOwedAt}
 use Rattle.cg_desk.specs.Books.{Books, IsTake, is_short, letting_go, returning, served, settling, taking}
@@ -36,11 +35,11 @@ use Rattle.cg_world.specs.Orderly.{AreInOrder, IsOrderlyAt, IsOrderlyDesk, due}
 use Rattle.cg_world.specs.Replying.{IsOrderly, LeavesWhenSettled, RepliesLeaveWhenSettled, held_in, left_by}
 use Rattle.cg_world.specs.Runs.{AreNotes, after_run}
 use Rattle.cg_world.specs.Sights.{Sight}
-use Rattle.cg_world.specs.Turns.{Turn, answered, in_flight, settled, turn}
+use Rattle.cg_world.specs.Turns.{Turn, answered, compacted, in_flight, settled, turn}
 use Rattle.cg_world.specs.declared.step.Step.{Step}
-use Rattle.cg_world.specs.declared.step.Step.TheVariants.{Request, Gone, Tick, Take, Append, Settle}
+use Rattle.cg_world.specs.declared.step.Step.TheVariants.{Request, Gone, Tick, Take, Append, Settle, CompactStart, CompactRead, CompactWrite, CompactSwitch}
 use Rattle.cg_world.specs.declared.step.StepNote.{StepNote}
-use Rattle.cg_world.specs.declared.step.StepNote.TheVariants.{Done, Nothing, InFlight, Full, Device}
+use Rattle.cg_world.specs.declared.step.StepNote.TheVariants.{Done, Full, Device}
 use Rattle.cg_world.proofs.Ordered.{all-later, chain, due-front, later, later-back, none-left-due, order-holding, order-later}
 use Rattle.cg_world.proofs.Histories.{replies-made}
 use Rattle.cg_world.proofs.Recorded.{made-lawful}
@@ -120,13 +119,13 @@ same-leaves : (b : Books) → IsOrderlyDesk b → Leaves (Serving b) (Serving b)
 same-leaves b h = quiet-leaves b b h h.balanced refl refl refl
 
 -- each step of a world that serves, up to a failure of its disk
-request-leaves : (short : Bool) (b : Books) (stored : Bool) (room : Room) (ticket : Ticket) (r : Asked) (now : ℕ) (fresh : List ℕ) → KeepsCalls b.machine (record { ticket = ticket } ∷ []) (asked r ticket fresh) now → IsOrderlyDesk b
+request-leaves : (short : Bool) (b : Books) (stored : Bool) (ticket : Ticket) (r : Asked) (now : ℕ) (fresh : List ℕ) → KeepsCalls b.machine (record { ticket = ticket } ∷ []) (asked r ticket fresh) now → IsOrderlyDesk b
     → let o : Option (Event × ℕ) = if short then None else Some (asked r ticket fresh, now) in
     let a : Answer = if short then record { after = Serving b; out = answer ticket (Refused CoordinatorNotAvailable) ∷ [] } else serving (served b (record { ticket = ticket } ∷ []) (asked r ticket fresh) now) in
-    let t : Turn = answered (is_some o) (record { desk = Serving b; appended = stored; room = room }) a in
+    let t : Turn = answered (is_some o) (record { desk = Serving b; appended = stored }) a in
     Leaves (Serving b) t.after.desk (replies_to o b) t.left
-request-leaves true b stored room ticket r now fresh keeps h = same-leaves b h
-request-leaves false b stored room ticket r now fresh keeps h = served-leaves b (record { ticket = ticket } ∷ []) (asked r ticket fresh) now keeps h
+request-leaves true b stored ticket r now fresh keeps h = same-leaves b h
+request-leaves false b stored ticket r now fresh keeps h = served-leaves b (record { ticket = ticket } ∷ []) (asked r ticket fresh) now keeps h
 
 tick-leaves : (short : Bool) (b : Books) (now : ℕ) → IsOrderlyDesk b
     → let o : Option (Event × ℕ) = if short then None else Some (event.Tick, now) in
@@ -142,29 +141,30 @@ taking-leaves b h = quiet-leaves b (taking b) h (record { made = h.balanced.made
 returning-leaves : (b : Books) → IsOrderlyDesk b → Leaves (Serving b) (Serving (returning b)) [] []
 returning-leaves b h = quiet-leaves b (returning b) h (record { made = h.balanced.made; owed = h.balanced.owed }) refl refl refl
 
-pub turn-leaves : (s : Step) (note : StepNote) (b : Books) (stored : Bool) (room : Room) → IsOrderlyDesk b
-    → let w : Sight = record { desk = Serving b; appended = stored; room = room } in
+compact-leaves : (note : StepNote) (b : Books) (stored : Bool) → IsOrderlyDesk b → let w : Sight = record { desk = Serving b; appended = stored } in
+    is_serving (compacted note w).after.desk ≡ true → Leaves (Serving b) (compacted note w).after.desk [] (compacted note w).left
+compact-leaves Device b stored h is = absurd (false≢true is)
+compact-leaves note b stored h is = same-leaves b h
+
+pub turn-leaves : (s : Step) (note : StepNote) (b : Books) (stored : Bool) → IsOrderlyDesk b
+    → let w : Sight = record { desk = Serving b; appended = stored } in
     is_serving (turn s note w).after.desk ≡ true → Leaves (Serving b) (turn s note w).after.desk (replies_in s (Serving b)) (turn s note w).left
 unfolding turn request_on tick_on gone_on settle_on
-turn-leaves (Request ticket r now fresh) note b stored room h is =
-    request-leaves (is_short b) b stored room ticket r now fresh (events_keep_calls.request b.machine r (record { ticket = ticket }) fresh now h.balanced.made) h
-turn-leaves (Gone session now) note b stored room h is = served-leaves b [] (event.Gone session) now (gone-keeps b.machine session now) h
-turn-leaves (Tick now) note b stored room h is = tick-leaves (is_short b) b now h
-turn-leaves Take Done b stored room h is = taking-leaves b h
-turn-leaves Take Nothing b stored room h is = same-leaves b h
-turn-leaves Take InFlight b stored room h is = same-leaves b h
-turn-leaves Take Full b stored room h is = same-leaves b h
-turn-leaves Take Device b stored room h is = same-leaves b h
-turn-leaves Append Done b stored room h is = same-leaves b h
-turn-leaves Append Nothing b stored room h is = same-leaves b h
-turn-leaves Append InFlight b stored room h is = same-leaves b h
-turn-leaves Append Full b stored room h is = returning-leaves b h
-turn-leaves Append Device b stored room h is = absurd (false≢true is)
-turn-leaves Settle Done b stored room h is = settled-leaves b (length (in_flight (Serving b))) h
-turn-leaves Settle Nothing b stored room h is = same-leaves b h
-turn-leaves Settle InFlight b stored room h is = same-leaves b h
-turn-leaves Settle Full b stored room h is = same-leaves b h
-turn-leaves Settle Device b stored room h is = same-leaves b h
+turn-leaves (Request ticket r now fresh) note b stored h is =
+    request-leaves (is_short b) b stored ticket r now fresh (events_keep_calls.request b.machine r (record { ticket = ticket }) fresh now h.balanced.made) h
+turn-leaves (Gone session now) note b stored h is = served-leaves b [] (event.Gone session) now (gone-keeps b.machine session now) h
+turn-leaves (Tick now) note b stored h is = tick-leaves (is_short b) b now h
+turn-leaves Take Done b stored h is = taking-leaves b h
+turn-leaves Take note b stored h is = same-leaves b h
+turn-leaves Append Full b stored h is = returning-leaves b h
+turn-leaves Append Device b stored h is = absurd (false≢true is)
+turn-leaves Append note b stored h is = same-leaves b h
+turn-leaves Settle Done b stored h is = settled-leaves b (length (in_flight (Serving b))) h
+turn-leaves Settle note b stored h is = same-leaves b h
+turn-leaves CompactStart note b stored h is = compact-leaves note b stored h is
+turn-leaves CompactRead note b stored h is = compact-leaves note b stored h is
+turn-leaves CompactWrite note b stored h is = compact-leaves note b stored h is
+turn-leaves CompactSwitch note b stored h is = compact-leaves note b stored h is
 
 -- a desk that does not serve is orderly
 rests-orderly : (s : State) → is_serving s ≡ false → IsOrderlyAt s
@@ -178,9 +178,9 @@ turn-orderly s note w h = by-state w.desk refl
     by-after : (b : Books) → w.desk ≡ Serving b → (serves : Bool) → is_serving (turn s note w).after.desk ≡ serves → IsOrderly (turn s note w).after
     by-after b is false rests = rests-orderly (turn s note w).after.desk rests
     by-after b is true serves =
-        let same : w ≡ (let v : Sight = record { desk = Serving b; appended = w.appended; room = w.room } in v) = ap (λ (d : State). let v : Sight = record { desk = d; appended = w.appended; room = w.room } in v) is in
+        let same : w ≡ (let v : Sight = record { desk = Serving b; appended = w.appended } in v) = ap (λ (d : State). let v : Sight = record { desk = d; appended = w.appended } in v) is in
         subst (λ (v : Sight). IsOrderly (turn s note v).after) (sym same)
-        (turn-leaves s note b w.appended w.room (subst (λ (d : State). IsOrderlyAt d) is h) (subst (λ (v : Sight). is_serving (turn s note v).after.desk ≡ true) same serves)).orderly
+        (turn-leaves s note b w.appended (subst (λ (d : State). IsOrderlyAt d) is h) (subst (λ (v : Sight). is_serving (turn s note v).after.desk ≡ true) same serves)).orderly
 
     by-state : (d : State) → w.desk ≡ d → IsOrderly (turn s note w).after
     by-state Loading is = rests-orderly (turn s note w).after.desk (turn-stays-failed s note w (ap is_serving is))
@@ -212,9 +212,9 @@ step-leaves s note w h serves = by-state w.desk refl
     by-state Loading is = absurd (false≢true (sym (turn-stays-failed s note w (ap is_serving is)) ∙ serves))
     by-state (Failed n m) is = absurd (false≢true (sym (turn-stays-failed s note w (ap is_serving is)) ∙ serves))
     by-state (Serving b) is =
-        let same : w ≡ (let v : Sight = record { desk = Serving b; appended = w.appended; room = w.room } in v) = ap (λ (d : State). let v : Sight = record { desk = d; appended = w.appended; room = w.room } in v) is in
+        let same : w ≡ (let v : Sight = record { desk = Serving b; appended = w.appended } in v) = ap (λ (d : State). let v : Sight = record { desk = d; appended = w.appended } in v) is in
         subst (λ (v : Sight). Leaves v.desk (turn s note v).after.desk (replies_in s v.desk) (turn s note v).left) (sym same)
-        (turn-leaves s note b w.appended w.room (subst (λ (d : State). IsOrderlyAt d) is h) (subst (λ (v : Sight). is_serving (turn s note v).after.desk ≡ true) same serves))
+        (turn-leaves s note b w.appended (subst (λ (d : State). IsOrderlyAt d) is h) (subst (λ (v : Sight). is_serving (turn s note v).after.desk ≡ true) same serves))
 
 grows : (ps : List (Step × StepNote)) (w : Sight) → IsOrderly w → is_serving (after_run ps w).desk ≡ true → settled_of w.desk ≤ settled_of (after_run ps w).desk
 unfolding after_run

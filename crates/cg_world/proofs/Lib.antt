@@ -3,6 +3,7 @@ pub mod Moving
 pub mod Unstored
 pub mod Carrying
 pub mod Steps
+pub mod Calls
 pub mod Going
 pub mod Resting
 pub mod Settling

@@ -1,7 +1,7 @@
 -- The batch on its way between the desk and the store.
 use Rattle.std.proofs.Common.{◌≡◌, ◌≢◌, inl, inr, ℕ, ◌+◌, Bool, true, false, List, [], length, Option, None, Some, refl, sym, ap, ◌∙◌, subst, arith}
 use Rattle.std.proofs.lemmas.Bool.{eqb-false, false≢true}
-use Rattle.std.specs.Prelude.{if◌then◌else◌, nat_eq}
+use Rattle.std.specs.Prelude.{if◌then◌else◌, nat_eq, not}
 use Rattle.cg_record.specs.declared.command.Command.{Command}
 use Rattle.cg_store.specs.declared.batch.Batch.{Batch}
 use Rattle.cg_store.specs.declared.receipt.Receipt.{Receipt}
@@ -12,18 +12,17 @@ use Rattle.cg_store.specs.Batches.{has_room, refusal_of, room_after}
 use Rattle.cg_store.specs.Faults.{IsToldOf}
 use Rattle.cg_store.specs.Receipts.{batch_of}
 use Rattle.cg_desk.specs.Books.{Books, IsFlying, IsTake, IsWhy, letting_go, next_batch, settling, taking}
-use Rattle.cg_desk.specs.Desks.{Answer, State, Loading, Serving, Failed, IsOut, IsReasonAt, IsTakenFrom, failing_on, is_out, numbered_of, return_to, settle_on, settled_of}
+use Rattle.cg_desk.specs.Desks.{Answer, State, Loading, Serving, Failed, IsOut, IsReasonAt, IsTakenFrom, failing_on, is_out, numbered_of, settle_on, settled_of}
 use Rattle.cg_desk.specs.Flights.{Course, Idle, Away, Returned, is_away, unsettled}
 use Rattle.cg_desk.specs.Fronts.{fitting}
 use Rattle.cg_desk.specs.declared.fault.SettleFault.{SettleFault}
 use Rattle.cg_desk.specs.declared.fault.SettleFault.TheVariants as settle_fault
 use Rattle.cg_desk.specs.declared.outgoing.Outgoing.{Outgoing}
 use Rattle.cg_world.specs.Agreeing.{Agree, flying, flying_in, is_serving, moving, seen, stored_in}
-use Rattle.cg_world.specs.Sights.{no_room, room_left, sight}
+use Rattle.cg_world.specs.Sights.{room_left, sight}
 use Rattle.cg_world.specs.declared.world.World.{World}
 use Rattle.cg_world.specs.Transits.{batch_in, is_appended, receipt_in, without_batch, without_receipt}
-use Rattle.cg_world.specs.Turns.{IsIdle, Turn, appended, in_flight, take_from}
-use Rattle.cg_world.specs.declared.step.StepNote.TheVariants as note
+use Rattle.cg_world.specs.Turns.{IsIdle, broken, in_flight, take_from}
 use Rattle.cg_world.specs.declared.transit.Transit.{Transit}
 use Rattle.cg_world.specs.declared.transit.Transit.TheVariants.{Empty, Taken, Appended}
 
@@ -101,6 +100,7 @@ taking-took b c t batch front failed home is h =
         stored = λ _. stored ∙ ap (λ (u : Transit). b.settled + length (stored_in u)) empty;
         enough = h.enough;
         serves = h.serves;
+        rests = h.rests;
       });
       taken = ap Serving (sym is.2);
       home = ap is_appended empty;
@@ -218,22 +218,6 @@ goes s t batch front failed is h =
       taken = ap (λ (b : Bool). if b then false else is_out s) moved.2 ∙ f.is_out_of;
     }
 
--- the batch was appended
-pub appended-agrees : (s : State) (batch : Batch) (front later : ℕ) (failed failed_now : Bool) (receipt : Receipt) → Flies s batch failed → front ≡ settled_of s
-    → batch_of receipt ≡ batch → later ≡ front + length batch.commands → failed_now ≡ failed → flying s ≡ Some (seen batch) → Agree s (Appended receipt) later failed_now
-appended-agrees s batch front later failed failed_now receipt f front_is same more now way = record {
-  way = ap (λ (b : Batch). Some (seen b)) same ∙ sym way;
-  stored = λ _. more ∙ ap (λ (k : ℕ). k + length batch.commands) front_is ∙ ap (λ (b : Batch). settled_of s + length b.commands) (sym same);
-  enough = omega (arith, more, front_is);
-  serves = λ _. now ∙ f.serves;
-}
-
--- the batch was given back
-pub returned-agrees : (s : State) (front : ℕ) (failed : Bool) → front ≡ settled_of s → failed ≡ false → Agree (return_to s) Empty front failed
-returned-agrees Loading front failed front_is serves = record { way = refl; stored = λ h. absurd (false≢true h); enough = omega (arith, front_is); serves = λ h. absurd (false≢true h) }
-returned-agrees (Failed n m) front failed front_is serves = record { way = refl; stored = λ h. absurd (false≢true h); enough = omega (arith, front_is); serves = λ h. absurd (false≢true h) }
-returned-agrees (Serving b) front failed front_is serves = record { way = refl; stored = λ h. omega (arith, front_is); enough = omega (arith, front_is); serves = λ h. serves }
-
 -- the desk takes back the batch in flight, and settles it, unless an allocation fails
 not-why : (c : Course) (settled : ℕ) (batch : Batch) (fault : SettleFault) → IsFlying c settled batch → fault ≢ settle_fault.Memory → IsWhy c settled batch fault → ⊥
 not-why c settled batch settle_fault.Memory flying other why = other refl
@@ -244,10 +228,6 @@ pub not-refused : (s : State) (batch : Batch) (fault : SettleFault) → IsOut s 
 not-refused Loading batch fault out other why = out
 not-refused (Failed n m) batch fault out other why = out
 not-refused (Serving b) batch fault out other why = not-why b.course b.settled batch fault out other why
-
--- the disk failed
-pub failed-agrees : (s : State) (t : Transit) (front : ℕ) (failed failed_now : Bool) → Agree s t front failed → Agree (Failed (numbered_of s) (settled_of s)) Empty front failed_now
-failed-agrees s t front failed failed_now h = record { way = refl; stored = λ h. absurd (false≢true h); enough = h.enough; serves = λ h. absurd (false≢true h) }
 
 -- Settling.
 
@@ -267,7 +247,7 @@ settled-at : (s : State) (count front : ℕ) (failed : Bool) → is_serving s �
 unfolding settle_on settling letting_go
 settled-at Loading count front failed serving front_is serves = absurd (false≢true serving)
 settled-at (Failed n m) count front failed serving front_is serves = absurd (false≢true serving)
-settled-at (Serving b) count front failed serving front_is serves = record { way = refl; stored = λ _. omega (arith, front_is); enough = omega (arith, front_is); serves = λ _. serves }
+settled-at (Serving b) count front failed serving front_is serves = record { way = refl; stored = λ _. omega (arith, front_is); enough = omega (arith, front_is); serves = λ _. serves; rests = λ off. absurd (false≢true (sym off)) }
 
 pub settled-agrees : (s after : State) (out : List Outgoing) (t : Transit) (receipt : Receipt) (front : ℕ) (failed : Bool) → receipt_in t ≡ Some receipt → Agree s t front failed
     → settle_on s (length (batch_of receipt).commands) ≡ record { after = after; out = out } → Agree after Empty front failed
@@ -318,38 +298,31 @@ module _ (s : State) (t : Transit) (batch : Batch) (room : Room) (front : ℕ) (
   never-failed fault is told = subst (λ (f : StoreFault). Means (has_room (room_left failed room) (settled_of s) (in_flight s)) f) is (told-of fault told)
 
   pub full-for : (fault : StoreFault) → fault ≡ store_fault.Full → IsToldOf (refusal_of failed room front batch.first batch.commands) fault
-      → ((if is_appended t then false else is_out s) ≡ true) × (has_room (room_left failed room) (settled_of s) (in_flight s) ≡ false)
+      → has_room (room_left failed room) (settled_of s) (in_flight s) ≡ false
   unfolding Means
-  full-for fault is told = (goes-now.taken, subst (λ (f : StoreFault). Means (has_room (room_left failed room) (settled_of s) (in_flight s)) f) is (told-of fault told))
+  full-for fault is told = subst (λ (f : StoreFault). Means (has_room (room_left failed room) (settled_of s) (in_flight s)) f) is (told-of fault told)
 
   pub room-for : (fault : StoreFault) → fault ≡ store_fault.Device → IsToldOf (refusal_of failed room front batch.first batch.commands) fault
-      → ((if is_appended t then false else is_out s) ≡ true) × (has_room (room_left failed room) (settled_of s) (in_flight s) ≡ true)
+      → has_room (room_left failed room) (settled_of s) (in_flight s) ≡ true
   unfolding Means
-  room-for fault is told = (goes-now.taken, subst (λ (f : StoreFault). Means (has_room (room_left failed room) (settled_of s) (in_flight s)) f) is (told-of fault told))
+  room-for fault is told = subst (λ (f : StoreFault). Means (has_room (room_left failed room) (settled_of s) (in_flight s)) f) is (told-of fault told)
 
-  pub done-for : refusal_of failed room front batch.first batch.commands ≡ None
-      → ((if is_appended t then false else is_out s) ≡ true) × (has_room (room_left failed room) (settled_of s) (in_flight s) ≡ true)
+  pub done-for : refusal_of failed room front batch.first batch.commands ≡ None → has_room (room_left failed room) (settled_of s) (in_flight s) ≡ true
   done-for none =
-      let fit : has_room room front batch.commands ≡ true = none-means failed room front batch.first batch.commands goes-now.flight.serves goes-now.next none in (
-        goes-now.taken,
-        ap (λ (r : Room). has_room r (settled_of s) (in_flight s)) room-is
-            ∙ ap (λ (cs : List Command). has_room room (settled_of s) cs) goes-now.flight.commands
-            ∙ ap (λ (n : ℕ). has_room room n batch.commands) (sym goes-now.front_is)
-            ∙ fit,
-      )
+      let fit : has_room room front batch.commands ≡ true = none-means failed room front batch.first batch.commands goes-now.flight.serves goes-now.next none in
+      ap (λ (r : Room). has_room r (settled_of s) (in_flight s)) room-is
+      ∙ ap (λ (cs : List Command). has_room room (settled_of s) cs) goes-now.flight.commands
+      ∙ ap (λ (n : ℕ). has_room room n batch.commands) (sym goes-now.front_is)
+      ∙ fit
 
-  -- the world after the batch was appended
-  pub appended-turn : (failed_now : Bool) (room_now : Room) (out : List Outgoing) → failed_now ≡ failed → room_now ≡ room_after room batch.commands → out ≡ []
-      → appended note.Done (record { desk = s; appended = is_appended t; room = room_left failed room })
-      ≡ record { after = record { desk = s; appended = true; room = room_left failed_now room_now }; at_once = out; left = [] }
-  appended-turn failed_now room_now out serves grown none =
-      let there : room_left failed_now room_now ≡ room_after (room_left failed room) (in_flight s) =
+  -- the room after the batch was appended
+  pub appended-room : (failed_now : Bool) (room_now : Room) → failed_now ≡ failed → room_now ≡ room_after room batch.commands
+      → room_left failed_now room_now ≡ room_after (room_left failed room) (in_flight s)
+  appended-room failed_now room_now serves grown =
       ap (λ (b : Bool). room_left b room_now) (serves ∙ goes-now.flight.serves)
       ∙ grown
       ∙ ap (λ (cs : List Command). room_after room cs) (sym goes-now.flight.commands)
-      ∙ ap (λ (r : Room). room_after r (in_flight s)) (sym room-is) in
-      ap (λ (r : Room). let v : Turn = record { after = record { desk = s; appended = true; room = r }; at_once = []; left = [] } in v) (sym there)
-      ∙ ap (λ (l : List Outgoing). let v : Turn = record { after = record { desk = s; appended = true; room = room_left failed_now room_now }; at_once = l; left = [] } in v) (sym none)
+      ∙ ap (λ (r : Room). room_after r (in_flight s)) (sym room-is)
 
 -- the transit is empty after its batch was removed
 pub batch-out : (t t_now : Transit) (batch : Batch) → batch_in t ≡ Some batch → t_now ≡ without_batch t → t_now ≡ Empty
@@ -363,12 +336,27 @@ receipt-out (Taken b) t_now receipt is now = absurd (cc is)
 receipt-out (Appended r) t_now receipt is now = now
 
 -- a world whose disk failed
-pub failed-turn : (s after : State) (t t_now : Transit) (failed failed_now : Bool) (room room_now : Room) (out : List Outgoing) → is_appended t ≡ false → t_now ≡ Empty → after ≡ Failed (numbered_of s) (settled_of s) → failed_now ≡ true → out ≡ failing_on s
-    → appended note.Device (record { desk = s; appended = is_appended t; room = room_left failed room }) ≡ record { after = record { desk = after; appended = is_appended t_now; room = room_left failed_now room_now }; at_once = out; left = [] }
-failed-turn s after t t_now failed failed_now room room_now out waits empty is broken left =
+pub failed-turn : (s after : State) (stored : Bool) (t_now : Transit) (out : List Outgoing) → t_now ≡ Empty → after ≡ Failed (numbered_of s) (settled_of s) → out ≡ failing_on s
+    → broken (record { desk = s; appended = stored }) ≡ record { after = record { desk = after; appended = is_appended t_now }; at_once = out; left = [] }
+failed-turn s after stored t_now out empty is left =
     let home : is_appended t_now ≡ false = ap is_appended empty in
-    let none : room_left failed_now room_now ≡ no_room = ap (λ (b : Bool). room_left b room_now) broken in
     cc
+
+-- such a world agrees with its store
+pub failed-agrees : (s after : State) (t t_now : Transit) (front later : ℕ) (failed failed_now : Bool) → Agree s t front failed → after ≡ Failed (numbered_of s) (settled_of s) → t_now ≡ Empty → later ≡ front → failed_now ≡ true
+    → Agree after t_now later failed_now
+failed-agrees s after t t_now front later failed failed_now h is empty same broken =
+    subst (λ (x : State). Agree x t_now later failed_now) (sym is)
+    (subst (λ (x : Transit). Agree (Failed (numbered_of s) (settled_of s)) x later failed_now) (sym empty)
+    (record { way = refl; stored = λ on. absurd (false≢true on); enough = omega (arith, h.enough, same); serves = λ on. absurd (false≢true on); rests = λ _. broken }))
+
+-- a store has failed where its desk does not serve
+pub failed-is : (s : State) (t : Transit) (front : ℕ) (failed : Bool) → Agree s t front failed → not (is_serving s) ≡ failed
+failed-is s t front failed h = by-case (is_serving s) refl
+  where
+    by-case : (b : Bool) → is_serving s ≡ b → not (is_serving s) ≡ failed
+    by-case true is = ap not is ∙ sym (h.serves is)
+    by-case false is = ap not is ∙ sym (h.rests is)
 
 -- a world whose batch was settled
 pub settled-world : (s after : State) (out : List Outgoing) (t t_now : Transit) (receipt : Receipt) (front : ℕ) (failed : Bool) → receipt_in t ≡ Some receipt → t_now ≡ without_receipt t → Agree s t front failed

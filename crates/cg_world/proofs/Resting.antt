@@ -8,11 +8,11 @@ use Rattle.cg_desk.specs.Desks.{Answer, State, Loading, Serving, Failed, gone_on
 use Rattle.cg_desk.specs.declared.token.ReplyToken.{ReplyToken}
 use Rattle.cg_world.specs.Agreeing.{is_serving}
 use Rattle.cg_world.specs.Sights.{Sight}
-use Rattle.cg_world.specs.Turns.{IsNoteOf, answered, appended, event_at, in_flight, settled, take_from, taken, turn}
+use Rattle.cg_world.specs.Turns.{IsNoteOf, answered, appended, compacted, event_at, in_flight, settled, take_from, taken, turn}
 use Rattle.cg_world.specs.declared.step.Step.{Step}
-use Rattle.cg_world.specs.declared.step.Step.TheVariants.{Request, Gone, Tick, Take, Append, Settle}
+use Rattle.cg_world.specs.declared.step.Step.TheVariants.{Request, Gone, Tick, Take, Append, Settle, CompactStart, CompactRead, CompactWrite, CompactSwitch}
 use Rattle.cg_world.specs.declared.step.StepNote.{StepNote}
-use Rattle.cg_world.specs.declared.step.StepNote.TheVariants.{Done, Nothing, InFlight, Full, Device}
+use Rattle.cg_world.specs.declared.step.StepNote.TheVariants.{Done, Full, Device}
 
 asked-stays : (s : State) (token : ReplyToken) (e : Event) (now : ℕ) → is_serving s ≡ false → is_serving (request_on s token e now).after ≡ false
 unfolding request_on
@@ -23,6 +23,10 @@ asked-stays (Serving b) token e now is = absurd (false≢true (sym is))
 answered-stays : (met : Bool) (w : Sight) (a : Answer) → is_serving a.after ≡ false → is_serving (answered met w a).after.desk ≡ false
 answered-stays true w a is = is
 answered-stays false w a is = is
+
+compact-stays : (note : StepNote) (w : Sight) → is_serving w.desk ≡ false → is_serving (compacted note w).after.desk ≡ false
+compact-stays Device w is = refl
+compact-stays other w is = is
 
 pub turn-stays-failed : (s : Step) (note : StepNote) (w : Sight) → is_serving w.desk ≡ false → is_serving (turn s note w).after.desk ≡ false
 unfolding turn gone_on tick_on settle_on
@@ -49,10 +53,7 @@ turn-stays-failed Take note w is = by-note note
 
     by-note : (note : StepNote) → is_serving (taken note w).after.desk ≡ false
     by-note Done = taken-stays w.desk is
-    by-note Nothing = is
-    by-note InFlight = is
-    by-note Full = is
-    by-note Device = is
+    by-note other = is
 turn-stays-failed Append note w is = by-note note
   where
     returned-stays : (s : State) → is_serving s ≡ false → is_serving (return_to s) ≡ false
@@ -61,11 +62,9 @@ turn-stays-failed Append note w is = by-note note
     returned-stays (Serving b) is = absurd (false≢true (sym is))
 
     by-note : (note : StepNote) → is_serving (appended note w).after.desk ≡ false
-    by-note Done = is
-    by-note Nothing = is
-    by-note InFlight = is
     by-note Full = returned-stays w.desk is
     by-note Device = refl
+    by-note other = is
 turn-stays-failed Settle note w is = by-note note
   where
     settled-stays : (s : State) (count : ℕ) → is_serving s ≡ false → is_serving (settle_on s count).after ≡ false
@@ -75,10 +74,11 @@ turn-stays-failed Settle note w is = by-note note
 
     by-note : (note : StepNote) → is_serving (settled note w).after.desk ≡ false
     by-note Done = settled-stays w.desk (length (in_flight w.desk)) is
-    by-note Nothing = is
-    by-note InFlight = is
-    by-note Full = is
-    by-note Device = is
+    by-note other = is
+turn-stays-failed CompactStart note w is = compact-stays note w is
+turn-stays-failed CompactRead note w is = compact-stays note w is
+turn-stays-failed CompactWrite note w is = compact-stays note w is
+turn-stays-failed CompactSwitch note w is = compact-stays note w is
 
 -- a desk fails in a step in which the disk fails
 pub device-fails : (s : Step) (w : Sight) → IsNoteOf s w Device → is_serving (turn s Device w).after.desk ≡ false
@@ -89,3 +89,7 @@ device-fails (Tick now) w noted = absurd (cc noted)
 device-fails Take w noted = absurd noted
 device-fails Append w noted = refl
 device-fails Settle w noted = absurd noted
+device-fails CompactStart w noted = refl
+device-fails CompactRead w noted = refl
+device-fails CompactWrite w noted = refl
+device-fails CompactSwitch w noted = refl

@@ -1,36 +1,37 @@
 -- A run before its end, and how it ends.
-use Rattle.std.proofs.Common.{◌≡◌, ◌≢◌, ℕ, ◌+◌, ◌≤◌, Bool, true, false, List, [], ◌∷◌, ◌++◌, append_assoc, length, length-append, drop, Option, None, Some, refl, sym, ap, ◌∙◌, subst, arith}
+use Rattle.std.proofs.Common.{◌≡◌, ◌≢◌, inl, inr, ℕ, ◌+◌, ◌≤◌, Bool, true, false, List, [], ◌∷◌, ◌++◌, append_assoc, length, length-append, drop, Option, None, Some, refl, sym, ap, ◌∙◌, subst, arith}
 use Rattle.std.specs.List.{list_any, zip}
+use Rattle.std.specs.Prelude.{IfSome}
 use Rattle.std.proofs.lemmas.Bool.{false≢true}
 use Rattle.cg_disk.specs.Disk.{History, Image, LeavesOnly}
 use Rattle.cg_disk.proofs.Moments.{LeavesOnly-then, LeavesOnly-weaker}
 use Rattle.cg_fold.specs.Durable.{State as Durable, after}
 use Rattle.cg_record.specs.declared.command.Command.{Command}
-use Rattle.cg_store.specs.Store.{IsUnchanged, StandsAt, disk_of, sectors_of}
-use Rattle.cg_store.proofs.Standing.{StandsAt-unchanged}
+use Rattle.cg_store.specs.Carried.{Carries}
+use Rattle.cg_store.specs.Store.{StandsAt, disk_of, sectors_of}
 use Rattle.cg_desk.specs.Desks.{settled_of}
 use Rattle.cg_desk.specs.declared.outgoing.Outgoing.{Outgoing}
 use Rattle.cg_world.specs.Agreeing.{is_serving}
 use Rattle.cg_world.specs.Carrying.{CarriesAtLeast, CarriesFront, HasStored, HoldsAtLeast}
 use Rattle.cg_world.specs.Faults.{is_failure}
 use Rattle.cg_world.specs.Replying.{IsOrderly}
-use Rattle.cg_world.specs.Running.{IsRun, KeepsSettled, calls_in, refusal_of_first}
+use Rattle.cg_world.specs.Running.{IsLastStore, IsRun, IsStopBefore, KeepsSettled, refusal_of_first}
 use Rattle.cg_world.specs.Runs.{AreNotes, after_run, made_in, outs_of, to_store, unstored}
-use Rattle.cg_world.specs.Sights.{Sight, sight, store_of}
-use Rattle.cg_world.specs.Steps.{IsTaken}
-use Rattle.cg_world.specs.Turns.{IsNoteOf, is_taken, out_of, turn}
+use Rattle.cg_world.specs.Sights.{Sight, StoreSight, sight, store_of, store_sight}
+use Rattle.cg_world.specs.Steps.{IsOutOfMemory, IsTaken}
+use Rattle.cg_world.specs.StoreTurns.{AreStoreTurns, IsStoreStop, IsStoreTurn, calls_in, is_append, is_read_without_room, last_store}
+use Rattle.cg_world.specs.Turns.{IsNoteOf, out_of, turn}
 use Rattle.cg_world.specs.declared.step.Step.{Step}
 use Rattle.cg_world.specs.declared.step.StepNote.{StepNote}
-use Rattle.cg_world.specs.declared.step.StepNote.TheVariants.{Done, Nothing, InFlight, Full, Device}
+use Rattle.cg_world.specs.declared.step.StepNote.TheVariants.{Done, Device}
 use Rattle.cg_world.specs.declared.step.StopCause.TheVariants as cause
 use Rattle.cg_world.specs.declared.trace.Trace.{Trace}
 use Rattle.cg_world.specs.declared.world.World.{World}
-use Rattle.cg_world.proofs.Carrying.{holds-at, images-stay}
-use Rattle.cg_world.proofs.Going.{after-snoc, all-taken, carries-behind, carries-more, drop-snoc, few-snoc, notes-snoc, nothing-yet, outs-snoc, pair-moves, sound-snoc, stored-grows, stored-parts, zip-none, zip-snoc}
+use Rattle.cg_world.proofs.Carrying.{carries-least, holds-at, images-stay, pair-stays}
+use Rattle.cg_world.proofs.Going.{after-snoc, all-taken, carries-behind, carries-more, drop-snoc, few-snoc, last-none, last-snoc, no-append, no-turns, notes-snoc, nothing-yet, outs-snoc, pair-moves, reads-snoc, sound-snoc, stored-grows, stored-parts, stores-snoc, zip-none, zip-snoc}
 use Rattle.cg_world.proofs.Leaving.{leaves, stays}
-use Rattle.cg_world.proofs.Moving.{failed-rests}
 use Rattle.cg_world.proofs.Resting.{device-fails, turn-stays-failed}
-use Rattle.cg_world.proofs.Settling.{run-grows, settled-snoc, settled-start}
+use Rattle.cg_world.proofs.Settling.{run-grows, settled-later, settled-snoc, settled-start}
 
 module _ {D : Type 0} {g : _} (honest : D → Bool) (history : D → History) where
   -- what holds after some steps, while the disk has not failed
@@ -43,7 +44,13 @@ module _ {D : Type 0} {g : _} (honest : D → Bool) (history : D → History) wh
     pub sound : list_any is_failure notes ≡ false
     pub images : (n : ℕ) (state : Durable) → StandsAt honest history (store_of old) n state → LeavesOnly (history (disk_of (store_of old))) (history (disk_of (store_of now))) (CarriesFront (sectors_of (store_of old)) n state (to_store (zip steps notes) (sight old)))
     pub stored : (n : ℕ) (state : Durable) → StandsAt honest history (store_of old) n state → HasStored honest history (store_of now) n state (to_store (zip steps notes) (sight old)) (unstored (sight now))
-    pub steps_keep : (n : ℕ) (state : Durable) → StandsAt honest history (store_of old) n state → KeepsSettled (sectors_of (store_of old)) (history (disk_of (store_of now))) (zip steps notes) (sight old) (history (disk_of (store_of old))).now
+    pub stores : List StoreSight
+    pub turned : AreStoreTurns (zip steps notes) (sight old) (store_sight history old) stores
+    pub last_is : last_store (store_sight history old) stores ≡ store_sight history now
+    pub still : list_any is_append (zip steps notes) ≡ false → (n : ℕ) (state : Durable) → StandsAt honest history (store_of old) n state
+        → LeavesOnly (history (disk_of (store_of old))) (history (disk_of (store_of now))) (λ image. Carries image (sectors_of (store_of old)) n state) × StandsAt honest history (store_of now) n state
+    pub reads : (n : ℕ) (state : Durable) → StandsAt honest history (store_of old) n state → list_any is_read_without_room (zip steps notes) ≡ false
+    pub steps_keep : (n : ℕ) (state : Durable) → StandsAt honest history (store_of old) n state → KeepsSettled (sectors_of (store_of old)) (history (disk_of (store_of now))) (zip steps notes) (sight old) (store_sight history old) stores
     pub same_sectors : sectors_of (store_of now) ≡ sectors_of (store_of old)
     pub failed : is_serving (sight old).desk ≡ false → (disk_of (store_of now) ≡ disk_of (store_of old)) × (is_serving (sight now).desk ≡ false)
 
@@ -62,8 +69,13 @@ module _ {D : Type 0} {g : _} (honest : D → Bool) (history : D → History) wh
       whole = ap (λ ps. to_store ps (sight old)) (zip-none steps) ∙ nothing-yet (sight old);
       stands = subst (λ (k : ℕ). StandsAt honest history (store_of old) k state) (sym (omega arith)) stands;
     };
-    steps_keep = λ n state stands. subst (λ ps. KeepsSettled (sectors_of (store_of old)) (history (disk_of (store_of old))) ps (sight old) (history (disk_of (store_of old))).now) (sym (zip-none steps))
-        (settled-start (sectors_of (store_of old)) (history (disk_of (store_of old))) (sight old) (holds-at honest history (store_of old) (sectors_of (store_of old)) (settled_of (sight old).desk) n state refl old.agree.enough stands));
+    stores = [];
+    turned = subst (λ ps. AreStoreTurns ps (sight old) (store_sight history old) []) (sym (zip-none steps)) (no-turns (sight old) (store_sight history old));
+    last_is = last-none (store_sight history old);
+    still = λ _ n state stands. (pair-stays honest history (store_of old) (store_of old) refl n state stands, stands);
+    reads = λ n state stands. ap (list_any is_read_without_room) (zip-none steps);
+    steps_keep = λ n state stands. subst (λ ps. KeepsSettled (sectors_of (store_of old)) (history (disk_of (store_of old))) ps (sight old) (store_sight history old) []) (sym (zip-none steps))
+        (settled-start (sectors_of (store_of old)) (history (disk_of (store_of old))) (sight old) (store_sight history old) refl (holds-at honest history (store_of old) (sectors_of (store_of old)) (settled_of (sight old).desk) n state refl old.agree.enough stands));
     same_sectors = refl;
     failed = λ is. (refl, is);
   }
@@ -75,7 +87,7 @@ module _ {D : Type 0} {g : _} (honest : D → Bool) (history : D → History) wh
   -- one more step
   module _ (steps rest : List Step) (s : Step) (notes : List StepNote) (outs : List (List Outgoing)) (old now new : World D g) (note : StepNote) (out : List Outgoing)
       (so_far : Going steps (s ∷ rest) notes outs old now) (step : IsTaken honest history s note out now new)
-      (idle : is_taken (sight now) ≡ false → store_of new ≡ store_of now) where
+      (rests : is_serving (sight now).desk ≡ false → disk_of (store_of new) ≡ disk_of (store_of now)) where
     ps : List (Step × StepNote)
     ps = zip steps notes
 
@@ -109,6 +121,34 @@ module _ {D : Type 0} {g : _} (honest : D → Bool) (history : D → History) wh
     unfolding ps
     more-after =
         sym step.after ∙ ap (λ (w : Sight). (turn s note w).after) so_far.after ∙ sym (after-snoc ps (s, note) (sight old)) ∙ ap (λ qs. after_run qs (sight old)) (sym longer)
+
+    pub more-stores : List StoreSight
+    more-stores = so_far.stores ++ store_sight history new ∷ []
+
+    pub more-turned : AreStoreTurns (zip steps (notes ++ note ∷ [])) (sight old) (store_sight history old) more-stores
+    unfolding ps more-stores
+    more-turned =
+        subst (λ qs. AreStoreTurns qs (sight old) (store_sight history old) (so_far.stores ++ store_sight history new ∷ [])) (sym longer)
+        (stores-snoc ps (s, note) (sight old) (store_sight history old) so_far.stores (store_sight history new) so_far.turned
+        (subst (λ (t : StoreSight). IsStoreTurn s note (after_run ps (sight old)) t (store_sight history new)) (sym so_far.last_is)
+        (subst (λ (w : Sight). IsStoreTurn s note w (store_sight history now) (store_sight history new)) so_far.after step.store)))
+
+    pub more-last : last_store (store_sight history old) more-stores ≡ store_sight history new
+    unfolding more-stores
+    more-last = last-snoc (store_sight history old) so_far.stores (store_sight history new)
+
+    -- the pair, if there was no append
+    pub more-still : list_any is_append (zip steps (notes ++ note ∷ [])) ≡ false → (n : ℕ) (state : Durable) → StandsAt honest history (store_of old) n state
+        → LeavesOnly (history (disk_of (store_of old))) (history (disk_of (store_of new))) (λ image. Carries image (sectors_of (store_of old)) n state) × (note ≢ Device → StandsAt honest history (store_of new) n state)
+    unfolding ps
+    more-still none n state stands =
+        let parts = no-append ps (s, note) (ap (list_any is_append) (sym longer) ∙ none) in
+        let was = so_far.still parts.0 n state stands in
+        let now_is = step.still parts.1 n state was.1 in (
+          LeavesOnly-then (history (disk_of (store_of old))) (history (disk_of (store_of now))) (history (disk_of (store_of new))) (λ image. Carries image (sectors_of (store_of old)) n state) was.0
+              (subst (λ (z : ℕ). LeavesOnly (history (disk_of (store_of now))) (history (disk_of (store_of new))) (λ image. Carries image z n state)) so_far.same_sectors now_is.0),
+          now_is.1,
+        )
 
     module _ (n : ℕ) (state : Durable) (stands : StandsAt honest history (store_of old) n state) where
       before : HasStored honest history (store_of now) n state (to_store ps (sight old)) (unstored (sight now))
@@ -147,16 +187,29 @@ module _ {D : Type 0} {g : _} (honest : D → Bool) (history : D → History) wh
             stands = pair-moves (λ k st. StandsAt honest history (store_of new) k st) n state before.front then.front then.stands;
           }
 
-      pub more-steps : KeepsSettled (sectors_of (store_of old)) (history (disk_of (store_of new))) (zip steps (notes ++ note ∷ [])) (sight old) (history (disk_of (store_of old))).now
+      pub more-reads : list_any is_read_without_room (zip steps (notes ++ note ∷ [])) ≡ false
       unfolding ps
-      more-steps =
-          subst (λ qs. KeepsSettled (sectors_of (store_of old)) (history (disk_of (store_of new))) qs (sight old) (history (disk_of (store_of old))).now) (sym longer)
-          (settled-snoc (sectors_of (store_of old)) (history (disk_of (store_of now))) (history (disk_of (store_of new))) ps (s, note) (sight old) (history (disk_of (store_of old))).now
-          (subst (λ (w : Sight). LeavesOnly (history (disk_of (store_of now))) (history (disk_of (store_of new))) (CarriesAtLeast (sectors_of (store_of old)) (settled_of w.desk))) so_far.after
+      more-reads =
+          ap (list_any is_read_without_room) longer ∙ reads-snoc ps (s, note) (so_far.reads n state stands) (step.reads (n + length before.front) (after state before.front) before.stands)
+
+      run-on : LeavesOnly (history (disk_of (store_of now))) (history (disk_of (store_of new))) (CarriesAtLeast (sectors_of (store_of old)) (settled_of (after_run ps (sight old)).desk))
+      unfolding ps
+      run-on =
+          subst (λ (w : Sight). LeavesOnly (history (disk_of (store_of now))) (history (disk_of (store_of new))) (CarriesAtLeast (sectors_of (store_of old)) (settled_of w.desk))) so_far.after
           (LeavesOnly-weaker (history (disk_of (store_of now))) (history (disk_of (store_of new))) (CarriesFront (sectors_of (store_of old)) (n + length before.front) (after state before.front) (to_store ((s, note) ∷ []) (sight now))) (CarriesAtLeast (sectors_of (store_of old)) (settled_of (sight now).desk))
           (at-entry (sectors_of (store_of old)) now (n + length before.front) (after state before.front) (to_store ((s, note) ∷ []) (sight now)) before.stands)
-          (step-images (n + length before.front) (after state before.front) before.stands)))
-          (subst (λ (w : Sight). (history (disk_of (store_of new))).now ≤ (history (disk_of (store_of now))).now + calls_in s w) so_far.after (step.clock before.stands.is_honest))
+          (step-images (n + length before.front) (after state before.front) before.stands))
+
+      pub more-steps : KeepsSettled (sectors_of (store_of old)) (history (disk_of (store_of new))) (zip steps (notes ++ note ∷ [])) (sight old) (store_sight history old) more-stores
+      unfolding ps more-stores
+      more-steps =
+          subst (λ qs. KeepsSettled (sectors_of (store_of old)) (history (disk_of (store_of new))) qs (sight old) (store_sight history old) (so_far.stores ++ store_sight history new ∷ [])) (sym longer)
+          (settled-snoc (sectors_of (store_of old)) (history (disk_of (store_of now))) (history (disk_of (store_of new))) ps (s, note) (sight old) (store_sight history old) so_far.stores (store_sight history new)
+          run-on
+          (subst (λ (t : StoreSight). t.clock ≤ (history (disk_of (store_of new))).now) (sym so_far.last_is) run-on.later)
+          (subst (λ (t : StoreSight). IfSome (calls_in s (after_run ps (sight old)) t.room) (λ (calls : ℕ). (history (disk_of (store_of new))).now ≤ t.clock + calls)) (sym so_far.last_is)
+          (subst (λ (w : Sight). IfSome (calls_in s w (store_sight history now).room) (λ (calls : ℕ). (history (disk_of (store_of new))).now ≤ (history (disk_of (store_of now))).now + calls)) so_far.after (step.clock before.stands.is_honest)))
+          refl
           (subst (λ (w : Sight). HoldsAtLeast (sectors_of (store_of old)) (settled_of w.desk) (history (disk_of (store_of new)))) (sym step.after ∙ ap (λ (w : Sight). (turn s note w).after) so_far.after) (step-holds (n + length before.front) (after state before.front) before.stands))
           (so_far.steps_keep n state stands))
 
@@ -166,12 +219,12 @@ module _ {D : Type 0} {g : _} (honest : D → Bool) (history : D → History) wh
     pub more-failed : is_serving (sight old).desk ≡ false → (disk_of (store_of new) ≡ disk_of (store_of old)) × (is_serving (sight new).desk ≡ false)
     more-failed is =
         let was = so_far.failed is in (
-          ap disk_of (idle (failed-rests now was.1)) ∙ was.0,
+          rests was.1 ∙ was.0,
           ap (λ (w : Sight). is_serving w.desk) (sym step.after) ∙ turn-stays-failed s note (sight now) was.1,
         )
 
   pub going-on : (steps rest : List Step) (s : Step) (notes : List StepNote) (outs : List (List Outgoing)) (old now new : World D g) (note : StepNote) (out : List Outgoing)
-      → Going steps (s ∷ rest) notes outs old now → IsTaken honest history s note out now new → (is_taken (sight now) ≡ false → store_of new ≡ store_of now) → is_failure note ≡ false
+      → Going steps (s ∷ rest) notes outs old now → IsTaken honest history s note out now new → (is_serving (sight now).desk ≡ false → disk_of (store_of new) ≡ disk_of (store_of now)) → is_failure note ≡ false
       → Going steps rest (notes ++ note ∷ []) (outs ++ out ∷ []) old new
   going-on steps rest s notes outs old now new note out so_far step idle sound = record {
     rest_is = drop-snoc steps rest s notes note so_far.rest_is;
@@ -182,6 +235,13 @@ module _ {D : Type 0} {g : _} (honest : D → Bool) (history : D → History) wh
     sound = sound-snoc notes note so_far.sound sound;
     images = more-images steps rest s notes outs old now new note out so_far step idle;
     stored = λ n state stands. more-stored steps rest s notes outs old now new note out so_far step idle n state stands (λ is. false≢true (sym sound ∙ ap is_failure is));
+    stores = more-stores steps rest s notes outs old now new note out so_far step idle;
+    turned = more-turned steps rest s notes outs old now new note out so_far step idle;
+    last_is = more-last steps rest s notes outs old now new note out so_far step idle;
+    still = λ none n state stands.
+        let kept = more-still steps rest s notes outs old now new note out so_far step idle none n state stands in
+        (kept.0, kept.1 (λ is. false≢true (sym sound ∙ ap is_failure is)));
+    reads = more-reads steps rest s notes outs old now new note out so_far step idle;
     steps_keep = more-steps steps rest s notes outs old now new note out so_far step idle;
     failed = more-failed steps rest s notes outs old now new note out so_far step idle;
     same_sectors = step.same_sectors ∙ so_far.same_sectors;
@@ -213,6 +273,10 @@ module _ {D : Type 0} {g : _} (honest : D → Bool) (history : D → History) wh
       orderly = λ h. subst IsOrderly (sym going.after) (stays (zip steps notes) (sight old) h going.noted);
       fails = λ broken. absurd (false≢true broken);
     };
+    stores = going.stores;
+    turns = going.turned;
+    last_is = sym going.last_is;
+    freed = now.store.idle;
     kept = λ n state stands. record {
       disk = record {
         prefix = going.images n state stands;
@@ -221,6 +285,8 @@ module _ {D : Type 0} {g : _} (honest : D → Bool) (history : D → History) wh
         at_steps = going.steps_keep n state stands;
       };
       store = λ _. going.stored n state stands;
+      still = λ none. (going.still none n state stands).0;
+      reads = going.reads n state stands;
     };
     settled = now.agree.enough;
     sectors = going.same_sectors;
@@ -228,49 +294,99 @@ module _ {D : Type 0} {g : _} (honest : D → Bool) (history : D → History) wh
     rests = λ f. (going.failed f).0;
   })
 
-  -- an allocation failed for the next step
-  pub run-wanting : (steps rest : List Step) (s : Step) (notes : List StepNote) (outs : List (List Outgoing)) (old now new : World D g) (last : Option Outgoing) (trace : Trace) → Going steps (s ∷ rest) notes outs old now
-      → sight new ≡ sight now → IsUnchanged (store_of now) (store_of new) → last ≡ refusal_of_first (s ∷ rest)
-      → trace ≡ record { out = outs; notes = notes; last = last; stopped = Some cause.Memory } → IsRun honest history steps old new trace
-  run-wanting steps rest s notes outs old now new last trace going same store told is =
-      let stored-new : (n : ℕ) (state : Durable) → StandsAt honest history (store_of old) n state → HasStored honest history (store_of new) n state (to_store (zip steps notes) (sight old)) (unstored (sight new)) = λ n state stands.
-      let there = going.stored n state stands in
-      record {
-        front = there.front;
-        whole = there.whole ∙ ap (λ (w : Sight). there.front ++ unstored w) (sym same);
-        stands = StandsAt-unchanged honest history (store_of now) (store_of new) (n + length there.front) (after state there.front) store there.stands;
-      } in
-      let images-new : (n : ℕ) (state : Durable) → StandsAt honest history (store_of old) n state → LeavesOnly (history (disk_of (store_of old))) (history (disk_of (store_of new))) (CarriesFront (sectors_of (store_of old)) n state (to_store (zip steps notes) (sight old))) = λ n state stands.
-      subst (λ (d : D). LeavesOnly (history (disk_of (store_of old))) (history d) (CarriesFront (sectors_of (store_of old)) n state (to_store (zip steps notes) (sight old)))) (sym store.log.disk) (going.images n state stands) in
-      subst (λ (t : Trace). IsRun honest history steps old new t) (sym is) (record {
-        traced = record {
-          notes = going.noted;
-          out = going.out;
-          world = same ∙ going.after;
-          ends = (going.sound, omega (arith, length-append notes (Done ∷ []), few-snoc steps rest s notes Done going.rest_is));
-          last = told ∙ ap refusal_of_first going.rest_is;
-          released = λ h. leaves (zip steps notes) (sight old) h going.noted;
-          orderly = λ h. subst IsOrderly (sym (same ∙ going.after)) (stays (zip steps notes) (sight old) h going.noted);
-          fails = λ broken. absurd (false≢true broken);
-        };
-        kept = λ n state stands. record {
-          disk = record {
-            prefix = images-new n state stands;
-            at_entry = entered old new (to_store (zip steps notes) (sight old)) images-new n state stands;
-            at_exit = subst (λ (w : Sight). HoldsAtLeast (sectors_of (store_of old)) (settled_of w.desk) (history (disk_of (store_of new)))) (same ∙ going.after) (held-now old new (to_store (zip steps notes) (sight old)) (unstored (sight new)) (store.sectors ∙ going.same_sectors) stored-new n state stands);
-            at_steps = subst (λ (d : D). KeepsSettled (sectors_of (store_of old)) (history d) (zip steps notes) (sight old) (history (disk_of (store_of old))).now) (sym store.log.disk) (going.steps_keep n state stands);
+  -- an allocation failed
+  module _ (steps rest : List Step) (s : Step) (notes : List StepNote) (outs : List (List Outgoing)) (old now new : World D g) (last : Option Outgoing) (trace : Trace) (going : Going steps (s ∷ rest) notes outs old now)
+      (same : sight new ≡ sight now) (sectors : sectors_of (store_of new) ≡ sectors_of (store_of now))
+      (images : (n : ℕ) (state : Durable) → StandsAt honest history (store_of now) n state → LeavesOnly (history (disk_of (store_of now))) (history (disk_of (store_of new))) (λ image. Carries image (sectors_of (store_of now)) n state))
+      (stored : (n : ℕ) (state : Durable) → StandsAt honest history (store_of now) n state → StandsAt honest history (store_of new) n state) where
+    stopped-stored : (n : ℕ) (state : Durable) → StandsAt honest history (store_of old) n state → HasStored honest history (store_of new) n state (to_store (zip steps notes) (sight old)) (unstored (sight new))
+    stopped-stored n state stands =
+        let there = going.stored n state stands in
+        record {
+          front = there.front;
+          whole = there.whole ∙ ap (λ (w : Sight). there.front ++ unstored w) (sym same);
+          stands = stored (n + length there.front) (after state there.front) there.stands;
+        }
+
+    last-images : (n : ℕ) (state : Durable) → StandsAt honest history (store_of old) n state → LeavesOnly (history (disk_of (store_of now))) (history (disk_of (store_of new))) (CarriesFront (sectors_of (store_of old)) n state (to_store (zip steps notes) (sight old)))
+    last-images n state stands =
+        let there = going.stored n state stands in
+        LeavesOnly-weaker (history (disk_of (store_of now))) (history (disk_of (store_of new))) (λ image. Carries image (sectors_of (store_of now)) (n + length there.front) (after state there.front)) (CarriesFront (sectors_of (store_of old)) n state (to_store (zip steps notes) (sight old)))
+        (λ image carries. record {
+          front = there.front;
+          rest = unstored (sight now);
+          whole = there.whole;
+          carried = subst (λ (z : ℕ). Carries image z (n + length there.front) (after state there.front)) going.same_sectors carries;
+        })
+        (images (n + length there.front) (after state there.front) there.stands)
+
+    stopped-images : (n : ℕ) (state : Durable) → StandsAt honest history (store_of old) n state → LeavesOnly (history (disk_of (store_of old))) (history (disk_of (store_of new))) (CarriesFront (sectors_of (store_of old)) n state (to_store (zip steps notes) (sight old)))
+    stopped-images n state stands =
+        LeavesOnly-then (history (disk_of (store_of old))) (history (disk_of (store_of now))) (history (disk_of (store_of new))) (CarriesFront (sectors_of (store_of old)) n state (to_store (zip steps notes) (sight old))) (going.images n state stands) (last-images n state stands)
+
+    -- what was settled when the run stopped
+    settled-images : (n : ℕ) (state : Durable) → StandsAt honest history (store_of old) n state → LeavesOnly (history (disk_of (store_of now))) (history (disk_of (store_of new))) (CarriesAtLeast (sectors_of (store_of old)) (settled_of (after_run (zip steps notes) (sight old)).desk))
+    settled-images n state stands =
+        let there = going.stored n state stands in
+        subst (λ (w : Sight). LeavesOnly (history (disk_of (store_of now))) (history (disk_of (store_of new))) (CarriesAtLeast (sectors_of (store_of old)) (settled_of w.desk))) going.after
+        (LeavesOnly-weaker (history (disk_of (store_of now))) (history (disk_of (store_of new))) (λ image. Carries image (sectors_of (store_of now)) (n + length there.front) (after state there.front)) (CarriesAtLeast (sectors_of (store_of old)) (settled_of (sight now).desk))
+        (λ image carries. carries-least (sectors_of (store_of old)) (n + length there.front) (after state there.front) (settled_of (sight now).desk) image (omega (arith, now.agree.enough, there.stands.front_is))
+        (subst (λ (z : ℕ). Carries image z (n + length there.front) (after state there.front)) going.same_sectors carries))
+        (images (n + length there.front) (after state there.front) there.stands))
+
+    run-stopped : IsLastStore steps notes (Some cause.Memory) (sight new) (last_store (store_sight history old) going.stores) (store_sight history new)
+        → (is_serving (sight now).desk ≡ false → disk_of (store_of new) ≡ disk_of (store_of now)) → last ≡ refusal_of_first (s ∷ rest)
+        → trace ≡ record { out = outs; notes = notes; last = last; stopped = Some cause.Memory } → IsRun honest history steps old new trace
+    run-stopped last_is rests told is =
+        subst (λ (t : Trace). IsRun honest history steps old new t) (sym is) (record {
+          traced = record {
+            notes = going.noted;
+            out = going.out;
+            world = same ∙ going.after;
+            ends = (going.sound, omega (arith, length-append notes (Done ∷ []), few-snoc steps rest s notes Done going.rest_is));
+            last = told ∙ ap refusal_of_first going.rest_is;
+            released = λ h. leaves (zip steps notes) (sight old) h going.noted;
+            orderly = λ h. subst IsOrderly (sym (same ∙ going.after)) (stays (zip steps notes) (sight old) h going.noted);
+            fails = λ broken. absurd (false≢true broken);
           };
-          store = λ _. stored-new n state stands;
-        };
-        settled = new.agree.enough;
-        sectors = store.sectors ∙ going.same_sectors;
-        grows = subst (λ (w : Sight). settled_of (sight old).desk ≤ settled_of w.desk) (sym (same ∙ going.after)) (run-grows (zip steps notes) (sight old));
-        rests = λ f. store.log.disk ∙ (going.failed f).0;
-      })
+          stores = going.stores;
+          turns = going.turned;
+          last_is = last_is;
+          freed = new.store.idle;
+          kept = λ n state stands. record {
+            disk = record {
+              prefix = stopped-images n state stands;
+              at_entry = entered old new (to_store (zip steps notes) (sight old)) stopped-images n state stands;
+              at_exit = subst (λ (w : Sight). HoldsAtLeast (sectors_of (store_of old)) (settled_of w.desk) (history (disk_of (store_of new)))) (same ∙ going.after) (held-now old new (to_store (zip steps notes) (sight old)) (unstored (sight new)) (sectors ∙ going.same_sectors) stopped-stored n state stands);
+              at_steps = settled-later (sectors_of (store_of old)) (history (disk_of (store_of now))) (history (disk_of (store_of new))) (zip steps notes) (sight old) (store_sight history old) going.stores (settled-images n state stands) (going.steps_keep n state stands);
+            };
+            store = λ _. stopped-stored n state stands;
+            still = λ none.
+                let was = going.still none n state stands in
+                LeavesOnly-then (history (disk_of (store_of old))) (history (disk_of (store_of now))) (history (disk_of (store_of new))) (λ image. Carries image (sectors_of (store_of old)) n state) was.0
+                (subst (λ (z : ℕ). LeavesOnly (history (disk_of (store_of now))) (history (disk_of (store_of new))) (λ image. Carries image z n state)) going.same_sectors (images n state was.1));
+            reads = going.reads n state stands;
+          };
+          settled = new.agree.enough;
+          sectors = sectors ∙ going.same_sectors;
+          grows = subst (λ (w : Sight). settled_of (sight old).desk ≤ settled_of w.desk) (sym (same ∙ going.after)) (run-grows (zip steps notes) (sight old));
+          rests = λ f. rests (going.failed f).1 ∙ (going.failed f).0;
+        })
+
+  -- it failed for the next step
+  pub run-wanting : (steps rest : List Step) (s : Step) (notes : List StepNote) (outs : List (List Outgoing)) (old now new : World D g) (last : Option Outgoing) (trace : Trace) → Going steps (s ∷ rest) notes outs old now
+      → IsOutOfMemory honest history s now new → (is_serving (sight now).desk ≡ false → disk_of (store_of new) ≡ disk_of (store_of now)) → last ≡ refusal_of_first (s ∷ rest)
+      → trace ≡ record { out = outs; notes = notes; last = last; stopped = Some cause.Memory } → IsRun honest history steps old new trace
+  run-wanting steps rest s notes outs old now new last trace going short rests told is =
+      run-stopped steps rest s notes outs old now new last trace going short.same short.same_sectors short.images short.stored
+      (inr (subst (λ (l : List Step). IsStopBefore l (sight new) (last_store (store_sight history old) going.stores) (store_sight history new)) going.rest_is
+      (subst (λ (t : StoreSight). IsStoreStop s (sight new) t (store_sight history new)) (sym going.last_is)
+      (subst (λ (w : Sight). IsStoreStop s w (store_sight history now) (store_sight history new)) (sym short.same) short.stop))))
+      rests told is
 
   -- the disk failed in a step
   pub run-broken : (steps rest : List Step) (s : Step) (notes : List StepNote) (outs : List (List Outgoing)) (old now new : World D g) (note : StepNote) (out : List Outgoing) (trace : Trace)
-      → Going steps (s ∷ rest) notes outs old now → IsTaken honest history s note out now new → (is_taken (sight now) ≡ false → store_of new ≡ store_of now) → is_failure note ≡ true
+      → Going steps (s ∷ rest) notes outs old now → IsTaken honest history s note out now new → (is_serving (sight now).desk ≡ false → disk_of (store_of new) ≡ disk_of (store_of now)) → is_failure note ≡ true
       → trace ≡ record { out = outs ++ out ∷ []; notes = notes ++ note ∷ []; last = None; stopped = Some cause.Device } → IsRun honest history steps old new trace
   run-broken steps rest s notes outs old now new note out trace going step idle broken is = subst (λ (t : Trace). IsRun honest history steps old new t) (sym is) (record {
     traced = record {
@@ -284,6 +400,10 @@ module _ {D : Type 0} {g : _} (honest : D → Bool) (history : D → History) wh
       fails = λ _. ap (λ (w : Sight). is_serving w.desk) (sym step.after) ∙ ap (λ (k : StepNote). is_serving (turn s k (sight now)).after.desk) (device note broken)
           ∙ device-fails s (sight now) (subst (λ (k : StepNote). IsNoteOf s (sight now) k) (device note broken) step.noted);
     };
+    stores = more-stores steps rest s notes outs old now new note out going step idle;
+    turns = more-turned steps rest s notes outs old now new note out going step idle;
+    last_is = sym (more-last steps rest s notes outs old now new note out going step idle);
+    freed = new.store.idle;
     kept = λ n state stands. record {
       disk = record {
         prefix = more-images steps rest s notes outs old now new note out going step idle n state stands;
@@ -292,6 +412,8 @@ module _ {D : Type 0} {g : _} (honest : D → Bool) (history : D → History) wh
         at_steps = more-steps steps rest s notes outs old now new note out going step idle n state stands;
       };
       store = λ serves. absurd (false≢true (sym serves));
+      still = λ none. (more-still steps rest s notes outs old now new note out going step idle none n state stands).0;
+      reads = more-reads steps rest s notes outs old now new note out going step idle n state stands;
     };
     settled = new.agree.enough;
     sectors = step.same_sectors ∙ going.same_sectors;
@@ -306,11 +428,8 @@ module _ {D : Type 0} {g : _} (honest : D → Bool) (history : D → History) wh
       after-now = more-after steps rest s notes outs old now new note out going step idle
 
       device : (k : StepNote) → is_failure k ≡ true → k ≡ Device
-      device Done is = absurd (false≢true is)
-      device Nothing is = absurd (false≢true is)
-      device InFlight is = absurd (false≢true is)
-      device Full is = absurd (false≢true is)
       device Device is = refl
+      device other is = absurd (false≢true is)
 
   -- The same, in the form of the loop of a run.
   pub begins : (steps rest : List Step) (notes : List StepNote) (outs : List (List Outgoing)) (old : World D g) → rest ≡ steps → notes ≡ [] → outs ≡ [] → Going steps rest notes outs old old
@@ -321,7 +440,7 @@ module _ {D : Type 0} {g : _} (honest : D → Bool) (history : D → History) wh
 
   pub goes-on : (steps before rest : List Step) (s : Step) (notes notes_now : List StepNote) (outs outs_now : List (List Outgoing)) (old now new : World D g) (note : StepNote) (out : List Outgoing)
       → before ≡ s ∷ rest → notes_now ≡ notes ++ note ∷ [] → outs_now ≡ outs ++ out ∷ []
-      → Going steps before notes outs old now → IsTaken honest history s note out now new → (is_taken (sight now) ≡ false → store_of new ≡ store_of now) → is_failure note ≡ false
+      → Going steps before notes outs old now → IsTaken honest history s note out now new → (is_serving (sight now).desk ≡ false → disk_of (store_of new) ≡ disk_of (store_of now)) → is_failure note ≡ false
       → Going steps rest notes_now outs_now old new
   goes-on steps before rest s notes notes_now outs outs_now old now new note out next noted told so_far step idle sound =
       subst (λ (ns : List StepNote). Going steps rest ns outs_now old new) (sym noted)
@@ -330,7 +449,7 @@ module _ {D : Type 0} {g : _} (honest : D → Bool) (history : D → History) wh
 
   pub breaks : (steps before rest : List Step) (s : Step) (notes notes_now : List StepNote) (outs outs_now : List (List Outgoing)) (old now new : World D g) (note : StepNote) (out : List Outgoing) (trace : Trace)
       → before ≡ s ∷ rest → notes_now ≡ notes ++ note ∷ [] → outs_now ≡ outs ++ out ∷ []
-      → Going steps before notes outs old now → IsTaken honest history s note out now new → (is_taken (sight now) ≡ false → store_of new ≡ store_of now) → is_failure note ≡ true
+      → Going steps before notes outs old now → IsTaken honest history s note out now new → (is_serving (sight now).desk ≡ false → disk_of (store_of new) ≡ disk_of (store_of now)) → is_failure note ≡ true
       → trace ≡ record { out = outs_now; notes = notes_now; last = None; stopped = Some cause.Device } → IsRun honest history steps old new trace
   breaks steps before rest s notes notes_now outs outs_now old now new note out trace next noted told so_far step idle broken is =
       run-broken steps rest s notes outs old now new note out trace (subst (λ (l : List Step). Going steps l notes outs old now) next so_far) step idle broken
@@ -340,6 +459,11 @@ module _ {D : Type 0} {g : _} (honest : D → Bool) (history : D → History) wh
 
   -- no room for the trace
   pub run-none : (steps : List Step) (old : World D g) (last : Option Outgoing) (trace : Trace) → steps ≢ [] → last ≡ refusal_of_first steps → trace ≡ record { out = []; notes = []; last = last; stopped = Some cause.Memory } → IsRun honest history steps old old trace
+  unfolding going-start
   run-none [] old last trace some told is = absurd (some refl)
   run-none (s ∷ ss) old last trace some told is =
-      run-wanting (s ∷ ss) ss s [] [] old old old last trace (going-start (s ∷ ss) old) refl (record { log = record { disk = refl; root = refl; end = refl; number = refl; failed = refl; fresh = refl; fresh_end = refl }; sectors = refl }) told is
+      run-stopped (s ∷ ss) ss s [] [] old old old last trace (going-start (s ∷ ss) old) refl refl
+      (pair-stays honest history (store_of old) (store_of old) refl)
+      (λ n state stands. stands)
+      (inl (refl, sym (last-none (store_sight history old))))
+      (λ _. refl) told is

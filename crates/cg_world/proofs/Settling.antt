@@ -1,6 +1,6 @@
 -- What is settled grows, and each image since then has it.
 use Rattle.std.proofs.Common.{◌≡◌, inl, inr, ℕ, ◌+◌, ◌≤◌, Bool, true, false, List, [], ◌∷◌, ◌++◌, length, refl, sym, ◌∙◌, subst, arith}
-use Rattle.std.specs.Prelude.{if◌then◌else◌, is_some}
+use Rattle.std.specs.Prelude.{if◌then◌else◌, is_some, IfSome}
 use Rattle.std.proofs.lemmas.Bool.{cases_lt, false≢true}
 use Rattle.cg_disk.specs.Disk.{History, IsImage, LeavesOnly, Moment}
 use Rattle.cg_member.specs.declared.reply.Reply.TheVariants.{Refused}
@@ -15,14 +15,15 @@ use Rattle.cg_desk.specs.Tokens.{call_of}
 use Rattle.cg_desk.specs.declared.token.ReplyToken.{ReplyToken}
 use Rattle.cg_world.specs.Agreeing.{is_serving}
 use Rattle.cg_world.specs.Carrying.{CarriesAtLeast, CarriesSince, HoldsAtLeast}
-use Rattle.cg_world.specs.Running.{KeepsSettled, calls_in}
+use Rattle.cg_world.specs.Running.{KeepsSettled}
 use Rattle.cg_world.specs.Runs.{after_run}
-use Rattle.cg_world.specs.Sights.{Sight}
-use Rattle.cg_world.specs.Turns.{answered, event_at, in_flight, take_from, turn}
+use Rattle.cg_world.specs.Sights.{Sight, StoreSight}
+use Rattle.cg_world.specs.StoreTurns.{calls_in, last_store}
+use Rattle.cg_world.specs.Turns.{answered, compacted, event_at, in_flight, take_from, turn}
 use Rattle.cg_world.specs.declared.step.Step.{Step}
-use Rattle.cg_world.specs.declared.step.Step.TheVariants.{Request, Gone, Tick, Take, Append, Settle}
+use Rattle.cg_world.specs.declared.step.Step.TheVariants.{Request, Gone, Tick, Take, Append, Settle, CompactStart, CompactRead, CompactWrite, CompactSwitch}
 use Rattle.cg_world.specs.declared.step.StepNote.{StepNote}
-use Rattle.cg_world.specs.declared.step.StepNote.TheVariants.{Done, Nothing, InFlight, Full, Device}
+use Rattle.cg_world.specs.declared.step.StepNote.TheVariants.{Done, Full, Device}
 use Rattle.cg_world.proofs.Resting.{turn-stays-failed}
 
 -- a step settles commands, or leaves what is settled; it does the latter if the desk does not serve
@@ -86,6 +87,10 @@ settle-settles Loading count = same-settles Loading Loading refl
 settle-settles (Failed n m) count = same-settles (Failed n m) (Failed n m) refl
 settle-settles (Serving b) count = record { grows = omega arith; rests = λ is. absurd (false≢true (sym is)) }
 
+compact-settles : (note : StepNote) (w : Sight) → Settles w.desk (compacted note w).after.desk
+compact-settles Device w = same-settles w.desk _ refl
+compact-settles note w = same-settles w.desk w.desk refl
+
 turn-settles : (s : Step) (note : StepNote) (w : Sight) → Settles w.desk (turn s note w).after.desk
 unfolding turn
 turn-settles (Request ticket r now fresh) note w =
@@ -93,20 +98,16 @@ turn-settles (Request ticket r now fresh) note w =
 turn-settles (Gone session now) note w = same-settles w.desk _ (gone-same w.desk session now)
 turn-settles (Tick now) note w = same-settles w.desk _ (tick-same w.desk now)
 turn-settles Take Done w = same-settles w.desk _ (take-same w.desk)
-turn-settles Take Nothing w = same-settles w.desk w.desk refl
-turn-settles Take InFlight w = same-settles w.desk w.desk refl
-turn-settles Take Full w = same-settles w.desk w.desk refl
-turn-settles Take Device w = same-settles w.desk w.desk refl
-turn-settles Append Done w = same-settles w.desk w.desk refl
-turn-settles Append Nothing w = same-settles w.desk w.desk refl
-turn-settles Append InFlight w = same-settles w.desk w.desk refl
+turn-settles Take note w = same-settles w.desk w.desk refl
 turn-settles Append Full w = same-settles w.desk _ (return-same w.desk)
 turn-settles Append Device w = same-settles w.desk _ refl
+turn-settles Append note w = same-settles w.desk w.desk refl
 turn-settles Settle Done w = settle-settles w.desk (length (in_flight w.desk))
-turn-settles Settle Nothing w = same-settles w.desk w.desk refl
-turn-settles Settle InFlight w = same-settles w.desk w.desk refl
-turn-settles Settle Full w = same-settles w.desk w.desk refl
-turn-settles Settle Device w = same-settles w.desk w.desk refl
+turn-settles Settle note w = same-settles w.desk w.desk refl
+turn-settles CompactStart note w = compact-settles note w
+turn-settles CompactRead note w = compact-settles note w
+turn-settles CompactWrite note w = compact-settles note w
+turn-settles CompactSwitch note w = compact-settles note w
 
 pub run-grows : (ps : List (Step × StepNote)) (w : Sight) → settled_of w.desk ≤ settled_of (after_run ps w).desk
 unfolding after_run
@@ -130,20 +131,45 @@ since-grows sectors mid new since count more le run has k from to image is = eli
     less : CarriesAtLeast sectors more image → CarriesAtLeast sectors count image
     less carries = record { number = carries.number; state = carries.state; enough = omega (arith, le, carries.enough); carried = carries.carried }
 
-pub settled-start : (sectors : ℕ) (h : History) (w : Sight) → HoldsAtLeast sectors (settled_of w.desk) h → KeepsSettled sectors h [] w h.now
+-- what every image has now, it has from now on
+pub since-now : (sectors : ℕ) (h : History) (since count : ℕ) → since ≡ h.now → HoldsAtLeast sectors count h → CarriesSince sectors h since count
+since-now sectors h since count here holds k from to image is = holds image (subst (λ (j : ℕ). IsImage (h.at j) image) (let e : k ≡ h.now = omega (arith, here) in e) is)
+
+pub settled-start : (sectors : ℕ) (h : History) (w : Sight) (s : StoreSight) → s.clock ≡ h.now → HoldsAtLeast sectors (settled_of w.desk) h → KeepsSettled sectors h [] w s []
 unfolding KeepsSettled
-settled-start sectors h w holds = (refl, λ k from to image is. holds image (subst (λ (j : ℕ). IsImage (h.at j) image) (let e : k ≡ h.now = omega arith in e) is))
+settled-start sectors h w s here holds = since-now sectors h s.clock (settled_of w.desk) here holds
+
+-- time goes on after the last step
+pub settled-later : (sectors : ℕ) (mid new : History) (ps : List (Step × StepNote)) (w : Sight) (s : StoreSight) (ts : List StoreSight)
+    → LeavesOnly mid new (CarriesAtLeast sectors (settled_of (after_run ps w).desk)) → KeepsSettled sectors mid ps w s ts → KeepsSettled sectors new ps w s ts
+unfolding KeepsSettled after_run
+settled-later sectors mid new [] w s [] run kept = since-grows sectors mid new s.clock (settled_of w.desk) (settled_of w.desk) (omega (arith)) run kept
+settled-later sectors mid new [] w s (t ∷ ts) run kept = absurd kept
+settled-later sectors mid new (q ∷ ps) w s [] run kept = absurd kept
+settled-later sectors mid new (q ∷ ps) w s (t ∷ ts) run kept = (
+  since-grows sectors mid new s.clock (settled_of w.desk) (settled_of (after_run ps (turn q.0 q.1 w).after).desk) (omega (arith, (turn-settles q.0 q.1 w).grows, run-grows ps (turn q.0 q.1 w).after)) run kept.0,
+  kept.1,
+  kept.2,
+  settled-later sectors mid new ps (turn q.0 q.1 w).after t ts run kept.3,
+)
 
 -- one more step
-pub settled-snoc : (sectors : ℕ) (mid new : History) (ps : List (Step × StepNote)) (p : Step × StepNote) (w : Sight) (since : ℕ)
-    → LeavesOnly mid new (CarriesAtLeast sectors (settled_of (after_run ps w).desk)) → new.now ≤ mid.now + calls_in p.0 (after_run ps w)
-    → HoldsAtLeast sectors (settled_of (turn p.0 p.1 (after_run ps w)).after.desk) new → KeepsSettled sectors mid ps w since → KeepsSettled sectors new (ps ++ p ∷ []) w since
-unfolding KeepsSettled after_run
-settled-snoc sectors mid new [] p w since run clock holds kept = (
-  since-grows sectors mid new since (settled_of w.desk) (settled_of w.desk) (omega arith) run kept.1,
-  (new.now, omega (arith, run.later, kept.0), omega (arith, clock, kept.0), settled-start sectors new (turn p.0 p.1 w).after holds),
+pub settled-snoc : (sectors : ℕ) (mid new : History) (ps : List (Step × StepNote)) (p : Step × StepNote) (w : Sight) (s : StoreSight) (ts : List StoreSight) (t : StoreSight)
+    → LeavesOnly mid new (CarriesAtLeast sectors (settled_of (after_run ps w).desk))
+    → (last_store s ts).clock ≤ t.clock → IfSome (calls_in p.0 (after_run ps w) (last_store s ts).room) (λ (calls : ℕ). t.clock ≤ (last_store s ts).clock + calls) → t.clock ≡ new.now
+    → HoldsAtLeast sectors (settled_of (turn p.0 p.1 (after_run ps w)).after.desk) new → KeepsSettled sectors mid ps w s ts → KeepsSettled sectors new (ps ++ p ∷ []) w s (ts ++ t ∷ [])
+unfolding KeepsSettled after_run last_store
+settled-snoc sectors mid new [] p w s [] t run later calls here holds kept = (
+  since-grows sectors mid new s.clock (settled_of w.desk) (settled_of w.desk) (omega (arith)) run kept,
+  later,
+  calls,
+  settled-start sectors new (turn p.0 p.1 w).after t here holds,
 )
-settled-snoc sectors mid new (q ∷ ps) p w since run clock holds kept = (
-  since-grows sectors mid new since (settled_of w.desk) (settled_of (after_run ps (turn q.0 q.1 w).after).desk) (omega (arith, (turn-settles q.0 q.1 w).grows, run-grows ps (turn q.0 q.1 w).after)) run kept.0,
-  (kept.1.0, kept.1.1, kept.1.2, settled-snoc sectors mid new ps p (turn q.0 q.1 w).after kept.1.0 run clock holds kept.1.3),
+settled-snoc sectors mid new [] p w s (u ∷ ts) t run later calls here holds kept = absurd kept
+settled-snoc sectors mid new (q ∷ ps) p w s [] t run later calls here holds kept = absurd kept
+settled-snoc sectors mid new (q ∷ ps) p w s (u ∷ ts) t run later calls here holds kept = (
+  since-grows sectors mid new s.clock (settled_of w.desk) (settled_of (after_run ps (turn q.0 q.1 w).after).desk) (omega (arith, (turn-settles q.0 q.1 w).grows, run-grows ps (turn q.0 q.1 w).after)) run kept.0,
+  kept.1,
+  kept.2,
+  settled-snoc sectors mid new ps p (turn q.0 q.1 w).after u ts t run later calls here holds kept.3,
 )

@@ -1,5 +1,5 @@
 -- The commands that are numbered and not in the store, step by step.
-use Rattle.std.proofs.Common.{◌≡◌, ℕ, Bool, true, false, List, [], ◌∷◌, ◌++◌, append_assoc, append-nil, length, None, Some, refl, sym, ap, ◌∙◌}
+use Rattle.std.proofs.Common.{◌≡◌, ℕ, Bool, true, false, List, [], ◌∷◌, ◌++◌, append_assoc, append-nil, ◌≢◌, length, Option, None, Some, refl, sym, ap, ◌∙◌}
 use Rattle.std.specs.Prelude.{if◌then◌else◌, is_some}
 use Rattle.std.specs.Option.{option_to_list}
 use Rattle.std.proofs.lemmas.Bool.{false≢true}
@@ -23,10 +23,12 @@ use Rattle.cg_names.specs.declared.code.Code.TheVariants.{CoordinatorNotAvailabl
 use Rattle.cg_desk.specs.declared.token.ReplyToken.{ReplyToken}
 use Rattle.cg_world.specs.Runs.{made_by, made_in, to_store, unstored, unstored_at, unstored_in}
 use Rattle.cg_world.specs.Sights.{Sight}
+use Rattle.cg_world.specs.StoreTurns.{wanted_phase}
 use Rattle.cg_world.specs.Turns.{IsSettleNote, IsTakeNote, answered, event_at, in_flight, is_taken, settled, take_from, taken, turn}
-use Rattle.cg_world.specs.declared.step.Step.TheVariants.{Request, Gone, Tick, Take, Append, Settle}
+use Rattle.cg_world.specs.declared.step.Step.{Step}
+use Rattle.cg_world.specs.declared.step.Step.TheVariants.{Request, Gone, Tick, Take, Append, Settle, CompactStart, CompactRead, CompactWrite, CompactSwitch}
 use Rattle.cg_world.specs.declared.step.StepNote.{StepNote}
-use Rattle.cg_world.specs.declared.step.StepNote.TheVariants.{Done, Nothing, InFlight, Full, Device}
+use Rattle.cg_world.specs.declared.step.StepNote.TheVariants.{Done, Nothing, Full}
 
 -- a batch that was appended is still in flight
 abbrev pub IsSound : Sight → Type 0
@@ -132,10 +134,7 @@ after-take w note sound noted = none-at-take w.desk (unstored w) ∙ by-note not
   where
     by-note : (note : StepNote) → IsTakeNote w note → unstored w ≡ unstored (taken note w).after
     by-note Done noted = taken-desk w.desk w.appended sound noted.0
-    by-note Nothing noted = refl
-    by-note InFlight noted = refl
-    by-note Full noted = refl
-    by-note Device noted = refl
+    by-note other noted = refl
 
 settling-keeps : (s : State) (count : ℕ) → unstored_at true s ≡ unstored_at false (settle_on s count).after
 unfolding settle_on settling letting_go
@@ -149,10 +148,7 @@ after-settle w note noted = none-at-settle w.desk (unstored w) ∙ by-note note 
   where
     by-note : (note : StepNote) → IsSettleNote w note → unstored w ≡ unstored (settled note w).after
     by-note Done noted = ap (λ (b : Bool). unstored_at b w.desk) noted ∙ settling-keeps w.desk (length (in_flight w.desk))
-    by-note Nothing noted = refl
-    by-note InFlight noted = refl
-    by-note Full noted = refl
-    by-note Device noted = refl
+    by-note other noted = refl
 
 -- what is to be stored when a batch is appended
 pub to-append : (w : Sight) (note : StepNote) → to_store ((Append, note) ∷ []) w ≡ unstored w
@@ -186,3 +182,47 @@ after-full w = to-append w Full ∙ returned-desk w.desk w.appended
 pub after-nothing : (w : Sight) → to_store ((Append, Nothing) ∷ []) w ≡ unstored (turn Append Nothing w).after
 unfolding turn
 after-nothing w = to-append w Nothing
+
+-- a step of a compaction makes no command
+unmade : (w : Sight) (d : State) (s : Step) → event_at s d ≡ None → unstored w ++ (made_in s d ++ []) ≡ unstored w
+unfolding commands_of
+unmade w Loading s none = append-nil (unstored w)
+unmade w (Failed n m) s none = append-nil (unstored w)
+unmade w (Serving b) s none = ap (λ (o : Option (Event × ℕ)). unstored w ++ (commands_of (option_to_list o) b.machine ++ [])) none ∙ append-nil (unstored w)
+
+no-event : (s : Step) (d : State) → wanted_phase s ≢ None → event_at s d ≡ None
+no-event (Request ticket r now fresh) d is = absurd (is refl)
+no-event (Gone session now) d is = absurd (is refl)
+no-event (Tick now) d is = absurd (is refl)
+no-event Take d is = absurd (is refl)
+no-event Append d is = absurd (is refl)
+no-event Settle d is = absurd (is refl)
+no-event CompactStart d is = none-here d
+  where
+    none-here : (d : State) → event_at CompactStart d ≡ None
+    none-here Loading = refl
+    none-here (Failed n m) = refl
+    none-here (Serving b) = refl
+no-event CompactRead d is = none-here d
+  where
+    none-here : (d : State) → event_at CompactRead d ≡ None
+    none-here Loading = refl
+    none-here (Failed n m) = refl
+    none-here (Serving b) = refl
+no-event CompactWrite d is = none-here d
+  where
+    none-here : (d : State) → event_at CompactWrite d ≡ None
+    none-here Loading = refl
+    none-here (Failed n m) = refl
+    none-here (Serving b) = refl
+no-event CompactSwitch d is = none-here d
+  where
+    none-here : (d : State) → event_at CompactSwitch d ≡ None
+    none-here Loading = refl
+    none-here (Failed n m) = refl
+    none-here (Serving b) = refl
+
+-- what is to be stored at a step of a compaction
+pub to-compact : (w : Sight) (s : Step) (note : StepNote) → wanted_phase s ≢ None → to_store ((s, note) ∷ []) w ≡ unstored w
+unfolding to_store made_by
+to-compact w s note is = unmade w w.desk s (no-event s w.desk is)

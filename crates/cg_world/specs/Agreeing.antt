@@ -47,4 +47,6 @@ pub record Agree (desk : State) (transit : Transit) (front : ℕ) (failed : Bool
   -- the store has the settled commands, and the batch that was appended
   pub stored : is_serving desk ≡ true → front ≡ settled_of desk + length (stored_in transit)
   pub enough : settled_of desk ≤ front
+  -- a store has failed where its desk has, and nowhere else
   pub serves : is_serving desk ≡ true → failed ≡ false
+  pub rests : is_serving desk ≡ false → failed ≡ true

@@ -7,17 +7,14 @@ use Rattle.cg_member.specs.declared.reply.Reply.TheVariants.{Refused}
 use Rattle.cg_desk.specs.Outgoings.{answer}
 use Rattle.cg_desk.specs.declared.outgoing.Outgoing.{Outgoing}
 use Rattle.cg_world.specs.declared.step.Step.{Step}
-use Rattle.cg_world.specs.declared.step.Step.TheVariants.{Request, Gone, Tick, Take, Append, Settle}
+use Rattle.cg_world.specs.declared.step.Step.TheVariants.{Request}
 use Rattle.cg_world.specs.declared.stepping.Taken.{Taken}
 use Rattle.cg_world.specs.declared.step.StopCause.{StopCause}
 use Rattle.cg_world.specs.declared.step.StopCause.TheVariants as cause
 
 abbrev pub is_failure : StepNote → Bool
-is_failure note.Done = false
-is_failure note.Nothing = false
-is_failure note.InFlight = false
-is_failure note.Full = false
 is_failure note.Device = true
+is_failure other = false
 
 abbrev pub failed_append : {T E : Type 0} → Result (StepNote × T) E → Bool
 failed_append (Ok told) = is_failure told.0
@@ -35,8 +32,4 @@ stopped_by_device (Some cause.Device) = true
 -- the refusal of a step for which an allocation fails: a request is refused with -1
 abbrev pub refusal_of : Step → Option Outgoing
 refusal_of (Request ticket r now fresh) = Some (answer ticket (Refused UnknownServerError))
-refusal_of (Gone session now) = None
-refusal_of (Tick now) = None
-refusal_of Take = None
-refusal_of Append = None
-refusal_of Settle = None
+refusal_of step = None

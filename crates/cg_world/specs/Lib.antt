@@ -3,6 +3,7 @@ pub mod Orderly
 pub mod Agreeing
 pub mod Sights
 pub mod Turns
+pub mod StoreTurns
 pub mod Faults
 pub mod Runs
 pub mod Carrying

@@ -6,7 +6,6 @@ use Rattle.cg_group.specs.Laws.{after_all, commands_of}
 use Rattle.cg_group.specs.Machine.{step}
 use Rattle.cg_held.specs.Held.{Machine, Outcome}
 use Rattle.cg_held.specs.Reviving.{revive}
-use Rattle.cg_log.specs.Room.{Room}
 use Rattle.cg_store.specs.Carried.{AreMade}
 use Rattle.cg_desk.specs.Books.{Books}
 use Rattle.cg_desk.specs.Desks.{State, Loading, Serving, Failed, opened, settled_of}
@@ -69,11 +68,11 @@ pub record RepliesLeaveWhenSettled : Type 0 where
 -- The commands of a run are those that its events make in the machine; and as long as the desk serves, its machine is the
 -- one that these events make, and its number of commands has risen by theirs.
 pub record RunsMakeHistories : Type 0 where
-  pub commands : (ps : List (Step × StepNote)) (b : Books) (stored : Bool) (room : Room) →
-      let w : Sight = record { desk = Serving b; appended = stored; room = room } in made_by ps w ≡ commands_of (events_of ps w) b.machine
-  pub machine : (ps : List (Step × StepNote)) (b c : Books) (stored : Bool) (room : Room) →
-      let w : Sight = record { desk = Serving b; appended = stored; room = room } in
+  pub commands : (ps : List (Step × StepNote)) (b : Books) (stored : Bool) →
+      let w : Sight = record { desk = Serving b; appended = stored } in made_by ps w ≡ commands_of (events_of ps w) b.machine
+  pub machine : (ps : List (Step × StepNote)) (b c : Books) (stored : Bool) →
+      let w : Sight = record { desk = Serving b; appended = stored } in
       (after_run ps w).desk ≡ Serving c → c.machine ≡ after_all (events_of ps w) b.machine
-  pub numbered : (ps : List (Step × StepNote)) (b c : Books) (stored : Bool) (room : Room) →
-      let w : Sight = record { desk = Serving b; appended = stored; room = room } in
+  pub numbered : (ps : List (Step × StepNote)) (b c : Books) (stored : Bool) →
+      let w : Sight = record { desk = Serving b; appended = stored } in
       (after_run ps w).desk ≡ Serving c → c.numbered ≡ b.numbered + length (commands_of (events_of ps w) b.machine)

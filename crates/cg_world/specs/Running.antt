@@ -1,10 +1,11 @@
 -- What a run guarantees to its callers and on the disk.
-use Rattle.std.specs.Prelude.{◌≡◌, ◌+◌, ◌<◌, ◌≤◌, ℕ, Bool, true, false, ◌++◌, List, [], ◌∷◌, length, drop, Option, None, Some}
+use Rattle.std.specs.Prelude.{◌≡◌, ◌⊎◌, ◌+◌, ◌<◌, ◌≤◌, ℕ, Bool, true, false, ◌++◌, List, [], ◌∷◌, length, drop, Option, None, Some, IfSome}
 use Rattle.std.specs.List.{list_any, zip}
 use Rattle.cg_disk.specs.Disk.{History, LeavesOnly}
 use Rattle.cg_fold.specs.Durable.{State}
-use Rattle.cg_store.specs.Batches.{calls_for}
-use Rattle.cg_store.specs.Store.{StandsAt, disk_of, front_of, sectors_of}
+use Rattle.cg_store.specs.Carried.{Carries}
+use Rattle.cg_store.specs.Store.{StandsAt, disk_of, fresh_of, front_of, phase_of, sectors_of}
+use Rattle.cg_store.specs.declared.phase.Phase.TheVariants.{Idle}
 use Rattle.cg_desk.specs.Desks.{settled_of}
 use Rattle.cg_desk.specs.declared.outgoing.Outgoing.{Outgoing}
 use Rattle.cg_world.specs.Agreeing.{is_serving}
@@ -12,10 +13,10 @@ use Rattle.cg_world.specs.Carrying.{CarriesAtLeast, CarriesFront, CarriesSince, 
 use Rattle.cg_world.specs.Faults.{is_failure, refusal_of, stopped_by_device}
 use Rattle.cg_world.specs.Replying.{IsOrderly, LeavesWhenSettled}
 use Rattle.cg_world.specs.Runs.{AreNotes, after_run, outs_of, to_store, unstored}
-use Rattle.cg_world.specs.Sights.{Sight, sight, store_of}
-use Rattle.cg_world.specs.Turns.{in_flight, turn}
+use Rattle.cg_world.specs.Sights.{Sight, StoreSight, sight, store_of, store_sight}
+use Rattle.cg_world.specs.StoreTurns.{AreStoreTurns, IsStoreStop, calls_in, is_append, is_read_without_room, last_store}
+use Rattle.cg_world.specs.Turns.{turn}
 use Rattle.cg_world.specs.declared.step.Step.{Step}
-use Rattle.cg_world.specs.declared.step.Step.TheVariants.{Request, Gone, Tick, Take, Append, Settle}
 use Rattle.cg_world.specs.declared.step.StepNote.{StepNote}
 use Rattle.cg_world.specs.declared.step.StepNote.TheVariants.{Device}
 use Rattle.cg_world.specs.declared.step.StopCause.{StopCause}
@@ -69,43 +70,60 @@ pub record IsTraced {D : Type 0} {g : _} (steps : List Step) (old new : World D 
   -- after a failure of the disk the desk has failed
   pub fails : stopped_by_device trace.stopped ≡ true → is_serving (sight new).desk ≡ false
 
--- the most calls of the disk that a step makes
-abbrev pub calls_in : Step → Sight → ℕ
-calls_in (Request ticket r now fresh) w = 0
-calls_in (Gone session now) w = 0
-calls_in (Tick now) w = 0
-calls_in Take w = 0
-calls_in Append w = calls_for w.room (in_flight w.desk)
-calls_in Settle w = 0
-
--- from a moment on that comes at most the step's calls after the step began, every image carries at least the commands that
--- were settled after the step
-unfoldable pub KeepsSettled : ℕ → History → List (Step × StepNote) → Sight → ℕ → Type 0
-KeepsSettled sectors history [] w since = (since ≡ history.now) × CarriesSince sectors history since (settled_of w.desk)
-KeepsSettled sectors history (p ∷ ps) w since =
-    CarriesSince sectors history since (settled_of w.desk)
-    × ((next : ℕ) × (since ≤ next) × (next ≤ since + calls_in p.0 w) × KeepsSettled sectors history ps (turn p.0 p.1 w).after next)
+-- from the moment at which a step ended, every image carries at least the commands that were settled after the step; the stores
+-- are those before the steps and after each of them
+unfoldable pub KeepsSettled : ℕ → History → List (Step × StepNote) → Sight → StoreSight → List StoreSight → Type 0
+KeepsSettled sectors history [] w s [] = CarriesSince sectors history s.clock (settled_of w.desk)
+KeepsSettled sectors history [] w s (t ∷ ts) = ⊥
+KeepsSettled sectors history (p ∷ ps) w s [] = ⊥
+KeepsSettled sectors history (p ∷ ps) w s (t ∷ ts) =
+    CarriesSince sectors history s.clock (settled_of w.desk)
+    × (s.clock ≤ t.clock)
+    × IfSome (calls_in p.0 w s.room) (λ calls. t.clock ≤ s.clock + calls)
+    × KeepsSettled sectors history ps (turn p.0 p.1 w).after t ts
 
 -- what the disk keeps in a run whose store has n commands and this state when it begins, from its entry to its exit
-pub record DiskKeeps (sectors n : ℕ) (state : State) (ps : List (Step × StepNote)) (w : Sight) (entry exit : History) : Type 0 where
+pub record DiskKeeps (sectors n : ℕ) (state : State) (ps : List (Step × StepNote)) (w : Sight) (s : StoreSight) (stores : List StoreSight) (entry exit : History) : Type 0 where
   -- the prefix law: each image since the entry carries the pair plus a prefix of the commands that the run may store
   pub prefix : LeavesOnly entry exit (CarriesFront sectors n state (to_store ps w))
   -- the durability law: each image since the entry has all commands that were settled then; each that a crash may leave at
   -- the exit has all that are settled then; and so it is at each step
   pub at_entry : LeavesOnly entry exit (CarriesAtLeast sectors (settled_of w.desk))
   pub at_exit : HoldsAtLeast sectors (settled_of (after_run ps w).desk) exit
-  pub at_steps : KeepsSettled sectors exit ps w entry.now
+  pub at_steps : KeepsSettled sectors exit ps w s stores
 
 -- what a run keeps whose store has n commands and this state when it begins
-pub record RunKeeps {D : Type 0} {g : _} (honest : D → Bool) (history : D → History) (n : ℕ) (state : State) (ps : List (Step × StepNote)) (old new : World D g) (failed : Bool) : Type 0 where
-  pub disk : DiskKeeps (sectors_of (store_of old)) n state ps (sight old) (history (disk_of (store_of old))) (history (disk_of (store_of new)))
+pub record RunKeeps {D : Type 0} {g : _} (honest : D → Bool) (history : D → History) (n : ℕ) (state : State) (ps : List (Step × StepNote)) (stores : List StoreSight) (old new : World D g) (failed : Bool) : Type 0 where
+  pub disk : DiskKeeps (sectors_of (store_of old)) n state ps (sight old) (store_sight history old) stores (history (disk_of (store_of old))) (history (disk_of (store_of new)))
   -- unless the disk failed, the store has a prefix of the commands that the run may store, and the rest are the commands
   -- that it does not have
   pub store : failed ≡ false → HasStored honest history (store_of new) n state (to_store ps (sight old)) (unstored (sight new))
+  -- without an append, as in steps of a compaction, each image since the entry carries the pair
+  pub still : list_any is_append ps ≡ false → LeavesOnly (history (disk_of (store_of old))) (history (disk_of (store_of new))) (λ image. Carries image (sectors_of (store_of old)) n state)
+  -- a frame that is read for a compaction is never refused NoRoom
+  pub reads : list_any is_read_without_room ps ≡ false
+
+-- an allocation failed for the first of these steps
+abbrev pub IsStopBefore : List Step → Sight → StoreSight → StoreSight → Type 0
+IsStopBefore [] w last new = ⊥
+IsStopBefore (s ∷ ss) w last new = IsStoreStop s w last new
+
+-- the store at the end of a run, given the store after its last step: it is the same, unless an allocation failed for the next
+-- step. A run that has no room for its trace takes no step.
+abbrev pub IsLastStore : List Step → List StepNote → Option StopCause → Sight → StoreSight → StoreSight → Type 0
+IsLastStore steps notes None w last new = new ≡ last
+IsLastStore steps notes (Some cause.Memory) w last new = ((notes ≡ []) × (new ≡ last)) ⊎ IsStopBefore (drop (length notes) steps) w last new
+IsLastStore steps notes (Some cause.Device) w last new = new ≡ last
 
 pub record IsRun {D : Type 0} {g : _} (honest : D → Bool) (history : D → History) (steps : List Step) (old new : World D g) (trace : Trace) : Type 0 where
   pub traced : IsTraced steps old new trace
-  pub kept : (n : ℕ) (state : State) → StandsAt honest history (store_of old) n state → RunKeeps honest history n state (went steps trace) old new (stopped_by_device trace.stopped)
+  -- the store after each step that was taken
+  pub stores : List StoreSight
+  pub turns : AreStoreTurns (went steps trace) (sight old) (store_sight history old) stores
+  pub last_is : IsLastStore steps trace.notes trace.stopped (sight new) (last_store (store_sight history old) stores) (store_sight history new)
+  -- a compaction that has ended, for whatever reason, has freed its segments
+  pub freed : phase_of (store_of new) ≡ Idle → fresh_of (store_of new) ≡ []
+  pub kept : (n : ℕ) (state : State) → StandsAt honest history (store_of old) n state → RunKeeps honest history n state (went steps trace) stores old new (stopped_by_device trace.stopped)
   -- no more is settled than the store has, and what is settled never falls
   pub settled : settled_of (sight new).desk ≤ front_of (store_of new)
   pub grows : settled_of (sight old).desk ≤ settled_of (sight new).desk

@@ -3,6 +3,7 @@
 //! reply that left depends.
 #![tactic(auto)]
 
+mod compacting;
 mod fusing;
 mod laws;
 mod recording;

@@ -21,18 +21,34 @@ pub enum Step {
     Append,
     /// The desk settles the batch that was appended.
     Settle,
+    /// The store begins a compaction.
+    CompactStart,
+    /// The store reads the next frame for its compaction.
+    CompactRead,
+    /// The store writes the next frame of the snapshot.
+    CompactWrite,
+    /// The store publishes the root that names the snapshot.
+    CompactSwitch,
 }
 
 /// Outcome of a step that was taken.
 #[derive(Clone, Copy, Debug, Drop, PartialEq, Eq)]
 pub enum StepNote {
     Done,
+    /// The compaction read or wrote a frame, and stays in its phase.
+    More,
     /// There was nothing to take, to append or to settle.
     Nothing,
     /// No batch is taken, since the last one is not settled.
     InFlight,
     /// The store has no room for the batch, and the desk took it back.
     Full,
+    /// The store has no room for its compaction, which has ended.
+    NoRoom,
+    /// The compaction is in another phase, and stays there.
+    WrongPhase,
+    /// The disk failed in an earlier step.
+    Failed,
     /// The disk failed, and the desk failed with it.
     Device,
 }
@@ -52,7 +68,7 @@ impl StepNote {
 /// Reason why a run ended before its last step.
 #[derive(Clone, Copy, Debug, Drop, PartialEq, Eq)]
 pub enum StopCause {
-    /// An allocation failed for a step, which was not taken.
+    /// An allocation failed for a step, which was not taken; a step of a compaction ended the compaction.
     Memory,
     /// The disk failed in a step.
     Device,

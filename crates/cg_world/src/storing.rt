@@ -4,9 +4,10 @@ ghost use Rattle.cg_disk.specs.Disk.{Counts, LeavesOnly};
 ghost use Rattle.cg_fold.specs.Durable.{State, after};
 ghost use Rattle.cg_store.specs.Carried.{CarriesBeforeOrAfter};
 ghost use Rattle.cg_store.specs.Batches.{calls_for};
-ghost use Rattle.cg_store.specs.Store.{IsUnchanged, StandsAt, disk_of, sectors_of};
+ghost use Rattle.cg_store.specs.Store.{IsUnchanged, StandsAt, disk_of, phase_of, sectors_of};
 ghost use Rattle.cg_world.specs.Turns.{appended, in_flight, is_taken, settled, taken, IsAppendNote, IsSettleNote, IsTakeNote, quiet};
 ghost use Rattle.cg_world.specs.Faults.{failed_append};
+ghost use Rattle.cg_world.specs.StoreTurns.{IsAppendedRoom, IsFitNote, fits};
 
 use crate::step::StepNote;
 use crate::transit::Transit;
@@ -17,7 +18,7 @@ use cg_disk::SectorDisk;
 use cg_store::StoreFault;
 
 impl<D: SectorDisk> World<D> {
-    ghost use Rattle.cg_world.specs.Sights.{opening_of, sight, store_of};
+    ghost use Rattle.cg_world.specs.Sights.{opening_of, sight, store_of, store_sight};
 
     /// Takes the next batch from the desk, if there is one.
     pub(crate) fn take(&mut self) -> Result<StepNote, Wanting>
@@ -42,6 +43,7 @@ impl<D: SectorDisk> World<D> {
     /// fails, the desk fails too.
     pub(crate) fn append(&mut self) -> Result<(StepNote, Vec<Outgoing>), Wanting>
         ensures note { IfOk result (λ told. IsAppendNote (sight self.old) told.0) }
+        ensures fits { IfOk result (λ told. IsFitNote (fits (sight self.old) (store_sight D.history self.old).room) told.0) }
         ensures after { IfOk result (λ told. appended told.0 (sight self.old) ≡ record { after = sight self.new; at_once = told.1.items; left = [] }) }
         ensures err { IfErr result (λ wanting. (sight self.new ≡ sight self.old) × (wanting.last ≡ None)) }
         // Below: what the disk holds.
@@ -52,7 +54,9 @@ impl<D: SectorDisk> World<D> {
         ensures unchanged { IfOk result (λ told. told.0 ≢ StepNote.Done → told.0 ≢ StepNote.Device → IsUnchanged (store_of self.old) (store_of self.new)) }
         ensures wanting { OnErr result (IsUnchanged (store_of self.old) (store_of self.new)) }
         ensures clock { D.is_honest (disk_of (store_of self.old)) ≡ true → (D.history (disk_of (store_of self.new))).now ≤ (D.history (disk_of (store_of self.old))).now
-            + calls_for (sight self.old).room (in_flight (sight self.old).desk) }
+            + calls_for (store_sight D.history self.old).room (in_flight (sight self.old).desk) }
+        ensures room { IfOk result (λ told. IsAppendedRoom told.0 (sight self.old) (store_sight D.history self.old).room (store_sight D.history self.new).room) }
+        ensures same_phase { phase_of (store_of self.new) ≡ phase_of (store_of self.old) }
         ensures same_sectors { sectors_of (store_of self.new) ≡ sectors_of (store_of self.old) }
         ensures nothing { is_taken (sight self.old) ≡ false → store_of self.new ≡ store_of self.old }
         ensures device { Counts (D.failures (disk_of (store_of self.old))) (D.failures (disk_of (store_of self.new))) (failed_append result) }

@@ -33,14 +33,14 @@ returns-then-put-clause-run g c =
     let next : into_iter_items c.loop-step.step-iterator ≡ c.in-Some.step ∷ into_iter_items c.next.new.self = search rules in
     breaks g.D.SectorDisk.is_honest g.D.SectorDisk.history c.args.steps.items (into_iter_items c.loop-step.step-iterator) (into_iter_items c.next.new.self) c.in-Some.step
     c.loop-step.recording.notes.items c.put.new.self.notes.items c.loop-step.recording.out.items c.put.new.self.out.items c.args.world c.loop-step.world c.take_step.new.self c.in-Ok-take_step.taken.note c.in-Ok-take_step.taken.out c.ended.result
-    next c.put.ensures.notes c.put.ensures.out c.loop-step.invariant.0 c.in-Ok-take_step.ensures.ok c.take_step.ensures.nothing (search rules) c.ended.ensures
+    next c.put.ensures.notes c.put.ensures.out c.loop-step.invariant.0 c.in-Ok-take_step.ensures.ok c.take_step.ensures.rests (search rules) c.ended.ensures
 
 pub loop-step-preserved : goal.loop-step-preserved
 loop-step-preserved g c =
     let next : into_iter_items c.loop-step.step-iterator ≡ c.in-Some.step ∷ into_iter_items c.next.new.self = search rules in (
       goes-on g.D.SectorDisk.is_honest g.D.SectorDisk.history c.args.steps.items (into_iter_items c.loop-step.step-iterator) (into_iter_items c.next.new.self) c.in-Some.step
           c.loop-step.recording.notes.items c.put.new.self.notes.items c.loop-step.recording.out.items c.put.new.self.out.items c.args.world c.loop-step.world c.take_step.new.self c.in-Ok-take_step.taken.note c.in-Ok-take_step.taken.out
-          next c.put.ensures.notes c.put.ensures.out c.loop-step.invariant.0 c.in-Ok-take_step.ensures.ok c.take_step.ensures.nothing (search rules),
+          next c.put.ensures.notes c.put.ensures.out c.loop-step.invariant.0 c.in-Ok-take_step.ensures.ok c.take_step.ensures.rests (search rules),
       omega (arith, ap length next, c.put.ensures.room.0, c.put.ensures.room.1, c.loop-step.invariant.1),
       omega (arith, ap length next, c.put.ensures.room_for_notes.0, c.put.ensures.room_for_notes.1, c.loop-step.invariant.2),
       search rules,
@@ -54,7 +54,7 @@ pub returns-in-Err-take_step-clause-run : goal.returns-in-Err-take_step-clause-r
 returns-in-Err-take_step-clause-run g c =
     let next : into_iter_items c.loop-step.step-iterator ≡ c.in-Some.step ∷ into_iter_items c.next.new.self = search rules in
     run-wanting g.D.SectorDisk.is_honest g.D.SectorDisk.history c.args.steps.items (into_iter_items c.next.new.self) c.in-Some.step c.loop-step.recording.notes.items c.loop-step.recording.out.items c.args.world c.loop-step.world c.take_step.new.self
-    c.in-Err-take_step.wanting.last c.ended-in-Err-take_step.result (rw next at c.loop-step.invariant.0) c.in-Err-take_step.ensures.err c.in-Err-take_step.ensures.wanting
+    c.in-Err-take_step.wanting.last c.ended-in-Err-take_step.result (rw next at c.loop-step.invariant.0) c.in-Err-take_step.ensures.err c.take_step.ensures.rests
     c.in-Err-take_step.ensures.last c.ended-in-Err-take_step.ensures
 
 pub returns-clause-run : goal.returns-clause-run

@@ -1,0 +1,25 @@
+use Rattle.std.proofs.Math.Logic.{∥∥₁_map}
+use Rattle.cg_store.specs.Store.{front_of, has_failed, phase_of}
+use Rattle.cg_store.specs.declared.phase.Phase.TheVariants.{Reading, Writing}
+use Rattle.cg_desk.specs.Desks.{state_of}
+use Rattle.cg_world.proofs.Calls.{compact-agrees, compact-orderly, store-broken, store-serves, read-step}
+use Rattle.cg_world.proofs.Leaving.{owed-now}
+use Rattle.cg_world.proofs.world.World.compact_read.Goals as goal
+
+pub invariant_of-self-2 : goal.invariant_of-self-2
+invariant_of-self-2 g c = record {
+  orderly = ∥∥₁_map c.args.self.now.orderly (compact-orderly c.in_ok-note.note (state_of c.args.self.now.desk) (state_of c.replies_of-out.new.desk) (λ is. (c.replies_of-out.ensures.same is).0) (λ is. (c.replies_of-out.ensures.failed is).0));
+  agree = compact-agrees c.in_ok-note.note (state_of c.args.self.now.desk) (state_of c.replies_of-out.new.desk) c.args.self.now.transit c.replies_of-out.new.transit (front_of c.args.self.now.store) (front_of c.compact_read-called.new.self) (has_failed c.args.self.now.store) (has_failed c.compact_read-called.new.self)
+      (λ is. ((c.replies_of-out.ensures.same is).0, (c.replies_of-out.ensures.same is).1)) c.replies_of-out.ensures.failed
+      (store-serves (has_failed c.args.self.now.store) (has_failed c.compact_read-called.new.self) Reading Writing (phase_of c.args.self.now.store) (phase_of c.compact_read-called.new.self) c.compact_read-called.result c.in_ok-note.note c.in_ok-note.ensures (record { phase_is = c.compact_read-called.ensures.phase; told = c.compact_read-called.ensures.told; serves = c.compact_read-called.ensures.serves; broken = c.compact_read-called.ensures.failed }))
+      (store-broken (has_failed c.args.self.now.store) (has_failed c.compact_read-called.new.self) Reading Writing (phase_of c.args.self.now.store) (phase_of c.compact_read-called.new.self) c.compact_read-called.result c.in_ok-note.note c.in_ok-note.ensures (record { phase_is = c.compact_read-called.ensures.phase; told = c.compact_read-called.ensures.told; serves = c.compact_read-called.ensures.serves; broken = c.compact_read-called.ensures.failed }))
+      c.compact_read-called.ensures.same_front c.args.self.now.agree;
+}
+
+pub returns-clause-ok : goal.returns-clause-ok
+returns-clause-ok g c =
+    read-step g.D.SectorDisk.is_honest g.D.SectorDisk.history c.args.self.now _ c.compact_read-called.result c.in_ok-note.note c.replies_of-out.result.items c.in_ok-note.ensures
+    c.compact_read-called.ensures.stands c.compact_read-called.ensures.images c.compact_read-called.ensures.same_sectors
+    (record { same = c.replies_of-out.ensures.same; failed = c.replies_of-out.ensures.failed; order = λ is. c.replies_of-out.ensures.order is (owed-now (state_of c.args.self.now.desk) c.args.self.now.orderly) })
+    (record { phase_is = c.compact_read-called.ensures.phase; told = c.compact_read-called.ensures.told; serves = c.compact_read-called.ensures.serves; broken = c.compact_read-called.ensures.failed })
+    (record { room_is = c.compact_read-called.ensures.same_room; left = c.compact_read-called.ensures.room }) c.compact_read-called.ensures.honest
