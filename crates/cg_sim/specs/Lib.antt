@@ -9,3 +9,4 @@ pub mod Poking
 pub mod LoadedDisk
 pub mod Stages
 pub mod CommandLine
+pub mod Compacting

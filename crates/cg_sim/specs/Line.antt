@@ -9,7 +9,9 @@ use Rattle.cg_sim.specs.SectorText.{sector_text_of}
 use Rattle.cg_sim.specs.declared.text.TheConstants.{NUMBER_MAX}
 use Rattle.cg_sim.specs.declared.line.TheConstants.{SCRIPT_LINE_BYTES_MAX}
 use Rattle.cg_sim.specs.declared.line.Line.{Line}
-use Rattle.cg_sim.specs.declared.line.Line.TheVariants.{Skipped, At, Tick, Gone, Take, Append, Settle, Flush, Fuse, Poke, Stop, Load, Reload, Close, Ask}
+use Rattle.cg_sim.specs.declared.line.Line.TheVariants.{Skipped, At, Tick, Gone, Take, Append, Settle, Flush, Compact, Fuse, Poke, Stop, Load, Reload, Close, Ask}
+use Rattle.cg_sim.specs.declared.compaction.Compaction.TheVariants.{Whole, Step, Abort}
+use Rattle.cg_sim.specs.declared.compaction.CompactStep.TheVariants.{Start, Read, Write, Switch}
 
 abbrev space : ℕ
 space = 32
@@ -22,6 +24,17 @@ step_line_of text =
     else (if bytes_eq text (codes "settle") then Some Settle
     else (if bytes_eq text (codes "flush") then Some Flush
     else None)))
+
+-- a compaction, or a part of one
+unfoldable pub compact_line_of : List ℕ → Option Line
+compact_line_of text =
+    if bytes_eq text (codes "compact") then Some (Compact Whole)
+    else (if bytes_eq text (codes "compact start") then Some (Compact (Step Start))
+    else (if bytes_eq text (codes "compact read") then Some (Compact (Step Read))
+    else (if bytes_eq text (codes "compact write") then Some (Compact (Step Write))
+    else (if bytes_eq text (codes "compact switch") then Some (Compact (Step Switch))
+    else (if bytes_eq text (codes "compact abort") then Some (Compact Abort)
+    else None)))))
 
 -- a stop, a load, a reload or a close
 unfoldable pub power_line_of : List ℕ → Option Line
@@ -66,7 +79,7 @@ first_of_two (Some line) second = Some line
 unfoldable pub line_of : List ℕ → Option Line
 line_of text =
     if nat_lt SCRIPT_LINE_BYTES_MAX (length text) then None
-    else (if is_skipped text then Some Skipped else first_of_two (step_line_of text) (first_of_two (power_line_of text) (worded_line_of text)))
+    else (if is_skipped text then Some Skipped else first_of_two (step_line_of text) (first_of_two (compact_line_of text) (first_of_two (power_line_of text) (worded_line_of text))))
 
 -- the line may follow a poke while something is loaded: the next stop, reload or close puts its bytes down
 abbrev pub may_follow_poke : Line → Bool

@@ -1,5 +1,5 @@
 -- The lines that a script prints.
-use Rattle.std.specs.Prelude.{ℕ, List, [], ◌++◌, codes, Option, None, Some}
+use Rattle.std.specs.Prelude.{ℕ, List, [], ◌++◌, codes, Option, None, Some, Result, Ok, Err}
 use Rattle.std.specs.List.{flat_map}
 use Rattle.std.specs.Fmt.{decimal}
 use Rattle.cg_desk.specs.Outgoings.{reply_of, ticket_of}
@@ -7,6 +7,9 @@ use Rattle.cg_desk.specs.declared.outgoing.Outgoing.{Outgoing}
 use Rattle.cg_line.specs.Replies.{reply_line}
 use Rattle.cg_store.specs.declared.fault.OpenFault.{OpenFault}
 use Rattle.cg_store.specs.declared.fault.OpenFault.TheVariants as fault
+use Rattle.cg_store.specs.declared.fault.CompactFault.{CompactFault}
+use Rattle.cg_store.specs.declared.fault.CompactFault.TheVariants as compact_fault
+use Rattle.cg_store.specs.declared.phase.Progress.{Progress}
 use Rattle.cg_world.specs.declared.step.StepNote.{StepNote}
 use Rattle.cg_world.specs.declared.step.StepNote.TheVariants as note
 use Rattle.cg_world.specs.declared.trace.Trace.{Trace}
@@ -30,10 +33,27 @@ replies_text replies = flat_map reply_text replies
 -- the line of a step: only refused steps have one
 unfoldable pub note_text : StepNote → List ℕ
 note_text note.Done = []
+note_text note.More = []
 note_text note.Nothing = []
 note_text note.InFlight = fault_line (codes "InFlight")
 note_text note.Full = fault_line (codes "Full")
+note_text note.NoRoom = fault_line (codes "NoRoom")
+note_text note.WrongPhase = fault_line (codes "WrongPhase")
+note_text note.Failed = fault_line (codes "Failed")
 note_text note.Device = fault_line (codes "Device")
+
+-- why a call of a compaction was refused; out of memory has no line of its own
+unfoldable pub compact_fault_text : CompactFault → List ℕ
+compact_fault_text compact_fault.Memory = []
+compact_fault_text compact_fault.Device = fault_line (codes "Device")
+compact_fault_text compact_fault.NoRoom = fault_line (codes "NoRoom")
+compact_fault_text compact_fault.WrongPhase = fault_line (codes "WrongPhase")
+compact_fault_text compact_fault.Failed = fault_line (codes "Failed")
+
+-- what is printed where a compaction is given up: why that was refused
+abbrev pub abort_text : Result Progress CompactFault → List ℕ
+abort_text (Ok progress) = []
+abort_text (Err fault) = compact_fault_text fault
 
 -- the refusal of a request that ran out of memory
 abbrev pub last_text : Option Outgoing → List ℕ

@@ -48,6 +48,8 @@ pub enum Problem {
     Session,
     /// A number is out of range, or not in plain decimal.
     Number,
+    /// The word after `compact` is not the name of one of its parts.
+    Compact,
     /// The word after the session is not the name of a request.
     UnknownRequest,
     /// The request has this form, and the line has another.
@@ -98,6 +100,10 @@ impl fmt::Display for Problem {
                     "a number is decimal, from 0 to {NUMBER_MAX}, without leading zeros or a sign"
                 )
             }
+            Problem::Compact => write!(
+                f,
+                "compact stands alone, or with start, read, write, switch or abort"
+            ),
             Problem::UnknownRequest => write!(
                 f,
                 "a request is JOIN, SYNC, BEAT, LEAVE, COMMIT, FETCH, DESCRIBE, DELETE or LIST"
@@ -108,7 +114,7 @@ impl fmt::Display for Problem {
             ),
             Problem::UnknownLine => write!(
                 f,
-                "a line is s<digits> REQUEST, at, tick, gone, take, append, settle, flush, fuse, poke, stop keep, stop lose, load, reload or close"
+                "a line is s<digits> REQUEST, at, tick, gone, take, append, settle, flush, compact, fuse, poke, stop keep, stop lose, load, reload or close"
             ),
         }
     }
@@ -141,6 +147,9 @@ fn problem_after(word: &[u8], rest: &[u8]) -> Problem {
     }
     if word == b"poke".as_slice() {
         return poke_problem(rest);
+    }
+    if word == b"compact".as_slice() {
+        return Problem::Compact;
     }
     if [b"at".as_slice(), b"tick", b"fuse"]
         .iter()

@@ -22,6 +22,9 @@ Script lines (blank lines and lines that begin with # are skipped):
   gone s<digits>              the session is closed
   take, append, settle        hand out a batch, store it, release its replies
   flush                       take, append and settle
+  compact                     rewrite the log: start, reads, writes and switch
+  compact start, read, write, switch, abort
+                              one step of it, or its end
   fuse K                      the disk passes K more calls, then fails each
   poke S xBYTES               sector S holds these bytes, then zeros; on a loaded
                               disk only pokes may follow before stop, reload or close

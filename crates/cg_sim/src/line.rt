@@ -5,6 +5,7 @@ ghost use Rattle.cg_line.specs.Numbers.{number_of};
 ghost use Rattle.cg_sim.specs.Text.{draws_uuid, is_skipped, joiner_of};
 ghost use Rattle.cg_sim.specs.declared.text.TheConstants.{NUMBER_MAX};
 
+use crate::compaction::{CompactStep, Compaction};
 use crate::request_line::RequestLine;
 use crate::sector_text::SectorText;
 use crate::text::{self, NUMBER_MAX};
@@ -34,6 +35,8 @@ pub enum Line<'a> {
     Settle,
     /// `flush`: take, append and settle.
     Flush,
+    /// `compact`, alone or with a word: a compaction, or a part of one.
+    Compact(Compaction),
     /// `fuse K`: the disk passes K more calls, and then fails each (fault injection).
     Fuse(u64),
     /// `poke S xBYTES`: the sector with this number holds these bytes, then zeros.
@@ -51,7 +54,7 @@ pub enum Line<'a> {
 }
 
 impl<'a> Line<'a> {
-    ghost use Rattle.cg_sim.specs.Line.{line_of, may_follow_poke, poke_line_of, power_line_of, step_line_of, word_line_of, worded_line_of};
+    ghost use Rattle.cg_sim.specs.Line.{compact_line_of, line_of, may_follow_poke, poke_line_of, power_line_of, step_line_of, word_line_of, worded_line_of};
 
     /// Parses a script line. Returns `None` if it is a bad one.
     #[tactic(auto, unfolding(crate::specs::Line::line_of))]
@@ -65,6 +68,9 @@ impl<'a> Line<'a> {
             return Some(Line::Skipped);
         }
         if let Some(line) = Line::step_line(text) {
+            return Some(line);
+        }
+        if let Some(line) = Line::compact_line(text) {
             return Some(line);
         }
         if let Some(line) = Line::power_line(text) {
@@ -98,6 +104,32 @@ impl<'a> Line<'a> {
         }
         if text == b"flush".as_slice() {
             return Some(Line::Flush);
+        }
+        None
+    }
+
+    // Parses a compaction or a part of one.
+    #[tactic(auto, unfolding(crate::specs::Line::compact_line_of))]
+    fn compact_line(text: &[u8]) -> Option<Self>
+        ensures { result ≡ compact_line_of text.now }
+    {
+        if text == b"compact".as_slice() {
+            return Some(Line::Compact(Compaction::Whole));
+        }
+        if text == b"compact start".as_slice() {
+            return Some(Line::Compact(Compaction::Step(CompactStep::Start)));
+        }
+        if text == b"compact read".as_slice() {
+            return Some(Line::Compact(Compaction::Step(CompactStep::Read)));
+        }
+        if text == b"compact write".as_slice() {
+            return Some(Line::Compact(Compaction::Step(CompactStep::Write)));
+        }
+        if text == b"compact switch".as_slice() {
+            return Some(Line::Compact(Compaction::Step(CompactStep::Switch)));
+        }
+        if text == b"compact abort".as_slice() {
+            return Some(Line::Compact(Compaction::Abort));
         }
         None
     }

@@ -7,12 +7,13 @@ ghost use Rattle.cg_world.specs.Sights.{store_of};
 ghost use Rattle.cg_sim.specs.Disk.{sectors_of};
 
 use crate::call::Call;
+use crate::compaction::{CompactStep, Compaction};
 use crate::stage::Disk;
 use crate::stop::Stop;
 use crate::telling;
 use cg_desk::Outgoing;
 use cg_disk::MemDisk;
-use cg_world::{Step, World};
+use cg_world::{Step, StepNote, World};
 use std::alloc::Global;
 
 /// A desk and its store, after a load.
@@ -68,6 +69,91 @@ impl Loaded {
             return (self, Err(Stop::Memory));
         };
         self.run(alloc, steps, out)
+    }
+
+    /// Takes a whole compaction, one step of it or its end, and prints what was refused.
+    pub fn compact(
+        self,
+        alloc: Global,
+        compaction: Compaction,
+        out: &mut Vec<u8>,
+    ) -> (Self, Result<(), Stop>)
+        ensures { IfErr result.1 (λ stop. stop ≡ Stop.Memory) }
+    {
+        match compaction {
+            Compaction::Whole => self.compact_whole(alloc, out),
+            Compaction::Step(step) => self.take_step(alloc, step.step(), out),
+            Compaction::Abort => self.abort_compaction(out),
+        }
+    }
+
+    // Takes a step of a compaction. Returns its note, or `None` if an allocation failed for it.
+    fn take_noted(
+        self,
+        alloc: Global,
+        step: CompactStep,
+        out: &mut Vec<u8>,
+    ) -> (Self, Result<Option<StepNote>, Stop>)
+        ensures { IfErr result.1 (λ stop. stop ≡ Stop.Memory) }
+    {
+        let Ok(steps) = vec![in alloc; step.step()] else {
+            return (self, Err(Stop::Memory));
+        };
+        let Loaded { world, sectors } = self;
+        let (world, trace) = cg_world::run(alloc, world, steps);
+        let note = trace.notes.as_slice().last().copied();
+        let loaded = Loaded { world, sectors };
+        match telling::put_trace(&trace, out) {
+            Ok(()) => (loaded, Ok(note)),
+            Err(stop) => (loaded, Err(stop)),
+        }
+    }
+
+    // Repeats a step of a compaction as long as it says that there is more. Returns whether it is done, and was not refused.
+    fn end_phase(
+        self,
+        alloc: Global,
+        step: CompactStep,
+        out: &mut Vec<u8>,
+    ) -> (Self, Result<bool, Stop>)
+        ensures { IfErr result.1 (λ stop. stop ≡ Stop.Memory) }
+    {
+        let mut loaded = self;
+        for _ in 0..u64::MAX {
+            let (next, taken) = loaded.take_noted(alloc, step, out);
+            loaded = next;
+            match taken {
+                Ok(Some(StepNote::More)) => {}
+                Ok(note) => return (loaded, Ok(note == Some(StepNote::Done))),
+                Err(stop) => return (loaded, Err(stop)),
+            }
+        }
+        (loaded, Ok(false))
+    }
+
+    // Takes the steps of a compaction up to the first that is refused.
+    fn compact_whole(self, alloc: Global, out: &mut Vec<u8>) -> (Self, Result<(), Stop>)
+        ensures { IfErr result.1 (λ stop. stop ≡ Stop.Memory) }
+    {
+        let mut loaded = self;
+        for step in CompactStep::ALL {
+            let (next, ended) = loaded.end_phase(alloc, step, out);
+            loaded = next;
+            match ended {
+                Ok(true) => {}
+                Ok(false) => return (loaded, Ok(())),
+                Err(stop) => return (loaded, Err(stop)),
+            }
+        }
+        (loaded, Ok(()))
+    }
+
+    // Gives the compaction up, or prints why that was refused.
+    fn abort_compaction(mut self, out: &mut Vec<u8>) -> (Self, Result<(), Stop>)
+        ensures { IfErr result.1 (λ stop. stop ≡ Stop.Memory) }
+    {
+        let aborted = self.world.compact_abort();
+        (self, telling::put_abort(aborted, out))
     }
 
     /// Serves a request, or refuses it if an allocation fails.

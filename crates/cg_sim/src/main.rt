@@ -6,6 +6,7 @@ mod advice;
 mod call;
 mod command;
 mod command_line;
+mod compaction;
 mod line;
 mod loaded;
 mod player;

@@ -96,6 +96,7 @@ impl Player {
             Line::Append => stage.take_step(self.alloc, Step::Append, out),
             Line::Settle => stage.take_step(self.alloc, Step::Settle, out),
             Line::Flush => stage.flush(self.alloc, out),
+            Line::Compact(compaction) => stage.compact(self.alloc, *compaction, out),
             Line::Fuse(calls) => light(stage, *calls),
             Line::Poke(sector, text) => self.poke(stage, number, *sector, text),
             Line::Stop(crash) => self.stop(stage, *crash),

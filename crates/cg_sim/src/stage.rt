@@ -9,6 +9,7 @@ ghost use Rattle.cg_sim.specs.Poking.{IsPoked, sector_of};
 ghost use Rattle.cg_sim.specs.Stages.{is_loaded, is_refused, poked_disk, pokes_waiting, stage_disk, stage_pokes, taken_disk, taken_pokes, unloaded_disk};
 
 use crate::call::Call;
+use crate::compaction::Compaction;
 use crate::line::Line;
 use crate::loaded::Loaded;
 use crate::poke::Poke;
@@ -62,6 +63,24 @@ impl Stage {
         match self {
             Stage::Loaded(loaded) => {
                 let (loaded, printed) = loaded.flush(alloc, out);
+                (Stage::Loaded(loaded), printed)
+            }
+            stage => (stage, Ok(())),
+        }
+    }
+
+    /// Takes a compaction or a part of one, if something is loaded and no poke waits, and prints what was refused.
+    pub fn compact(
+        self,
+        alloc: Global,
+        compaction: Compaction,
+        out: &mut Vec<u8>,
+    ) -> (Self, Result<(), Stop>)
+        ensures { IfErr result.1 (λ stop. stop ≡ Stop.Memory) }
+    {
+        match self {
+            Stage::Loaded(loaded) => {
+                let (loaded, printed) = loaded.compact(alloc, compaction, out);
                 (Stage::Loaded(loaded), printed)
             }
             stage => (stage, Ok(())),

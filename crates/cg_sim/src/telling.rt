@@ -4,13 +4,13 @@ ghost use Rattle.std.specs.List.{flat_map};
 ghost use Rattle.cg_desk.specs.Outgoings.{answer};
 ghost use Rattle.cg_member.specs.declared.reply.Reply.TheVariants.{Refused};
 ghost use Rattle.cg_names.specs.declared.code.Code.TheVariants.{UnknownServerError};
-ghost use Rattle.cg_sim.specs.Telling.{note_text, open_fault_text, opening_text, replies_text, reply_text, trace_text};
+ghost use Rattle.cg_sim.specs.Telling.{abort_text, compact_fault_text, note_text, open_fault_text, opening_text, replies_text, reply_text, trace_text};
 
 use crate::stop::Stop;
 use cg_desk::{Outgoing, ReplyToken};
 use cg_group::{Listed, Ticket};
 use cg_names::Code;
-use cg_store::OpenFault;
+use cg_store::{CompactFault, OpenFault, Progress};
 use cg_world::{StepNote, StopCause, Trace};
 use itoa::Buffer;
 use std::alloc::{AllocError, Global};
@@ -72,9 +72,12 @@ fn note_line(note: StepNote) -> &'static [u8]
     ensures { result.now ≡ note_text note }
 {
     match note {
-        StepNote::Done | StepNote::Nothing => b"",
+        StepNote::Done | StepNote::More | StepNote::Nothing => b"",
         StepNote::InFlight => b"FAULT InFlight\n",
         StepNote::Full => b"FAULT Full\n",
+        StepNote::NoRoom => b"FAULT NoRoom\n",
+        StepNote::WrongPhase => b"FAULT WrongPhase\n",
+        StepNote::Failed => b"FAULT Failed\n",
         StepNote::Device => b"FAULT Device\n",
     }
 }
@@ -113,6 +116,31 @@ pub fn put_trace(trace: &Trace, out: &mut Vec<u8>) -> Result<(), Stop>
         (None, Some(StopCause::Memory)) => Err(Stop::Memory),
         (None, _) => Ok(()),
     }
+}
+
+// Returns the line of a refused compaction call; out of memory has none.
+#[tactic(auto, unfolding(crate::specs::Telling::compact_fault_text))]
+fn compact_fault_line(fault: CompactFault) -> &'static [u8]
+    ensures { result.now ≡ compact_fault_text fault }
+{
+    match fault {
+        CompactFault::Memory => b"",
+        CompactFault::Device => b"FAULT Device\n",
+        CompactFault::NoRoom => b"FAULT NoRoom\n",
+        CompactFault::WrongPhase => b"FAULT WrongPhase\n",
+        CompactFault::Failed => b"FAULT Failed\n",
+    }
+}
+
+/// Prints why a compaction was not given up.
+pub fn put_abort(aborted: Result<Progress, CompactFault>, out: &mut Vec<u8>) -> Result<(), Stop>
+    ensures ok { OnOk result (out.new.items ≡ out.old.items ++ abort_text aborted) }
+    ensures err { IfErr result (λ stop. stop ≡ Stop.Memory) }
+{
+    if let Err(fault) = aborted {
+        out.extend_from_slice(compact_fault_line(fault))?;
+    }
+    Ok(())
 }
 
 /// Prints how many commands, group records and offsets a load found.
