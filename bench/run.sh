@@ -1,11 +1,11 @@
 #!/usr/bin/env bash
 # Runs one benchmark: proves and builds crates/bench, and runs a subcommand of it.
-# FILE is made on the disk to be measured, and removed (frames makes FILE.plain too).
+# FILE is made on the disk to be measured, and removed (frames and compact make FILE.plain too).
 set -eu
-usage="usage: bench/run.sh frames FILE | groups | fold | desk FILE | lines | load FILE"
+usage="usage: bench/run.sh frames FILE | groups | fold | desk FILE | lines | load FILE | compact FILE"
 subcommand=${1:?$usage}
 case $subcommand in
-frames | desk | load) file=$(realpath -m "${2:?$usage}") ;;
+frames | desk | load | compact) file=$(realpath -m "${2:?$usage}") ;;
 groups | fold | lines) ;;
 *)
     echo "$usage" >&2
@@ -35,6 +35,15 @@ load)
     env time -f "peak without a load: %M KiB" out/bench >/dev/null
     env time -f "peak with one load: %M KiB" out/bench load "$file" open
     out/bench load "$file" remove
+    ;;
+compact)
+    "${bound[@]}" out/bench compact "$file"
+    # The state alone, and a compaction beside commits, for their peaks of memory by GNU time, in KiB.
+    out/bench compact "$file" fill
+    env time -f "peak without a store: %M KiB" out/bench >/dev/null
+    env time -f "peak of the state: %M KiB" out/bench compact "$file" state
+    env time -f "peak of the run: %M KiB" out/bench compact "$file" run
+    out/bench compact "$file" remove
     ;;
 desk)
     "${bound[@]}" out/bench desk commits "$file"

@@ -1,4 +1,5 @@
 //! The command line: which benchmark runs, and over which file.
+use crate::compact::once::{self as compact_once, CompactPart};
 use crate::desk::DeskPart;
 use crate::fold::part::{NAMES, Part, named};
 use crate::load::once::{self, LoadPart};
@@ -24,6 +25,10 @@ pub enum Benchmark<'a> {
     Load(&'a str),
     /// One load from this file, or what it needs, run once.
     LoadPart(LoadPart, &'a str),
+    /// Compactions of a log in this file.
+    Compact(&'a str),
+    /// One compaction of a log in this file, or what it needs, run once.
+    CompactPart(CompactPart, &'a str),
 }
 
 fn file<'a>(alloc: Global) -> Arg<'a> {
@@ -53,6 +58,16 @@ fn load<'a>(alloc: Global) -> Result<Command<'a>, AllocError> {
         .help("One part, run once, for its peak of memory");
     Command::new(alloc, "load")
         .about("Logs loaded, beside a plain read, and appends that roll")
+        .arg(file(alloc))?
+        .arg(part)
+}
+
+fn compact<'a>(alloc: Global) -> Result<Command<'a>, AllocError> {
+    let part = Arg::new(alloc, "PART")
+        .value_parser(compact_once::NAMES.as_slice())
+        .help("One part, run once, for its peak of memory");
+    Command::new(alloc, "compact")
+        .about("A log compacted, beside a plain copy, and beside commits")
         .arg(file(alloc))?
         .arg(part)
 }
@@ -87,7 +102,8 @@ pub fn command<'a>(alloc: Global) -> Result<Command<'a>, AllocError> {
         .subcommand(fold(alloc)?)?
         .subcommand(desk(alloc)?)?
         .subcommand(lines)?
-        .subcommand(load(alloc)?)
+        .subcommand(load(alloc)?)?
+        .subcommand(compact(alloc)?)
 }
 
 fn desk_part<'a>(matches: &ArgMatches<'a>) -> Option<DeskPart<'a>> {
@@ -111,6 +127,14 @@ fn load_of<'a>(matches: &ArgMatches<'a>) -> Option<Benchmark<'a>> {
     }
 }
 
+fn compact_of<'a>(matches: &ArgMatches<'a>) -> Option<Benchmark<'a>> {
+    let file = matches.get_str("FILE")?;
+    match matches.get_str("PART").and_then(compact_once::named) {
+        None => Some(Benchmark::Compact(file)),
+        Some(part) => Some(Benchmark::CompactPart(part, file)),
+    }
+}
+
 /// Returns the selected benchmark. A command line that `command` accepts always selects one.
 pub fn chosen<'a>(matches: &ArgMatches<'a>) -> Option<Benchmark<'a>> {
     match matches.subcommand()? {
@@ -123,6 +147,7 @@ pub fn chosen<'a>(matches: &ArgMatches<'a>) -> Option<Benchmark<'a>> {
         ("desk", desk) => desk_part(desk).map(Benchmark::Desk),
         ("lines", _) => Some(Benchmark::Lines),
         ("load", load) => load_of(load),
+        ("compact", compact) => compact_of(compact),
         _ => None,
     }
 }

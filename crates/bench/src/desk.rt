@@ -3,9 +3,9 @@
 pub mod batch;
 mod commits;
 mod requests;
-mod scene;
+pub mod scene;
 mod settles;
-mod store;
+pub mod store;
 
 use anyhow::{Context, Result};
 use std::alloc::Global;

@@ -1,8 +1,9 @@
-//! Benchmarks: how long frames, events, commands, commits, lines and loading take, each beside a comparison. Without
+//! Benchmarks: how long frames, events, commands, commits, lines, loading and compaction take, each beside a comparison. Without
 //! arguments the program prints its usage, and measures nothing.
 #![tactic(auto)]
 
 mod command_line;
+mod compact;
 mod desk;
 mod fold;
 mod frames;
@@ -56,6 +57,10 @@ fn run<R: Clock + Files + Print + Alloc<A = Global>>(
         Benchmark::Lines => lines::measure(rt).context("measuring lines"),
         Benchmark::Load(file) => load::measure(rt, file).context("measuring loading"),
         Benchmark::LoadPart(part, file) => load::once::run(rt, part, file).context(
+            "running a part",
+        ),
+        Benchmark::Compact(file) => compact::measure(rt, file).context("measuring compaction"),
+        Benchmark::CompactPart(part, file) => compact::once::run(rt, part, file).context(
             "running a part",
         ),
     }

@@ -1,0 +1,207 @@
+//! A compaction of a log of 150 full segments: beside a plain copy of as many bytes, and while commits go on.
+mod full_log;
+pub mod once;
+mod plain_copy;
+mod steps;
+mod turns;
+
+use crate::tally::{Median, Tally, thousandths};
+use anyhow::Result;
+use cg_disk::FileDisk;
+use cg_gate::{FIRST_SEGMENT_SECTOR, SEGMENT_SECTORS};
+use full_log::{FRAMES, Opened, fill, open};
+use plain_copy::copy;
+use std::alloc::Global;
+use std::fs;
+use std::rt::{Clock, Files};
+use std::time::Instant;
+use steps::Steps;
+use turns::{COMMITS, Turns};
+
+/// Sectors of a disk with 200 segments.
+const DISK_SECTORS: u64 = FIRST_SEGMENT_SECTOR + 200 * SEGMENT_SECTORS;
+
+/// Rounds of a comparison; the first one warms up and is not counted.
+const ROUNDS: u32 = 4;
+
+/// Times of whole compactions and of plain copies, and of the steps.
+#[derive(Drop)]
+struct Alone {
+    compactions: Tally,
+    copies: Tally,
+    steps: Steps,
+}
+
+impl Alone {
+    fn new(alloc: Global) -> Alone {
+        Alone {
+            compactions: Tally::new(alloc),
+            copies: Tally::new(alloc),
+            steps: Steps::new(),
+        }
+    }
+
+    // Times a compaction of the log in the file. Returns the frames of its snapshot.
+    fn compact<R: Clock + Files>(&mut self, rt: &R, alloc: Global, path: &str) -> Result<u64> {
+        let Opened {
+            mut store,
+            number: _number,
+            durable: _durable,
+        } = open(rt, alloc, path)?;
+        let mut steps = Steps::new();
+        let start = Instant::now(rt)?;
+        steps.finish(rt, &mut store)?;
+        self.compactions.add(rt, start, FRAMES)?;
+        self.steps.add(&steps);
+        Ok(steps.written())
+    }
+
+    // Fills the log and compacts it, and copies as many bytes before and after.
+    fn round<R: Clock + Files>(
+        &mut self,
+        rt: &R,
+        alloc: Global,
+        path: &str,
+        plain_path: &str,
+    ) -> Result<u64> {
+        fill(rt, alloc, path)?;
+        let frames = self.compact(rt, alloc, path)?;
+        copy(
+            rt,
+            alloc,
+            path,
+            plain_path,
+            FRAMES,
+            frames,
+            &mut self.copies,
+        )?;
+        copy(
+            rt,
+            alloc,
+            path,
+            plain_path,
+            FRAMES,
+            frames,
+            &mut self.copies,
+        )?;
+        fill(rt, alloc, path)?;
+        self.compact(rt, alloc, path)
+    }
+}
+
+// Prints a ratio in thousandths as a decimal number.
+fn print_ratio<R: Print>(rt: &R, what: &str, number: u64, of: u64) -> Result<()> {
+    let ratio = thousandths(number, of);
+    let ones = ratio / 1_000;
+    let rest = ratio % 1_000;
+    println!(rt; "  {what}: {ones}.{rest:03}")?;
+    Ok(())
+}
+
+fn report_alone<R: Print>(rt: &R, frames: u64, alone: Alone) -> Result<()> {
+    let Alone {
+        compactions,
+        copies,
+        steps,
+    } = alone;
+    let compaction = compactions.median();
+    let copy = copies.median();
+    let longest = steps.longest();
+    println!(rt; "{FRAMES} segments, a snapshot of {frames} frames, alone")?;
+    println!(rt;
+        "  a compaction: {} MiB of the log a second, the plain copy: {}",
+        mebibytes(&compaction),
+        mebibytes(&copy)
+    )?;
+    println!(rt; "  the longest step: {longest} ns")?;
+    print_ratio(
+        rt,
+        "the plain copy's time by the compaction's",
+        copy.nanoseconds(),
+        compaction.nanoseconds(),
+    )
+}
+
+// Returns the segments of the log a second: each is one MiB.
+fn mebibytes(median: &Median) -> u64 {
+    median.items_per_second()
+}
+
+fn measure_alone<R: Clock + Files + Print>(
+    rt: &R,
+    alloc: Global,
+    path: &str,
+    plain_path: &str,
+) -> Result<()> {
+    let mut alone = Alone::new(alloc);
+    let mut frames = 0;
+    for round in 0..ROUNDS {
+        if round == 1 {
+            alone = Alone::new(alloc);
+        }
+        frames = alone.round(rt, alloc, path, plain_path)?;
+    }
+    report_alone(rt, frames, alone)
+}
+
+fn report_turns<R: Print>(rt: &R, commits: usize, turns: Turns) -> Result<()> {
+    let Turns {
+        beside,
+        without,
+        appends,
+        steps,
+    } = turns;
+    let beside = beside.median();
+    let without = without.median();
+    let append = appends.median();
+    println!(rt; "a step after each batch of {commits} commits")?;
+    println!(rt;
+        "  {} commits a second beside the compactor, {} without it",
+        beside.items_per_second(),
+        without.items_per_second()
+    )?;
+    print_ratio(
+        rt,
+        "the first by the second",
+        without.nanoseconds_per_item(),
+        beside.nanoseconds_per_item(),
+    )?;
+    let longest = steps.longest();
+    println!(rt;
+        "  the longest step: {longest} ns, an append of a full frame: {} ns",
+        append.nanoseconds()
+    )?;
+    print_ratio(rt, "the first by the second", longest, append.nanoseconds())
+}
+
+fn measure_turns<R: Clock + Files + Print>(
+    rt: &R,
+    alloc: Global,
+    path: &str,
+    commits: usize,
+) -> Result<()> {
+    let mut turns = Turns::new(alloc);
+    for round in 0..ROUNDS {
+        if round == 1 {
+            turns = Turns::new(alloc);
+        }
+        turns.round(rt, alloc, path, commits)?;
+    }
+    report_turns(rt, commits, turns)
+}
+
+/// Measures compactions alone and beside commits, over a file that it creates and removes, and the plain copy over one
+/// more.
+pub fn measure<R: Clock + Files + Print + Alloc<A = Global>>(rt: &R, path: &str) -> Result<()> {
+    let alloc = rt.alloc();
+    let plain_path = format!(in alloc; "{path}.plain")?;
+    drop(FileDisk::open(rt, path, Some(DISK_SECTORS))?);
+    drop(FileDisk::open(rt, &plain_path, Some(DISK_SECTORS))?);
+    measure_alone(rt, alloc, path, &plain_path)?;
+    for commits in COMMITS {
+        measure_turns(rt, alloc, path, commits)?;
+    }
+    fs::remove_file(rt, path)?;
+    fs::remove_file(rt, plain_path)?;
+    Ok(())
+}

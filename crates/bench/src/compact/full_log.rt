@@ -1,0 +1,104 @@
+//! A log of 150 full segments, and what is opened on it.
+use crate::desk::store::opened;
+use crate::machine::now;
+use crate::offsets::committed;
+use crate::values::{group_id, metadata, name, offset, partition};
+use anyhow::{Result, bail};
+use cg_desk::Desk;
+use cg_disk::{FileDisk, SectorDisk};
+use cg_fold::Durable;
+use cg_record::{Command, Entry};
+use cg_store::{Batch, Commands, Store};
+use std::alloc::Global;
+use std::rt::Files;
+
+/// Frames of the log, each of which fills a segment.
+pub const FRAMES: u64 = 150;
+
+/// Groups of the log: each command commits to the next.
+const GROUPS: u64 = 60;
+
+/// Commits of a frame.
+const FRAME_COMMITS: u64 = 4;
+
+/// Partitions of a commit.
+const PARTITIONS: u32 = 64;
+
+/// Bytes of metadata of an offset: with these, four commits of 64 partitions leave less than a sector of a frame.
+const METADATA_BYTES: usize = 4_073;
+
+// Makes the commit with this number: all partitions of the next group.
+fn commit(alloc: Global, number: u64) -> Result<Command> {
+    let mut entries = Vec::new(alloc);
+    for index in 0..PARTITIONS {
+        entries.push(Entry {
+            topic: name(alloc, "t")?,
+            partition: partition(index)?,
+            offset: offset(number)?,
+            metadata: metadata(alloc, 0, METADATA_BYTES)?,
+        })?;
+    }
+    committed(alloc, group_id(alloc, number % GROUPS)?, entries)
+}
+
+/// Makes the batch with this number, which fills a frame.
+pub fn batch(alloc: Global, number: u64, first: u64) -> Result<Batch> {
+    let mut commands = Vec::new(alloc);
+    for index in 0..FRAME_COMMITS {
+        let number = number.wrapping_mul(FRAME_COMMITS).wrapping_add(index);
+        commands.push(commit(alloc, number)?)?;
+    }
+    match Batch::new(first, Commands::new(alloc, &commands)?) {
+        Ok(batch) => Ok(batch),
+        Err(_) => bail!("the commits do not fit a frame"),
+    }
+}
+
+/// Appends a batch.
+pub fn append<D: SectorDisk>(store: &mut Store<D>, batch: Batch) -> Result<()> {
+    match store.append(batch) {
+        Ok(_) => Ok(()),
+        Err((fault, _)) => Err(fault.into()),
+    }
+}
+
+/// Formats the file and fills the segments.
+pub fn fill<R: Files>(rt: &R, alloc: Global, path: &str) -> Result<()> {
+    let mut store = opened(alloc, FileDisk::open(rt, path, None)?)?;
+    for number in 0..FRAMES {
+        let first = store.front().wrapping_add(1);
+        append(&mut store, batch(alloc, number, first)?)?;
+    }
+    Ok(())
+}
+
+/// A store and what it found.
+pub struct Opened<D: SectorDisk> {
+    pub store: Store<D>,
+    pub number: u64,
+    pub durable: Durable,
+}
+
+/// Opens the store in the file.
+pub fn open<R: Files>(rt: &R, alloc: Global, path: &str) -> Result<Opened<FileDisk<R::File>>> {
+    match Store::open(alloc, FileDisk::open(rt, path, None)?) {
+        Ok((store, number, durable)) => Ok(Opened {
+            store,
+            number,
+            durable,
+        }),
+        Err((fault, _)) => Err(fault.into()),
+    }
+}
+
+/// Makes a desk that serves what a store found.
+pub fn serve(alloc: Global, number: u64, durable: Durable) -> Result<Desk> {
+    let mut desk = Desk::loading(alloc)?;
+    match desk.loaded(number, durable, now()) {
+        Ok(()) => Ok(desk),
+        Err((refused, _)) => {
+            let _ = desk.close();
+            Err(refused.into())
+        }
+    }
+}

@@ -1,0 +1,154 @@
+//! Commits with a compaction step after each batch, and without one.
+use crate::compact::full_log::{FRAMES, Opened, append, batch, fill, open, serve};
+use crate::compact::steps::Steps;
+use crate::desk::batch::commit_batch;
+use crate::desk::scene::add_commits;
+use crate::tally::Tally;
+use anyhow::{Result, bail};
+use cg_desk::Desk;
+use cg_disk::SectorDisk;
+use cg_store::Store;
+use std::alloc::Global;
+use std::collections::VecDeque;
+use std::rt::{Clock, Files};
+use std::time::Instant;
+
+/// Commits of the batches that are compared.
+pub const COMMITS: [usize; 3] = [256, 1_024, 2_048];
+
+/// Batches of a run without a compactor.
+const BATCHES: u32 = 40;
+
+/// Times of runs beside the compactor and without it, of appends of full frames, and of the steps.
+#[derive(Drop)]
+pub struct Turns {
+    pub beside: Tally,
+    pub without: Tally,
+    pub appends: Tally,
+    pub steps: Steps,
+}
+
+// Makes the requests of a batch, commits them, and returns the nanoseconds from the first request to the last reply.
+fn timed_batch<R: Clock, D: SectorDisk>(
+    rt: &R,
+    alloc: Global,
+    desk: &mut Desk,
+    store: &mut Store<D>,
+    commits: usize,
+    tally: &mut Tally,
+) -> Result<()> {
+    let mut requests = VecDeque::new(alloc);
+    add_commits(alloc, &mut requests, commits)?;
+    let start = Instant::now(rt)?;
+    commit_batch(alloc, desk, store, &mut requests)?;
+    tally.add(rt, start, commits as u64)
+}
+
+impl Turns {
+    pub fn new(alloc: Global) -> Turns {
+        Turns {
+            beside: Tally::new(alloc),
+            without: Tally::new(alloc),
+            appends: Tally::new(alloc),
+            steps: Steps::new(),
+        }
+    }
+
+    // Commits a batch and takes a step. Returns whether the compaction is over.
+    fn turn<R: Clock, D: SectorDisk>(
+        &mut self,
+        rt: &R,
+        alloc: Global,
+        desk: &mut Desk,
+        store: &mut Store<D>,
+        commits: usize,
+    ) -> Result<bool> {
+        let mut requests = VecDeque::new(alloc);
+        add_commits(alloc, &mut requests, commits)?;
+        let start = Instant::now(rt)?;
+        commit_batch(alloc, desk, store, &mut requests)?;
+        let is_over = self.steps.take(rt, store)?;
+        self.beside.add(rt, start, commits as u64)?;
+        Ok(is_over)
+    }
+
+    /// Commits batches beside the compactor until it is done.
+    pub fn with_compactor<R: Clock, D: SectorDisk>(
+        &mut self,
+        rt: &R,
+        alloc: Global,
+        desk: &mut Desk,
+        store: &mut Store<D>,
+        commits: usize,
+    ) -> Result<()> {
+        for _ in 0..u64::MAX {
+            if self.turn(rt, alloc, desk, store, commits)? {
+                return Ok(());
+            }
+        }
+        bail!("the compaction does not end");
+    }
+
+    fn without_compactor<R: Clock, D: SectorDisk>(
+        &mut self,
+        rt: &R,
+        alloc: Global,
+        desk: &mut Desk,
+        store: &mut Store<D>,
+        commits: usize,
+    ) -> Result<()> {
+        for _ in 0..BATCHES {
+            timed_batch(rt, alloc, desk, store, commits, &mut self.without)?;
+        }
+        Ok(())
+    }
+
+    // Runs without the compactor, beside it, and without it.
+    fn run<R: Clock, D: SectorDisk>(
+        &mut self,
+        rt: &R,
+        alloc: Global,
+        desk: &mut Desk,
+        store: &mut Store<D>,
+        commits: usize,
+    ) -> Result<()> {
+        self.without_compactor(rt, alloc, desk, store, commits)?;
+        self.with_compactor(rt, alloc, desk, store, commits)?;
+        self.without_compactor(rt, alloc, desk, store, commits)
+    }
+
+    // Appends a full frame, without the desk.
+    fn append_full<R: Clock, D: SectorDisk>(
+        &mut self,
+        rt: &R,
+        alloc: Global,
+        store: &mut Store<D>,
+    ) -> Result<()> {
+        let first = store.front().wrapping_add(1);
+        let batch = batch(alloc, FRAMES, first)?;
+        let start = Instant::now(rt)?;
+        append(store, batch)?;
+        self.appends.add(rt, start, 1)
+    }
+
+    /// Fills the log and runs once over it.
+    pub fn round<R: Clock + Files>(
+        &mut self,
+        rt: &R,
+        alloc: Global,
+        path: &str,
+        commits: usize,
+    ) -> Result<()> {
+        fill(rt, alloc, path)?;
+        let Opened {
+            mut store,
+            number,
+            durable,
+        } = open(rt, alloc, path)?;
+        let mut desk = serve(alloc, number, durable)?;
+        let outcome = self.run(rt, alloc, &mut desk, &mut store, commits);
+        let _ = desk.close();
+        outcome?;
+        self.append_full(rt, alloc, &mut store)
+    }
+}
