@@ -49,7 +49,7 @@ pub record DesksStayBalanced : Type 0 where
 abbrev pub DesksHaveDistinctMembers : Type 0
 DesksHaveDistinctMembers = (b : Books) → IsBalanced b → Each (λ g. AreDistinct g.members) b.machine.groups
 
--- every reply of a step whose commands are settled leaves, with the ticket of its request
+-- every held reply whose need is settled leaves after a step, with the ticket of its request
 abbrev pub AllLeave : Books → List ReplyToken → Event → ℕ → Type 0
 AllLeave b handed e now = (served b handed e now).out ≡ map sent (released b.settled (stepped b (step b.machine e now) handed).held)
 

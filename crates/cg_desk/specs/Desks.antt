@@ -109,7 +109,7 @@ settle_on Loading count = at_rest Loading
 settle_on (Failed n s) count = at_rest (Failed n s)
 settle_on (Serving b) count = serving (settling b count)
 
--- the replies of a failure
+-- the replies that leave when the disk fails: every pending request is refused with 15
 unfoldable pub failing_on : State → List Outgoing
 failing_on Loading = []
 failing_on (Failed n s) = []

@@ -25,7 +25,8 @@ pub enum Phase {
     Failed(u64, u64),
 }
 
-/// A group machine with numbered commands that wait for the disk and replies that wait for these commands.
+/// The desk: a group machine, the numbered commands that wait for the disk, and the replies that wait for these
+/// commands.
 pub struct Desk {
     pub(crate) alloc: Global,
     pub(crate) phase: Phase,

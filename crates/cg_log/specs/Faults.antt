@@ -34,7 +34,7 @@ is_device log_fault.BadFrame = false
 is_device log_fault.NoRoot = false
 is_device log_fault.Failed = false
 
--- a call failed by the device
+-- a call failed because of the device
 abbrev pub is_device_failure : {T : Type 0} → Result T LogFault → Bool
 is_device_failure (Ok x) = false
 is_device_failure (Err fault) = is_device fault

@@ -1,4 +1,4 @@
--- What is read of an image, from the first frame on: the segments that a root names, one after the other.
+-- What is read of an image, from the first frame on: the segments that a root names, in order.
 use Rattle.std.specs.Prelude.{◌≡◌, ℕ, ◌+◌, List, [], ◌∷◌, ◌++◌, length, take, drop, slice_index, nat_lt, if◌then◌else◌, Option, Some, None, Result, Ok, Err}
 use Rattle.cg_disk.specs.Disk.{Image}
 use Rattle.cg_frame.specs.Frames.{Chain, IsClosed}

@@ -29,7 +29,7 @@ fits_tail room bytes = nat_lt (frame_sectors bytes) room.sectors
 unfoldable pub can_roll : Room → Bool
 can_roll room = nat_lt 0 room.segments && nat_lt 0 room.roots
 
--- there is room for the frame, in the last tail or in a new one; of a payload that fits an empty segment
+-- there is room for the frame, in the last tail or in a new one, if its payload fits an empty segment
 unfoldable pub has_room : Room → ℕ → Bool
 has_room room bytes = fits_tail room bytes || can_roll room
 

@@ -154,10 +154,11 @@ impl<D: SectorDisk> Log<D> {
         Ok(())
     }
 
-    /// Appends a frame of `count` commands, in four calls of the device; where it does not fit the last tail, in a new
-    /// tail. Every crash image since the start carries the frames before, or these and the new one; after `Ok` the
-    /// latter. `Full` is reported where the number of a command would be too great, and where the frame does not fit
-    /// the last tail and no segment is free or the epoch is the last, and nowhere else. After `Device` every call reports `Failed`.
+    /// Appends a frame of `count` commands to the last tail, in four calls of the device. If it does not fit there,
+    /// begins a new tail, in up to eight calls more. Every crash image since the start carries the frames before, or
+    /// these and the new one; after `Ok` the latter. Reports `Full` exactly where the number of a command would be too
+    /// great, and where a new tail is needed and no segment is free or the epoch is the last. After `Device` every call
+    /// reports `Failed`.
     pub fn append(&mut self, count: u64, payload: &[u8]) -> Result<(), LogFault>
         requires counted { 1 ≤ count }
         requires one_frame { length payload.now ≤ LARGEST_PAYLOAD_BYTES }

@@ -2,7 +2,7 @@
 ghost use Rattle.std.specs.Prelude.{◌<◌, [], List};
 ghost use Rattle.cg_gate.specs.declared.layout.TheConstants.{SEGMENT_SECTORS};
 
-/// A position among the frames of a log. It stays one as the log grows, until a root has another base.
+/// A position among the frames of a log. It stays valid as the log grows, until a switch changes the base.
 #[derive(Clone, Copy, Debug, PartialEq, Eq)]
 pub struct Cursor {
     // Index of the segment, among those of the base and then the tails.

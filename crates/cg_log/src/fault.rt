@@ -18,9 +18,9 @@ pub enum LogFault {
     /// The device failed during this call.
     #[error("the device failed")]
     Device,
-    /// `append`, `roll` and `fresh_append`: no segment is free and one is needed, or the number of a command or the
-    /// epoch of a root would be too great; `switch`: that epoch. `format`: the disk has no whole segment. Nothing was
-    /// written.
+    /// `append` and `roll`: a segment is needed, and none is free or the epoch is the last; `append` also where the
+    /// number of a command would be too great. `fresh_append`: a segment is needed, and none is free. `switch`: the
+    /// epoch is the last. `format`: the disk has no whole segment. Nothing was written.
     #[error("the log is full")]
     Full,
     /// A root gate is open and its body breaks a rule, or both are open and the epochs are equal.

@@ -1,6 +1,6 @@
 //! The log: frames in the segments that a root names, those of the base before those of the tail. Every crash image
 //! carries the frames that were appended, with the one in flight or without.
-//! It stands on `cg_frame` for frames in one segment, and on `cg_root` for the root.
+//! It uses `cg_frame` for frames in one segment, and `cg_root` for the root.
 #![tactic(auto)]
 
 mod appending;

@@ -25,7 +25,7 @@ room_after room commands = log_room_after room (length (spelling commands))
 abbrev pub calls_for : Room → List Command → ℕ
 calls_for room commands = log_calls_for room (length (spelling commands))
 
--- the fault that needs no disk call, in the order of the reports; None: there is none
+-- the fault that needs neither memory nor the disk, if there is one, in the order Failed, OutOfOrder, Full
 unfoldable pub refusal_of : Bool → Room → ℕ → ℕ → List Command → Option StoreFault
 refusal_of failed room front first commands =
     if failed then Some Failed

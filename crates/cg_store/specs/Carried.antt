@@ -33,7 +33,7 @@ pub record AreMade (state : State) : Type 0 where
   pub lawful : AreCommands commands
   pub state_is : state ≡ folded commands
 
--- the frames are those of batches, after which the state is this one
+-- the frames encode batches of commands, which make this state
 pub record Spell (frames : Frames) (state : State) : Type 0 where
   pub batches : List (List Command)
   pub frames_are : AreFramesOf frames batches

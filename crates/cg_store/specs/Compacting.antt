@@ -30,7 +30,7 @@ phase_in (is.Reading reading) = phase.Reading
 phase_in (is.Writing writing) = phase.Writing
 phase_in (is.Ready cut) = phase.Ready
 
--- where it began, if there is one
+-- the cut of the compaction, if one is under way
 abbrev pub cut_in : Compaction → Option Cut
 cut_in is.Idle = None
 cut_in (is.Reading reading) = Some reading.cut
@@ -80,7 +80,7 @@ pub record HasCopied {D : Type 0} {g : _} (honest : D → Bool) (history : D →
   pub frames : AreFramesOf (frames_of fresh) batches
   pub order : all ≡ joined batches ++ left
 
--- and two contents with the same frames in base and tail
+-- two contents have the same frames in base and tail
 pub record HaveSameFrames (has new : Content) : Type 0 where
   pub base : frames_of new.base ≡ frames_of has.base
   pub tail : frames_of (tails new) ≡ frames_of (tails has)
@@ -101,7 +101,7 @@ abbrev pub IsFrameRead : Progress → Frames → Frames → Type 0
 IsFrameRead More old new = (frame : ℕ × List ℕ) × (old ≡ frame ∷ new)
 IsFrameRead Done old new = (old ≡ []) × (new ≡ [])
 
--- no frame holds these commands with the next of the others
+-- these commands and the next of the others do not fit one frame
 abbrev pub IsFull : List Command → List Command → Type 0
 IsFull commands others = (next : Command) (rest : List Command) → others ≡ next ∷ rest → LARGEST_PAYLOAD_BYTES < length (spelling (commands ++ next ∷ []))
 

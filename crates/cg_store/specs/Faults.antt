@@ -14,7 +14,7 @@ use Rattle.cg_store.specs.declared.fault.OpenFault.TheVariants as open_fault
 use Rattle.cg_store.specs.declared.fault.StoreFault.{StoreFault}
 use Rattle.cg_store.specs.declared.fault.StoreFault.TheVariants as store_fault
 
--- the log of an image is sound
+-- the image carries a log, whatever its payloads encode
 pub record HasLog (image : Image) (sectors : ℕ) : Type 0 where
   pub number : ℕ
   pub base : Frames

@@ -72,7 +72,7 @@ can_begin room = if needs_roll room then can_roll room else true
 unfoldable pub begun_room : Room → Room
 begun_room room = if needs_roll room then rolled_room room else room
 
--- what an abort says
+-- the result of an abort
 unfoldable pub abort_result : Bool → Phase → Result Progress CompactFault
 abort_result true phase = Err compact_fault.Failed
 abort_result false Idle = Err compact_fault.WrongPhase

@@ -46,7 +46,7 @@ phase_of store = phase_in store.compaction
 abbrev pub compaction_of : {D : Type 0} {g : _} → Store D g → Compaction
 compaction_of store = store.compaction
 
--- where its compaction began
+-- the cut of its compaction, if one is under way
 abbrev pub cut_of : {D : Type 0} {g : _} → Store D g → Option Cut
 cut_of store = cut_in store.compaction
 

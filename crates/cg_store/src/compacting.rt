@@ -1,6 +1,6 @@
 //! The calls of a compaction. Each does the work of one frame or of one root, and keeps the number and the state of the
-//! store in every crash image. Appends may come between any two of them; a compaction takes segments, and changes nothing
-//! else for them.
+//! store in every crash image. Appends may come between any two of them. A compaction takes segments that they could
+//! use, and changes nothing else for them.
 ghost use Rattle.std.specs.Prelude.{◌≡◌, ◌≢◌, ◌⊎◌, ℕ, ◌+◌, ◌-◌, ◌≤◌, ◌<◌, ◌++◌, [], true, false, None, Some, IfErr, IfOk, IfSome, OnOk, IsErrOf, MatchResult, Ok};
 ghost use Rattle.cg_disk.specs.Disk.{Counts, LeavesOnly};
 ghost use Rattle.cg_fold.specs.Durable.{State};
@@ -203,8 +203,8 @@ impl<D: SectorDisk> Store<D> {
         Ok(Progress::Done)
     }
 
-    /// Ends the compaction, and frees its fresh segments. Says `Done`; refuses `Failed` and, where there is no compaction,
-    /// `WrongPhase`. No allocation, no disk call.
+    /// Ends the compaction, and frees its fresh segments. Returns `Done`. Reports `Failed` if the disk failed earlier,
+    /// and `WrongPhase` if there is no compaction. Does not allocate, and makes no disk call.
     pub fn compact_abort(&mut self) -> Result<Progress, CompactFault>
         ensures stands { (n : ℕ) (state : State) → StandsAt D.is_honest D.history self.old n state → StandsAt D.is_honest D.history self.new n state }
         ensures told { result ≡ abort_result (has_failed self.old) (phase_of self.old) }

@@ -97,8 +97,8 @@ pub enum StoreFault {
     /// The disk failed. The batch may be on disk or not, and every further append reports `Failed`.
     #[error("the disk failed")]
     Device,
-    /// The frame does not fit the last segment and no other is free, or there are too few command numbers left. The
-    /// store is unchanged.
+    /// The frame does not fit the last tail, and no segment is free or the epoch is the last; or too few command
+    /// numbers are left. The store is unchanged.
     #[error("the store is full")]
     Full,
     /// The first number of the batch is not the one after the store's last. The store is unchanged.

@@ -1,6 +1,6 @@
 //! The store: appends batches of commands to a log, recovers the state that they make, and compacts the log while appends
 //! go on. Every crash image has the number and the state of the appended commands, with or without the batch in flight.
-//! It stands on `cg_log` for the frames of a disk, and on `cg_fold` for the state.
+//! It uses `cg_log` for the frames of a disk, and `cg_fold` for the state.
 #![tactic(auto)]
 
 mod appending;

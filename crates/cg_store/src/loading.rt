@@ -96,7 +96,7 @@ pub(crate) fn read_frames<D: SectorDisk>(
     alloc: Global,
     opening: &mut Opening<D>,
 ) -> Result<Loading, OpenFault>
-    // Of an honest disk these are all frames; whatever the disk gives, some.
+    // On an honest disk these are all frames of the log; on any other disk, some frames.
     ensures read { (image : Image) → HasReadTo D.is_honest D.history D.size opening.old image [] → IfOk result (λ loading.
         HasReadAll D.is_honest D.history D.size opening.new image loading) }
     ensures some { IfOk result (λ loading. (frames : Frames) × HasRead frames loading) }

@@ -1,4 +1,4 @@
-//! The phases of a compaction, and how far a call came.
+//! The phases of a compaction, and whether a call ended its phase.
 
 /// What a compaction does next.
 #[derive(Clone, Copy, Debug, Drop, PartialEq, Eq)]

@@ -27,7 +27,7 @@ use cg_log::{Cursor, Log, LogFault};
 use std::alloc::{AllocError, Global};
 use std::mem;
 
-/// Begins a compaction at the last tail, once that has no frame.
+/// Begins a compaction. Its cut is the last tail; if that has a frame, the log rolls first.
 pub(crate) fn start<D: SectorDisk>(
     alloc: Global,
     log: &mut Log<D>,
@@ -77,7 +77,8 @@ pub(crate) fn start<D: SectorDisk>(
     Ok(())
 }
 
-// Folds the next frame before the cut: `Done` if there was none. No frame of an honest disk is a bad one.
+// Applies the next frame before the cut to the folded state. Returns `Done` if no frame is left. Reports `NoRoom` if a
+// disk that is not honest returns a bad frame or record.
 fn read_frame<D: SectorDisk>(
     alloc: Global,
     log: &mut Log<D>,
@@ -142,7 +143,7 @@ fn begin<D: SectorDisk>(
     ensures same_end { end_of log.new ≡ end_of log.old }
     ensures same_number { number_of log.new ≡ number_of log.old }
 {
-    // None is fresh; the call makes that known of the disk.
+    // No segment is fresh; the call is here for its contract, which says so of every crash image.
     log.drop_fresh();
     let frames = SnapshotFrames::new(alloc, reading.durable)?;
     Ok(Writing {
@@ -151,7 +152,7 @@ fn begin<D: SectorDisk>(
     })
 }
 
-/// Folds the next frame before the cut: `Done` if there was none, and then the snapshot is to be written.
+/// Applies the next frame before the cut to the folded state. Returns `Done` if no frame is left: the writing begins.
 pub(crate) fn read<D: SectorDisk>(
     alloc: Global,
     log: &mut Log<D>,
@@ -240,8 +241,8 @@ fn write_frame<D: SectorDisk>(
     }
 }
 
-/// Writes the next frame of the snapshot: `Done` if there was none, and then the switch is to be made. A fault frees what
-/// was written.
+/// Writes the next frame of the snapshot. Returns `Done` if no command is left: the switch comes next. A fault frees
+/// the fresh segments.
 pub(crate) fn write<D: SectorDisk>(
     log: &mut Log<D>,
     compaction: &mut Compaction,

@@ -12,8 +12,9 @@ use cg_disk::SectorDisk;
 use cg_log::Log;
 use std::alloc::Global;
 
-/// The commands on a disk. The store keeps their log and the size of the disk in memory, and none of the commands; while a
-/// compaction is under way, the state that it folds or what is left of its snapshot.
+/// The commands on a disk. In memory the store keeps the root of their log and the size of the disk, but no command.
+/// While a compaction is under way, it also keeps the state that is folded, or the part of the snapshot that is not
+/// written.
 #[derive(Drop)]
 pub struct Store<D: SectorDisk> {
     pub(crate) alloc: Global,

@@ -1,4 +1,4 @@
--- What an index of deadlines is seen as.
+-- What contracts see of an index of deadlines.
 use Rattle.std.specs.Prelude.{ℕ, List, refl}
 use Rattle.std.specs.Coded.{Coded, code_by, coded×, coded_ℕ, coded_list}
 

@@ -57,7 +57,7 @@ impl<K: Ord + Drop> Tree<K> {
         }
     }
 
-    // Takes the entry with the least key out.
+    // Removes the entry with the least key. Returns it and the rest.
     fn take_first(self) -> Option<((K, Moment), Tree<K>)>
         ensures { MatchOption result (self ≡ []) (λ taken. self ≡ taken.0 ∷ taken.1) }
     {

@@ -83,7 +83,7 @@ impl<K: Ord> Tree<K> {
         }
     }
 
-    /// Returns the number of branches on the longest way down.
+    /// Returns the height: the number of branches on the longest path from the root. It has no contract.
     pub fn height(&self) -> u8 {
         match self.branch() {
             None => 0,

@@ -1,4 +1,4 @@
--- When a step or a run reports that the disk failed, and what a step answers that runs out of memory.
+-- When a step or a run reports that the disk failed, and the refusal of a request for which an allocation fails.
 use Rattle.std.specs.Prelude.{Bool, true, false, Result, Ok, Err, Option, Some, None}
 use Rattle.cg_world.specs.declared.step.StepNote.{StepNote}
 use Rattle.cg_world.specs.declared.step.StepNote.TheVariants as note

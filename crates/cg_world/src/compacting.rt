@@ -38,7 +38,7 @@ fn note_of(called: Result<Progress, CompactFault>) -> Result<StepNote, Wanting>
     }
 }
 
-// Fails the desk if the disk failed, and drops the batch in flight. Returns the replies that leave.
+// If the disk failed, fails the desk, drops the batch or receipt in transit, and returns the refusals that leave.
 fn replies_of(
     alloc: Global,
     note: StepNote,

@@ -28,9 +28,9 @@ fn refused_first(steps: &[Step]) -> Option<Outgoing>
 }
 
 /// Takes the steps in their order, and ends at the first for which an allocation fails or in which the disk fails. A
-/// step for which an allocation fails changes nothing, except that a step of a compaction ends the compaction: a batch or
-/// a receipt waits for the next step of its kind. Room for the trace is reserved before the first step. Costs the calls of
-/// the desk and of the store.
+/// step for which an allocation fails changes nothing, except that a step of a compaction ends the compaction; a batch
+/// or a receipt stays in transit for the next step of its kind. Reserves room for the trace before the first step.
+/// Costs the calls of the desk and of the store.
 pub fn run<D: SectorDisk>(alloc: Global, world: World<D>, steps: Vec<Step>) -> (World<D>, Trace)
     ensures run { IsRun D.is_honest D.history steps.items world result.0 result.1 }
     ensures device { Counts (D.failures (disk_of (store_of world))) (D.failures (disk_of (store_of result.0))) (stopped_by_device result.1.stopped) }

@@ -40,6 +40,7 @@ impl<D: SectorDisk> World<D> {
         }
     }
 
+    /// Passes a closed session to the desk. If an allocation fails, nothing has changed.
     pub(crate) fn hang_up(&mut self, session: u64, now: Moment) -> Result<Vec<Outgoing>, AllocError>
         ensures ok { IfOk result
             (λ out. gone_on (sight self.old).desk session now ≡ record { after = (sight self.new).desk; out = out.items }) }
@@ -52,6 +53,7 @@ impl<D: SectorDisk> World<D> {
         Ok(out)
     }
 
+    /// Runs the time-dependent rules of the desk. If an allocation fails, nothing has changed.
     pub(crate) fn tick(&mut self, now: Moment) -> Result<Vec<Outgoing>, AllocError>
         ensures ok { IfOk result
             (λ out. tick_on (sight self.old).desk now ≡ record { after = (sight self.new).desk; out = out.items }) }

@@ -34,6 +34,7 @@ pub enum Step {
 /// Outcome of a step that was taken.
 #[derive(Clone, Copy, Debug, Drop, PartialEq, Eq)]
 pub enum StepNote {
+    /// The step was done. A step of a compaction ended its phase.
     Done,
     /// The compaction read or wrote a frame, and stays in its phase.
     More,
