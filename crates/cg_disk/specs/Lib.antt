@@ -5,3 +5,5 @@ pub mod Mem
 pub mod Burning
 pub mod File
 pub mod Fuse
+pub mod GatedSync
+pub mod GateDisk

@@ -1,7 +1,7 @@
-//! A crash of a disk in memory, and a disk in a file.
+//! A crash of a disk in memory, a disk in a file, and a disk with a gated sync.
 ghost use Rattle.std.specs.Prelude.{◌≡◌, ◌*◌, ◌^◌, ◌<◌, IfOk, OnOk, length};
 
-use crate::{Crash, FileDisk, MemDisk, SECTOR_BYTES, SectorDisk};
+use crate::{Crash, FileDisk, Gate, GateDisk, MemDisk, SECTOR_BYTES, SectorDisk};
 use std::alloc::{AllocError, Global};
 use std::fs;
 use std::process::Abort;
@@ -72,5 +72,77 @@ fn a_file_keeps_what_was_written(rt: HostRuntime) -> Result<(), Fail> {
     assert!(rt; FileDisk::open(&rt, path, None).is_err());
     assert!(rt; FileDisk::open(&rt, path, Some(u64::MAX)).is_err());
     assert!(rt; FileDisk::open(&rt, "no such folder/disk", Some(4)).is_err());
+    Ok(())
+}
+
+// A gate that returns this value at the first call, and the opposite later.
+#[derive(Drop)]
+struct Once {
+    is_open: bool,
+}
+
+impl Gate for Once {
+    fn opened(&mut self) -> bool {
+        let is_open = self.is_open;
+        self.is_open = !is_open;
+        is_open
+    }
+}
+
+// Fills a sector with its number plus one, and syncs. Returns whether the sync succeeded.
+fn write_and_sync(
+    rt: &impl Abort,
+    alloc: Global,
+    disk: &mut GateDisk<MemDisk, Once>,
+    sector: u8,
+) -> Result<bool, Fail> {
+    assert!(rt; sector < 4 && (sector as u64) < disk.sectors());
+    let bytes = sectors(alloc, sector + 1, 1)?;
+    disk.write(sector as u64, &bytes)?;
+    Ok(disk.sync().is_ok())
+}
+
+// Writes and syncs the first sectors of a disk, one sync each, then crashes it. Returns the first byte of each sector.
+fn gated(
+    rt: &impl Abort,
+    alloc: Global,
+    syncs: u64,
+    is_open: bool,
+    written: u8,
+    failing: Option<u8>,
+) -> Result<(u8, u8, u8, u8), Fail> {
+    let mut disk = GateDisk::new(MemDisk::new(alloc, 4)?, syncs, Once { is_open });
+    for sector in 0..written {
+        let is_synced = write_and_sync(rt, alloc, &mut disk, sector)?;
+        assert_eq!(rt;
+            is_synced,
+            failing != Some(sector),
+            "sector {sector}, {syncs} syncs"
+        );
+    }
+    first_bytes(rt, alloc, &mut disk.into_inner().crash(Crash::Lose))
+}
+
+#[test]
+fn only_the_gated_sync_depends_on_the_gate(rt: HostRuntime) -> Result<(), Fail> {
+    let alloc = rt.alloc();
+    for (syncs, is_open, written, failing, want) in [
+        (0, true, 4, None, (1, 2, 3, 4)),
+        (0, false, 1, Some(0), (0, 0, 0, 0)),
+        (0, false, 2, Some(0), (1, 2, 0, 0)),
+        (1, true, 4, None, (1, 2, 3, 4)),
+        (1, false, 2, Some(1), (1, 0, 0, 0)),
+        (1, false, 3, Some(1), (1, 2, 3, 0)),
+        (2, true, 4, None, (1, 2, 3, 4)),
+        (2, false, 3, Some(2), (1, 2, 0, 0)),
+        (2, false, 4, Some(2), (1, 2, 3, 4)),
+        (4, false, 4, None, (1, 2, 3, 4)),
+    ] {
+        assert_eq!(rt;
+            gated(&rt, alloc, syncs, is_open, written, failing)?,
+            want,
+            "{syncs} syncs, open: {is_open}, {written} written"
+        );
+    }
     Ok(())
 }
