@@ -1,14 +1,18 @@
 -- Changes of offsets in place.
-use Rattle.std.proofs.Common.{◌≡◌, ◌+◌, cond, List, [], ◌∷◌, ◌++◌, length, map as each, get_or, set, ap, sym, ◌∙◌, refl, subst, arith}
+use Rattle.std.proofs.Common.{◌≡◌, ℕ, ◌+◌, Bool, true, false, cond, Option, Some, List, [], ◌∷◌, ◌++◌, length, map as each, get_or, set, ap, sym, ◌∙◌, refl, subst, arith}
 use Rattle.std.proofs.Math.ListN.{get_or-map, length-set}
 use Rattle.std.proofs.Math.Seq.{map-set_same}
 use Rattle.std.proofs.lemmas.List.{length-map}
+use Rattle.std.specs.Prelude.{is_some}
+use Rattle.std.specs.FinMap.{find}
 use Rattle.std.specs.List.{fold, prefix_len}
-use Rattle.std.specs.Ordering.{is_lt}
+use Rattle.std.specs.Ordering.{is_eq, is_lt}
+use Rattle.cg_record.specs.declared.entry.Entry.{Entry}
 use Rattle.cg_fold.specs.declared.key.OffsetKey.{OffsetKey}
+use Rattle.cg_fold.specs.declared.key.StoredOffset.{StoredOffset}
 use Rattle.cg_fold.specs.declared.renewals.Renewal.{Renewal}
-use Rattle.cg_fold.specs.Key.{KeptOffset, is_below, key_cmp, key_of, put_kept}
-use Rattle.cg_fold.specs.Renewed.{AreBelow, AreRenewals, IsRenewal, renewed}
+use Rattle.cg_fold.specs.Key.{IsOwn, KeptOffset, is_below, key_cmp, key_of, put_kept}
+use Rattle.cg_fold.specs.Renewed.{AreBelow, AreRenewals, IsRenewal, has_row, renewed}
 use Rattle.cg_fold.proofs.KeyOrder.{key_total}
 use Rattle.cg_fold.proofs.Place.{put-same}
 
@@ -83,3 +87,32 @@ renewals-more rows [] [] new renewal are is = (is, tt)
 renewals-more rows [] (r ∷ renewals) new renewal are is = absurd are
 renewals-more rows (k ∷ kept) [] new renewal are is = absurd are
 renewals-more rows (k ∷ kept) (r ∷ renewals) new renewal are is = (are.0, renewals-more rows kept renewals new renewal are.1 is)
+
+-- ---- values that are moved
+
+-- the renewal of the row that was found
+pub renewal-at : (items deref deref' : List KeptOffset) (kept : KeptOffset) (at : ℕ) → deref ≡ items → deref' ≡ items
+    → at ≡ prefix_len (is_below kept.0) deref → IsOwn deref' at kept.0 → IsRenewal items kept (record { at = at; stored = kept.1 })
+renewal-at items deref deref' kept at same same' place own = record {
+  at = place ∙ ap (prefix_len (is_below kept.0)) same;
+  own = subst (λ l. IsOwn l at kept.0) same' own;
+  stored = refl;
+}
+
+-- whether a partition has a row depends on the keys alone
+abbrev any_key : OffsetKey → List OffsetKey → Bool
+any_key key [] = false
+any_key key (k ∷ ks) = cond (is_eq (key_cmp key k)) true (any_key key ks)
+
+is_some-cond : (b : Bool) (x : StoredOffset) (found : Option StoredOffset) → is_some (cond b (Some x) found) ≡ cond b true (is_some found)
+is_some-cond true x found = refl
+is_some-cond false x found = refl
+
+has-key : (key : OffsetKey) (rows : List KeptOffset) → is_some (find key_cmp key rows) ≡ any_key key (keys rows)
+has-key key [] = refl
+has-key key (row ∷ rows) = is_some-cond (is_eq (key_cmp key row.0)) row.1 (find key_cmp key rows) ∙ ap (cond (is_eq (key_cmp key row.0)) true) (has-key key rows)
+
+pub has_row-renewed : (rows new : List KeptOffset) (renewal : Renewal) (group : List ℕ) (entry : Entry) → new ≡ renewed rows renewal → has_row new group entry ≡ has_row rows group entry
+has_row-renewed rows new renewal group entry is =
+    let key = key_of group entry.topic entry.partition in
+    has-key key new ∙ ap (λ l. any_key key (keys l)) is ∙ ap (any_key key) (keys-renewed rows renewal) ∙ sym (has-key key rows)

@@ -73,6 +73,18 @@ impl Durable {
         }
     }
 
+    /// Applies a command that the caller gives away. The metadata of new offsets for partitions that have one already are
+    /// moved, without an allocation; all else is copied. If an allocation fails, nothing changes.
+    pub fn apply_owned(&mut self, command: Command) -> Result<(), AllocError>
+        ensures ok { OnOk result (self.new ≡ effect self.old command) }
+        ensures err { OnErr result (self.new ≡ self.old) }
+    {
+        match command {
+            Command::Committed(commit) => self.take_commit(commit),
+            other => self.apply(&other),
+        }
+    }
+
     #[tactic(auto, unfolding(crate::specs::Durable::effect))]
     fn assign(&mut self, assigned: &Assigned) -> Result<(), AllocError>
         ensures ok { OnOk result (self.new ≡ effect self.old (Command.Assigned assigned.now)) }
@@ -127,6 +139,14 @@ impl Durable {
         ensures err { OnErr result (self.new ≡ self.old) }
     {
         self.offsets.commit(commit)?;
+        Ok(())
+    }
+
+    fn take_commit(&mut self, commit: Committed) -> Result<(), AllocError>
+        ensures ok { OnOk result (self.new ≡ effect self.old (Command.Committed commit)) }
+        ensures err { OnErr result (self.new ≡ self.old) }
+    {
+        self.offsets.take_commit(commit)?;
         Ok(())
     }
 

@@ -7,6 +7,7 @@ mod either;
 mod grouped;
 mod key;
 mod law;
+mod moves;
 mod offsets;
 mod record;
 mod records;

@@ -97,6 +97,20 @@ impl Offsets {
         Ok(())
     }
 
+    /// Does what `commit` does with a commit that the caller gives away: to partitions that have an offset already its
+    /// metadata are moved, without an allocation.
+    pub fn take_commit(&mut self, commit: Committed) -> Result<(), AllocError>
+        ensures ok { OnOk result (self.new ≡ fold (with_entry commit.group) self.old commit.entries) }
+        ensures err { OnErr result (self.new ≡ self.old) }
+    {
+        if commit.entries.len() as u64 > u64::MAX - self.len {
+            return Err(AllocError);
+        }
+        let grown = shelves::take(&mut self.shelves, self.alloc, commit)?;
+        self.len += grown;
+        Ok(())
+    }
+
     /// Removes the offsets of a group. Linear in the groups, no allocation.
     pub fn forget(&mut self, group: &GroupId)
         ensures { self.new ≡ finmap.retain_keys self.old (is_of_other group.now) }

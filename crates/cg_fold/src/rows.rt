@@ -8,7 +8,7 @@ ghost use Rattle.std.specs.VecDeque.{deque_len};
 ghost use Rattle.cg_fold.specs.Key.{IsOther, IsOwn, kept_by, kept_of, is_below, key_cmp, key_of, put_kept};
 
 use crate::key::{OffsetKey, StoredOffset};
-use crate::renewals;
+use crate::{moves, renewals};
 use cg_names::{GroupId, Topic};
 use cg_record::{Committed, Entry, Partition};
 use std::alloc::{AllocError, Global};
@@ -74,6 +74,22 @@ impl Rows {
                 Ok(grown)
             }
         }
+    }
+
+    /// Sets the offsets of a commit, in order, and moves the metadata to partitions that have a row already. Returns the
+    /// number of new rows. If an allocation fails, nothing changes.
+    pub fn take_commit(&mut self, alloc: Global, commit: Committed) -> Result<u64, AllocError>
+        ensures ok { OnOk result (self.new ≡ fold put_kept self.old (kept_by commit)) }
+        ensures grown { IfOk result (λ grown. length self.new ≡ length self.old + grown) }
+        ensures err { OnErr result (self.new ≡ self.old) }
+    {
+        if !moves::have_rows(&self.rows, &commit.group, commit.entries.as_slice()) {
+            let grown = self.put_commit(alloc, &commit)?;
+            return Ok(grown);
+        }
+        let Committed { group, entries } = commit;
+        moves::move_entries(&mut self.rows, &group, entries.into_vec());
+        Ok(0)
     }
 
     // Sets the offsets of several entries, in place if all of them have a row. Returns the number of new rows.

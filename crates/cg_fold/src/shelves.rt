@@ -71,3 +71,37 @@ pub fn add(shelves: &mut Vec<Shelf>, alloc: Global, commit: &Committed) -> Resul
         Ok(grown)
     }
 }
+
+// Sets the offsets of a commit on the shelf at this index, and moves what it can. Returns the number of new offsets.
+fn take_at(
+    shelves: &mut Vec<Shelf>,
+    alloc: Global,
+    at: usize,
+    commit: Committed,
+) -> Result<u64, AllocError>
+    requires { at < length shelves.old.items }
+    ensures ok { OnOk result (AddsAt shelves.old.items shelves.new.items at (kept_by commit)) }
+    ensures grown { IfOk result (λ grown. GrowsAt shelves.old.items shelves.new.items at grown) }
+    ensures err { OnErr result (shelves.new.items ≡ shelves.old.items) }
+{
+    let grown = shelves[at].1.take_commit(alloc, commit)?;
+    Ok(grown)
+}
+
+/// Does what `add` does with a commit that the caller gives away: to partitions that have an offset already its metadata
+/// are moved, without an allocation.
+pub fn take(shelves: &mut Vec<Shelf>, alloc: Global, commit: Committed) -> Result<u64, AllocError>
+    requires { IsTrue (is_sorted name_cmp shelves.old.items) }
+    ensures ok { OnOk result (shelves.new.items ≡ with_more commit.group (kept_by commit) shelves.old.items) }
+    ensures grown { IfOk result (λ grown. length (rows_at commit.group shelves.new.items) ≡ length (rows_at commit.group shelves.old.items) + grown) }
+    ensures err { OnErr result (shelves.new.items ≡ shelves.old.items) }
+{
+    let at = grouped::place(shelves, &commit.group);
+    if grouped::is_at(shelves, at, &commit.group) {
+        let grown = take_at(shelves, alloc, at, commit)?;
+        Ok(grown)
+    } else {
+        let grown = add(shelves, alloc, &commit)?;
+        Ok(grown)
+    }
+}

@@ -44,11 +44,22 @@ const COMMITTED_H: &[u8] = b"\x04\x01h\x01\x01t\0\0\0\0\0\0\0\0\0\0\0\x2a\0\0\0\
 
 const COMMITTED_43: &[u8] = b"\x04\x01g\x01\x01t\0\0\0\0\0\0\0\0\0\0\0\x2b\0\0\0\0";
 
+// Group g, two partitions of topic t: the offset 5 for 0 and 6 for 1; then 9 for 1 and 8 with the metadata m for 0; and
+// what the latter two make, by partition.
+const COMMITTED_01: &[u8] =
+    b"\x04\x01g\x02\x01t\0\0\0\0\0\0\0\0\0\0\0\x05\0\0\0\0\x01t\0\0\0\x01\0\0\0\0\0\0\0\x06\0\0\0\0";
+
+const COMMITTED_10: &[u8] =
+    b"\x04\x01g\x02\x01t\0\0\0\x01\0\0\0\0\0\0\0\x09\0\0\0\0\x01t\0\0\0\0\0\0\0\0\0\0\0\x08\0\0\0\x01m";
+
+const COMMITTED_01_NEW: &[u8] =
+    b"\x04\x01g\x02\x01t\0\0\0\0\0\0\0\0\0\0\0\x08\0\0\0\x01m\x01t\0\0\0\x01\0\0\0\0\0\0\0\x09\0\0\0\0";
+
 // Group g.
 const DELETED: &[u8] = b"\x05\x01g";
 
 // Commands, and the snapshot of the state after them.
-const ROWS: [(&[&[u8]], &[&[u8]]); 16] = [
+const ROWS: [(&[&[u8]], &[&[u8]]); 18] = [
     (&[], &[]),
     (&[COMMITTED], &[COMMITTED]),
     (&[COMMITTED, EMPTIED], &[EMPTIED, COMMITTED]),
@@ -67,6 +78,8 @@ const ROWS: [(&[&[u8]], &[&[u8]]); 16] = [
         &[COMMITTED_43, COMMITTED_H],
     ),
     (&[COMMITTED, COMMITTED_H, DELETED], &[COMMITTED_H]),
+    (&[COMMITTED_01, COMMITTED_10], &[COMMITTED_01_NEW]),
+    (&[COMMITTED, COMMITTED_10], &[COMMITTED_01_NEW]),
     (
         &[COMMITTED_H, COMMITTED_A, EMPTIED, COMMITTED, EMPTIED_B],
         &[COMMITTED_A, EMPTIED_B, EMPTIED, COMMITTED, COMMITTED_H],
@@ -82,26 +95,28 @@ fn payload(alloc: Global, parts: &[&[u8]]) -> Result<Vec<u8>, AllocError> {
     Ok(bytes)
 }
 
-// Returns the bytes of the snapshot after the commands of the parts.
-fn snapshot_after(alloc: Global, parts: &[&[u8]]) -> Result<Vec<u8>, Fail> {
+// Returns the bytes of the snapshot after the commands of the parts: after copies of them, and after they were given away.
+fn snapshots_after(alloc: Global, parts: &[&[u8]]) -> Result<[Vec<u8>; 2], Fail> {
     let bytes = payload(alloc, parts)?;
     let commands = read(alloc, &bytes)?;
-    let mut durable = Durable::new(alloc);
-    for command in &commands {
-        durable.apply(command)?;
+    let mut copied = Durable::new(alloc);
+    let mut moved = Durable::new(alloc);
+    for command in commands {
+        copied.apply(&command)?;
+        moved.apply_owned(command)?;
     }
-    let snapshot = durable.snapshot()?;
-    Ok(write(alloc, &snapshot)?)
+    let copied = copied.snapshot()?;
+    let moved = moved.snapshot()?;
+    Ok([write(alloc, &copied)?, write(alloc, &moved)?])
 }
 
 #[test]
 fn a_snapshot_has_the_records_and_offsets(rt: HostRuntime) -> Result<(), Fail> {
     for (commands, snapshot) in ROWS {
-        assert_eq!(rt;
-            snapshot_after(rt.alloc(), commands)?,
-            payload(rt.alloc(), snapshot)?,
-            "{commands:?}"
-        );
+        let wanted = payload(rt.alloc(), snapshot)?;
+        for made in snapshots_after(rt.alloc(), commands)? {
+            assert_eq!(rt; made, wanted, "{commands:?}");
+        }
     }
     Ok(())
 }
@@ -124,9 +139,9 @@ fn seventy_offsets_make_two_commits(rt: HostRuntime) -> Result<(), Fail> {
     let alloc = rt.alloc();
     let commits = [commit(alloc, 35, 35)?, commit(alloc, 0, 35)?];
     let wanted = [commit(alloc, 0, 64)?, commit(alloc, 64, 6)?];
-    assert_eq!(rt;
-        snapshot_after(alloc, &[&commits[0], &commits[1]])?,
-        payload(alloc, &[&wanted[0], &wanted[1]])?
-    );
+    let wanted = payload(alloc, &[&wanted[0], &wanted[1]])?;
+    for made in snapshots_after(alloc, &[&commits[0], &commits[1]])? {
+        assert_eq!(rt; made, wanted);
+    }
     Ok(())
 }

@@ -75,6 +75,14 @@ impl Entries {
         self.items.as_slice()
     }
 
+    /// Returns the entries as a vector, without a copy.
+    pub fn into_vec(self) -> Vec<Entry>
+        ensures { result.items ≡ self }
+    {
+        let Entries { items } = self;
+        items
+    }
+
     /// Returns the number of entries.
     pub fn len(&self) -> usize
         ensures value { result ≡ length self.now }

@@ -42,7 +42,7 @@ pub(crate) fn add_commands(
     loop {
         match decoder.next(alloc) {
             Ok(Some(command)) if left > 0 => {
-                durable.apply(&command)?;
+                durable.apply_owned(command)?;
                 left -= 1;
             }
             Ok(Some(_)) => return Ok(false),
