@@ -90,20 +90,40 @@ fn desk<'a>(alloc: Global) -> Result<Command<'a>, AllocError> {
         .subcommand(requests)
 }
 
+fn groups<'a>(alloc: Global) -> Command<'a> {
+    Command::new(alloc, "groups").about("Events of the group machine per second")
+}
+
+fn lines<'a>(alloc: Global) -> Command<'a> {
+    Command::new(alloc, "lines").about("Bytes of lines read and printed per second")
+}
+
+// Adds the benchmarks of frames, groups and the durable state.
+fn with_first<'a>(alloc: Global, bench: Command<'a>) -> Result<Command<'a>, AllocError> {
+    bench
+        .subcommand(frames(alloc)?)?
+        .subcommand(groups(alloc))?
+        .subcommand(fold(alloc)?)
+}
+
+// Adds those of the desk and of lines.
+fn with_desk<'a>(alloc: Global, bench: Command<'a>) -> Result<Command<'a>, AllocError> {
+    bench.subcommand(desk(alloc)?)?.subcommand(lines(alloc))
+}
+
+// Adds those of a whole log.
+fn with_log<'a>(alloc: Global, bench: Command<'a>) -> Result<Command<'a>, AllocError> {
+    bench.subcommand(load(alloc)?)?.subcommand(compact(alloc)?)
+}
+
 /// Describes the command line.
 pub fn command<'a>(alloc: Global) -> Result<Command<'a>, AllocError> {
-    let groups = Command::new(alloc, "groups").about("Events of the group machine per second");
-    let lines = Command::new(alloc, "lines").about("Bytes of lines read and printed per second");
-    Command::new(alloc, "bench")
+    let bench = Command::new(alloc, "bench")
         .about("Measures one part of the coordinator, and prints what it took")
-        .subcommand_required(true)
-        .subcommand(frames(alloc)?)?
-        .subcommand(groups)?
-        .subcommand(fold(alloc)?)?
-        .subcommand(desk(alloc)?)?
-        .subcommand(lines)?
-        .subcommand(load(alloc)?)?
-        .subcommand(compact(alloc)?)
+        .subcommand_required(true);
+    let bench = with_first(alloc, bench)?;
+    let bench = with_desk(alloc, bench)?;
+    with_log(alloc, bench)
 }
 
 fn desk_part<'a>(matches: &ArgMatches<'a>) -> Option<DeskPart<'a>> {

@@ -7,8 +7,9 @@ mod turns;
 
 use crate::tally::{Median, Tally, thousandths};
 use anyhow::Result;
-use cg_disk::FileDisk;
+use cg_disk::{FileDisk, SectorDisk};
 use cg_gate::{FIRST_SEGMENT_SECTOR, SEGMENT_SECTORS};
+use cg_store::Store;
 use full_log::{FRAMES, Opened, fill, open};
 use plain_copy::copy;
 use std::alloc::Global;
@@ -48,9 +49,17 @@ impl Alone {
             number: _number,
             durable: _durable,
         } = open(rt, alloc, path)?;
+        self.compact_store(rt, &mut store)
+    }
+
+    fn compact_store<R: Clock, D: SectorDisk>(
+        &mut self,
+        rt: &R,
+        store: &mut Store<D>,
+    ) -> Result<u64> {
         let mut steps = Steps::new();
         let start = Instant::now(rt)?;
-        steps.finish(rt, &mut store)?;
+        steps.finish(rt, store)?;
         self.compactions.add(rt, start, FRAMES)?;
         self.steps.add(&steps);
         Ok(steps.written())

@@ -65,9 +65,13 @@ pub fn append<D: SectorDisk>(store: &mut Store<D>, batch: Batch) -> Result<()> {
 /// Formats the file and fills the segments.
 pub fn fill<R: Files>(rt: &R, alloc: Global, path: &str) -> Result<()> {
     let mut store = opened(alloc, FileDisk::open(rt, path, None)?)?;
+    fill_store(alloc, &mut store)
+}
+
+fn fill_store<D: SectorDisk>(alloc: Global, store: &mut Store<D>) -> Result<()> {
     for number in 0..FRAMES {
         let first = store.front().wrapping_add(1);
-        append(&mut store, batch(alloc, number, first)?)?;
+        append(store, batch(alloc, number, first)?)?;
     }
     Ok(())
 }

@@ -3,7 +3,9 @@ use crate::compact::DISK_SECTORS;
 use crate::compact::full_log::{Opened, fill, open, serve};
 use crate::compact::turns::Turns;
 use anyhow::Result;
-use cg_disk::FileDisk;
+use cg_disk::{FileDisk, SectorDisk};
+use cg_fold::Durable;
+use cg_store::Store;
 use std::alloc::Global;
 use std::fs;
 use std::rt::{Clock, Files};
@@ -38,16 +40,41 @@ pub fn named(word: &str) -> Option<CompactPart> {
     }
 }
 
+// Serves what a store found, and reports how much that is.
+fn serve_once<R: Print>(rt: &R, alloc: Global, number: u64, durable: Durable) -> Result<()> {
+    let (records, offsets) = durable.counts();
+    let desk = serve(alloc, number, durable)?;
+    let _ = desk.close();
+    println!(rt; "{number} commands, {records} records, {offsets} offsets")?;
+    Ok(())
+}
+
 fn state<R: Files + Print + Alloc<A = Global>>(rt: &R, path: &str) -> Result<()> {
     let Opened {
         store: _store,
         number,
         durable,
     } = open(rt, rt.alloc(), path)?;
-    let (records, offsets) = durable.counts();
-    let desk = serve(rt.alloc(), number, durable)?;
+    serve_once(rt, rt.alloc(), number, durable)
+}
+
+// Compacts the log of a store while commits go on.
+fn compact_beside<R: Clock, D: SectorDisk>(
+    rt: &R,
+    alloc: Global,
+    number: u64,
+    durable: Durable,
+    store: &mut Store<D>,
+) -> Result<()> {
+    let mut turns = Turns::new(alloc);
+    let mut desk = serve(alloc, number, durable)?;
+    let outcome = turns.with_compactor(rt, alloc, &mut desk, store, COMMITS);
     let _ = desk.close();
-    println!(rt; "{number} commands, {records} records, {offsets} offsets")?;
+    outcome
+}
+
+fn report_free<R: Print, D: SectorDisk>(rt: &R, store: &Store<D>) -> Result<()> {
+    println!(rt; "{} segments are free", store.free_count())?;
     Ok(())
 }
 
@@ -57,13 +84,8 @@ fn compact<R: Clock + Files + Print + Alloc<A = Global>>(rt: &R, path: &str) -> 
         number,
         durable,
     } = open(rt, rt.alloc(), path)?;
-    let mut desk = serve(rt.alloc(), number, durable)?;
-    let mut turns = Turns::new(rt.alloc());
-    let outcome = turns.with_compactor(rt, rt.alloc(), &mut desk, &mut store, COMMITS);
-    let _ = desk.close();
-    outcome?;
-    println!(rt; "{} segments are free", store.free_count())?;
-    Ok(())
+    compact_beside(rt, rt.alloc(), number, durable, &mut store)?;
+    report_free(rt, &store)
 }
 
 /// Runs a part over the file.

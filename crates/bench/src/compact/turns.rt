@@ -7,6 +7,7 @@ use crate::tally::Tally;
 use anyhow::{Result, bail};
 use cg_desk::Desk;
 use cg_disk::SectorDisk;
+use cg_fold::Durable;
 use cg_store::Store;
 use std::alloc::Global;
 use std::collections::VecDeque;
@@ -145,10 +146,23 @@ impl Turns {
             number,
             durable,
         } = open(rt, alloc, path)?;
-        let mut desk = serve(alloc, number, durable)?;
-        let outcome = self.run(rt, alloc, &mut desk, &mut store, commits);
-        let _ = desk.close();
-        outcome?;
+        self.serve(rt, alloc, number, durable, &mut store, commits)?;
         self.append_full(rt, alloc, &mut store)
+    }
+
+    // Runs once with a desk that serves what a store found.
+    fn serve<R: Clock, D: SectorDisk>(
+        &mut self,
+        rt: &R,
+        alloc: Global,
+        number: u64,
+        durable: Durable,
+        store: &mut Store<D>,
+        commits: usize,
+    ) -> Result<()> {
+        let mut desk = serve(alloc, number, durable)?;
+        let outcome = self.run(rt, alloc, &mut desk, store, commits);
+        let _ = desk.close();
+        outcome
     }
 }

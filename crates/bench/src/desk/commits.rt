@@ -90,6 +90,20 @@ fn timed_all<R: Clock, D: SectorDisk>(
     Ok(())
 }
 
+// Sends commits to a new desk over a store.
+fn with_desk<R: Clock, D: SectorDisk>(
+    rt: &R,
+    alloc: Global,
+    store: &mut Store<D>,
+    batches: Batches,
+    tally: &mut Tally,
+) -> Result<()> {
+    let mut desk = desk(alloc)?;
+    let outcome = timed_all(rt, alloc, &mut desk, store, batches, tally);
+    let _ = desk.close();
+    outcome
+}
+
 // Sends commits to a new desk over a formatted store. Returns the disk.
 fn through<R: Clock, D: SectorDisk + Drop>(
     rt: &R,
@@ -102,10 +116,7 @@ fn through<R: Clock, D: SectorDisk + Drop>(
     ensures { IfOk result (λ disk. DISK_SECTORS ≤ D.size disk) }
 {
     let mut store = opened(alloc, disk)?;
-    let mut desk = desk(alloc)?;
-    let outcome = timed_all(rt, alloc, &mut desk, &mut store, batches, tally);
-    let _ = desk.close();
-    outcome?;
+    with_desk(rt, alloc, &mut store, batches, tally)?;
     let disk = store.into_disk();
     ensure!(disk.sectors() >= DISK_SECTORS, "the disk has shrunk");
     Ok(disk)

@@ -45,8 +45,18 @@ fn timed<R: Clock>(
 // Runs once, with a new desk.
 fn run<R: Clock>(rt: &R, alloc: Global, replies: Replies, tally: &mut Tally) -> Result<()> {
     let mut store = opened(alloc, MemDisk::new(alloc, DISK_SECTORS)?)?;
+    run_over(rt, alloc, &mut store, replies, tally)
+}
+
+fn run_over<R: Clock>(
+    rt: &R,
+    alloc: Global,
+    store: &mut Store<MemDisk>,
+    replies: Replies,
+    tally: &mut Tally,
+) -> Result<()> {
     let mut desk = desk(alloc)?;
-    let outcome = timed(rt, alloc, &mut desk, &mut store, replies, tally);
+    let outcome = timed(rt, alloc, &mut desk, store, replies, tally);
     let _ = desk.close();
     outcome
 }

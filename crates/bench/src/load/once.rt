@@ -4,6 +4,7 @@ use crate::load::fill::{Appends, filled};
 use crate::load::{MANY_COMMITS, SEGMENTS_MOST, sectors_of};
 use anyhow::Result;
 use cg_disk::FileDisk;
+use cg_fold::Durable;
 use cg_store::Store;
 use std::alloc::Global;
 use std::fs;
@@ -45,13 +46,15 @@ fn fill<R: Clock + Files + Print + Alloc<A = Global>>(rt: &R, path: &str) -> Res
 fn open<R: Files + Print + Alloc<A = Global>>(rt: &R, path: &str) -> Result<()> {
     let disk = FileDisk::open(rt, path, None)?;
     match Store::open(rt.alloc(), disk) {
-        Ok((_, number, durable)) => {
-            let (records, offsets) = durable.counts();
-            println!(rt; "{number} commands, {records} records, {offsets} offsets")?;
-            Ok(())
-        }
+        Ok((_, number, durable)) => report(rt, number, &durable),
         Err((fault, _)) => Err(fault.into()),
     }
+}
+
+fn report<R: Print>(rt: &R, number: u64, durable: &Durable) -> Result<()> {
+    let (records, offsets) = durable.counts();
+    println!(rt; "{number} commands, {records} records, {offsets} offsets")?;
+    Ok(())
 }
 
 /// Runs a part over the file.
