@@ -1,0 +1,3 @@
+mod Rests
+mod Picked
+mod Lawful
