@@ -84,37 +84,94 @@ fn numbers(alloc: Global, ids: &SegmentIds) -> Result<Vec<u16>, AllocError> {
     ids.as_slice().iter().map(|id| id.get()).collect(alloc)
 }
 
+// Reads the root of the second slot, which gets these bytes.
+fn read_second<D: SectorDisk>(alloc: Global, disk: &mut D, slot: &[u8]) -> Result<Root, Fail>
+    requires whole { length slot.now ≡ 1024 }
+    requires room { 4 ≤ D.size disk.old }
+    ensures same_size { D.size disk.new ≡ D.size disk.old }
+    ensures same_honesty { D.is_honest disk.new ≡ D.is_honest disk.old }
+    ensures lawful { IfOk result (λ root. IsLawful (D.size disk.old) root) }
+{
+    disk.write(2, slot)?;
+    let root = read_root(alloc, disk)?;
+    Ok(root)
+}
+
+// Publishes a root over other bytes. Returns whether the second slot then has these.
+fn is_published_as<D: SectorDisk>(disk: &mut D, root: &Root, slot: &[u8]) -> Result<bool, Fail>
+    requires unclaimed { D.is_honest disk.old ≡ false }
+    requires room { 4 ≤ D.size disk.old }
+    requires lawful { IsLawful (D.size disk.old) root.now }
+{
+    disk.write(2, &[9; 1024])?;
+    publish(disk, root)?;
+    let mut found = [0; 1024];
+    disk.read(2, &mut found)?;
+    Ok(found.as_slice() == slot)
+}
+
+// Reads a root and publishes it again. Returns the root and whether it has the bytes that it was read from.
+fn read_and_published<D: SectorDisk>(
+    alloc: Global,
+    disk: &mut D,
+    slot: &[u8],
+) -> Result<(Root, bool), Fail>
+    requires whole { length slot.now ≡ 1024 }
+    requires unclaimed { D.is_honest disk.old ≡ false }
+    requires room { 4 ≤ D.size disk.old }
+{
+    let root = read_second(alloc, disk, slot)?;
+    let is_same = is_published_as(disk, &root, slot)?;
+    Ok((root, is_same))
+}
+
+fn fields(alloc: Global, root: &Root) -> Result<(Slot, u64, u64, Vec<u16>, Vec<u16>), AllocError> {
+    let base = numbers(alloc, &root.base)?;
+    let tail = numbers(alloc, &root.tail)?;
+    Ok((root.slot, root.epoch, root.base_number, base, tail))
+}
+
+// A root is read as these fields.
+fn has_fields(
+    rt: &impl Abort,
+    alloc: Global,
+    root: &Root,
+    numbered: (u64, u64),
+    ids: (&[u16], &[u16]),
+) -> Result<(), Fail> {
+    let (slot, epoch, base_number, base, tail) = fields(alloc, root)?;
+    assert_eq!(rt; (slot, (epoch, base_number)), (Slot::One, numbered));
+    assert_eq!(rt; (base.as_slice(), tail.as_slice()), ids);
+    Ok(())
+}
+
 // A body is read as these fields, and published as it was.
 fn goes_round(
     rt: &impl Abort,
     alloc: Global,
     bytes: &[u8],
     numbered: (u64, u64),
-    base: &[u16],
-    tail: &[u16],
+    ids: (&[u16], &[u16]),
 ) -> Result<(), Fail>
     requires { length bytes.now ≤ 512 }
 {
-    let stored = slot_of(alloc, bytes)?;
+    let slot = slot_of(alloc, bytes)?;
     let mut disk = blank(alloc, SECTORS)?;
-    disk.write(2, &stored)?;
-    let root = read_root(alloc, &mut disk)?;
-    assert_eq!(rt; root.slot, Slot::One);
-    assert_eq!(rt; (root.epoch, root.base_number), numbered);
-    assert_eq!(rt; numbers(alloc, &root.base)?.as_slice(), base);
-    assert_eq!(rt; numbers(alloc, &root.tail)?.as_slice(), tail);
-    disk.write(2, &[9; 1024])?;
-    publish(&mut disk, &root)?;
-    let mut found = [0; 1024];
-    disk.read(2, &mut found)?;
-    assert!(rt; found.as_slice() == stored.as_slice());
-    Ok(())
+    let (root, is_same) = read_and_published(alloc, &mut disk, &slot)?;
+    assert!(rt; is_same);
+    has_fields(rt, alloc, &root, numbered, ids)
 }
 
 #[test]
 fn a_root_has_the_bytes_of_the_format(rt: HostRuntime) -> Result<(), Fail> {
-    goes_round(&rt, rt.alloc(), &FIRST, (1, 0), &[], &[0])?;
-    goes_round(&rt, rt.alloc(), &LATER, (258, (1 << 63) - 1), &[7, 0], &[3])
+    goes_round(&rt, rt.alloc(), &FIRST, (1, 0), (&[], &[0]))?;
+    goes_round(
+        &rt,
+        rt.alloc(),
+        &LATER,
+        (258, (1 << 63) - 1),
+        (&[7, 0], &[3]),
+    )
 }
 
 // The outcome of a reading where a slot has a good body but for these bytes.
@@ -164,59 +221,61 @@ fn each_broken_rule_is_a_bad_root(rt: HostRuntime) -> Result<(), Fail> {
     Ok(())
 }
 
+// Writes a slot at this sector, with an open gate and this body, if there is one.
+fn write_slot<D: SectorDisk>(
+    alloc: Global,
+    disk: &mut D,
+    at: u64,
+    body: Option<&[u8]>,
+) -> Result<(), Fail>
+    requires { at ≤ 2 }
+    ensures same_size { D.size disk.new ≡ D.size disk.old }
+    ensures same_honesty { D.is_honest disk.new ≡ D.is_honest disk.old }
+{
+    let Some(bytes) = body else {
+        return Ok(());
+    };
+    if bytes.len() > 512 || disk.sectors() < 4 {
+        return Err("no room for the slot".into());
+    }
+    let slot = slot_of(alloc, bytes)?;
+    disk.write(at, &slot)?;
+    Ok(())
+}
+
 // The epoch of the root that is read where the slots have these bodies, or why none is.
 fn read_both(
     alloc: Global,
     sectors: u64,
     zero: Option<&[u8]>,
     one: Option<&[u8]>,
-) -> Result<Result<u64, RootFault>, Fail>
-    requires room { 4 ≤ sectors }
-    requires zero { IfSome zero (λ bytes. length bytes.now ≤ 512) }
-    requires one { IfSome one (λ bytes. length bytes.now ≤ 512) }
-{
+) -> Result<Result<u64, RootFault>, Fail> {
     let mut disk = blank(alloc, sectors)?;
-    if let Some(bytes) = zero {
-        disk.write(0, &slot_of(alloc, bytes)?)?;
-    }
-    if let Some(bytes) = one {
-        disk.write(2, &slot_of(alloc, bytes)?)?;
-    }
+    write_slot(alloc, &mut disk, 0, zero)?;
+    write_slot(alloc, &mut disk, 2, one)?;
     Ok(read_root(alloc, &mut disk).map(|root| root.epoch))
 }
 
+// The sectors of a disk, the bodies of its slots, and the epoch of the root that is read.
+const SLOTS: [(u64, Option<&[u8]>, Option<&[u8]>, Result<u64, RootFault>); 9] = [
+    (SECTORS, Some(&FIRST), None, Ok(1)),
+    (SECTORS, None, Some(&FIRST), Ok(1)),
+    (SECTORS, Some(&FIRST), Some(&LATER), Ok(258)),
+    (SECTORS, Some(&LATER), Some(&FIRST), Ok(258)),
+    (SECTORS, Some(&FIRST), Some(&FIRST), Err(RootFault::BadRoot)),
+    (SECTORS, Some(&LATER), Some(&[]), Err(RootFault::BadRoot)),
+    (SECTORS, None, None, Err(RootFault::NoRoot)),
+    // Four sectors have no segment, which a tail could be.
+    (4, Some(&FIRST), None, Err(RootFault::BadRoot)),
+    (3, None, None, Err(RootFault::NoRoot)),
+];
+
 #[test]
 fn the_greatest_epoch_counts(rt: HostRuntime) -> Result<(), Fail> {
-    let alloc = rt.alloc();
-    assert_eq!(rt; read_both(alloc, SECTORS, Some(&FIRST), None)?, Ok(1));
-    assert_eq!(rt; read_both(alloc, SECTORS, None, Some(&FIRST))?, Ok(1));
-    assert_eq!(rt;
-        read_both(alloc, SECTORS, Some(&FIRST), Some(&LATER))?,
-        Ok(258)
-    );
-    assert_eq!(rt;
-        read_both(alloc, SECTORS, Some(&LATER), Some(&FIRST))?,
-        Ok(258)
-    );
-    assert_eq!(rt;
-        read_both(alloc, SECTORS, Some(&FIRST), Some(&FIRST))?,
-        Err(RootFault::BadRoot)
-    );
-    assert_eq!(rt;
-        read_both(alloc, SECTORS, Some(&LATER), Some(&[]))?,
-        Err(RootFault::BadRoot)
-    );
-    assert_eq!(rt;
-        read_both(alloc, SECTORS, None, None)?,
-        Err(RootFault::NoRoot)
-    );
-    // Four sectors have no segment, which a tail could be.
-    assert_eq!(rt;
-        read_both(alloc, 4, Some(&FIRST), None)?,
-        Err(RootFault::BadRoot)
-    );
-    let mut small = blank(alloc, 3)?;
-    assert_eq!(rt; read_root(alloc, &mut small).err(), Some(RootFault::NoRoot));
+    for (sectors, zero, one, epoch) in SLOTS {
+        let read = read_both(rt.alloc(), sectors, zero, one)?;
+        assert_eq!(rt; read, epoch, "{sectors} sectors, {zero:?} and {one:?}");
+    }
     Ok(())
 }
 
@@ -237,13 +296,23 @@ fn replace_root<D: SectorDisk>(disk: &mut D, root: Root) -> Result<(), DiskFault
     publish(disk, &next)
 }
 
+// Writes a root into each slot. Returns the one that counts.
+fn with_two<D: SectorDisk>(alloc: Global, disk: &mut D) -> Result<Root, Fail>
+    ensures same_size { D.size disk.new ≡ D.size disk.old }
+    ensures same_honesty { D.is_honest disk.new ≡ D.is_honest disk.old }
+    ensures lawful { IfOk result (λ root. IsLawful (D.size disk.old) root) }
+{
+    write_slot(alloc, disk, 0, Some(&LATER))?;
+    write_slot(alloc, disk, 2, Some(&FIRST))?;
+    disk.sync()?;
+    let root = read_root(alloc, disk)?;
+    Ok(root)
+}
+
 // The epoch that is read where a new root is stopped after that many calls of the device, and power then fails.
 fn epoch_after(alloc: Global, calls: u64, kind: Crash) -> Result<u64, Fail> {
     let mut disk = blank(alloc, SECTORS)?;
-    disk.write(0, &slot_of(alloc, &LATER)?)?;
-    disk.write(2, &slot_of(alloc, &FIRST)?)?;
-    disk.sync()?;
-    let root = read_root(alloc, &mut disk)?;
+    let root = with_two(alloc, &mut disk)?;
     disk.disk.set(Some(calls));
     let _ = replace_root(&mut disk, root);
     let Unclaimed { disk } = disk;
