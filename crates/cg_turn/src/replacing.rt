@@ -1,5 +1,5 @@
 //! JOIN that replaces the member with the same instance (KIP-345).
-ghost use Rattle.std.specs.Prelude.{◌≡◌, Some, false, is_some, IfOk, IsSome};
+ghost use Rattle.std.specs.Prelude.{◌≡◌, ◌++◌, ◌∷◌, [], Some, false, is_some, IfOk, IsSome, OnOk, if◌then◌else◌};
 ghost use Rattle.std.specs.List.{list_any};
 ghost use Rattle.cg_record.specs.declared.member.Member.{Member as KeptMember};
 ghost use Rattle.cg_member.specs.Joining.{new_member, rejoined};
@@ -119,35 +119,107 @@ fn kept_successor(alloc: Global, new: &Member, group: &Group) -> Result<StaticMe
     Ok(StaticMember::from_lawful(kept))
 }
 
-// Appends the reply with the current generation, and the command that stores the replacement.
+// Appends the reply to the JOIN, with the current generation.
+fn push_reply(
+    alloc: Global,
+    ticket: Ticket,
+    kept: &StaticMember,
+    before: &Group,
+    replies: &mut Few<(Ticket, Reply)>,
+) -> Result<(), AllocError>
+    ensures { OnOk result (replies.new ≡ replies.old ++ (ticket, replaced_reply kept.now.id before.now) ∷ []) }
+{
+    let id = kept.member().id.clone()?;
+    let reply = replaced_reply(alloc, id, before)?;
+    replies.push((ticket, reply))
+}
+
+// Appends the command that stores the replacement.
+fn push_command(
+    kept: StaticMember,
+    before: &Group,
+    commands: &mut Few<Command>,
+) -> Result<(), AllocError>
+    ensures { OnOk result (commands.new ≡ commands.old ++ replaced_command kept before.now ∷ []) }
+{
+    let group = before.id.clone()?;
+    commands.push(Command::Replaced(Replaced {
+        group,
+        member: kept,
+    }))
+}
+
+// Appends the reply and the command of a replacement that needs no rebalance.
 #[tactic(auto, unfolding(cg_member::specs::Replacing::replaced_in_place))]
-fn replaced_in_place(
+fn replace_in_place(
     alloc: Global,
     ticket: Ticket,
     kept: StaticMember,
     before: &Group,
-    turn: Turn,
-) -> Result<Turn, AllocError>
-    ensures { IfOk result (λ t. t ≡ replaced_in_place ticket kept before.now turn) }
+    turn: &mut Turn,
+) -> Result<(), AllocError>
+    ensures { OnOk result (turn.new ≡ replaced_in_place ticket kept before.now turn.old) }
 {
-    let Turn {
-        group,
-        mut replies,
-        mut commands,
-    } = turn;
-    let id = kept.member().id.clone()?;
-    let reply = replaced_reply(alloc, id, before)?;
-    replies.push((ticket, reply))?;
-    let group_id = before.id.clone()?;
-    commands.push(Command::Replaced(Replaced {
-        group: group_id,
-        member: kept,
-    }))?;
-    Ok(Turn {
-        group,
-        replies,
-        commands,
-    })
+    push_reply(alloc, ticket, &kept, before, &mut turn.replies)?;
+    push_command(kept, before, &mut turn.commands)?;
+    Ok(())
+}
+
+// Keeps the generation if the vote gives the group's protocol. Returns whether it does.
+fn keep_generation(
+    alloc: Global,
+    ticket: Ticket,
+    kept: StaticMember,
+    before: &Group,
+    turn: &mut Turn,
+) -> Result<bool, AllocError>
+    ensures keeps { IfOk result (λ b. b ≡ keeps_generation turn.old.group) }
+    ensures turn { IfOk result (λ b. turn.new ≡ if b then replaced_in_place ticket kept before.now turn.old else turn.old) }
+{
+    let keeps = keeps_generation(alloc, &turn.group)?;
+    if keeps {
+        replace_in_place(alloc, ticket, kept, before, turn)?;
+    }
+    Ok(keeps)
+}
+
+// Creates the new member, and the member that the command stores.
+#[tactic(auto, unfolding(cg_member::specs::Joining::new_member))]
+fn successor(
+    alloc: Global,
+    now: Moment,
+    r: CheckedJoin,
+    id: MemberId,
+    old: &Member,
+    group: &Group,
+) -> Result<(Member, StaticMember), AllocError>
+    requires given { IsSome r.instance }
+    ensures new { IfOk result (λ p. p.0 ≡ successor now r id old.now) }
+    ensures kept { IfOk result (λ p. p.1 ≡ kept_member group.now.protocol (successor now r id old.now)) }
+{
+    let assignment = old.assignment.clone()?;
+    let (new, _kind) = new_member(now, r, id, assignment, Waits::Nothing);
+    let kept = kept_successor(alloc, &new, group)?;
+    Ok((new, kept))
+}
+
+// Ends a replacement: the generation continues with the new member, or that member joins a rebalance.
+fn continued(
+    alloc: Global,
+    now: Moment,
+    own: &MemberId,
+    ticket: Ticket,
+    kept: StaticMember,
+    before: &Group,
+    mut turn: Turn,
+) -> Result<Turn, AllocError>
+    ensures { IfOk result (λ t. t ≡ if keeps_generation turn.group then replaced_in_place ticket kept before.now turn else rejoined now own.now ticket turn) }
+{
+    if keep_generation(alloc, ticket, kept, before, &mut turn)? {
+        Ok(turn)
+    } else {
+        rejoined(alloc, now, own, ticket, turn)
+    }
 }
 
 /// Returns the step of a JOIN that replaces the old member under the new id. Copies the group.
@@ -166,13 +238,7 @@ pub fn join_replacing(
     ensures { IfOk result (λ t. t ≡ join_replacing now r id ticket old.now group.now) }
 {
     let own = id.clone()?;
-    let assignment = old.assignment.clone()?;
-    let (new, _kind) = new_member(now, r, id, assignment, Waits::Nothing);
-    let kept = kept_successor(alloc, &new, group)?;
+    let (new, kept) = successor(alloc, now, r, id, old, group)?;
     let turn = replaced(alloc, new, old, group)?;
-    if keeps_generation(alloc, &turn.group)? {
-        replaced_in_place(alloc, ticket, kept, group, turn)
-    } else {
-        rejoined(alloc, now, &own, ticket, turn)
-    }
+    continued(alloc, now, &own, ticket, kept, group, turn)
 }
