@@ -166,6 +166,26 @@ fn note_named(
     note(alloc, homes, session, id)
 }
 
+// Adds the group of a step to the session index. Returns its id; a refusal has none.
+fn note_step(
+    alloc: Global,
+    homes: &mut Homes,
+    session: u64,
+    concluding: &Result<Turn, Code>,
+) -> Result<Option<GroupId>, AllocError>
+    ensures own { IfOk result (λ id. id ≡ group_of concluding.now) }
+    ensures kept { (q : ℕ) (x : List ℕ) → is_home homes.old q x ≡ true → is_home homes.new q x ≡ true }
+    ensures here { OnOk result ((x : List ℕ) → group_of concluding.now ≡ Some x → is_home homes.new session x ≡ true) }
+    ensures taken { OnErr result (is_ok concluding.now ≡ true) }
+    ensures fewer { (q : ℕ) (x : List ℕ) → is_home homes.new q x ≡ true → (is_home homes.old q x ≡ true) ⊎ ((session ≡ q) × (group_of concluding.now ≡ Some x)) }
+    ensures filled { (q : ℕ) → IsFilled (get nat_cmp homes.old q) → IsFilled (get nat_cmp homes.new q) }
+    ensures err { OnErr result ((q : ℕ) (x : List ℕ) → is_home homes.new q x ≡ true → is_home homes.old q x ≡ true) }
+{
+    let own = group_of(concluding)?;
+    note_named(alloc, homes, session, &own)?;
+    Ok(own)
+}
+
 // The members of a group, if there is one.
 fn members_of(group: &Option<Group>) -> &[Member]
     ensures { (q : ℕ) → list_any (is_waiting (OfSession q)) result.now ≡ is_parked q group.now }
@@ -213,8 +233,7 @@ fn park(
     ensures taken { OnErr result (is_ok concluding ≡ true) }
 {
     let alloc = held.allocator();
-    let own = group_of(&concluding)?;
-    note_named(alloc, homes, ticket.session, &own)?;
+    let own = note_step(alloc, homes, ticket.session, &concluding)?;
     match conclude(alloc, now, held, ticket, concluding) {
         Ok(Concluded { effects, replaced }) => {
             settle_named(homes, held, &own, &replaced, ticket.session);
