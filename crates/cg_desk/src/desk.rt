@@ -36,12 +36,14 @@ pub struct Desk {
 fn refused_at_once(
     alloc: Global,
     token: ReplyToken,
+    request: Request,
     code: Code,
 ) -> Result<Vec<Outgoing>, (AllocError, ReplyToken)>
     requires { IsTrue (is_refusal code) }
     ensures ok { IfOk result (λ out. out.items ≡ answer (call_of token) (Reply.Refused code) ∷ []) }
     ensures back { IfErr result (λ e. e.1 ≡ token) }
 {
+    drop(request);
     match Vec::with_capacity(alloc, 1) {
         Ok(mut out) => {
             out.push_reserved(token.refuse(code));
@@ -59,6 +61,7 @@ impl Desk {
     ghost use Rattle.cg_desk.specs.Desks.{IsOut, IsReasonAt, IsTakenFrom, failing_on, gone_on, is_out, numbered_of, opened, request_on, return_to, settle_on, settled_of, state_of, tick_on};
     ghost use Rattle.cg_desk.specs.Balanced.{IsOwedAt};
     ghost use Rattle.cg_desk.specs.Laws.{AreRefusedOnce, tokens_of};
+    ghost use Rattle.cg_desk.specs.Serving.{books};
     ghost use Rattle.cg_desk.specs.Desks as state;
 
     /// Creates a desk with nothing loaded, which refuses each request with 14. Does not allocate.
@@ -143,17 +146,37 @@ impl Desk {
         ensures back { IfErr result (λ e. e.1 ≡ token) }
     {
         match &mut self.phase {
-            Phase::Loading => refused_at_once(self.alloc, token, Code::CoordinatorLoadInProgress),
+            Phase::Loading => {
+                refused_at_once(self.alloc, token, request, Code::CoordinatorLoadInProgress)
+            }
             Phase::Failed(_, _) => {
-                refused_at_once(self.alloc, token, Code::CoordinatorNotAvailable)
+                refused_at_once(self.alloc, token, request, Code::CoordinatorNotAvailable)
             }
             Phase::Serving(serving) => {
-                if serving.is_short() {
-                    return refused_at_once(self.alloc, token, Code::CoordinatorNotAvailable);
-                }
-                serving.ask(token, request, now, fresh)
+                Desk::ask_serving(self.alloc, serving, token, request, now, fresh)
             }
         }
+    }
+
+    // Handles a request by the machine, or refuses it if command numbers are short.
+    #[tactic(auto, unfolding(crate::specs::Desks::request_on))]
+    fn ask_serving(
+        alloc: Global,
+        serving: &mut Serving,
+        token: ReplyToken,
+        request: Request,
+        now: Moment,
+        fresh: Uuid,
+    ) -> Result<Vec<Outgoing>, (AllocError, ReplyToken)>
+        ensures ok { IfOk result
+            (λ out. request_on (state.Serving (books serving.old)) token (asked request (call_of token) fresh) now ≡ record { after = state.Serving (books serving.new); out = out.items }) }
+        ensures err { OnErr result (books serving.new ≡ books serving.old) }
+        ensures back { IfErr result (λ e. e.1 ≡ token) }
+    {
+        if serving.is_short() {
+            return refused_at_once(alloc, token, request, Code::CoordinatorNotAvailable);
+        }
+        serving.ask(token, request, now, fresh)
     }
 
     /// Runs the time-dependent rules for the moment `now`. Returns the replies that leave now. If an allocation fails,
