@@ -84,22 +84,39 @@ const MALFORMED: [&str; 74] = [
     "FETCH g t:0 ",
 ];
 
+fn fault_of(alloc: Global, line: &str) -> Option<LineFault> {
+    parse(alloc, line.as_bytes()).err()
+}
+
 #[test]
-fn lines_that_are_no_request(rt: HostRuntime) -> Result<(), Fail> {
+fn lines_that_are_no_request(rt: HostRuntime) {
     for line in MALFORMED {
-        let fault = parse(rt.alloc(), line.as_bytes()).err();
+        let fault = fault_of(rt.alloc(), line);
         assert_eq!(rt; fault, Some(LineFault::Malformed), "at {line:?}");
     }
-    let numbers = (
+}
+
+// Returns the numbers of the faults of a line.
+fn fault_numbers() -> (u8, u8, u8) {
+    (
         LineFault::Memory as u8,
         LineFault::Malformed as u8,
         LineFault::TooLong as u8,
-    );
-    assert_eq!(rt; numbers, (0, 1, 2));
+    )
+}
+
+fn printed_refusal(alloc: Global) -> Result<Vec<u8>, Fail> {
     let refused = Reply::Refused(Code::UnknownServerError);
+    let line = print(alloc, &refused)?;
+    Ok(line)
+}
+
+#[test]
+fn faults_have_their_numbers_and_refusals_their_lines(rt: HostRuntime) -> Result<(), Fail> {
+    let line = printed_refusal(rt.alloc())?;
     assert_eq!(rt;
-        print(rt.alloc(), &refused)?.as_slice(),
-        b"ERR -1 UNKNOWN_SERVER_ERROR".as_slice()
+        (fault_numbers(), line.as_slice()),
+        ((0, 1, 2), b"ERR -1 UNKNOWN_SERVER_ERROR".as_slice())
     );
     Ok(())
 }
@@ -292,6 +309,15 @@ fn around(alloc: Global, length: usize, is_ended: bool) -> Result<Vec<u8>, Alloc
     Ok(bytes)
 }
 
+fn served_around(
+    alloc: Global,
+    length: usize,
+    is_ended: bool,
+) -> Result<(Result<RunEnd, RunFault>, Vec<u8>), AllocError> {
+    let input = around(alloc, length, is_ended)?;
+    Ok(served(alloc, &input))
+}
+
 const LONG: [(usize, bool, RunEnd, &str); 5] = [
     (
         1_048_575,
@@ -318,8 +344,7 @@ const LONG: [(usize, bool, RunEnd, &str); 5] = [
 #[test]
 fn a_line_that_is_too_long_ends_the_stream(rt: HostRuntime) -> Result<(), Fail> {
     for (length, is_ended, end, output) in LONG {
-        let input = around(rt.alloc(), length, is_ended)?;
-        let (result, written) = served(rt.alloc(), &input);
+        let (result, written) = served_around(rt.alloc(), length, is_ended)?;
         assert_eq!(rt; result, Ok(end), "at {length}");
         assert_eq!(rt; written.as_slice(), output.as_bytes(), "at {length}");
     }
