@@ -1,5 +1,5 @@
 -- Parts of buffers that were read.
-use Rattle.std.proofs.Common.{◌≡◌, ℕ, ◌+◌, ◌-◌, ◌^◌, ◌<◌, ◌≤◌, List, ◌++◌, length, take, drop, replicate, sym, ◌∙◌, ap, arith}
+use Rattle.std.proofs.Common.{◌≡◌, ℕ, ◌+◌, ◌-◌, ◌^◌, ◌<◌, ◌≤◌, List, ◌++◌, length, take, drop, sym, ◌∙◌, ap, arith}
 use Rattle.std.proofs.lemmas.List.{length-take, length-drop, take-take, drop-take, drop-drop, take-append-drop, take-append-le, drop_all, drop_at, append-nil, take_all}
 use borrow.Rule.Slice.PartMut.{put_mid}
 use Rattle.cg_frame.specs.Frames.{word, IsFront}
@@ -20,12 +20,6 @@ drop-put_mid_end xs ys a le long =
     drop_at (take a xs) (ys ++ drop (length xs - a) (drop a xs)) a (simp length-take (omega arith))
     ∙ ap (λ (l : List ℕ). ys ++ l) (drop_all (length xs - a) (drop a xs) (simp length-drop (omega arith)))
     ∙ append-nil ys
-
--- what a buffer that is filled up begins with
-pub take-filled : (start : List ℕ) (n k size : ℕ) → length start ≡ n → n ≤ size → take n (take size start ++ replicate k 0) ≡ start
-take-filled start n k size long le =
-    let whole : take size start ≡ start = take_all size start (omega arith) in
-    ap (λ (l : List ℕ). take n (l ++ replicate k 0)) whole ∙ take-append-le n start (replicate k 0) (omega arith) ∙ take_all n start (omega arith)
 
 -- a front tells one count and one length
 pub IsFront-words : (front : List ℕ) (segment : Segment) (pos count n a b : ℕ) → n < 2 ^ 64 → a < 2 ^ 64 → b < 2 ^ 64 → take 16 (drop 512 front) ≡ word a ++ word b → IsFront front segment pos count n → (count ≡ a) × (n ≡ b)

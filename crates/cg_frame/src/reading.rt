@@ -10,6 +10,7 @@ use crate::{Frame, ScanFault, Segment, fits};
 use cg_disk::{DiskFault, SECTOR_BYTES, SectorDisk};
 use cg_gate::{OPEN, is_open};
 use std::alloc::{AllocError, Global};
+use std::mem;
 
 /// Bytes of a gate and of the first sector of a body, which are read together.
 pub(crate) const FRONT_BYTES: usize = 2 * SECTOR_BYTES;
@@ -73,27 +74,37 @@ fn read_behind<D: SectorDisk>(disk: &mut D, at: u64, buffer: &mut [u8]) -> Resul
     Ok(())
 }
 
-/// A buffer for a payload of that many bytes, in whole sectors, which begins with its start.
-fn buffer_for(alloc: Global, bytes: u64, start: &[u8]) -> Result<Vec<u8>, AllocError>
+/// Writes the start of a payload over that of a buffer.
+fn put_start(buffer: &mut [u8], start: &[u8])
+    requires start { length start.now ≡ 496 }
+    requires room { 496 ≤ length buffer.old }
+    ensures { take 496 buffer.new ≡ start.now }
+{
+    buffer[..START_BYTES].copy_from_slice(start);
+}
+
+/// Makes a buffer for a payload of that many bytes, in whole sectors, which begins with its start. It takes the memory
+/// of `room`, and more only where that is too small.
+fn buffer_for(room: Vec<u8>, bytes: u64, start: &[u8]) -> Result<Vec<u8>, AllocError>
     requires start { length start.now ≡ 496 }
     requires small { body_sectors bytes < 2 ^ 54 }
     ensures length { IfOk result (λ buffer. length buffer.items + 16 ≡ 512 * body_sectors bytes) }
     ensures start { IfOk result (λ buffer. take 496 buffer.items ≡ start.now) }
 {
     let size = sectors_of(bytes) as usize * SECTOR_BYTES - (SECTOR_BYTES - START_BYTES);
-    let mut buffer = Vec::with_capacity(alloc, size)?;
-    buffer.extend_from_slice(start)?;
+    let mut buffer = room;
     buffer.resize(size, 0)?;
+    put_start(&mut buffer, start);
     Ok(buffer)
 }
 
-/// Reads the payload of a frame, of which the front gave the start.
+/// Reads the payload of a frame, of which the front gave the start, into the memory of `room`.
 fn read_payload<D: SectorDisk>(
-    alloc: Global,
     disk: &mut D,
     at: u64,
     bytes: u64,
     start: &[u8],
+    room: Vec<u8>,
 ) -> Result<Vec<u8>, ScanFault>
     requires start { length start.now ≡ 496 }
     requires small { body_sectors bytes < 2 ^ 54 }
@@ -108,19 +119,21 @@ fn read_payload<D: SectorDisk>(
     ensures time { D.is_honest disk.old ≡ true → Stays (D.history disk.old) (D.history disk.new) }
     ensures device { Counts (D.failures disk.old) (D.failures disk.new) (is_scan_device_failure result) }
 {
-    let mut buffer = buffer_for(alloc, bytes, start)?;
+    let mut buffer = buffer_for(room, bytes, start)?;
     read_behind(disk, at, &mut buffer)?;
     buffer.truncate(bytes as usize);
     Ok(buffer)
 }
 
 /// Reads the frame whose gate is at `pos`; returns `None` if the gate is closed. It reads the gate with the first
-/// sector of the body, and then the rest of the body at once.
+/// sector of the body, and then the rest of the body at once. The payload takes the memory of `room`, whatever it holds,
+/// and more only where that is too small: a caller that gives the last payload back reads on without an allocation.
 pub fn scan<D: SectorDisk>(
     alloc: Global,
     disk: &mut D,
     segment: Segment,
     pos: u64,
+    room: &mut Vec<u8>,
 ) -> Result<Option<Frame>, ScanFault>
     requires in_segment { pos < segment.sectors }
     requires on_disk { segment.first + segment.sectors ≤ D.size disk.old }
@@ -164,7 +177,8 @@ pub fn scan<D: SectorDisk>(
     let Some(head) = head_of(&front, segment, pos)? else {
         return Ok(None);
     };
-    let payload = read_payload(alloc, disk, gate + 2, head.bytes, &front[PAYLOAD_AT..])?;
+    let room = mem::replace(room, Vec::new(alloc));
+    let payload = read_payload(disk, gate + 2, head.bytes, &front[PAYLOAD_AT..], room)?;
     Ok(Some(Frame {
         count: head.count,
         payload,

@@ -38,11 +38,13 @@ fn fills<D: SectorDisk>(
         Err(FrameFault::NoRoom)
     );
     assert_eq!(rt; append(alloc, disk, segment, 0, 1, &largest)?, last);
-    let frame = scan(alloc, disk, segment, 0)?.ok_or("a frame")?;
+    // What the room holds does not matter.
+    let mut room = vec![in alloc; 9; 700]?;
+    let frame = scan(alloc, disk, segment, 0, &mut room)?.ok_or("a frame")?;
     assert_eq!(rt; frame.count, 1);
     assert_eq!(rt; frame.next, last);
     assert!(rt; frame.payload == largest);
-    assert!(rt; scan(alloc, disk, segment, last)?.is_none());
+    assert!(rt; scan(alloc, disk, segment, last, &mut room)?.is_none());
     Ok(())
 }
 
@@ -101,7 +103,7 @@ fn damage_behind_an_open_gate_is_reported(rt: HostRuntime) -> Result<(), Fail> {
     for (at, count, bytes, position, is_bad) in FRONTS {
         let mut disk = MemDisk::new(alloc, 8)?;
         disk.write(3 + at, &front_of(alloc, count, bytes)?)?;
-        let fault = scan(alloc, &mut disk, small(), position).err();
+        let fault = scan(alloc, &mut disk, small(), position, &mut Vec::new(alloc)).err();
         assert_eq!(rt;
             fault,
             is_bad.then_some(ScanFault::BadLength),
@@ -117,7 +119,7 @@ fn fault_after(alloc: Global, calls: u64) -> Result<Option<ScanFault>, Fail> {
     let mut disk = MemDisk::new(alloc, 8)?;
     append(alloc, &mut disk, small(), 0, 1, &payload)?;
     let mut disk = FuseDisk::new(disk, calls);
-    Ok(scan(alloc, &mut disk, small(), 0).err())
+    Ok(scan(alloc, &mut disk, small(), 0, &mut Vec::new(alloc)).err())
 }
 
 #[test]

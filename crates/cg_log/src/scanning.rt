@@ -31,12 +31,13 @@ pub(crate) fn id_at(base: &[SegmentId], tail: &[SegmentId], index: usize) -> Seg
     }
 }
 
-/// Reads the frame at a position of a segment, if its gate is open.
+/// Reads the frame at a position of a segment, if its gate is open, into the memory of `room`.
 pub(crate) fn next_frame<D: SectorDisk>(
     alloc: Global,
     disk: &mut D,
     id: SegmentId,
     pos: u64,
+    room: &mut Vec<u8>,
 ) -> Result<Option<Frame>, LogFault>
     requires on_disk { id < segment_count (D.size disk.old) }
     requires in_segment { pos < SEGMENT_SECTORS }
@@ -54,7 +55,7 @@ pub(crate) fn next_frame<D: SectorDisk>(
     ensures same_honesty { D.is_honest disk.new ≡ D.is_honest disk.old }
     ensures time { D.is_honest disk.old ≡ true → Stays (D.history disk.old) (D.history disk.new) }
 {
-    let frame = scan(alloc, disk, segment(id), pos)?;
+    let frame = scan(alloc, disk, segment(id), pos, room)?;
     Ok(frame)
 }
 

@@ -43,6 +43,7 @@ fn read_from<D: SectorDisk>(
     tail: &[SegmentId],
     cursor: Cursor,
     end: usize,
+    room: &mut Vec<u8>,
 ) -> Result<Option<(Frame, Cursor)>, LogFault>
     requires on_disk { IsTrue (list_all (λ id. nat_lt id (segment_count (D.size disk.old))) (base.now ++ tail.now)) }
     requires end { end ≤ length (base.now ++ tail.now) }
@@ -64,7 +65,7 @@ fn read_from<D: SectorDisk>(
     let mut pos = cursor.pos;
     for index in cursor.segment..end {
         let id = id_at(base, tail, index);
-        if let Some(frame) = next_frame(alloc, disk, id, pos)? {
+        if let Some(frame) = next_frame(alloc, disk, id, pos, room)? {
             let next = Cursor {
                 segment: index,
                 pos: frame.next,
@@ -102,11 +103,14 @@ impl<D: SectorDisk> Log<D> {
     }
 
     /// Reads the next frame, of those of the base and then of the tails, in order; with an id, which must be a tail's,
-    /// only of those before that tail. Returns the frame and the position after it, or `None` after the last.
+    /// only of those before that tail. Returns the frame and the position after it, or `None` after the last. The payload
+    /// takes the memory of `room`, whatever it holds: a caller that gives the last payload back reads on without an
+    /// allocation.
     pub fn sealed_read(
         &mut self,
         cursor: Cursor,
         until: Option<SegmentId>,
+        room: &mut Vec<u8>,
     ) -> Result<Option<(Frame, Cursor)>, LogFault>
         ensures reads { (has : Content) (read : Frames) → LogHas D.is_honest D.history D.size self.old has →
             IsAt (segments_of has) cursor read → Reads (segments_of has) (segments_before until has) read result }
@@ -142,7 +146,7 @@ impl<D: SectorDisk> Log<D> {
         let end = self.limit_of(until);
         let base = self.root.base.as_slice();
         let tail = self.root.tail.as_slice();
-        let outcome = read_from(self.alloc, &mut self.disk, base, tail, cursor, end);
+        let outcome = read_from(self.alloc, &mut self.disk, base, tail, cursor, end, room);
         self.has_failed = is_device_failure(&outcome);
         outcome
     }

@@ -212,14 +212,18 @@ fn damage_is_reported(rt: HostRuntime) -> Result<(), Fail> {
     Ok(())
 }
 
-// Reads the next frame. Returns its count, and the position after it.
+// Reads the next frame. Returns its count, and the position after it. The payload's memory is the next one's room.
 fn next_count<D: SectorDisk>(
     log: &mut Log<D>,
     cursor: Cursor,
     until: Option<SegmentId>,
+    room: &mut Vec<u8>,
 ) -> Result<Option<(u64, Cursor)>, LogFault> {
-    match log.sealed_read(cursor, until)? {
-        Some((frame, next)) => Ok(Some((frame.count, next))),
+    match log.sealed_read(cursor, until, room)? {
+        Some((frame, next)) => {
+            *room = frame.payload;
+            Ok(Some((frame.count, next)))
+        }
         None => Ok(None),
     }
 }
@@ -230,12 +234,13 @@ fn frames_are_read_in_order(rt: HostRuntime) -> Result<(), Fail> {
     let mut log = opened(alloc, with_a_frame(alloc)?)?;
     let cut = log.roll()?;
     log.append(5, &[])?;
-    let (first, next) = next_count(&mut log, Cursor::start(), None)?.ok_or("a frame")?;
+    let mut room = Vec::new(alloc);
+    let (first, next) = next_count(&mut log, Cursor::start(), None, &mut room)?.ok_or("a frame")?;
     assert_eq!(rt; first, 3);
-    let (second, end) = next_count(&mut log, next, None)?.ok_or("a frame")?;
+    let (second, end) = next_count(&mut log, next, None, &mut room)?.ok_or("a frame")?;
     assert_eq!(rt; second, 5);
-    assert!(rt; next_count(&mut log, end, None)?.is_none());
-    assert!(rt; next_count(&mut log, next, Some(cut))?.is_none());
+    assert!(rt; next_count(&mut log, end, None, &mut room)?.is_none());
+    assert!(rt; next_count(&mut log, next, Some(cut), &mut room)?.is_none());
     Ok(())
 }
 
@@ -303,7 +308,9 @@ fn switched_after(alloc: Global, calls: u64, kind: Crash) -> Result<(bool, u64, 
     log.set_fuse(Some(calls));
     let is_ok = log.switch(cut, number).is_ok();
     let mut log = opened(alloc, log.into_disk().into_inner().crash(kind))?;
-    let (first, _) = next_count(&mut log, Cursor::start(), None)?.ok_or("a frame")?;
+    let (first, _) = next_count(&mut log, Cursor::start(), None, &mut Vec::new(alloc))?.ok_or(
+        "a frame",
+    )?;
     Ok((is_ok, log.number(), first))
 }
 

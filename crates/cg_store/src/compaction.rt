@@ -23,6 +23,8 @@ pub(crate) struct Reading {
     pub(crate) cursor: Cursor,
     /// The state after the frames so far.
     pub(crate) durable: Durable,
+    /// Memory for the next payload.
+    pub(crate) room: Vec<u8>,
 }
 
 /// What a compaction keeps while it writes.

@@ -73,6 +73,7 @@ pub(crate) fn start<D: SectorDisk>(
         cut: Cut { id, number },
         cursor: Cursor::start(),
         durable: Durable::new(alloc),
+        room: Vec::new(alloc),
     });
     Ok(())
 }
@@ -106,7 +107,8 @@ fn read_frame<D: SectorDisk>(
     ensures same_size { D.size (disk_of log.new) ≡ D.size (disk_of log.old) }
     ensures same_honesty { D.is_honest (disk_of log.new) ≡ D.is_honest (disk_of log.old) }
 {
-    let found = match log.sealed_read(reading.cursor, Some(reading.cut.id)) {
+    let until = Some(reading.cut.id);
+    let found = match log.sealed_read(reading.cursor, until, &mut reading.room) {
         Ok(found) => found,
         Err(LogFault::Memory) => return Err(CompactFault::Memory),
         Err(LogFault::Device) => return Err(CompactFault::Device),
@@ -119,7 +121,9 @@ fn read_frame<D: SectorDisk>(
         return Ok(Progress::Done);
     };
     reading.cursor = next;
-    if add_commands(alloc, &mut reading.durable, frame.count, &frame.payload)? {
+    let is_text = add_commands(alloc, &mut reading.durable, frame.count, &frame.payload)?;
+    reading.room = frame.payload;
+    if is_text {
         Ok(Progress::More)
     } else {
         Err(CompactFault::NoRoom)
@@ -241,6 +245,13 @@ fn write_frame<D: SectorDisk>(
     }
 }
 
+// Drops what a phase kept, and goes on to the next.
+fn go_on_to(compaction: &mut Compaction, next: Compaction)
+    ensures { compaction.new ≡ next }
+{
+    *compaction = next;
+}
+
 /// Writes the next frame of the snapshot. Returns `Done` if no command is left: the switch comes next. A fault frees
 /// the fresh segments.
 pub(crate) fn write<D: SectorDisk>(
@@ -274,22 +285,21 @@ pub(crate) fn write<D: SectorDisk>(
     ensures same_size { D.size (disk_of log.new) ≡ D.size (disk_of log.old) }
     ensures same_honesty { D.is_honest (disk_of log.new) ≡ D.is_honest (disk_of log.old) }
 {
-    match mem::replace(compaction, Compaction::Idle) {
-        Compaction::Writing(mut writing) => match write_frame(log, &mut writing.frames) {
-            Ok(Progress::More) => {
-                *compaction = Compaction::Writing(writing);
-                Ok(Progress::More)
-            }
-            Ok(Progress::Done) => {
-                *compaction = Compaction::Ready(writing.cut);
-                Ok(Progress::Done)
-            }
-            Err(fault) => {
-                log.drop_fresh();
-                Err(fault)
-            }
-        },
+    let (outcome, cut) = match compaction {
+        Compaction::Writing(writing) => (write_frame(log, &mut writing.frames), writing.cut),
         _ => unreachable!(),
+    };
+    match outcome {
+        Ok(Progress::More) => Ok(Progress::More),
+        Ok(Progress::Done) => {
+            go_on_to(compaction, Compaction::Ready(cut));
+            Ok(Progress::Done)
+        }
+        Err(fault) => {
+            log.drop_fresh();
+            go_on_to(compaction, Compaction::Idle);
+            Err(fault)
+        }
     }
 }
 

@@ -4,7 +4,8 @@ use Rattle.cg_log.specs.Log.{disk_of, root_of}
 use Rattle.cg_log.specs.Segments.{Frames}
 use Rattle.cg_store.specs.Compacting.{IsFolding}
 use Rattle.cg_store.specs.Loading.{Adds}
-use Rattle.cg_store.proofs.Folding.{LogAt-now, folded-all, folded-good, folded-one}
+use Rattle.cg_store.specs.declared.compaction.Reading.{Reading}
+use Rattle.cg_store.proofs.Folding.{LogAt-now, folded-all, folded-good, folded-one, folded-same}
 use Rattle.cg_store.proofs.stepping.read_frame.Goals as goal
 
 pub returns-in-Err-BadFrame-clause-honest : goal.returns-in-Err-BadFrame-clause-honest
@@ -15,11 +16,13 @@ returns-in_default-clause-read g c has number left state holds spelled folding =
     let reading = c.args.reading.now in
     let reads = c.in-Ok.ensures.reads has folding.read holds folding.at in
     let few = rw c.in_default.is at reads in
-    let none : left ≡ [] = folded-all has number left reading.cut reading.cursor reading.durable folding few in
-    ([], ((none, refl), subst (λ (l : Frames). IsFolding has number l reading) none folding))
+    let none : left ≡ [] = folded-all has number left reading.cut reading.cursor reading.durable reading.room folding few in
+    let same = folded-same has number left reading.cut reading.cursor reading.durable reading.room folding c.sealed_read.new.room in
+    let now : Reading = record { cut = reading.cut; cursor = reading.cursor; durable = reading.durable; room = c.sealed_read.new.room } in
+    ([], ((none, refl), subst (λ (l : Frames). IsFolding has number l now) none same))
 
-pub returns-then-branch-clause-read : goal.returns-then-branch-clause-read
-returns-then-branch-clause-read g c has number left state holds spelled folding =
+pub returns-then-is_text-clause-read : goal.returns-then-is_text-clause-read
+returns-then-is_text-clause-read g c has number left state holds spelled folding =
     let disk = g.D.SectorDisk in
     let log = c.args.log.now in
     let reading = c.args.reading.now in
@@ -29,14 +32,14 @@ returns-then-branch-clause-read g c has number left state holds spelled folding 
     let below = rw c.in-Some.is at before in
     let at = LogAt-now disk.is_honest disk.history disk.size log has holds in
     let adds : Adds true c.in-Some.frame.count c.in-Some.frame.payload.items reading.durable c.add_commands.new.durable =
-    coe 0 1 (i. Adds (c.if-branch.true i) c.in-Some.frame.count (c.deref.ensures.value i) reading.durable c.add_commands.new.durable) c.in_ok-add_commands.ensures in
-    folded-one has number left reading.cut reading.cursor reading.durable folding (present (disk.history (disk_of log))).content (disk.size (disk_of log)) (root_of log) at c.in-Some.frame c.in-Some.next c.add_commands.new.durable found below adds
+    coe 0 1 (i. Adds (c.if-is_text.true i) c.in-Some.frame.count (c.deref.ensures.value i) reading.durable c.add_commands.new.durable) c.in_ok-is_text.ensures in
+    folded-one has number left reading.cut reading.cursor reading.durable reading.room folding (present (disk.history (disk_of log))).content (disk.size (disk_of log)) (root_of log) at c.in-Some.frame c.in-Some.next c.add_commands.new.durable c.in-Some.frame.payload found below adds
 
-pub returns-clause-honest : goal.returns-clause-honest
-returns-clause-honest g c has number left state holds spelled folding is =
+pub returns-else-is_text-clause-honest : goal.returns-else-is_text-clause-honest
+returns-else-is_text-clause-honest g c has number left state holds spelled folding is =
     let reading = c.args.reading.now in
     let reads = c.in-Ok.ensures.reads has folding.read holds folding.at in
     let found = rw c.in-Some.is at reads in
     let adds : Adds false c.in-Some.frame.count c.in-Some.frame.payload.items reading.durable c.add_commands.new.durable =
-    coe 0 1 (i. Adds (c.if-branch.false i) c.in-Some.frame.count (c.deref.ensures.value i) reading.durable c.add_commands.new.durable) c.in_ok-add_commands.ensures in
-    folded-good has number left reading.cut reading.cursor reading.durable folding state spelled c.in-Some.frame c.in-Some.next found adds
+    coe 0 1 (i. Adds (c.if-is_text.false i) c.in-Some.frame.count (c.deref.ensures.value i) reading.durable c.add_commands.new.durable) c.in_ok-is_text.ensures in
+    folded-good has number left reading.cut reading.cursor reading.durable reading.room folding state spelled c.in-Some.frame c.in-Some.next found adds
