@@ -14,16 +14,17 @@ import subprocess
 import sys
 import tempfile
 import time
+from collections import Counter
 
 import lanes
 from cases import run_cases
-from edits import edits_of, key_of, try_edits
-from kit import crates_of, processors, rt, rtlib
+from edits import edits_of, key_of, try_edits, unfit_edits
+from kit import KEPT, crates_of, processors, rt, rtlib
 from lanes import Task
 from proofs import prove, prove_tests, run_program
 from prose import findings
 
-EDITS_A_TASK = 8
+EDITS_A_TASK = 32
 BEGUN = time.time()
 
 
@@ -86,13 +87,17 @@ def edit_tasks(crate, edits, after):
     return [Task(f"{crate.name} edits {at + 1}", ["edits", crate.name, *part], after) for at, part in enumerate(parts)]
 
 
-def run_tasks(tasks):
-    """Runs the tasks and shows each as it ends, with what the failed ones said."""
+def run_tasks(tasks, on_done=lambda name: None):
+    """Runs the tasks and shows each as it ends, with what the failed ones said. Calls on_done(crate) after a crate's last one."""
     number = 0
+    left = Counter(it.words[1] for it in tasks)
 
     def on_end(it):
         nonlocal number
         number += 1
+        left[it.words[1]] -= 1
+        if not left[it.words[1]]:
+            on_done(it.words[1])
         seconds = f" in {it.wall:.0f} s, {it.processor:.0f} s of processor time" if it.was_run else ""
         outcome = "ok" if it.ended_well else "FAILED" if it.was_run else "left out: what it needs failed"
         if not it.ended_well or "edits" in it.words[:1] or "tests" in it.words[:1]:
@@ -132,8 +137,10 @@ def check(names):
     proofs = proofs_of(needed)
     tasks = [*proofs.values(), *[tests_task(it, proofs) for it in chosen if it.has_tests()]]
     run_tasks(tasks)
-    failed = [it.name for it in tasks if not it.ended_well]
-    print(f"{len(tasks) - len(failed)} passed, {len(failed)} failed")
+    failed = [it.name for it in tasks if not it.ended_well] + unfit_edits(chosen)
+    for it in failed:
+        print(f"FAILED: {it}")
+    print(f"{sum(it.ended_well for it in tasks)} passed, {len(failed)} failed")
     return 1 if failed else 0
 
 
@@ -187,9 +194,10 @@ def test_copy(room):
         edits = edits_of(crate, ["must-fail"])
         counted[crate.name] = edits
         tasks += edit_tasks(crate, edits, after)
-    run_tasks(tasks)
-    failed = [it.name for it in tasks if not it.ended_well and it.words[0] != "edits"] + findings(room)
-    passed = sum(it.ended_well and it.words[0] != "edits" for it in tasks) + (not findings(room))
+    # Kept work takes hundreds of megabytes a crate, and serves its own tests and edits alone.
+    run_tasks(tasks, lambda name: shutil.rmtree(f"{named(crates, name).folder}/{KEPT}", ignore_errors=True))
+    failed = [it.name for it in tasks if not it.ended_well and it.words[0] != "edits"] + findings(room) + unfit_edits(crates)
+    passed = sum(it.ended_well and it.words[0] != "edits" for it in tasks) + (not findings(room)) + (not unfit_edits(crates))
     for crate in crates:
         known = outcomes(crate)
         failed += [os.path.relpath(it, room) for it in counted[crate.name] if not known.get(it)]

@@ -1,4 +1,5 @@
-"""Tries edits that the prover must refuse, each over a copy of what the crate's proof left in out/."""
+"""Tries edits that the prover must refuse, over a copy of what the crate's proof left in out/: many at once where each is in the body of
+a function of its own, for a proof rests on the contracts of other functions and not on their bodies; the others one after the other."""
 import hashlib
 import os
 import re
@@ -9,6 +10,9 @@ from kit import KEPT, rt, rtlib
 
 FOLDERS = ("must-fail", "mutants")
 
+# A reason that says little of a contract: a proof file names what the edit took away.
+NAMES_ALONE = re.compile(r"(\./)?proofs/.*(has no field|is not in scope|has no `|was not admitted)")
+
 
 def edits_of(crate, folders=FOLDERS):
     """Returns the paths of the crate's edits, in the order of their names."""
@@ -17,6 +21,12 @@ def edits_of(crate, folders=FOLDERS):
         at = f"{crate.folder}/{folder}"
         found += [f"{at}/{name}" for name in sorted(os.listdir(at) if os.path.isdir(at) else []) if name.endswith(".edit")]
     return found
+
+
+def unfit_edits(crates):
+    """Returns a line for each edit that cannot be applied, since the text it changes has changed."""
+    tried = [(crate, edit, rt.read_edit(edit, crate.folder)[1]) for crate in crates for edit in edits_of(crate)]
+    return [f"{crate.name}/{os.path.basename(edit)}: {why}" for crate, edit, why in tried if why]
 
 
 def key_of(stamp, edit):
@@ -44,7 +54,7 @@ def _is_refused_by_module(crate, texts, kept):
     if not counts or is_unread or int(counts[2]) >= int(counts[1]):
         return None
     reasons = [line for line in lines if re.match(r"(note: )?\S+:\d+:\d+:", line) and " note: large solution" not in line]
-    reasons = [line for line in reasons if not re.match(r"(\./)?proofs/.*(has no field|is not in scope|has no `|was not admitted)", line)]
+    reasons = [line for line in reasons if not NAMES_ALONE.match(line)]
     return reasons[0][:160] if reasons else None
 
 
@@ -61,10 +71,133 @@ def try_edit(crate, edit, kept):
     return rt.must_fail(crate, edit, ["--jobs", "1"])
 
 
+class Function:
+    """A function of a source file: its name, its `fn` line, the first line of its body and the one after the last."""
+
+    def __init__(self, name, begin, first, last):
+        self.name, self.begin, self.first, self.last = name, begin, first, last
+
+
+def _functions_of(text):
+    """Returns the functions of a source file in order. The layout is the kit's: a body ends at the indentation of its `fn`."""
+    found, lines, name = [], text.split("\n"), None
+    for at, line in enumerate(lines):
+        begins = re.match(r"( *)(?:pub(?:\([a-z]+\))? )?(?:const )?fn (\w+)", line)
+        if name is None and begins:
+            indent, name, begin, first = begins[1], begins[2], at, None
+        if name is None:
+            continue
+        ends_signature = begins or line.startswith(f"{indent})")
+        if first is None and (line == f"{indent}{{" or ends_signature and line.endswith(" {")):
+            first = at + 1
+        elif first is None and (line == f"{indent}{{}}" or line.endswith(";") and ends_signature):
+            name = None
+        elif first is not None and line == f"{indent}}}":
+            found.append(Function(name, begin, first, at))
+            name = None
+    return found
+
+
+def _changed_lines(old, new):
+    """Returns the lines in which two texts differ, as the first one, the one after the last, and the new ones."""
+    old, new = old.split("\n"), new.split("\n")
+    first = 0
+    while first < min(len(old), len(new)) and old[first] == new[first]:
+        first += 1
+    same = 0
+    while same < min(len(old), len(new)) - first and old[-1 - same] == new[-1 - same]:
+        same += 1
+    return first, len(old) - same, new[first : len(new) - same]
+
+
+class BodyEdit:
+    """An edit of one function's body: its file, the function's place among those of the file, the lines and what replaces them."""
+
+    def __init__(self, edit, path, place, name, lines):
+        self.edit, self.path, self.place, self.name, self.lines = edit, path, place, name, lines
+
+
+def _body_edit(crate, edit):
+    """Returns the edit as one of a function's body, or None where it is more than that."""
+    texts, why = rt.read_edit(edit, crate.folder)
+    if why or len(texts) != 1:
+        return None
+    ((path, text),) = texts.items()
+    if not path.startswith("src/"):
+        return None
+    with open(f"{crate.folder}/{path}", encoding="utf-8") as file:
+        old = file.read()
+    first, last, new = _changed_lines(old, text)
+    for place, function in enumerate(_functions_of(old)):
+        if function.first <= first and last <= function.last:
+            return BodyEdit(edit, path, place, function.name, (first, last, new))
+    return None
+
+
+def _with_edits(crate, edits):
+    """Returns the texts of the files that these edits change, each in another function, by path."""
+    texts = {}
+    for path in {it.path for it in edits}:
+        with open(f"{crate.folder}/{path}", encoding="utf-8") as file:
+            lines = file.read().split("\n")
+        for first, last, new in sorted((it.lines for it in edits if it.path == path), reverse=True):
+            lines[first:last] = new
+        texts[path] = "\n".join(lines)
+    return texts
+
+
+def _own_reason(crate, it, text, lines):
+    """Returns the first line that says why the prover refuses this function by itself, or None."""
+    module = _module_of(it.path)
+    path = crate.name if module in ("lib", "main") else f"{crate.name}::{module}"
+    verdicts = [found[1] for found in (re.match(rf"fn {path}::(?:\w+::)?{it.name}: (.*)", line) for line in lines) if found]
+    if len(verdicts) != 1 or not verdicts[0].startswith(("not proved", "no proof: expected answers")):
+        return None
+    function = _functions_of(text)[it.place]
+    folder = it.path.removeprefix("src/").removesuffix(".rt").removesuffix("/mod")
+    for line in lines:
+        at = re.match(r"(?:note: )?(?:\./)?(\S+?):(\d+):\d+:", line)
+        if not at or " note: large solution" in line or NAMES_ALONE.match(line):
+            continue
+        if re.match(rf"proofs/{folder}/(?:\w+/)?\+?{it.name}/", at[1]) or at[1] == it.path and function.begin <= int(at[2]) - 1 <= function.last:
+            return line[:160]
+    return None
+
+
+def _refused_together(crate, edits, kept):
+    """Tries edits of different functions in one check. Returns the line of each that the prover refuses for a reason of its own; of the
+    others nothing is known: a function that calls one which is not proved is not tried."""
+    texts = _with_edits(crate, edits)
+    modules = sorted({_module_of(path) for path in texts})
+    flags = ["--jobs", "1", *[word for it in modules for word in ("--only", it)]]
+    lines = rt.checked(crate, texts, flags, kept).stdout.rstrip("\n").split("\n")
+    if not re.fullmatch(r"only=\d+ proved=\d+", lines[-1]) or any(rt.unread(line, texts) or rtlib.STALE.search(line) for line in lines):
+        if len(edits) < 4:
+            return {}
+        half = len(edits) // 2
+        return _refused_together(crate, edits[:half], kept) | _refused_together(crate, edits[half:], kept)
+    reasons = {it.edit: _own_reason(crate, it, texts[it.path], lines) for it in edits}
+    return {edit: f"{crate.name}/{os.path.basename(edit)}: refused: {reason}" for edit, reason in reasons.items() if reason}
+
+
+def _one_a_function(edits):
+    """Returns the first edit of each function."""
+    return list({(it.path, it.place): it for it in reversed(edits)}.values())[::-1]
+
+
 def try_edits(crate, edits, report):
-    """Tries the edits one after the other over one copy of the kept work, and reports each as (edit, refused, line)."""
+    """Tries the edits over one copy of the kept work, and reports each as (edit, refused, line)."""
     with tempfile.TemporaryDirectory(prefix="gate-edits-") as room:
         kept = f"{room}/kept"
         shutil.copytree(f"{crate.folder}/{KEPT}", kept)
-        for edit in edits:
+        of_bodies = [it for it in (_body_edit(crate, edit) for edit in edits) if it and _module_of(it.path) not in ("lib", "main")]
+        left = list(edits)
+        while len(round_ := _one_a_function([it for it in of_bodies if it.edit in left])) > 1:
+            refused = _refused_together(crate, round_, kept)
+            for edit, line in refused.items():
+                report(edit, True, line)
+            left = [it for it in left if it not in refused]
+            if not refused:
+                break
+        for edit in left:
             report(edit, *try_edit(crate, edit, kept))
