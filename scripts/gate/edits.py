@@ -5,6 +5,7 @@ import os
 import re
 import shutil
 import tempfile
+from dataclasses import dataclass
 
 from kit import KEPT, rt, rtlib
 
@@ -71,11 +72,14 @@ def try_edit(crate, edit, kept):
     return rt.must_fail(crate, edit, ["--jobs", "1"])
 
 
+@dataclass
 class Function:
     """A function of a source file: its name, its `fn` line, the first line of its body and the one after the last."""
 
-    def __init__(self, name, begin, first, last):
-        self.name, self.begin, self.first, self.last = name, begin, first, last
+    name: str
+    begin: int
+    first: int
+    last: int
 
 
 def _functions_of(text):
@@ -110,20 +114,24 @@ def _changed_lines(old, new):
     return first, len(old) - same, new[first : len(new) - same]
 
 
+@dataclass
 class BodyEdit:
     """An edit of one function's body: its file, the function's place among those of the file, the lines and what replaces them."""
 
-    def __init__(self, edit, path, place, name, lines):
-        self.edit, self.path, self.place, self.name, self.lines = edit, path, place, name, lines
+    edit: str
+    path: str
+    place: int
+    name: str
+    lines: tuple
 
 
 def _body_edit(crate, edit):
-    """Returns the edit as one of a function's body, or None where it is more than that."""
+    """Returns the edit as one of a function's body, or None where it is more than that, or in a file that `--only` cannot name."""
     texts, why = rt.read_edit(edit, crate.folder)
     if why or len(texts) != 1:
         return None
     ((path, text),) = texts.items()
-    if not path.startswith("src/"):
+    if not path.startswith("src/") or _module_of(path) in ("lib", "main"):
         return None
     with open(f"{crate.folder}/{path}", encoding="utf-8") as file:
         old = file.read()
@@ -148,9 +156,8 @@ def _with_edits(crate, edits):
 
 def _own_reason(crate, it, text, lines):
     """Returns the first line that says why the prover refuses this function by itself, or None."""
-    module = _module_of(it.path)
-    path = crate.name if module in ("lib", "main") else f"{crate.name}::{module}"
-    verdicts = [found[1] for found in (re.match(rf"fn {path}::(?:\w+::)?{it.name}: (.*)", line) for line in lines) if found]
+    name = rf"{crate.name}::{_module_of(it.path)}::(?:\w+::)?{it.name}"
+    verdicts = [found[1] for found in (re.match(rf"fn {name}: (.*)", line) for line in lines) if found]
     if len(verdicts) != 1 or not verdicts[0].startswith(("not proved", "no proof: expected answers")):
         return None
     function = _functions_of(text)[it.place]
@@ -190,7 +197,7 @@ def try_edits(crate, edits, report):
     with tempfile.TemporaryDirectory(prefix="gate-edits-") as room:
         kept = f"{room}/kept"
         shutil.copytree(f"{crate.folder}/{KEPT}", kept)
-        of_bodies = [it for it in (_body_edit(crate, edit) for edit in edits) if it and _module_of(it.path) not in ("lib", "main")]
+        of_bodies = [it for it in (_body_edit(crate, edit) for edit in edits) if it]
         left = list(edits)
         while len(round_ := _one_a_function([it for it in of_bodies if it.edit in left])) > 1:
             refused = _refused_together(crate, round_, kept)
