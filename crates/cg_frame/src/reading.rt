@@ -127,7 +127,7 @@ fn read_payload<D: SectorDisk>(
 
 /// Reads the frame whose gate is at `pos`; returns `None` if the gate is closed. It reads the gate with the first
 /// sector of the body, and then the rest of the body at once. The payload takes the memory of `room`, whatever it holds,
-/// and more only where that is too small: a caller that gives the last payload back reads on without an allocation.
+/// and more only where that is too small: a caller that gives the last payload back allocates only for a longer one.
 pub fn scan<D: SectorDisk>(
     alloc: Global,
     disk: &mut D,

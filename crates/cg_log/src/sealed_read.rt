@@ -104,8 +104,8 @@ impl<D: SectorDisk> Log<D> {
 
     /// Reads the next frame, of those of the base and then of the tails, in order; with an id, which must be a tail's,
     /// only of those before that tail. Returns the frame and the position after it, or `None` after the last. The payload
-    /// takes the memory of `room`, whatever it holds: a caller that gives the last payload back reads on without an
-    /// allocation.
+    /// takes the memory of `room`, whatever it holds: a caller that gives the last payload back allocates only for a
+    /// longer one.
     pub fn sealed_read(
         &mut self,
         cursor: Cursor,
