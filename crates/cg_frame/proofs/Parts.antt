@@ -1,6 +1,6 @@
 -- Parts of buffers that were read.
 use Rattle.std.proofs.Common.{◌≡◌, ℕ, ◌+◌, ◌-◌, ◌^◌, ◌<◌, ◌≤◌, List, ◌++◌, length, take, drop, sym, ◌∙◌, ap, arith}
-use Rattle.std.proofs.lemmas.List.{length-take, length-drop, take-take, drop-take, drop-drop, take-append-drop, take-append-le, drop_all, drop_at, append-nil, take_all}
+use Rattle.std.proofs.lemmas.List.{length-take, length-drop, take-take, drop-take, drop-drop, take-append-drop, drop_all, drop_at, append-nil, take_all}
 use borrow.Rule.Slice.PartMut.{put_mid}
 use Rattle.cg_frame.specs.Frames.{word, IsFront}
 use Rattle.cg_frame.specs.declared.segment.Segment.{Segment}

@@ -4,7 +4,7 @@ ghost use Rattle.cg_frame.specs.Frames.{word, body, body_sectors};
 
 use crate::segment::sectors_of;
 use cg_disk::SECTOR_BYTES;
-use std::alloc::{AllocError, Global};
+use std::alloc::AllocError;
 
 /// A number in 8 bytes.
 #[tactic(auto, unfolding(crate::specs::Frames::word))]
@@ -25,8 +25,8 @@ pub(crate) fn number(bytes: &[u8], at: usize) -> u64
 }
 
 /// Returns the sectors of a body and of the closed gate after it, with zeros after the payload. Copies the payload
-/// once.
-pub(crate) fn staged(alloc: Global, count: u64, payload: &[u8]) -> Result<Vec<u8>, AllocError>
+/// once. They take the memory of `room`, and more only where that is too small.
+pub(crate) fn staged(room: Vec<u8>, count: u64, payload: &[u8]) -> Result<Vec<u8>, AllocError>
     requires { body_sectors (length payload.now) < 2 ^ 54 }
     ensures length { IfOk result (λ sectors.
         length sectors.items ≡ 512 * (body_sectors (length payload.now) + 1)) }
@@ -36,7 +36,9 @@ pub(crate) fn staged(alloc: Global, count: u64, payload: &[u8]) -> Result<Vec<u8
         16 + length payload.now ≤ i → slice_index sectors.items i ≡ 0) }
 {
     let size = (sectors_of(payload.len() as u64) as usize + 1) * SECTOR_BYTES;
-    let mut sectors = Vec::with_capacity(alloc, size)?;
+    let mut sectors = room;
+    sectors.clear();
+    sectors.reserve_exact(size)?;
     sectors.extend_from_slice(&bytes_of(count))?;
     sectors.extend_from_slice(&bytes_of(payload.len() as u64))?;
     sectors.extend_from_slice(payload)?;

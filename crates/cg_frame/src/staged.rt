@@ -1,5 +1,5 @@
 //! Frames that are encoded, to be appended later without an allocation.
-ghost use Rattle.std.specs.Prelude.{◌≡◌, ℕ, ◌+◌, ◌^◌, ◌<◌, ◌≤◌, [], ◌∷◌, ◌++◌, true, length, OnOk, IfOk, is_err, List};
+ghost use Rattle.std.specs.Prelude.{◌≡◌, ℕ, ◌+◌, ◌*◌, ◌^◌, ◌<◌, ◌≤◌, [], ◌∷◌, ◌++◌, true, length, OnOk, IfOk, is_err, List};
 ghost use Rattle.cg_disk.specs.Disk.{Image, present, IsImage, IsSynced, Changes, LeavesOnly, TakesCalls, Counts};
 ghost use Rattle.cg_frame.specs.Frames.{IsClosed, body_sectors, next_gate};
 ghost use Rattle.cg_frame.specs.Outcomes.{StandsLast, Appended, KeepsFramesTo, IsBeforeOrAfter};
@@ -11,6 +11,7 @@ use cg_disk::{DiskFault, SectorDisk};
 use cg_gate::write_guarded;
 use std::alloc::{AllocError, Global};
 use std::marker::Model;
+use std::mem;
 
 /// The sectors of a frame: its body, and the closed gate after it. Contracts see its count and its payload.
 #[derive(Drop)]
@@ -31,17 +32,34 @@ impl Model for StagedFrame {
     ghost invariant = { λ f. IsStagedFrame f.sectors.items f.count f.bytes };
 }
 
-/// Encodes a frame. Copies the payload once.
-pub fn stage(alloc: Global, count: u64, payload: &[u8]) -> Result<StagedFrame, AllocError>
+/// Encodes a frame. Copies the payload once. The frame takes the memory of `room`, whatever it holds, and more only where
+/// that is too small: a caller that gives the memory of the last frame back allocates only for a longer one.
+pub fn stage(
+    alloc: Global,
+    room: &mut Vec<u8>,
+    count: u64,
+    payload: &[u8],
+) -> Result<StagedFrame, AllocError>
     requires { body_sectors (length payload.now) < 2 ^ 54 }
     ensures { IfOk result (λ frame. frame ≡ (count, payload.now)) }
 {
-    let sectors = staged(alloc, count, payload)?;
+    let room = mem::replace(room, Vec::new(alloc));
+    let sectors = staged(room, count, payload)?;
     Ok(StagedFrame {
         count,
         bytes: payload.len() as u64,
         sectors,
     })
+}
+
+impl StagedFrame {
+    /// Returns the memory of the frame, for the next one.
+    pub fn into_room(self) -> Vec<u8>
+        ensures { length result.items ≡ 512 * (body_sectors (length self.1) + 1) }
+    {
+        let StagedFrame { sectors, .. } = self;
+        sectors
+    }
 }
 
 /// Appends a frame that fits: its body and the closed gate after it in one write, then its gate, each synced, in four

@@ -87,7 +87,7 @@ pub fn append<D: SectorDisk>(
     if !fits(segment, pos, payload.len() as u64) {
         return Err(FrameFault::NoRoom);
     }
-    let frame = stage(alloc, count, payload)?;
+    let frame = stage(alloc, &mut Vec::new(alloc), count, payload)?;
     let next = append_staged(disk, segment, pos, &frame)?;
     Ok(next)
 }

@@ -66,21 +66,21 @@ impl<D: SectorDisk> Log<D> {
     ghost use Rattle.cg_log.specs.Log.{HasFresh, IsUnchanged, LogHas, disk_of, end_of, fresh_end_of, fresh_of, has_failed, number_of, room_of, root_of, taken_of};
 
     // Appends a frame that fits to the last tail.
-    fn put(&mut self, frame: &StagedFrame, count: u64) -> Result<(), LogFault>
+    fn put(&mut self, frame: StagedFrame, count: u64) -> Result<(), LogFault>
         requires serves { has_failed self.old ≡ false }
-        requires count { count ≡ frame.now.0 }
+        requires count { count ≡ frame.0 }
         requires counted { 1 ≤ count }
         requires few { number_of self.old + count ≤ COMMAND_NUMBER_MAX }
-        requires fits { next_gate (end_of self.old) (length frame.now.1) < SEGMENT_SECTORS }
+        requires fits { next_gate (end_of self.old) (length frame.1) < SEGMENT_SECTORS }
 
         ensures stored { (has : Content) → LogHas D.is_honest D.history D.size self.old has → OnOk result
-            (LogHas D.is_honest D.history D.size self.new (appended has frame.now.0 frame.now.1)) }
+            (LogHas D.is_honest D.history D.size self.new (appended has frame.0 frame.1)) }
         ensures images { (has : Content) → LogHas D.is_honest D.history D.size self.old has →
             LeavesOnly (D.history (disk_of self.old)) (D.history (disk_of self.new))
-            (CarriesBeforeOrAfter (D.size (disk_of self.old)) (number_of self.old) (frames_of has.base) (frames_of (tails has)) frame.now.0 frame.now.1) }
+            (CarriesBeforeOrAfter (D.size (disk_of self.old)) (number_of self.old) (frames_of has.base) (frames_of (tails has)) frame.0 frame.1) }
         ensures number { OnOk result (number_of self.new ≡ number_of self.old + count) }
         ensures same_number { OnErr result (number_of self.new ≡ number_of self.old) }
-        ensures end { OnOk result (end_of self.new ≡ next_gate (end_of self.old) (length frame.now.1)) }
+        ensures end { OnOk result (end_of self.new ≡ next_gate (end_of self.old) (length frame.1)) }
         ensures same_root { root_of self.new ≡ root_of self.old }
         ensures fresh { (fresh : List Filled) → HasFresh D.is_honest D.history self.old fresh →
             HasFresh D.is_honest D.history self.new fresh }
@@ -95,10 +95,11 @@ impl<D: SectorDisk> Log<D> {
         ensures same_size { D.size (disk_of self.new) ≡ D.size (disk_of self.old) }
         ensures same_honesty { D.is_honest (disk_of self.new) ≡ D.is_honest (disk_of self.old) }
     {
-        match append_last(&mut self.disk, &self.root, self.end, frame) {
+        match append_last(&mut self.disk, &self.root, self.end, &frame) {
             Ok(next) => {
                 self.end = next;
                 self.number += count;
+                self.memory = frame.into_room();
                 Ok(())
             }
             Err(DiskFault::Device) => {
@@ -148,9 +149,9 @@ impl<D: SectorDisk> Log<D> {
             &self.root,
             self.fresh.as_slice(),
         )?;
-        let frame = stage(self.alloc, count, payload)?;
+        let frame = stage(self.alloc, &mut self.memory, count, payload)?;
         let _ = self.add_tail(tail)?;
-        self.put(&frame, count)?;
+        self.put(frame, count)?;
         Ok(())
     }
 
@@ -213,8 +214,8 @@ impl<D: SectorDisk> Log<D> {
             self.put_in_new_tail(count, payload)?;
             return Ok(());
         }
-        let frame = stage(self.alloc, count, payload)?;
-        self.put(&frame, count)?;
+        let frame = stage(self.alloc, &mut self.memory, count, payload)?;
+        self.put(frame, count)?;
         Ok(())
     }
 }

@@ -66,15 +66,15 @@ impl<D: SectorDisk> Log<D> {
     }
 
     // Appends a frame that fits to the last fresh segment.
-    fn put_fresh(&mut self, frame: &StagedFrame) -> Result<(), LogFault>
+    fn put_fresh(&mut self, frame: StagedFrame) -> Result<(), LogFault>
         requires serves { has_failed self.old ≡ false }
         requires some { 1 ≤ length (fresh_of self.old) }
-        requires counted { 1 ≤ frame.now.0 }
-        requires fits { next_gate (fresh_end_of self.old) (length frame.now.1) < SEGMENT_SECTORS }
+        requires counted { 1 ≤ frame.0 }
+        requires fits { next_gate (fresh_end_of self.old) (length frame.1) < SEGMENT_SECTORS }
 
         ensures fresh { (sealed : List Filled) (id : ℕ) (frames : Frames) →
             HasFresh D.is_honest D.history self.old (sealed ++ (id, frames) ∷ []) → OnOk result
-            (HasFresh D.is_honest D.history self.new (sealed ++ (id, frames ++ frame.now ∷ []) ∷ [])) }
+            (HasFresh D.is_honest D.history self.new (sealed ++ (id, frames ++ frame ∷ []) ∷ [])) }
         ensures stored { (has : Content) → LogHas D.is_honest D.history D.size self.old has →
             LogHas D.is_honest D.history D.size self.new has }
         ensures images { (has : Content) → LogHas D.is_honest D.history D.size self.old has →
@@ -94,9 +94,10 @@ impl<D: SectorDisk> Log<D> {
         ensures same_honesty { D.is_honest (disk_of self.new) ≡ D.is_honest (disk_of self.old) }
     {
         let id = last_id(self.fresh.as_slice());
-        match append_fresh(&mut self.disk, id, self.fresh_end, frame) {
+        match append_fresh(&mut self.disk, id, self.fresh_end, &frame) {
             Ok(next) => {
                 self.fresh_end = next;
+                self.memory = frame.into_room();
                 Ok(())
             }
             Err(DiskFault::Device) => {
@@ -183,9 +184,9 @@ impl<D: SectorDisk> Log<D> {
             return Err(LogFault::Full);
         };
         self.fresh.reserve(1)?;
-        let frame = stage(self.alloc, count, payload)?;
+        let frame = stage(self.alloc, &mut self.memory, count, payload)?;
         self.begin_fresh(id)?;
-        self.put_fresh(&frame)?;
+        self.put_fresh(frame)?;
         Ok(())
     }
 
@@ -235,8 +236,8 @@ impl<D: SectorDisk> Log<D> {
             self.put_in_new_fresh(count, payload)?;
             return Ok(());
         }
-        let frame = stage(self.alloc, count, payload)?;
-        self.put_fresh(&frame)?;
+        let frame = stage(self.alloc, &mut self.memory, count, payload)?;
+        self.put_fresh(frame)?;
         Ok(())
     }
 

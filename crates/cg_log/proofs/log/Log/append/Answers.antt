@@ -38,7 +38,7 @@ pub returns-clause-after : goal.returns-clause-after
 returns-clause-after g c has log =
     let self = c.args.self.now in
     let new = c.put.new.self in
-    let stored = subst (λ (f : ℕ × List ℕ). LogHas g.D.SectorDisk.is_honest g.D.SectorDisk.history g.D.SectorDisk.size c.put.new.self (appended has f.0 f.1)) c.in_ok-frame.ensures (c.in_ok-put.ensures.stored has log) in
+    let stored = subst (λ (f : ℕ × List ℕ). LogHas g.D.SectorDisk.is_honest g.D.SectorDisk.history g.D.SectorDisk.size c.put.new.self (appended has f.0 f.1)) c.in_ok-frame.ensures (c.in_ok-put.ensures.stored has (record { is_honest = log.is_honest; holds = log.holds })) in
     AllCarry-appended (present (g.D.SectorDisk.history (disk_of new))) (g.D.SectorDisk.size self.disk) (g.D.SectorDisk.size (disk_of new)) (root_of new) (end_of new) (number_of new) self.number c.args.count c.args.payload.now has
     (appended has c.args.count c.args.payload.now) (inl refl) stored.holds new.in_range c.put.ensures.same_size c.in_ok-put.ensures.number
 

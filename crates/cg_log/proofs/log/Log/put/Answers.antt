@@ -17,14 +17,14 @@ returns-in-Ok-clause-stored g c has log =
 pub returns-in-Ok-clause-images : goal.returns-in-Ok-clause-images
 returns-in-Ok-clause-images g c has log =
     let self = c.args.self.now in
-    let few : self.number + c.args.frame.now.0 ≤ COMMAND_NUMBER_MAX = omega (arith, c.requires.few, c.requires.count) in
-    put-images (g.D.SectorDisk.history self.disk) (g.D.SectorDisk.history c.append_last.new.disk) (g.D.SectorDisk.size self.disk) self.root self.end self.number has self.in_range log.holds c.args.frame.now.0 c.args.frame.now.1 few (c.append_last.ensures.images log.is_honest has self.number log.holds)
+    let few : self.number + c.args.frame.0 ≤ COMMAND_NUMBER_MAX = omega (arith, c.requires.few, c.requires.count) in
+    put-images (g.D.SectorDisk.history self.disk) (g.D.SectorDisk.history c.append_last.new.disk) (g.D.SectorDisk.size self.disk) self.root self.end self.number has self.in_range log.holds c.args.frame.0 c.args.frame.1 few (c.append_last.ensures.images log.is_honest has self.number log.holds)
 
 pub returns-in-Err-Device-clause-images : goal.returns-in-Err-Device-clause-images
 returns-in-Err-Device-clause-images g c has log =
     let self = c.args.self.now in
-    let few : self.number + c.args.frame.now.0 ≤ COMMAND_NUMBER_MAX = omega (arith, c.requires.few, c.requires.count) in
-    put-images (g.D.SectorDisk.history self.disk) (g.D.SectorDisk.history c.append_last.new.disk) (g.D.SectorDisk.size self.disk) self.root self.end self.number has self.in_range log.holds c.args.frame.now.0 c.args.frame.now.1 few (c.append_last.ensures.images log.is_honest has self.number log.holds)
+    let few : self.number + c.args.frame.0 ≤ COMMAND_NUMBER_MAX = omega (arith, c.requires.few, c.requires.count) in
+    put-images (g.D.SectorDisk.history self.disk) (g.D.SectorDisk.history c.append_last.new.disk) (g.D.SectorDisk.size self.disk) self.root self.end self.number has self.in_range log.holds c.args.frame.0 c.args.frame.1 few (c.append_last.ensures.images log.is_honest has self.number log.holds)
 
 pub invariant_of-self-clause-ready : goal.invariant_of-self-clause-ready
 invariant_of-self-clause-ready g c serves honest =
