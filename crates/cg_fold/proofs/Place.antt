@@ -157,3 +157,15 @@ module _ {K X : Type 0} {R : K → K → Ordering} (o : IsTotalOrder R) where
       cases Greater after all later =
           let before : R key e.0 ≡ Less = turned o key e.0 Greater after in
           rw before (above_all key e.0 es before all)
+
+  -- an entry with the key is at the key's place
+  pub own-placed : (key : K) (es : List (K × X)) (n : ℕ) (d : K × X) → T (is_sorted R es) → n < length es → R (get_or es n d).0 key ≡ Equal
+      → n ≡ below key es
+  own-placed key [] n d sorted inside tie = absurd (omega arith)
+  own-placed key (e ∷ es) zero d sorted inside tie = sym (ap (λ r. cond (is_lt r) (1 + below key es) 0) tie)
+  own-placed key (e ∷ es) (suc n) d sorted inside tie =
+      let parts = both (below_all R e.0 es) (is_sorted R es) sorted in
+      let x = (get_or es n d).0 in
+      let before : R e.0 x ≡ Less = front_below e.0 es n d parts.0 (omega arith) in
+      let below_key : R e.0 key ≡ Less = o.antisymm e.0 key ∙ ap ordering_reverse (sym (o.congr x key e.0 tie)) ∙ sym (o.antisymm e.0 x) ∙ before in
+      ap suc (own-placed key es n d parts.1 (omega arith) tie) ∙ sym (one-more (below key es)) ∙ sym (ap (λ r. cond (is_lt r) (1 + below key es) 0) below_key)

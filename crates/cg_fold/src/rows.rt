@@ -162,6 +162,25 @@ pub fn is_at(rows: &[Row], at: usize, group: &GroupId, topic: &Topic, partition:
     at < rows.len() && rows[at].0.compare(group, topic, partition) == Ordering::Equal
 }
 
+/// Returns the number of rows before a key, as `place` does; without a search where the row at `near` has the key. So a
+/// caller whose keys ascend with the rows gives the index after the last one.
+pub fn place_near(
+    rows: &[Row],
+    near: usize,
+    group: &GroupId,
+    topic: &Topic,
+    partition: Partition,
+) -> usize
+    requires { IsTrue (is_sorted key_cmp rows.now) }
+    ensures value { result ≡ prefix_len (is_below (key_of group.now topic.now partition)) rows.now }
+    ensures within { result ≤ length rows.now }
+{
+    if is_at(rows, near, group, topic, partition) {
+        return near;
+    }
+    place(rows, group, topic, partition)
+}
+
 // Inserts the row or replaces the one with its key, without an allocation: the caller reserves the room.
 fn put_row(rows: &mut Vec<Row>, row: Row)
     requires sorted { IsTrue (is_sorted key_cmp rows.old.items) }

@@ -13,15 +13,15 @@ pub unreachable-requires : goal.unreachable-requires
 unreachable-requires c =
     let key = (kept_of c.args.group.now c.args.entry).0 in
     let items = c.args.rows.now.items in
-    let placed = c.place-at.ensures.value ∙ ap (λ l. prefix_len (is_below key) l) c.deref.ensures.value in
-    let other = subst (λ l. IsOther l c.place-at.result key) c.deref-2.ensures.value c.if-not-is_at.ensures.other in
-    absurd (subst T (sym c.requires.has ∙ ap is_some (find-other key_total key items c.place-at.result (tested c.requires.sorted) placed other)) tt)
+    let placed = c.place_near-at.ensures.value ∙ ap (λ l. prefix_len (is_below key) l) c.deref.ensures.value in
+    let other = subst (λ l. IsOther l c.place_near-at.result key) c.deref-2.ensures.value c.if-not-is_at.ensures.other in
+    absurd (subst T (sym c.requires.has ∙ ap is_some (find-other key_total key items c.place_near-at.result (tested c.requires.sorted) placed other)) tt)
 
 pub returns-clause-rows : goal.returns-clause-rows
 returns-clause-rows c =
     let kept = kept_of c.args.group.now c.args.entry in
     c.renew.ensures ∙ renewed_is_put c.args.rows.now.items c.args.rows.now.items kept _ refl
-    (renewal-at c.args.rows.now.items c.deref.result.now c.deref-2.result.now kept c.place-at.result c.deref.ensures.value c.deref-2.ensures.value c.place-at.ensures.value c.if-not-is_at.ensures.own)
+    (renewal-at c.args.rows.now.items c.deref.result.now c.deref-2.result.now kept c.place_near-at.result c.deref.ensures.value c.deref-2.ensures.value c.place_near-at.ensures.value c.if-not-is_at.ensures.own)
 
 pub returns-clause-sorted : goal.returns-clause-sorted
 returns-clause-sorted c =
