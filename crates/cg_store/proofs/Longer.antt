@@ -1,5 +1,5 @@
 -- A payload with one more command.
-use Rattle.std.proofs.Common.{◌≡◌, ℕ, ◌≤◌, List, [], ◌∷◌, ◌++◌, length, sym, ap, ◌∙◌, arith, Ok, append-nil}
+use Rattle.std.proofs.Common.{◌≡◌, ℕ, ◌≤◌, List, [], ◌∷◌, ◌++◌, length, take, refl, sym, ap, ◌∙◌, arith, Ok, append-nil}
 use Rattle.std.specs.List.{AllByRecursion, flat_map}
 use Rattle.std.proofs.lemmas.Grind.{flat_map-append}
 use Rattle.std.proofs.lemmas.List.Concat.{flat_map-cons}
@@ -43,3 +43,11 @@ longer bytes c are is one =
       commands = known;
       few = omega (arith, few-spelled (told bytes ++ c ∷ []), ap length known, ap length all);
     }
+
+version-alone : (cs : List Command) → take 1 (spelling cs) ≡ spelling []
+unfolding spelling
+version-alone cs = refl
+
+-- a payload cut behind its version has no command
+pub emptied : (bytes : List ℕ) → bytes ≡ spelling (told bytes) → commands_of (take 1 bytes) ≡ Ok []
+emptied bytes is = ap (λ b. commands_of (take 1 b)) is ∙ ap commands_of (version-alone (told bytes)) ∙ commands_again [] tt

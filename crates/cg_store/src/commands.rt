@@ -56,6 +56,17 @@ fn put_text(bytes: &mut Vec<u8>, room: &mut Vec<u8>, command: &Command) -> Resul
     Ok(())
 }
 
+// Removes the commands of a payload: the version is left.
+fn keep_version(bytes: &mut Vec<u8>)
+    requires { IsText bytes.old.items }
+    ensures text { IsText bytes.new.items }
+    ensures told { told bytes.new.items ≡ [] }
+{
+    // The call only brings the contract of `spelling_of` into scope.
+    let _text = spelling_of(bytes.as_slice());
+    bytes.truncate(1);
+}
+
 impl Commands {
     /// Encodes these commands, in one allocation of the size of the payload.
     pub fn new(alloc: Global, commands: &[Command]) -> Result<Self, AllocError>
@@ -96,6 +107,14 @@ impl Commands {
         }
         self.push(room, command)?;
         Ok(true)
+    }
+
+    /// Removes all commands. The memory stays for the next ones.
+    pub(crate) fn clear(&mut self)
+        ensures { self.new ≡ [] }
+    {
+        keep_version(&mut self.bytes);
+        self.len = 0;
     }
 
     /// Returns the number of commands, in constant time.

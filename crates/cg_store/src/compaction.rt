@@ -1,6 +1,7 @@
 //! A compaction: what it keeps from call to call.
 ghost use Rattle.std.specs.Prelude.{◌≡◌};
 
+use crate::commands::Commands;
 use crate::snapshot_frames::SnapshotFrames;
 use cg_fold::Durable;
 use cg_log::Cursor;
@@ -33,6 +34,8 @@ pub(crate) struct Writing {
     pub(crate) cut: Cut,
     /// The commands that are left to write.
     pub(crate) frames: SnapshotFrames,
+    /// The payload of the last frame: memory for the next.
+    pub(crate) text: Commands,
 }
 
 /// Phase of a compaction, with what that phase keeps.

@@ -77,7 +77,6 @@ fn fill(
 /// The commands of a snapshot that are left. Contracts see them in order.
 #[derive(Drop)]
 pub(crate) struct SnapshotFrames {
-    alloc: Global,
     snapshot: Snapshot,
     // The command that did not fit the last frame.
     ahead: Option<Command>,
@@ -102,27 +101,20 @@ impl SnapshotFrames {
     {
         let snapshot = Snapshot::new(alloc, durable)?;
         Ok(SnapshotFrames {
-            alloc,
             snapshot,
             ahead: None,
             room: Vec::new(alloc),
         })
     }
 
-    /// Removes as many commands as fit one frame, and returns them as its payload; `None` if there are no more. If an
-    /// allocation fails, some of them may be gone.
-    pub(crate) fn next(&mut self) -> Result<Option<Commands>, AllocError>
-        ensures { IfOk result (λ o. MatchOption o
-            ((self.old ≡ []) × (self.new ≡ []))
-            (λ commands. IsNextFrame commands self.old self.new)) }
+    /// Moves as many commands as fit one frame to a payload, in place of what that has. Returns `false` if there are no
+    /// more. If an allocation fails, some of them may be gone.
+    pub(crate) fn next(&mut self, text: &mut Commands) -> Result<bool, AllocError>
+        ensures next { IfOk result (λ is. is ≡ true → IsNextFrame text.new self.old self.new) }
+        ensures none { IfOk result (λ is. is ≡ false → (self.old ≡ []) × (self.new ≡ [])) }
     {
-        let mut text = Commands::new(self.alloc, &[])?;
-        fill(
-            &mut text,
-            &mut self.room,
-            &mut self.ahead,
-            &mut self.snapshot,
-        )?;
-        Ok(if text.len() == 0 { None } else { Some(text) })
+        text.clear();
+        fill(text, &mut self.room, &mut self.ahead, &mut self.snapshot)?;
+        Ok(text.len() > 0)
     }
 }

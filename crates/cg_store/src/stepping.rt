@@ -3,6 +3,7 @@ ghost use Rattle.std.specs.Prelude.{◌≡◌, ◌≢◌, ◌⊎◌, ℕ, ◌+�
 ghost use Rattle.std.specs.Option.{ForSome};
 ghost use Rattle.cg_disk.specs.Disk.{Counts, LeavesOnly, Stays};
 ghost use Rattle.cg_fold.specs.Durable.{State};
+ghost use Rattle.cg_fold.specs.Snapshot.{snapshot_of};
 ghost use Rattle.cg_log.specs.Carried.{Carries, Content, tails};
 ghost use Rattle.cg_log.specs.Free.{IsLeastFree, NoneIsFree, is_among};
 ghost use Rattle.cg_log.specs.Log.{IsUnchanged, LogHas, disk_of, end_of, fresh_end_of, fresh_of, has_failed, number_of, room_of, root_of, taken_of};
@@ -16,6 +17,7 @@ ghost use Rattle.cg_store.specs.Carried.{Carries as CarriesState, Spell};
 ghost use Rattle.cg_store.specs.Compacting.{Compacts, HasCopied, HaveSameFrames, IsFolding, IsFrameRead, IsTakenFrom, IsWritten, NeedsSegment, cut_in, phase_in, unwritten_in};
 ghost use Rattle.cg_store.specs.Phases.{IsEnd, is_compact_failure, phase_after};
 
+use crate::commands::Commands;
 use crate::compaction::{Compaction, Cut, Reading, Writing};
 use crate::fault::CompactFault;
 use crate::loading::add_commands;
@@ -130,15 +132,39 @@ fn read_frame<D: SectorDisk>(
     }
 }
 
+// Drops what a phase kept, and goes on to the next.
+fn go_on_to(compaction: &mut Compaction, next: Compaction)
+    ensures { compaction.new ≡ next }
+{
+    *compaction = next;
+}
+
+// Lists the commands of what was folded.
+fn writing_of(alloc: Global, reading: Reading) -> Result<Writing, AllocError>
+    ensures frames { IfOk result (λ writing. writing.frames ≡ snapshot_of reading.durable) }
+    ensures cut { IfOk result (λ writing. writing.cut ≡ reading.cut) }
+{
+    let text = Commands::new(alloc, &[])?;
+    let frames = SnapshotFrames::new(alloc, reading.durable)?;
+    Ok(Writing {
+        cut: reading.cut,
+        frames,
+        text,
+    })
+}
+
 // Begins to write the snapshot of what was folded.
 fn begin<D: SectorDisk>(
     alloc: Global,
     log: &mut Log<D>,
-    reading: Reading,
-) -> Result<Writing, AllocError>
-    ensures begun { (has : Content) (number : ℕ) → D.is_honest (disk_of log.old) ≡ true → IsFolding has number [] reading
-        → IfOk result (λ writing. Compacts D.is_honest D.history log.new has number [] (Compaction.Writing writing)) }
-    ensures same_cut { IfOk result (λ writing. writing.cut ≡ reading.cut) }
+    compaction: &mut Compaction,
+) -> Result<(), AllocError>
+    requires phase { phase_in compaction.old ≡ Phase.Reading }
+    ensures begun { (has : Content) (number : ℕ) → D.is_honest (disk_of log.old) ≡ true → Compacts D.is_honest D.history log.old has number [] compaction.old
+        → OnOk result (Compacts D.is_honest D.history log.new has number [] compaction.new) }
+    ensures phase { OnOk result (phase_in compaction.new ≡ Phase.Writing) }
+    ensures same_cut { OnOk result (cut_in compaction.new ≡ cut_in compaction.old) }
+    ensures over { OnErr result (compaction.new ≡ Compaction.Idle) }
     ensures stored { (has : Content) → LogHas D.is_honest D.history D.size log.old has → LogHas D.is_honest D.history D.size log.new has }
     ensures fresh { fresh_of log.new ≡ [] }
     ensures disk { disk_of log.new ≡ disk_of log.old }
@@ -149,11 +175,14 @@ fn begin<D: SectorDisk>(
 {
     // No segment is fresh; the call is here for its contract, which says so of every crash image.
     log.drop_fresh();
-    let frames = SnapshotFrames::new(alloc, reading.durable)?;
-    Ok(Writing {
-        cut: reading.cut,
-        frames,
-    })
+    match mem::replace(compaction, Compaction::Idle) {
+        Compaction::Reading(reading) => {
+            let writing = writing_of(alloc, reading)?;
+            go_on_to(compaction, Compaction::Writing(writing));
+            Ok(())
+        }
+        _ => unreachable!(),
+    }
 }
 
 /// Applies the next frame before the cut to the folded state. Returns `Done` if no frame is left: the writing begins.
@@ -188,19 +217,20 @@ pub(crate) fn read<D: SectorDisk>(
     ensures same_size { D.size (disk_of log.new) ≡ D.size (disk_of log.old) }
     ensures same_honesty { D.is_honest (disk_of log.new) ≡ D.is_honest (disk_of log.old) }
 {
-    match mem::replace(compaction, Compaction::Idle) {
-        Compaction::Reading(mut reading) => match read_frame(alloc, log, &mut reading)? {
-            Progress::More => {
-                *compaction = Compaction::Reading(reading);
-                Ok(Progress::More)
-            }
-            Progress::Done => {
-                let writing = begin(alloc, log, reading)?;
-                *compaction = Compaction::Writing(writing);
-                Ok(Progress::Done)
-            }
-        },
+    let outcome = match compaction {
+        Compaction::Reading(reading) => read_frame(alloc, log, reading),
         _ => unreachable!(),
+    };
+    match outcome {
+        Ok(Progress::More) => Ok(Progress::More),
+        Ok(Progress::Done) => {
+            begin(alloc, log, compaction)?;
+            Ok(Progress::Done)
+        }
+        Err(fault) => {
+            go_on_to(compaction, Compaction::Idle);
+            Err(fault)
+        }
     }
 }
 
@@ -208,6 +238,7 @@ pub(crate) fn read<D: SectorDisk>(
 fn write_frame<D: SectorDisk>(
     log: &mut Log<D>,
     frames: &mut SnapshotFrames,
+    text: &mut Commands,
 ) -> Result<Progress, CompactFault>
     requires serves { has_failed log.old ≡ false }
     ensures written { IfOk result (λ progress. IsWritten progress frames.old frames.new) }
@@ -230,11 +261,11 @@ fn write_frame<D: SectorDisk>(
     ensures same_size { D.size (disk_of log.new) ≡ D.size (disk_of log.old) }
     ensures same_honesty { D.is_honest (disk_of log.new) ≡ D.is_honest (disk_of log.old) }
 {
-    let Some(commands) = frames.next()? else {
+    if !frames.next(text)? {
         return Ok(Progress::Done);
-    };
-    let count = commands.len() as u64;
-    match log.fresh_append(count, commands.as_bytes()) {
+    }
+    let count = text.len() as u64;
+    match log.fresh_append(count, text.as_bytes()) {
         Ok(()) => Ok(Progress::More),
         Err(LogFault::Memory) => Err(CompactFault::Memory),
         Err(LogFault::Device) => Err(CompactFault::Device),
@@ -243,13 +274,6 @@ fn write_frame<D: SectorDisk>(
             unreachable!()
         }
     }
-}
-
-// Drops what a phase kept, and goes on to the next.
-fn go_on_to(compaction: &mut Compaction, next: Compaction)
-    ensures { compaction.new ≡ next }
-{
-    *compaction = next;
 }
 
 /// Writes the next frame of the snapshot. Returns `Done` if no command is left: the switch comes next. A fault frees
@@ -286,7 +310,9 @@ pub(crate) fn write<D: SectorDisk>(
     ensures same_honesty { D.is_honest (disk_of log.new) ≡ D.is_honest (disk_of log.old) }
 {
     let (outcome, cut) = match compaction {
-        Compaction::Writing(writing) => (write_frame(log, &mut writing.frames), writing.cut),
+        Compaction::Writing(Writing { cut, frames, text }) => {
+            (write_frame(log, frames, text), *cut)
+        }
         _ => unreachable!(),
     };
     match outcome {

@@ -15,7 +15,7 @@ pub returns-in-Ok-More-clause-compacts : goal.returns-in-Ok-More-clause-compacts
 returns-in-Ok-More-clause-compacts g c has number left knows =
     let disk = g.D.SectorDisk in
     let log = c.args.log.now in
-    let writing = c.in-Writing.writing in
+    let writing = c.in-Writing.field-0 in
     let known = subst (λ (k : Compaction). Compacts disk.is_honest disk.history log has number left k) c.in-Writing.is knows in
     let copied = rw c.in-Ok-More.is at c.write_frame.ensures.copied in
     (known.0, known.1, HasWritten-copied disk.is_honest disk.history log c.write_frame.new.log has writing.cut writing.frames c.write_frame.new.frames copied known.2)
@@ -25,7 +25,7 @@ returns-in-Ok-Done-clause-compacts g c has number left knows =
     let disk = g.D.SectorDisk in
     let log = c.args.log.now in
     let new = c.write_frame.new.log in
-    let writing = c.in-Writing.writing in
+    let writing = c.in-Writing.field-0 in
     let known = subst (λ (k : Compaction). Compacts disk.is_honest disk.history log has number left k) c.in-Writing.is knows in
     let copied = rw c.in-Ok-Done.is at c.write_frame.ensures.copied in
     let written = HasWritten-copied disk.is_honest disk.history log new has writing.cut writing.frames c.write_frame.new.frames copied known.2 in
