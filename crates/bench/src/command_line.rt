@@ -37,6 +37,24 @@ fn file<'a>(alloc: Global) -> Arg<'a> {
     )
 }
 
+// An argument with these words, of which none or one is given.
+fn part<'a>(alloc: Global, names: &'a [&'a str]) -> Arg<'a> {
+    Arg::new(alloc, "PART")
+        .value_parser(names)
+        .help("One part, run once, for its peak of memory")
+}
+
+// Adds a subcommand. The call owns all that it drops where memory is refused, so that its caller has one way out.
+fn with<'a>(
+    command: Command<'a>,
+    subcommand: Result<Command<'a>, AllocError>,
+) -> Result<Command<'a>, AllocError> {
+    match subcommand {
+        Ok(subcommand) => command.subcommand(subcommand),
+        Err(error) => Err(error),
+    }
+}
+
 fn frames<'a>(alloc: Global) -> Result<Command<'a>, AllocError> {
     Command::new(alloc, "frames")
         .about("Frames appended per second, beside a plain program")
@@ -44,50 +62,50 @@ fn frames<'a>(alloc: Global) -> Result<Command<'a>, AllocError> {
 }
 
 fn fold<'a>(alloc: Global) -> Result<Command<'a>, AllocError> {
-    let part = Arg::new(alloc, "PART")
-        .value_parser(NAMES.as_slice())
-        .help("One part, run once, for its peak of memory");
     Command::new(alloc, "fold")
         .about("The durable state: apply, snapshot, load and step")
-        .arg(part)
+        .arg(part(alloc, NAMES.as_slice()))
 }
 
 fn load<'a>(alloc: Global) -> Result<Command<'a>, AllocError> {
-    let part = Arg::new(alloc, "PART")
-        .value_parser(once::NAMES.as_slice())
-        .help("One part, run once, for its peak of memory");
-    Command::new(alloc, "load")
+    let load = Command::new(alloc, "load")
         .about("Logs loaded, beside a plain read, and appends that roll")
-        .arg(file(alloc))?
-        .arg(part)
+        .arg(file(alloc))?;
+    load.arg(part(alloc, once::NAMES.as_slice()))
 }
 
 fn compact<'a>(alloc: Global) -> Result<Command<'a>, AllocError> {
-    let part = Arg::new(alloc, "PART")
-        .value_parser(compact_once::NAMES.as_slice())
-        .help("One part, run once, for its peak of memory");
-    Command::new(alloc, "compact")
+    let compact = Command::new(alloc, "compact")
         .about("A log compacted, beside a plain copy, and beside commits")
-        .arg(file(alloc))?
-        .arg(part)
+        .arg(file(alloc))?;
+    compact.arg(part(alloc, compact_once::NAMES.as_slice()))
+}
+
+fn desk_commits<'a>(alloc: Global) -> Result<Command<'a>, AllocError> {
+    Command::new(alloc, "commits")
+        .about("Commits per second, beside the disk alone")
+        .arg(file(alloc))
+}
+
+fn desk_settles<'a>(alloc: Global) -> Command<'a> {
+    Command::new(alloc, "settles").about(
+        "The settling of a batch, by the replies that leave and those that stay",
+    )
+}
+
+fn desk_requests<'a>(alloc: Global) -> Command<'a> {
+    Command::new(alloc, "requests").about(
+        "Requests per second, by the calls whose replies are held",
+    )
 }
 
 fn desk<'a>(alloc: Global) -> Result<Command<'a>, AllocError> {
-    let commits = Command::new(alloc, "commits")
-        .about("Commits per second, beside the disk alone")
-        .arg(file(alloc))?;
-    let settles = Command::new(alloc, "settles").about(
-        "The settling of a batch, by the replies that leave and those that stay",
-    );
-    let requests = Command::new(alloc, "requests").about(
-        "Requests per second, by the calls whose replies are held",
-    );
-    Command::new(alloc, "desk")
+    let desk = Command::new(alloc, "desk")
         .about("The desk with its store")
-        .subcommand_required(true)
-        .subcommand(commits)?
-        .subcommand(settles)?
-        .subcommand(requests)
+        .subcommand_required(true);
+    let desk = with(desk, desk_commits(alloc))?;
+    let desk = with(desk, Ok(desk_settles(alloc)))?;
+    with(desk, Ok(desk_requests(alloc)))
 }
 
 fn groups<'a>(alloc: Global) -> Command<'a> {
@@ -98,32 +116,18 @@ fn lines<'a>(alloc: Global) -> Command<'a> {
     Command::new(alloc, "lines").about("Bytes of lines read and printed per second")
 }
 
-// Adds the benchmarks of frames, groups and the durable state.
-fn with_first<'a>(alloc: Global, bench: Command<'a>) -> Result<Command<'a>, AllocError> {
-    bench
-        .subcommand(frames(alloc)?)?
-        .subcommand(groups(alloc))?
-        .subcommand(fold(alloc)?)
-}
-
-// Adds those of the desk and of lines.
-fn with_desk<'a>(alloc: Global, bench: Command<'a>) -> Result<Command<'a>, AllocError> {
-    bench.subcommand(desk(alloc)?)?.subcommand(lines(alloc))
-}
-
-// Adds those of a whole log.
-fn with_log<'a>(alloc: Global, bench: Command<'a>) -> Result<Command<'a>, AllocError> {
-    bench.subcommand(load(alloc)?)?.subcommand(compact(alloc)?)
-}
-
 /// Describes the command line.
 pub fn command<'a>(alloc: Global) -> Result<Command<'a>, AllocError> {
     let bench = Command::new(alloc, "bench")
         .about("Measures one part of the coordinator, and prints what it took")
         .subcommand_required(true);
-    let bench = with_first(alloc, bench)?;
-    let bench = with_desk(alloc, bench)?;
-    with_log(alloc, bench)
+    let bench = with(bench, frames(alloc))?;
+    let bench = with(bench, Ok(groups(alloc)))?;
+    let bench = with(bench, fold(alloc))?;
+    let bench = with(bench, desk(alloc))?;
+    let bench = with(bench, Ok(lines(alloc)))?;
+    let bench = with(bench, load(alloc))?;
+    with(bench, compact(alloc))
 }
 
 fn desk_part<'a>(matches: &ArgMatches<'a>) -> Option<DeskPart<'a>> {

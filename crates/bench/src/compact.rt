@@ -1,4 +1,5 @@
-//! A compaction of a log of 150 full segments: beside a plain copy of as many bytes, and while commits go on.
+//! A compaction of a log of 150 full segments: beside plain copies of the log and of as many bytes as it moves, and while
+//! commits go on.
 mod full_log;
 pub mod once;
 mod plain_copy;
@@ -10,7 +11,7 @@ use anyhow::Result;
 use cg_disk::{FileDisk, SectorDisk};
 use cg_gate::{FIRST_SEGMENT_SECTOR, SEGMENT_SECTORS};
 use cg_store::Store;
-use full_log::{FRAMES, Opened, fill, open};
+use full_log::{FRAMES, Share, TENTH, THREE_TENTHS, fill, open_store};
 use plain_copy::copy;
 use std::alloc::Global;
 use std::fs;
@@ -29,6 +30,9 @@ const ROUNDS: u32 = 4;
 #[derive(Drop)]
 struct Alone {
     compactions: Tally,
+    // Copies that read what a compaction reads and write what it writes.
+    moves: Tally,
+    // Copies of the log.
     copies: Tally,
     steps: Steps,
 }
@@ -37,6 +41,7 @@ impl Alone {
     fn new(alloc: Global) -> Alone {
         Alone {
             compactions: Tally::new(alloc),
+            moves: Tally::new(alloc),
             copies: Tally::new(alloc),
             steps: Steps::new(),
         }
@@ -44,11 +49,7 @@ impl Alone {
 
     // Times a compaction of the log in the file. Returns the frames of its snapshot.
     fn compact<R: Clock + Files>(&mut self, rt: &R, alloc: Global, path: &str) -> Result<u64> {
-        let Opened {
-            mut store,
-            number: _number,
-            durable: _durable,
-        } = open(rt, alloc, path)?;
+        let mut store = open_store(rt, alloc, path)?;
         self.compact_store(rt, &mut store)
     }
 
@@ -65,35 +66,41 @@ impl Alone {
         Ok(steps.written())
     }
 
-    // Fills the log and compacts it, and copies as many bytes before and after.
+    // Copies what a compaction moves, and then the log.
+    fn copy<R: Clock + Files>(
+        &mut self,
+        rt: &R,
+        alloc: Global,
+        path: &str,
+        plain_path: &str,
+        frames: u64,
+    ) -> Result<()> {
+        copy(rt, alloc, path, plain_path, FRAMES, frames, &mut self.moves)?;
+        copy(
+            rt,
+            alloc,
+            path,
+            plain_path,
+            FRAMES,
+            FRAMES,
+            &mut self.copies,
+        )
+    }
+
+    // Fills the log and compacts it, before and after two plain copies of each kind.
     fn round<R: Clock + Files>(
         &mut self,
         rt: &R,
         alloc: Global,
         path: &str,
         plain_path: &str,
+        share: Share,
     ) -> Result<u64> {
-        fill(rt, alloc, path)?;
+        fill(rt, alloc, path, share)?;
         let frames = self.compact(rt, alloc, path)?;
-        copy(
-            rt,
-            alloc,
-            path,
-            plain_path,
-            FRAMES,
-            frames,
-            &mut self.copies,
-        )?;
-        copy(
-            rt,
-            alloc,
-            path,
-            plain_path,
-            FRAMES,
-            frames,
-            &mut self.copies,
-        )?;
-        fill(rt, alloc, path)?;
+        self.copy(rt, alloc, path, plain_path, frames)?;
+        self.copy(rt, alloc, path, plain_path, frames)?;
+        fill(rt, alloc, path, share)?;
         self.compact(rt, alloc, path)
     }
 }
@@ -110,23 +117,32 @@ fn print_ratio<R: Print>(rt: &R, what: &str, number: u64, of: u64) -> Result<()>
 fn report_alone<R: Print>(rt: &R, frames: u64, alone: Alone) -> Result<()> {
     let Alone {
         compactions,
+        moves,
         copies,
         steps,
     } = alone;
     let compaction = compactions.median();
+    let same_moves = moves.median();
     let copy = copies.median();
     let longest = steps.longest();
     println!(rt; "{FRAMES} segments, a snapshot of {frames} frames, alone")?;
     println!(rt;
-        "  a compaction: {} MiB of the log a second, the plain copy: {}",
+        "  MiB of the log a second: a compaction {}, a copy of the log {}, a copy that moves as many bytes {}",
         mebibytes(&compaction),
-        mebibytes(&copy)
+        mebibytes(&copy),
+        mebibytes(&same_moves)
     )?;
     println!(rt; "  the longest step: {longest} ns")?;
     print_ratio(
         rt,
-        "the plain copy's time by the compaction's",
+        "the time of the log's copy by the compaction's",
         copy.nanoseconds(),
+        compaction.nanoseconds(),
+    )?;
+    print_ratio(
+        rt,
+        "that of the copy that moves as many bytes",
+        same_moves.nanoseconds(),
         compaction.nanoseconds(),
     )
 }
@@ -141,6 +157,7 @@ fn measure_alone<R: Clock + Files + Print>(
     alloc: Global,
     path: &str,
     plain_path: &str,
+    share: Share,
 ) -> Result<()> {
     let mut alone = Alone::new(alloc);
     let mut frames = 0;
@@ -148,7 +165,7 @@ fn measure_alone<R: Clock + Files + Print>(
         if round == 1 {
             alone = Alone::new(alloc);
         }
-        frames = alone.round(rt, alloc, path, plain_path)?;
+        frames = alone.round(rt, alloc, path, plain_path, share)?;
     }
     report_alone(rt, frames, alone)
 }
@@ -206,7 +223,8 @@ pub fn measure<R: Clock + Files + Print + Alloc<A = Global>>(rt: &R, path: &str)
     let plain_path = format!(in alloc; "{path}.plain")?;
     drop(FileDisk::open(rt, path, Some(DISK_SECTORS))?);
     drop(FileDisk::open(rt, &plain_path, Some(DISK_SECTORS))?);
-    measure_alone(rt, alloc, path, &plain_path)?;
+    measure_alone(rt, alloc, path, &plain_path, THREE_TENTHS)?;
+    measure_alone(rt, alloc, path, &plain_path, TENTH)?;
     for commits in COMMITS {
         measure_turns(rt, alloc, path, commits)?;
     }

@@ -15,8 +15,18 @@ use std::rt::Files;
 /// Frames of the log, each of which fills a segment.
 pub const FRAMES: u64 = 150;
 
-/// Groups of the log: each command commits to the next.
-const GROUPS: u64 = 60;
+/// How much of the log is the state: how many groups it has. Each of the 600 commands commits to the next group, so the last
+/// command of each group is the state.
+#[derive(Clone, Copy)]
+pub struct Share {
+    groups: u64,
+}
+
+/// The state is three tenths of the log: with its snapshot and the cut it takes 196 of the 200 segments that a log may have.
+pub const THREE_TENTHS: Share = Share { groups: 180 };
+
+/// The state is a tenth of the log.
+pub const TENTH: Share = Share { groups: 60 };
 
 /// Commits of a frame.
 const FRAME_COMMITS: u64 = 4;
@@ -28,7 +38,7 @@ const PARTITIONS: u32 = 64;
 const METADATA_BYTES: usize = 4_073;
 
 // Makes the commit with this number: all partitions of the next group.
-fn commit(alloc: Global, number: u64) -> Result<Command> {
+fn commit(alloc: Global, share: Share, number: u64) -> Result<Command> {
     let mut entries = Vec::new(alloc);
     for index in 0..PARTITIONS {
         entries.push(Entry {
@@ -38,15 +48,19 @@ fn commit(alloc: Global, number: u64) -> Result<Command> {
             metadata: metadata(alloc, 0, METADATA_BYTES)?,
         })?;
     }
-    committed(alloc, group_id(alloc, number % GROUPS)?, entries)
+    committed(
+        alloc,
+        group_id(alloc, number.checked_rem(share.groups).unwrap_or(0))?,
+        entries,
+    )
 }
 
 /// Makes the batch with this number, which fills a frame.
-pub fn batch(alloc: Global, number: u64, first: u64) -> Result<Batch> {
+pub fn batch(alloc: Global, share: Share, number: u64, first: u64) -> Result<Batch> {
     let mut commands = Vec::new(alloc);
     for index in 0..FRAME_COMMITS {
         let number = number.wrapping_mul(FRAME_COMMITS).wrapping_add(index);
-        commands.push(commit(alloc, number)?)?;
+        commands.push(commit(alloc, share, number)?)?;
     }
     match Batch::new(first, Commands::new(alloc, &commands)?) {
         Ok(batch) => Ok(batch),
@@ -62,16 +76,21 @@ pub fn append<D: SectorDisk>(store: &mut Store<D>, batch: Batch) -> Result<()> {
     }
 }
 
-/// Formats the file and fills the segments.
-pub fn fill<R: Files>(rt: &R, alloc: Global, path: &str) -> Result<()> {
-    let mut store = opened(alloc, FileDisk::open(rt, path, None)?)?;
-    fill_store(alloc, &mut store)
+/// Formats the file and fills its segments.
+pub fn fill<R: Files>(rt: &R, alloc: Global, path: &str, share: Share) -> Result<()> {
+    let disk = FileDisk::open(rt, path, None)?;
+    fill_disk(alloc, disk, share)
 }
 
-fn fill_store<D: SectorDisk>(alloc: Global, store: &mut Store<D>) -> Result<()> {
+fn fill_disk<D: SectorDisk + Drop>(alloc: Global, disk: D, share: Share) -> Result<()> {
+    let mut store = opened(alloc, disk)?;
+    fill_store(alloc, &mut store, share)
+}
+
+fn fill_store<D: SectorDisk>(alloc: Global, store: &mut Store<D>, share: Share) -> Result<()> {
     for number in 0..FRAMES {
         let first = store.front().wrapping_add(1);
-        append(store, batch(alloc, number, first)?)?;
+        append(store, batch(alloc, share, number, first)?)?;
     }
     Ok(())
 }
@@ -93,6 +112,12 @@ pub fn open<R: Files>(rt: &R, alloc: Global, path: &str) -> Result<Opened<FileDi
         }),
         Err((fault, _)) => Err(fault.into()),
     }
+}
+
+/// Opens the store in the file, and drops the state that it found.
+pub fn open_store<R: Files>(rt: &R, alloc: Global, path: &str) -> Result<Store<FileDisk<R::File>>> {
+    let Opened { store, .. } = open(rt, alloc, path)?;
+    Ok(store)
 }
 
 /// Makes a desk that serves what a store found.

@@ -1,6 +1,6 @@
 //! One compaction alone, so that the peak memory of the process is that of the run.
 use crate::compact::DISK_SECTORS;
-use crate::compact::full_log::{Opened, fill, open, serve};
+use crate::compact::full_log::{Opened, TENTH, fill, open, serve};
 use crate::compact::turns::Turns;
 use anyhow::Result;
 use cg_disk::{FileDisk, SectorDisk};
@@ -97,7 +97,7 @@ pub fn run<R: Clock + Files + Print + Alloc<A = Global>>(
     match part {
         CompactPart::Fill => {
             drop(FileDisk::open(rt, path, Some(DISK_SECTORS))?);
-            fill(rt, rt.alloc(), path)
+            fill(rt, rt.alloc(), path, TENTH)
         }
         CompactPart::State => state(rt, path),
         CompactPart::Run => compact(rt, path),

@@ -1,4 +1,4 @@
-//! A plain copy of as many bytes as a compaction moves: the program that it is compared with.
+//! A plain copy of a file: the program that a compaction is compared with.
 use crate::tally::Tally;
 use anyhow::Result;
 use cg_disk::SECTOR_BYTES;

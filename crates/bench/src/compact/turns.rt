@@ -1,5 +1,5 @@
 //! Commits with a compaction step after each batch, and without one.
-use crate::compact::full_log::{FRAMES, Opened, append, batch, fill, open, serve};
+use crate::compact::full_log::{FRAMES, Opened, TENTH, append, batch, fill, open, serve};
 use crate::compact::steps::Steps;
 use crate::desk::batch::commit_batch;
 use crate::desk::scene::add_commits;
@@ -126,7 +126,7 @@ impl Turns {
         store: &mut Store<D>,
     ) -> Result<()> {
         let first = store.front().wrapping_add(1);
-        let batch = batch(alloc, FRAMES, first)?;
+        let batch = batch(alloc, TENTH, FRAMES, first)?;
         let start = Instant::now(rt)?;
         append(store, batch)?;
         self.appends.add(rt, start, 1)
@@ -140,7 +140,7 @@ impl Turns {
         path: &str,
         commits: usize,
     ) -> Result<()> {
-        fill(rt, alloc, path)?;
+        fill(rt, alloc, path, TENTH)?;
         let Opened {
             mut store,
             number,
