@@ -5,10 +5,11 @@
 # prose: looks for phrases that docs and comments do not use.
 # test: the whole gate.
 # mutants [CRATE ..]: tries every edit that the prover must refuse, over kept work.
-.PHONY: demo sim try check prose test mutants
+# dear [CRATE ..]: prints the functions over which the prover took longest in the last checks.
+.PHONY: demo sim try check prose test mutants dear
 
-# The words after `check` and `mutants` are names of crates.
-ifneq (,$(filter check mutants,$(firstword $(MAKECMDGOALS))))
+# The words after `check`, `mutants` and `dear` are names of crates.
+ifneq (,$(filter check mutants dear,$(firstword $(MAKECMDGOALS))))
 crates := $(wordlist 2,$(words $(MAKECMDGOALS)),$(MAKECMDGOALS))
 .PHONY: $(crates)
 $(crates):
@@ -35,3 +36,6 @@ test:
 
 mutants:
 	@python3 scripts/gate mutants $(crates)
+
+dear:
+	@python3 scripts/gate dear $(crates)

@@ -7,6 +7,7 @@
   gate prose              looks for phrases that docs and comments do not use, and for files without a first line on them
   gate mutants [CRATE ..] tries every edit of the crates (all by default) over kept work; goes on where it was stopped;
                           the last line is 'N refused, M not refused'
+  gate dear CRATE ..      prints the functions of these crates over which the last checks took longest
 """
 import os
 import shutil
@@ -18,6 +19,7 @@ from collections import Counter
 
 import lanes
 from cases import run_cases
+from dear import seconds_of
 from edits import edits_of, key_of, try_edits, unfit_edits
 from kit import KEPT, crates_of, processors, rt, rtlib
 from lanes import Task
@@ -25,6 +27,7 @@ from proofs import prove, prove_tests, run_program
 from prose import findings
 
 EDITS_A_TASK = 32
+DEAREST = 20
 BEGUN = time.time()
 
 
@@ -166,6 +169,15 @@ def mutants(names):
     return 1 if not_refused else 0
 
 
+def dear(names):
+    for crate in chosen_of(crates_of(os.getcwd()), names)[0]:
+        seconds = seconds_of(crate)
+        print(f"{crate.name}: {len(seconds)} functions, {sum(seconds.values()):.0f} s")
+        for name, time_taken in seconds.most_common(DEAREST):
+            print(f"{time_taken:8.1f} {name}")
+    return 0
+
+
 def test(root):
     """The gate itself, in a copy of what git would commit, so that nothing which an earlier run left is used."""
     listed = subprocess.run(["git", "ls-files", "-z", "-co", "--exclude-standard"], capture_output=True, check=True).stdout
@@ -245,6 +257,8 @@ def main(words):
         return check(words[1:])
     if words[:1] == ["mutants"]:
         return mutants(words[1:])
+    if words[:1] == ["dear"]:
+        return dear(words[1:])
     print(__doc__, file=sys.stderr)
     return 2
 
