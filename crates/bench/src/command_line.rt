@@ -44,7 +44,7 @@ fn part<'a>(alloc: Global, names: &'a [&'a str]) -> Arg<'a> {
         .help("One part, run once, for its peak of memory")
 }
 
-// Adds a subcommand. The call owns all that it drops where memory is refused, so that its caller has one way out.
+// Adds a subcommand. It drops both if an allocation fails, so its caller has one way out.
 fn with<'a>(
     command: Command<'a>,
     subcommand: Result<Command<'a>, AllocError>,
