@@ -116,7 +116,11 @@ pub fn open<R: Files>(rt: &R, alloc: Global, path: &str) -> Result<Opened<FileDi
 
 /// Opens the store in the file, and drops the state that it found.
 pub fn open_store<R: Files>(rt: &R, alloc: Global, path: &str) -> Result<Store<FileDisk<R::File>>> {
-    let Opened { store, .. } = open(rt, alloc, path)?;
+    let Opened {
+        store,
+        number: _number,
+        durable: _durable,
+    } = open(rt, alloc, path)?;
     Ok(store)
 }
 
