@@ -7,7 +7,7 @@
   gate prose              looks for phrases that docs and comments do not use, and for files without a first line on them
   gate mutants [CRATE ..] tries every edit of the crates (all by default) over kept work; goes on where it was stopped;
                           the last line is 'N refused, M not refused'
-  gate dear CRATE ..      prints the functions of these crates over which the last checks took longest
+  gate dear [CRATE ..]    prints the functions of the crates (all by default) over which the last checks took longest
 """
 import os
 import shutil
@@ -172,7 +172,7 @@ def mutants(names):
 def dear(names):
     for crate in chosen_of(crates_of(os.getcwd()), names)[0]:
         seconds = seconds_of(crate)
-        print(f"{crate.name}: {len(seconds)} functions, {sum(seconds.values()):.0f} s")
+        print(f"{crate.name}: {sum(seconds.values()):.0f} s")
         for name, time_taken in seconds.most_common(DEAREST):
             print(f"{time_taken:8.1f} {name}")
     return 0
