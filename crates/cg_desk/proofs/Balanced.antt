@@ -44,7 +44,7 @@ asked-keeps : (b : Books) (r : Request) (token : ReplyToken) (fresh : List ℕ) 
 asked-keeps b r token fresh now h = events_keep_calls.request b.machine r token fresh now h.made
 
 request-at : (short : Bool) (b : Books) (token : ReplyToken) (e : Event) (now : ℕ) → KeepsCalls b.machine (token ∷ []) e now → IsBalanced b
-    → let a : Answer = if short then record { after = Serving b; out = answer (call_of token) (Refused CoordinatorNotAvailable) ∷ [] } else serving (served b (token ∷ []) e now) in
+    → let a : Answer = if short then record { after = Serving b; out = answer (call_of token) (Refused CoordinatorNotAvailable) 0 ∷ [] } else serving (served b (token ∷ []) e now) in
     IsBalancedAt a.after
 request-at true b token e now keeps h = h
 request-at false b token e now keeps h = served-balanced b (token ∷ []) e now keeps h

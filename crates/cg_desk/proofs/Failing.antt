@@ -6,13 +6,13 @@ use Rattle.std.proofs.lemmas.List.{map-append}
 use Rattle.std.proofs.lemmas.List.Sums.{sum_by-cons}
 use Rattle.cg_request.specs.declared.ticket.Ticket.{Ticket}
 use Rattle.cg_member.specs.Waiting.{waiting_calls}
-use Rattle.cg_desk.specs.Answering.{after_answering, answering, answering_one, refusal, refused, refused_call}
+use Rattle.cg_desk.specs.Answering.{after_answering, answering, answering_one, refusal, refused}
 use Rattle.cg_desk.specs.Books.{Books, failing}
 use Rattle.cg_desk.specs.Held.{calls_of, replies_of}
 use Rattle.cg_desk.specs.Laws.{AreKept, AreRefusedOnce}
 use Rattle.cg_desk.proofs.Sums.{weight_out}
-use Rattle.cg_desk.specs.Outgoings.{answer, ticket_of}
-use Rattle.cg_desk.specs.Owed.{IsOwed, sent}
+use Rattle.cg_desk.specs.Outgoings.{ticket_of}
+use Rattle.cg_desk.specs.Owed.{IsOwed}
 use Rattle.cg_desk.specs.Tokens.{call_of, has_token, without}
 use Rattle.cg_desk.specs.declared.outgoing.Outgoing.{Outgoing}
 use Rattle.cg_desk.specs.declared.token.ReplyToken.{ReplyToken}
@@ -23,15 +23,15 @@ use Rattle.cg_desk.proofs.Weights.{by_tokens, failed-kept}
 -- these replies are refusals with 15
 record Refuses (out : List Outgoing) : Type 0 where
   pub calls : List Ticket
-  pub is : out ≡ map refused_call calls
+  pub is : out ≡ map refusal calls
 
 refuses-both : (a b : List Outgoing) → Refuses a → Refuses b → Refuses (a ++ b)
 refuses-both a b one two = record {
   calls = one.calls ++ two.calls;
-  is = ap (λ (l : List Outgoing). l ++ b) one.is ∙ ap (λ (l : List Outgoing). map refused_call one.calls ++ l) two.is ∙ sym (map-append refused_call one.calls two.calls);
+  is = ap (λ (l : List Outgoing). l ++ b) one.is ∙ ap (λ (l : List Outgoing). map refusal one.calls ++ l) two.is ∙ sym (map-append refusal one.calls two.calls);
 }
 
-refuses-one : (ticket : Ticket) (has : Bool) → Refuses (if has then answer ticket (refusal ticket).1 ∷ [] else [])
+refuses-one : (ticket : Ticket) (has : Bool) → Refuses (if has then refusal ticket ∷ [] else [])
 refuses-one ticket true = record { calls = ticket ∷ []; is = refl }
 refuses-one ticket false = record { calls = []; is = refl }
 
@@ -46,10 +46,10 @@ refuses-rest [] = record { calls = []; is = refl }
 refuses-rest (token ∷ tokens) =
     let rest = refuses-rest tokens in record { calls = call_of token ∷ rest.calls; is = ap (λ (l : List Outgoing). refused token ∷ l) rest.is }
 
-refused-weight : (weight : Ticket → ℕ) (calls : List Ticket) → weight_out weight (map refused_call calls) ≡ sum_by weight calls
+refused-weight : (weight : Ticket → ℕ) (calls : List Ticket) → weight_out weight (map refusal calls) ≡ sum_by weight calls
 refused-weight weight [] = refl
 refused-weight weight (t ∷ calls) =
-    let out = sum_by-cons (λ (o : Outgoing). weight (ticket_of o)) (refused_call t) (map refused_call calls) in
+    let out = sum_by-cons (λ (o : Outgoing). weight (ticket_of o)) (refusal t) (map refusal calls) in
     let one = sum_by-cons weight t calls in
     let rest = refused-weight weight calls in
     omega arith
@@ -74,14 +74,10 @@ by_tokens-once b =
     (refuses-rest (after_answering (map refusal parked) left)))
     (failed-kept b)
 
-sent-refusals : (calls : List Ticket) → map sent (map refusal calls) ≡ map refused_call calls
-sent-refusals [] = refl
-sent-refusals (t ∷ calls) = ap (λ (l : List Outgoing). refused_call t ∷ l) (sent-refusals calls)
-
 -- each token is that of a held reply or of a parked request
 pub by_tokens-order : (b : Books) → IsOwed b → by_tokens b ≡ failing b
 unfolding failing
-by_tokens-order b owed = failed b owed ∙ sent-refusals (calls_of (replies_of b.held) ++ waiting_calls b.machine.groups)
+by_tokens-order b owed = failed b owed
 
 -- no request is pending
 pub none_refused : AreRefusedOnce [] []

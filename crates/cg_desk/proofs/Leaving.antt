@@ -1,5 +1,5 @@
 -- Replies leave in their order.
-use Rattle.std.proofs.Common.{◌≡◌, ℕ, zero, suc, ◌+◌, ◌<◌, ◌≤◌, List, [], ◌∷◌, ◌++◌, length, get_or, map, take, drop, cond, true, false, refl, ap, sym, ◌∙◌, arith, leb, append_assoc, add-one, drop-cons, length-take}
+use Rattle.std.proofs.Common.{◌≡◌, ℕ, zero, suc, ◌+◌, ◌-◌, ◌<◌, ◌≤◌, List, [], ◌∷◌, ◌++◌, length, get_or, map, take, drop, cond, true, false, refl, ap, sym, ◌∙◌, arith, leb, append_assoc, add-one, drop-cons, length-take}
 use Rattle.std.proofs.lemmas.List.{append-nil, get_or-take}
 use Rattle.std.proofs.lemmas.Option.{get_or_from_slice_get, slice_get_within}
 use Rattle.std.proofs.Math.ListN.{drop_of_length-le}
@@ -12,14 +12,16 @@ use Rattle.cg_desk.specs.declared.outgoing.Outgoing.{Outgoing}
 use Rattle.cg_desk.specs.declared.token.ReplyToken.{ReplyToken}
 use Rattle.cg_desk.specs.Answering.{after_answering, answering, answering_one, refusal, refused}
 use Rattle.cg_desk.specs.Books.{Books, Served, letting_go}
-use Rattle.cg_desk.specs.Held.{calls_of, is_waiting, ready, released, replies_of, still_held}
+use Rattle.cg_desk.specs.Held.{calls_of, is_waiting, last_replies, leaving_of, ready, released, still_held}
+use Rattle.cg_desk.specs.Origins.{sent}
+use Rattle.cg_desk.specs.Outgoings.{ticket_of}
 use Rattle.cg_desk.specs.Tokens.{without}
 
 pub answering-nil : (tokens : List ReplyToken) → answering [] tokens ≡ []
 unfolding answering
 answering-nil tokens = refl
 
-pub answering-cons : (r : Ticket × Reply) (rs : List (Ticket × Reply)) (tokens : List ReplyToken) → answering (r ∷ rs) tokens ≡ answering_one r tokens ++ answering rs (without r.0 tokens)
+pub answering-cons : (r : Outgoing) (rs : List Outgoing) (tokens : List ReplyToken) → answering (r ∷ rs) tokens ≡ answering_one r tokens ++ answering rs (without (ticket_of r) tokens)
 unfolding answering
 answering-cons r rs tokens = refl
 
@@ -27,36 +29,36 @@ pub after-nil : (tokens : List ReplyToken) → after_answering [] tokens ≡ tok
 unfolding after_answering
 after-nil tokens = refl
 
-pub after-cons : (r : Ticket × Reply) (rs : List (Ticket × Reply)) (tokens : List ReplyToken) → after_answering (r ∷ rs) tokens ≡ after_answering rs (without r.0 tokens)
+pub after-cons : (r : Outgoing) (rs : List Outgoing) (tokens : List ReplyToken) → after_answering (r ∷ rs) tokens ≡ after_answering rs (without (ticket_of r) tokens)
 unfolding after_answering
 after-cons r rs tokens = refl
 
-pub after-append : (rs qs : List (Ticket × Reply)) (tokens : List ReplyToken) → after_answering (rs ++ qs) tokens ≡ after_answering qs (after_answering rs tokens)
+pub after-append : (rs qs : List Outgoing) (tokens : List ReplyToken) → after_answering (rs ++ qs) tokens ≡ after_answering qs (after_answering rs tokens)
 unfolding after_answering
 after-append [] qs tokens = refl
-after-append (r ∷ rs) qs tokens = after-append rs qs (without r.0 tokens)
+after-append (r ∷ rs) qs tokens = after-append rs qs (without (ticket_of r) tokens)
 
-pub answering-append : (rs qs : List (Ticket × Reply)) (tokens : List ReplyToken) → answering (rs ++ qs) tokens ≡ answering rs tokens ++ answering qs (after_answering rs tokens)
+pub answering-append : (rs qs : List Outgoing) (tokens : List ReplyToken) → answering (rs ++ qs) tokens ≡ answering rs tokens ++ answering qs (after_answering rs tokens)
 unfolding answering after_answering
 answering-append [] qs tokens = refl
 answering-append (r ∷ rs) qs tokens =
-    ap (λ out. answering_one r tokens ++ out) (answering-append rs qs (without r.0 tokens))
-    ∙ sym (append_assoc (answering_one r tokens) (answering rs (without r.0 tokens)) (answering qs (after_answering rs (without r.0 tokens))))
+    ap (λ out. answering_one r tokens ++ out) (answering-append rs qs (without (ticket_of r) tokens))
+    ∙ sym (append_assoc (answering_one r tokens) (answering rs (without (ticket_of r) tokens)) (answering qs (after_answering rs (without (ticket_of r) tokens))))
 
 -- the loop has sent the replies before the remaining ones
-pub record Told (rs : List (Ticket × Reply)) (tokens : List ReplyToken) (out : List Outgoing) (qs : List (Ticket × Reply)) (left : List ReplyToken) (more : List Outgoing) : Type 0 where
+pub record Told (rs : List Outgoing) (tokens : List ReplyToken) (out : List Outgoing) (qs : List Outgoing) (left : List ReplyToken) (more : List Outgoing) : Type 0 where
   pub told : more ++ answering qs left ≡ out ++ answering rs tokens
   pub kept : after_answering qs left ≡ after_answering rs tokens
 
 -- no reply is sent yet
-pub told_here : (rs : List (Ticket × Reply)) (tokens : List ReplyToken) (out : List Outgoing) → Told rs tokens out rs tokens out
+pub told_here : (rs : List Outgoing) (tokens : List ReplyToken) (out : List Outgoing) → Told rs tokens out rs tokens out
 told_here rs tokens out = record { told = refl; kept = refl }
 
-pub told_then : (rs qs ps : List (Ticket × Reply)) (tokens left last : List ReplyToken) (out more most : List Outgoing) → Told rs tokens out qs left more → Told qs left more ps last most → Told rs tokens out ps last most
+pub told_then : (rs qs ps : List Outgoing) (tokens left last : List ReplyToken) (out more most : List Outgoing) → Told rs tokens out qs left more → Told qs left more ps last most → Told rs tokens out ps last most
 told_then rs qs ps tokens left last out more most a b = record { told = b.told ∙ a.told; kept = b.kept ∙ a.kept }
 
 -- the first replies are sent
-pub told_many : (items rs qs : List (Ticket × Reply)) (tokens left : List ReplyToken) (out more : List Outgoing) → items ≡ rs ++ qs → left ≡ after_answering rs tokens → more ≡ out ++ answering rs tokens
+pub told_many : (items rs qs : List Outgoing) (tokens left : List ReplyToken) (out more : List Outgoing) → items ≡ rs ++ qs → left ≡ after_answering rs tokens → more ≡ out ++ answering rs tokens
     → Told items tokens out qs left more
 told_many items rs qs tokens left out more is taken grown = record {
   told =
@@ -68,50 +70,50 @@ told_many items rs qs tokens left out more is taken grown = record {
   kept = ap (after_answering qs) taken ∙ sym (after-append rs qs tokens) ∙ ap (λ l. after_answering l tokens) (sym is);
 }
 
-answering-single : (r : Ticket × Reply) (tokens : List ReplyToken) → answering (r ∷ []) tokens ≡ answering_one r tokens
-answering-single r tokens = answering-cons r [] tokens ∙ ap (λ l. answering_one r tokens ++ l) (answering-nil (without r.0 tokens)) ∙ append-nil (answering_one r tokens)
+answering-single : (r : Outgoing) (tokens : List ReplyToken) → answering (r ∷ []) tokens ≡ answering_one r tokens
+answering-single r tokens = answering-cons r [] tokens ∙ ap (λ l. answering_one r tokens ++ l) (answering-nil (without (ticket_of r) tokens)) ∙ append-nil (answering_one r tokens)
 
-after-single : (r : Ticket × Reply) (tokens : List ReplyToken) → after_answering (r ∷ []) tokens ≡ without r.0 tokens
-after-single r tokens = after-cons r [] tokens ∙ after-nil (without r.0 tokens)
+after-single : (r : Outgoing) (tokens : List ReplyToken) → after_answering (r ∷ []) tokens ≡ without (ticket_of r) tokens
+after-single r tokens = after-cons r [] tokens ∙ after-nil (without (ticket_of r) tokens)
 
 -- the first reply is sent
-pub told_one : (items rs : List (Ticket × Reply)) (r : Ticket × Reply) (tokens left : List ReplyToken) (out more : List Outgoing) → items ≡ r ∷ rs → left ≡ without r.0 tokens → more ≡ out ++ answering_one r tokens
+pub told_one : (items rs : List Outgoing) (r : Outgoing) (tokens left : List ReplyToken) (out more : List Outgoing) → items ≡ r ∷ rs → left ≡ without (ticket_of r) tokens → more ≡ out ++ answering_one r tokens
     → Told items tokens out rs left more
 told_one items rs r tokens left out more is taken grown =
     told_many items (r ∷ []) rs tokens left out more is (taken ∙ sym (after-single r tokens)) (grown ∙ ap (λ l. out ++ l) (sym (answering-single r tokens)))
 
 -- all replies are sent
-pub told_out : (rs : List (Ticket × Reply)) (tokens left : List ReplyToken) (out more : List Outgoing) (qs : List (Ticket × Reply)) → qs ≡ [] → Told rs tokens out qs left more → more ≡ out ++ answering rs tokens
+pub told_out : (rs : List Outgoing) (tokens left : List ReplyToken) (out more : List Outgoing) (qs : List Outgoing) → qs ≡ [] → Told rs tokens out qs left more → more ≡ out ++ answering rs tokens
 told_out rs tokens left out more qs none told =
     sym (append-nil more) ∙ ap (λ l. more ++ l) (sym (answering-nil left)) ∙ ap (λ l. more ++ answering l left) (sym none) ∙ told.told
 
-pub told_tokens : (rs : List (Ticket × Reply)) (tokens left : List ReplyToken) (out more : List Outgoing) (qs : List (Ticket × Reply)) → qs ≡ [] → Told rs tokens out qs left more → left ≡ after_answering rs tokens
+pub told_tokens : (rs : List Outgoing) (tokens left : List ReplyToken) (out more : List Outgoing) (qs : List Outgoing) → qs ≡ [] → Told rs tokens out qs left more → left ≡ after_answering rs tokens
 told_tokens rs tokens left out more qs none told = sym (after-nil left) ∙ ap (λ l. after_answering l left) (sym none) ∙ told.kept
 
 pub front_is : {X : Type 0} (items rest : List X) (x : X) → 0 < length items → x ≡ get_or items 0 x → rest ≡ drop 1 items → items ≡ x ∷ rest
 front_is [] rest x some front behind = absurd (omega arith)
 front_is (y ∷ ys) rest x some front behind = cc
 
-ready-front : (settled : ℕ) (step : HeldStep) (rest : List HeldStep) → step.need ≤ settled → ready settled (step ∷ rest) ≡ suc (ready settled rest)
-ready-front settled step rest passes = ap (λ b. cond b (1 + ready settled rest) 0) (le-leb step.need settled passes) ∙ omega arith
+ready-front : (settled : ℕ) (step : HeldStep) (rest : List HeldStep) → step.origin.need ≤ settled → ready settled (step ∷ rest) ≡ suc (ready settled rest)
+ready-front settled step rest passes = ap (λ b. cond b (1 + ready settled rest) 0) (le-leb step.origin.need settled passes) ∙ omega arith
 
-pub released-front : (settled : ℕ) (step : HeldStep) (rest items : List HeldStep) → items ≡ step ∷ rest → step.need ≤ settled → released settled items ≡ step.replies ++ released settled rest
+pub released-front : (settled : ℕ) (step : HeldStep) (rest items : List HeldStep) → items ≡ step ∷ rest → step.origin.need ≤ settled → released settled items ≡ map (sent step.origin) step.replies ++ released settled rest
 released-front settled step rest items is passes =
-    ap (released settled) is ∙ ap (λ n. replies_of (take n (step ∷ rest))) (ready-front settled step rest passes)
+    ap (released settled) is ∙ ap (λ n. leaving_of (take n (step ∷ rest))) (ready-front settled step rest passes)
 
-pub still-front : (settled : ℕ) (step : HeldStep) (rest items : List HeldStep) → items ≡ step ∷ rest → step.need ≤ settled → still_held settled items ≡ still_held settled rest
+pub still-front : (settled : ℕ) (step : HeldStep) (rest items : List HeldStep) → items ≡ step ∷ rest → step.origin.need ≤ settled → still_held settled items ≡ still_held settled rest
 still-front settled step rest items is passes =
     ap (still_held settled) is ∙ ap (λ n. drop n (step ∷ rest)) (ready-front settled step rest passes)
 
 -- if the first held step has to wait, no reply leaves
-pub ready-none : (settled : ℕ) (step : HeldStep) (items : List HeldStep) → 0 < length items → step ≡ get_or items 0 step → settled < step.need → ready settled items ≡ 0
+pub ready-none : (settled : ℕ) (step : HeldStep) (items : List HeldStep) → 0 < length items → step ≡ get_or items 0 step → settled < step.origin.need → ready settled items ≡ 0
 ready-none settled step [] some front waits = absurd (omega arith)
 ready-none settled step (s ∷ items) some front waits =
-    ap (λ (h : HeldStep). cond (leb h.need settled) (1 + ready settled items) 0) (sym front)
-    ∙ ap (λ b. cond b (1 + ready settled items) 0) (lt-leb step.need settled waits)
+    ap (λ (h : HeldStep). cond (leb h.origin.need settled) (1 + ready settled items) 0) (sym front)
+    ∙ ap (λ b. cond b (1 + ready settled items) 0) (lt-leb step.origin.need settled waits)
 
 pub none-released : (settled : ℕ) (items : List HeldStep) → ready settled items ≡ 0 → released settled items ≡ []
-none-released settled items none = ap (λ n. replies_of (take n items)) none
+none-released settled items none = ap (λ n. leaving_of (take n items)) none
 
 pub all-held : (settled : ℕ) (items : List HeldStep) → ready settled items ≡ 0 → still_held settled items ≡ items
 all-held settled items none = ap (λ n. drop n items) none
@@ -158,9 +160,9 @@ all_refused calls waiting t0 t1 t2 t3 out0 out1 out2 out3 empty o1 k1 o2 k2 k3 o
     ∙ ap (λ t. (answering (map refusal calls) t0 ++ answering (map refusal (take (length t1) waiting)) t1) ++ map refused t) (k3 ∙ k2)
     ∙ ap (λ t. answering (map refusal calls) t0 ++ answering (map refusal (take (length t) waiting)) t ++ map refused (after_answering (map refusal (take (length t) waiting)) t)) k1
 
-pub front_waits : (settled : ℕ) (items : List HeldStep) (next : HeldStep) → 0 < length items → next ≡ get_or items 0 next → is_waiting settled items ≡ nat_lt settled next.need
+pub front_waits : (settled : ℕ) (items : List HeldStep) (next : HeldStep) → 0 < length items → next ≡ get_or items 0 next → is_waiting settled items ≡ nat_lt settled next.origin.need
 front_waits settled [] next some front = absurd (omega arith)
-front_waits settled (x ∷ xs) next some front = ap (λ (h : HeldStep). nat_lt settled h.need) (sym front)
+front_waits settled (x ∷ xs) next some front = ap (λ (h : HeldStep). nat_lt settled h.origin.need) (sym front)
 
 -- if held replies do not wait after more were appended, they did not wait before
 pub was_waiting : (settled : ℕ) (items more : List HeldStep) → is_waiting settled (items ++ more) ≡ false → is_waiting settled items ≡ false
@@ -169,12 +171,33 @@ was_waiting settled (x ∷ xs) more free = free
 
 waiting-ready : (settled : ℕ) (items : List HeldStep) → is_waiting settled items ≡ true → ready settled items ≡ 0
 waiting-ready settled [] waits = refl
-waiting-ready settled (x ∷ xs) waits = ap (λ b. cond b (1 + ready settled xs) 0) (lt-leb x.need settled (ltb-true settled x.need waits))
+waiting-ready settled (x ∷ xs) waits = ap (λ b. cond b (1 + ready settled xs) 0) (lt-leb x.origin.need settled (ltb-true settled x.origin.need waits))
 
 -- if the first held step has to wait, the desk is unchanged and no reply leaves
 pub nothing_leaves : (b : Books) → is_waiting b.settled b.held ≡ true → letting_go b ≡ (let s : Served = record { books = b; out = [] } in s)
 unfolding letting_go answering after_answering
 nothing_leaves b waits =
     let none = waiting-ready b.settled b.held waits in
-    ap (λ (rs : List (Ticket × Reply)). let s : Served = record { books = record b { held = still_held b.settled b.held; tokens = after_answering rs b.tokens }; out = answering rs b.tokens } in s) (none-released b.settled b.held none)
+    ap (λ (rs : List Outgoing). let s : Served = record { books = record b { held = still_held b.settled b.held; tokens = after_answering rs b.tokens }; out = answering rs b.tokens } in s) (none-released b.settled b.held none)
     ∙ ap (λ (hs : List HeldStep). let s : Served = record { books = record b { held = hs }; out = [] } in s) (all-held b.settled b.held none)
+
+-- the replies of the last held step
+last-front : (x y : HeldStep) (ys : List HeldStep) → last_replies (x ∷ y ∷ ys) ≡ last_replies (y ∷ ys)
+unfolding last_replies
+last-front x y ys = refl
+
+pub last-one : (x : HeldStep) → last_replies (x ∷ []) ≡ x.replies
+unfolding last_replies
+last-one x = refl
+
+pub last_none : (items : List HeldStep) → length items ≡ 0 → last_replies items ≡ []
+unfolding last_replies
+last_none [] none = refl
+last_none (x ∷ xs) none = absurd (omega arith)
+
+pub last_is : (items : List HeldStep) (last : HeldStep) → 0 < length items → last ≡ get_or items (length items - 1) last → last_replies items ≡ last.replies
+last_is [] last some is = absurd (omega arith)
+last_is (x ∷ []) last some is = last-one x ∙ ap (λ (h : HeldStep). h.replies) (sym is)
+last_is (x ∷ y ∷ ys) last some is =
+    let behind : length (x ∷ y ∷ ys) - 1 ≡ suc (length (y ∷ ys) - 1) = omega arith in
+    last-front x y ys ∙ last_is (y ∷ ys) last (omega arith) (is ∙ ap (λ i. get_or (x ∷ y ∷ ys) i last) behind)

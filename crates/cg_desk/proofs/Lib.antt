@@ -17,3 +17,4 @@ pub mod CalledEvents
 pub mod Failing
 pub mod Living
 pub mod Balanced
+pub mod Counted

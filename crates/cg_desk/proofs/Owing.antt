@@ -17,20 +17,23 @@ use Rattle.cg_desk.specs.Answering.{after_answering, answering, answering_one, r
 use Rattle.cg_desk.specs.Books.{Books, letting_go, served, settling, stepped}
 use Rattle.cg_desk.specs.Desks.{opened}
 use Rattle.cg_desk.specs.Flights.{Idle}
-use Rattle.cg_desk.specs.Held.{calls_of, holding, ready, released, replies_of, still_held}
+use Rattle.cg_desk.specs.Held.{calls_of, holding, leaving_of, ready, released, replies_of, still_held}
+use Rattle.cg_desk.specs.Origins.{origin_of, own_of, sent}
+use Rattle.cg_desk.specs.Outgoings.{ticket_of}
 use Rattle.cg_desk.proofs.Sums.{weight_of, weight_out}
-use Rattle.cg_desk.specs.Owed.{IsOwed, KeepsCalls, sent, weight_calls}
-use Rattle.cg_desk.specs.Tokens.{call_of, has_token, is_for, without}
+use Rattle.cg_desk.specs.Owed.{IsOwed, KeepsCalls, weight_calls}
+use Rattle.cg_desk.specs.Tokens.{call_of, has_token, is_for, is_ticket, without}
 use Rattle.cg_desk.specs.declared.held.HeldStep.{HeldStep}
+use Rattle.cg_desk.specs.declared.origin.Origin.{Origin}
 use Rattle.cg_desk.specs.declared.outgoing.Outgoing.{Outgoing}
 use Rattle.cg_desk.specs.declared.token.ReplyToken.{ReplyToken}
 use Rattle.cg_desk.proofs.Weights.{by_tokens, one-weight}
 
 -- the weight that is one for this ticket and zero for every other
-abbrev alone : Ticket → Ticket → ℕ
-alone ticket other = cond (nat_eq other.session ticket.session && nat_eq other.number ticket.number) 1 0
+abbrev pub alone : Ticket → Ticket → ℕ
+alone ticket other = cond (is_ticket ticket other) 1 0
 
-alone-self : (ticket : Ticket) → alone ticket ticket ≡ 1
+pub alone-self : (ticket : Ticket) → alone ticket ticket ≡ 1
 alone-self ticket =
     ap (λ b. cond (b && nat_eq ticket.number ticket.number) 1 0) (eq-eqb ticket.session ticket.session refl) ∙ ap (λ b. cond b 1 0) (eq-eqb ticket.number ticket.number refl)
 
@@ -57,34 +60,35 @@ found-at ticket tokens None is some =
     absurd (omega arith)
 found-at ticket tokens (Some at) is some = refl
 
-found : (ticket : Ticket) (tokens : List ReplyToken) → 1 ≤ weight_of (alone ticket) tokens → has_token ticket tokens ≡ true
+pub found : (ticket : Ticket) (tokens : List ReplyToken) → 1 ≤ weight_of (alone ticket) tokens → has_token ticket tokens ≡ true
 unfolding has_token
 found ticket tokens some = found-at ticket tokens (position (is_for ticket) tokens) refl some
 
 -- each of the replies leaves, and the other tokens stay
-record AllLeave (rs : List (Ticket × Reply)) (tokens : List ReplyToken) (rest : (Ticket → ℕ) → ℕ) : Type 0 where
-  gone : answering rs tokens ≡ map sent rs
+record AllLeave (rs : List Outgoing) (tokens : List ReplyToken) (rest : (Ticket → ℕ) → ℕ) : Type 0 where
+  gone : answering rs tokens ≡ rs
   stay : (weight : Ticket → ℕ) → weight_of weight (after_answering rs tokens) ≡ rest weight
 
-all-leave : (rs : List (Ticket × Reply)) (tokens : List ReplyToken) (rest : (Ticket → ℕ) → ℕ)
-    → ((weight : Ticket → ℕ) → weight_of weight tokens ≡ weight_calls weight (calls_of rs) + rest weight) → AllLeave rs tokens rest
+all-leave : (rs : List Outgoing) (tokens : List ReplyToken) (rest : (Ticket → ℕ) → ℕ)
+    → ((weight : Ticket → ℕ) → weight_of weight tokens ≡ weight_out weight rs + rest weight) → AllLeave rs tokens rest
 unfolding answering after_answering
 all-leave [] tokens rest owes = record { gone = refl; stay = λ weight. let all = owes weight in omega arith }
 all-leave (r ∷ rs) tokens rest owes =
-    let own = owes (alone r.0) in
-    let front = sum_by-cons (alone r.0) r.0 (calls_of rs) in
-    let self = alone-self r.0 in
-    let has : has_token r.0 tokens ≡ true = found r.0 tokens (omega arith) in
-    let one : answering_one r tokens ≡ sent r ∷ [] = ap (λ b. let l : List Outgoing = if b then sent r ∷ [] else [] in l) has in
-    let less : (weight : Ticket → ℕ) → weight_of weight (without r.0 tokens) ≡ weight_calls weight (calls_of rs) + rest weight = λ weight.
+    let ticket = ticket_of r in
+    let own = owes (alone ticket) in
+    let front = sum_by-cons (λ (o : Outgoing). alone ticket (ticket_of o)) r rs in
+    let self = alone-self ticket in
+    let has : has_token ticket tokens ≡ true = found ticket tokens (omega arith) in
+    let one : answering_one r tokens ≡ r ∷ [] = ap (λ b. let l : List Outgoing = if b then r ∷ [] else [] in l) has in
+    let less : (weight : Ticket → ℕ) → weight_of weight (without ticket tokens) ≡ weight_out weight rs + rest weight = λ weight.
     let all = owes weight in
     let taken = one-weight weight r tokens in
     let left = ap (weight_out weight) one in
-    let first = sum_by-cons weight r.0 (calls_of rs) in
+    let first = sum_by-cons (λ (o : Outgoing). weight (ticket_of o)) r rs in
     omega arith in
-    let more = all-leave rs (without r.0 tokens) rest less in
+    let more = all-leave rs (without ticket tokens) rest less in
     record {
-      gone = ap (λ l. l ++ answering rs (without r.0 tokens)) one ∙ ap (λ l. sent r ∷ l) more.gone;
+      gone = ap (λ l. l ++ answering rs (without ticket tokens)) one ∙ ap (λ l. r ∷ l) more.gone;
       stay = more.stay;
     }
 
@@ -92,33 +96,54 @@ calls-append : (rs qs : List (Ticket × Reply)) → calls_of (rs ++ qs) ≡ call
 calls-append [] qs = refl
 calls-append (r ∷ rs) qs = ap (λ l. r.0 ∷ l) (calls-append rs qs)
 
+-- replies as they leave have their tickets
+sent-weight : (weight : Ticket → ℕ) (origin : Origin) (rs : List (Ticket × Reply)) → weight_out weight (map (sent origin) rs) ≡ weight_calls weight (calls_of rs)
+sent-weight weight origin [] = refl
+sent-weight weight origin (r ∷ rs) =
+    let one = sum_by-cons (λ (o : Outgoing). weight (ticket_of o)) (sent origin r) (map (sent origin) rs) in
+    let same = sum_by-cons weight r.0 (calls_of rs) in
+    let rest = sent-weight weight origin rs in
+    omega arith
+
+leaving-weight : (weight : Ticket → ℕ) (held : List HeldStep) → weight_out weight (leaving_of held) ≡ weight_calls weight (calls_of (replies_of held))
+leaving-weight weight [] = refl
+leaving-weight weight (h ∷ hs) =
+    let out = sum_by-append (λ (o : Outgoing). weight (ticket_of o)) (map (sent h.origin) h.replies) (leaving_of hs) in
+    let calls = ap (weight_calls weight) (calls-append h.replies (replies_of hs)) in
+    let both = sum_by-append weight (calls_of h.replies) (calls_of (replies_of hs)) in
+    let one = sent-weight weight h.origin h.replies in
+    let rest = leaving-weight weight hs in
+    omega arith
+
 -- held replies are those that leave and those that stay held
 take-drop : {X : Type 0} (n : ℕ) (xs : List X) → xs ≡ take n xs ++ drop n xs
 take-drop n xs = sym (take-append-drop n xs)
 
-split-held : (settled : ℕ) (held : List HeldStep) → replies_of held ≡ released settled held ++ replies_of (still_held settled held)
+split-held : (settled : ℕ) (held : List HeldStep) → replies_of held ≡ replies_of (take (ready settled held) held) ++ replies_of (still_held settled held)
 split-held settled held = ap replies_of (take-drop (ready settled held) held) ∙ flat_map-append (λ (s : HeldStep). s.replies) (take (ready settled held) held) (still_held settled held)
 
 record Goes (c : Books) : Type 0 where
-  gone : (letting_go c).out ≡ map sent (released c.settled c.held)
+  gone : (letting_go c).out ≡ released c.settled c.held
   owed : IsOwed (letting_go c).books
 
 goes : (c : Books) → IsOwed c → Goes c
 unfolding letting_go
 goes c owed =
+    let first : List HeldStep = take (ready c.settled c.held) c.held in
     let rest : (Ticket → ℕ) → ℕ = λ weight. weight_calls weight (calls_of (replies_of (still_held c.settled c.held))) + weight_calls weight (waiting_calls c.machine.groups) in
     let all = all-leave (released c.settled c.held) c.tokens rest (λ weight.
     let total = owed weight in
     let split = ap (λ rs. weight_calls weight (calls_of rs)) (split-held c.settled c.held) in
-    let calls = ap (weight_calls weight) (calls-append (released c.settled c.held) (replies_of (still_held c.settled c.held))) in
-    let both = sum_by-append weight (calls_of (released c.settled c.held)) (calls_of (replies_of (still_held c.settled c.held))) in
+    let calls = ap (weight_calls weight) (calls-append (replies_of first) (replies_of (still_held c.settled c.held))) in
+    let both = sum_by-append weight (calls_of (replies_of first)) (calls_of (replies_of (still_held c.settled c.held))) in
+    let out = leaving-weight weight first in
     omega arith) in
     record { gone = all.gone; owed = all.stay }
 
-held-more : (need : ℕ) (held : List HeldStep) (rs : List (Ticket × Reply)) → replies_of (held ++ holding need rs) ≡ replies_of held ++ rs
-held-more need held [] = flat_map-append (λ (s : HeldStep). s.replies) held []
-held-more need held (r ∷ rs) =
-    let step : HeldStep = record { need = need; replies = r ∷ rs } in
+held-more : (origin : Origin) (held : List HeldStep) (rs : List (Ticket × Reply)) → replies_of (held ++ holding origin rs) ≡ replies_of held ++ rs
+held-more origin held [] = flat_map-append (λ (s : HeldStep). s.replies) held []
+held-more origin held (r ∷ rs) =
+    let step : HeldStep = record { origin = origin; replies = r ∷ rs } in
     flat_map-append (λ (s : HeldStep). s.replies) held (step ∷ []) ∙ ap (λ l. replies_of held ++ l) (append-nil (r ∷ rs))
 
 stepped-owed : (b : Books) (handed : List ReplyToken) (e : Event) (now : ℕ) → IsOwed b → KeepsCalls b.machine handed e now → IsOwed (stepped b (step b.machine e now) handed)
@@ -127,7 +152,7 @@ stepped-owed b handed e now owed keeps weight =
     let before = owed weight in
     let kept = keeps weight in
     let tokens = sum_by-append (λ (t : ReplyToken). weight (call_of t)) b.tokens handed in
-    let held = ap (λ l. weight_calls weight (calls_of l)) (held-more (b.numbered + length (step b.machine e now).effects.commands) b.held rs) in
+    let held = ap (λ l. weight_calls weight (calls_of l)) (held-more (origin_of b.numbered (own_of handed) (step b.machine e now).effects) b.held rs) in
     let calls = ap (weight_calls weight) (calls-append (replies_of b.held) rs) in
     let both = sum_by-append weight (calls_of (replies_of b.held)) (calls_of rs) in
     omega arith
@@ -140,7 +165,7 @@ unfolding served
 owed-served b handed e now owed keeps = (goes (stepped b (step b.machine e now) handed) (stepped-owed b handed e now owed keeps)).owed
 
 pub leave-served : (b : Books) (handed : List ReplyToken) (e : Event) (now : ℕ) → IsOwed b → KeepsCalls b.machine handed e now
-    → (served b handed e now).out ≡ map sent (released b.settled (stepped b (step b.machine e now) handed).held)
+    → (served b handed e now).out ≡ released b.settled (stepped b (step b.machine e now) handed).held
 unfolding served
 leave-served b handed e now owed keeps = (goes (stepped b (step b.machine e now) handed) (stepped-owed b handed e now owed keeps)).gone
 
@@ -148,13 +173,17 @@ pub owed-settled : (b : Books) (count : ℕ) → IsOwed b → IsOwed (settling b
 unfolding settling
 owed-settled b count owed = (goes (let c : Books = record b { settled = b.settled + count; course = Idle } in c) owed).owed
 
-pub leave-settled : (b : Books) (count : ℕ) → IsOwed b → (settling b count).out ≡ map sent (released (b.settled + count) b.held)
+pub leave-settled : (b : Books) (count : ℕ) → IsOwed b → (settling b count).out ≡ released (b.settled + count) b.held
 unfolding settling
 leave-settled b count owed = (goes (let c : Books = record b { settled = b.settled + count; course = Idle } in c) owed).gone
 
-calls-refused : (calls : List Ticket) → calls_of (map refusal calls) ≡ calls
-calls-refused [] = refl
-calls-refused (t ∷ calls) = ap (λ l. t ∷ l) (calls-refused calls)
+refusals-weight : (weight : Ticket → ℕ) (calls : List Ticket) → weight_out weight (map refusal calls) ≡ weight_calls weight calls
+refusals-weight weight [] = refl
+refusals-weight weight (t ∷ calls) =
+    let one = sum_by-cons (λ (o : Outgoing). weight (ticket_of o)) (refusal t) (map refusal calls) in
+    let same = sum_by-cons weight t calls in
+    let rest = refusals-weight weight calls in
+    omega arith
 
 tokens-count : (tokens : List ReplyToken) → weight_of (λ t. 1) tokens ≡ length tokens
 tokens-count [] = refl
@@ -164,18 +193,18 @@ calls-count : (calls : List Ticket) → weight_calls (λ t. 1) calls ≡ length 
 calls-count [] = refl
 calls-count (t ∷ calls) = let one = sum_by-cons (λ (u : Ticket). 1) t calls in let rest = calls-count calls in omega arith
 
-pub failed : (b : Books) → IsOwed b → by_tokens b ≡ map sent (map refusal (calls_of (replies_of b.held) ++ waiting_calls b.machine.groups))
+pub failed : (b : Books) → IsOwed b → by_tokens b ≡ map refusal (calls_of (replies_of b.held) ++ waiting_calls b.machine.groups)
 failed b owed =
     let held = calls_of (replies_of b.held) in
     let waiting = waiting_calls b.machine.groups in
     let answered = map refusal held in
     let left = after_answering answered b.tokens in
-    let first = all-leave answered b.tokens (λ weight. weight_calls weight waiting) (λ weight. let all = owed weight in let calls = ap (weight_calls weight) (calls-refused held) in omega arith) in
+    let first = all-leave answered b.tokens (λ weight. weight_calls weight waiting) (λ weight. let all = owed weight in let calls = refusals-weight weight held in omega arith) in
     let some = first.stay (λ t. 1) in
     let left_count = tokens-count left in
     let waiting_count = calls-count waiting in
     let whole : take (length left) waiting ≡ waiting = (let same : length left ≡ length waiting = omega arith in ap (λ n. take n waiting) same ∙ take-length waiting) in
-    let second = all-leave (map refusal waiting) left (λ weight. 0) (λ weight. let all = first.stay weight in let calls = ap (weight_calls weight) (calls-refused waiting) in omega arith) in
+    let second = all-leave (map refusal waiting) left (λ weight. 0) (λ weight. let all = first.stay weight in let calls = refusals-weight weight waiting in omega arith) in
     let last = after_answering (map refusal waiting) left in
     let none_left = second.stay (λ t. 1) in
     let last_count = tokens-count last in
@@ -184,6 +213,5 @@ failed b owed =
     ∙ ap (λ ts. (answering answered b.tokens ++ answering (map refusal waiting) left) ++ map refused ts) none
     ∙ append-nil (answering answered b.tokens ++ answering (map refusal waiting) left)
     ∙ ap (λ l. l ++ answering (map refusal waiting) left) first.gone
-    ∙ ap (λ l. map sent answered ++ l) second.gone
-    ∙ sym (map-append sent answered (map refusal waiting))
-    ∙ ap (map sent) (sym (map-append refusal held waiting))
+    ∙ ap (λ l. answered ++ l) second.gone
+    ∙ sym (map-append refusal held waiting)

@@ -8,7 +8,6 @@ use Rattle.std.proofs.lemmas.List.Sorted.{IsPermutation-remove, sum_by-IsPermuta
 use Rattle.std.proofs.lemmas.List.Sums.{sum_by-append, sum_by-cons}
 use Rattle.cg_request.specs.declared.event.Event.{Event}
 use Rattle.cg_request.specs.declared.event.Event.TheVariants as event
-use Rattle.cg_member.specs.declared.reply.Reply.{Reply}
 use Rattle.cg_member.specs.declared.reply.Reply.TheVariants.{Refused}
 use Rattle.cg_names.specs.declared.code.Code.TheVariants.{CoordinatorNotAvailable}
 use Rattle.cg_request.specs.declared.ticket.Ticket.{Ticket}
@@ -40,22 +39,22 @@ taken-weight weight tokens ticket at found =
     let one : weight (call_of token) ≡ weight ticket = ap weight call in
     omega arith
 
-one-at : (weight : Ticket → ℕ) (r : Ticket × Reply) (tokens : List ReplyToken) (at : Option ℕ) → position (is_for r.0) tokens ≡ at
-    → weight_out weight (if is_some at then answer r.0 r.1 ∷ [] else []) + weight_of weight (without_place at tokens) ≡ weight_of weight tokens
+one-at : (weight : Ticket → ℕ) (r : Outgoing) (tokens : List ReplyToken) (at : Option ℕ) → position (is_for (ticket_of r)) tokens ≡ at
+    → weight_out weight (if is_some at then r ∷ [] else []) + weight_of weight (without_place at tokens) ≡ weight_of weight tokens
 one-at weight r tokens None missed = omega arith
-one-at weight r tokens (Some at) found = let taken = taken-weight weight tokens r.0 at found in omega arith
+one-at weight r tokens (Some at) found = let taken = taken-weight weight tokens (ticket_of r) at found in omega arith
 
-pub one-weight : (weight : Ticket → ℕ) (r : Ticket × Reply) (tokens : List ReplyToken) → weight_out weight (answering_one r tokens) + weight_of weight (without r.0 tokens) ≡ weight_of weight tokens
+pub one-weight : (weight : Ticket → ℕ) (r : Outgoing) (tokens : List ReplyToken) → weight_out weight (answering_one r tokens) + weight_of weight (without (ticket_of r) tokens) ≡ weight_of weight tokens
 unfolding has_token without
-one-weight weight r tokens = one-at weight r tokens (position (is_for r.0) tokens) refl
+one-weight weight r tokens = one-at weight r tokens (position (is_for (ticket_of r)) tokens) refl
 
-answering-weight : (weight : Ticket → ℕ) (rs : List (Ticket × Reply)) (tokens : List ReplyToken) → weight_out weight (answering rs tokens) + weight_of weight (after_answering rs tokens) ≡ weight_of weight tokens
+answering-weight : (weight : Ticket → ℕ) (rs : List Outgoing) (tokens : List ReplyToken) → weight_out weight (answering rs tokens) + weight_of weight (after_answering rs tokens) ≡ weight_of weight tokens
 unfolding answering after_answering
 answering-weight weight [] tokens = omega arith
 answering-weight weight (r ∷ rs) tokens =
-    let both = sum_by-append (λ (o : Outgoing). weight (ticket_of o)) (answering_one r tokens) (answering rs (without r.0 tokens)) in
+    let both = sum_by-append (λ (o : Outgoing). weight (ticket_of o)) (answering_one r tokens) (answering rs (without (ticket_of r) tokens)) in
     let one = one-weight weight r tokens in
-    let rest = answering-weight weight rs (without r.0 tokens) in
+    let rest = answering-weight weight rs (without (ticket_of r) tokens) in
     omega arith
 
 going-weight : (weight : Ticket → ℕ) (b : Books) → weight_out weight (letting_go b).out + weight_of weight (letting_go b).books.tokens ≡ weight_of weight b.tokens
@@ -85,17 +84,17 @@ refused-weight weight (token ∷ tokens) =
 -- most as many as there are tokens left; then the rest
 abbrev pub by_tokens : Books → List Outgoing
 by_tokens b =
-    let answered : List (Ticket × Reply) = map refusal (calls_of (replies_of b.held)) in
+    let answered : List Outgoing = map refusal (calls_of (replies_of b.held)) in
     let left : List ReplyToken = after_answering answered b.tokens in
-    let waiting : List (Ticket × Reply) = map refusal (take (length left) (waiting_calls b.machine.groups)) in
+    let waiting : List Outgoing = map refusal (take (length left) (waiting_calls b.machine.groups)) in
     answering answered b.tokens ++ answering waiting left ++ map refused (after_answering waiting left)
 
 pub failed-kept : (b : Books) → AreKept b.tokens [] (by_tokens b) []
 failed-kept b weight =
     let f : Outgoing → ℕ = λ (o : Outgoing). weight (ticket_of o) in
-    let answered : List (Ticket × Reply) = map refusal (calls_of (replies_of b.held)) in
+    let answered : List Outgoing = map refusal (calls_of (replies_of b.held)) in
     let left : List ReplyToken = after_answering answered b.tokens in
-    let waiting : List (Ticket × Reply) = map refusal (take (length left) (waiting_calls b.machine.groups)) in
+    let waiting : List Outgoing = map refusal (take (length left) (waiting_calls b.machine.groups)) in
     let last : List ReplyToken = after_answering waiting left in
     let outer = sum_by-append f (answering answered b.tokens ++ answering waiting left) (map refused last) in
     let inner = sum_by-append f (answering answered b.tokens) (answering waiting left) in
@@ -105,7 +104,7 @@ failed-kept b weight =
     omega arith
 
 asked-kept : (short : Bool) (b : Books) (token : ReplyToken) (e : Event) (now : ℕ)
-    → let a : Answer = if short then record { after = Serving b; out = answer (call_of token) (Refused CoordinatorNotAvailable) ∷ [] } else serving (served b (token ∷ []) e now) in
+    → let a : Answer = if short then record { after = Serving b; out = answer (call_of token) (Refused CoordinatorNotAvailable) 0 ∷ [] } else serving (served b (token ∷ []) e now) in
     AreKept b.tokens (token ∷ []) a.out (tokens_of a.after)
 asked-kept true b token e now weight = omega arith
 asked-kept false b token e now weight = served-kept b (token ∷ []) e now weight

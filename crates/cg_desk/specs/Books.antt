@@ -2,15 +2,17 @@
 use Rattle.std.specs.Prelude.{◌≡◌, ◌+◌, ◌-◌, ◌*◌, ℕ, Bool, List, [], ◌++◌, length, map, take, drop, nat_lt, true, false, Option, Some, None}
 use Rattle.cg_member.specs.declared.effects.Effects.{Effects}
 use Rattle.cg_request.specs.declared.event.Event.{Event}
+use Rattle.cg_request.specs.declared.ticket.Ticket.{Ticket}
 use Rattle.cg_group.specs.Machine.{step}
 use Rattle.cg_held.specs.Held.{Machine, Outcome}
 use Rattle.cg_member.specs.Waiting.{waiting_calls}
 use Rattle.cg_record.specs.declared.command.Command.{Command}
 use Rattle.cg_store.specs.declared.batch.Batch.{Batch}
 use Rattle.cg_log.specs.declared.numbers.TheConstants.{COMMAND_NUMBER_MAX}
-use Rattle.cg_desk.specs.Answering.{after_answering, answering, refused_call}
+use Rattle.cg_desk.specs.Answering.{after_answering, answering, refusal}
 use Rattle.cg_desk.specs.Fronts.{in_frame}
 use Rattle.cg_desk.specs.Held.{calls_of, holding, released, replies_of, still_held}
+use Rattle.cg_desk.specs.Origins.{origin_of, own_of}
 use Rattle.cg_desk.specs.Flights.{Course, Idle, Away, Returned, is_away, unsettled}
 use Rattle.cg_desk.specs.declared.bounds.TheConstants.{SPARE_NUMBERS, SPARE_NUMBERS_PER_GROUP}
 use Rattle.cg_desk.specs.declared.fault.SettleFault.{SettleFault}
@@ -39,17 +41,18 @@ pub record Served : Type 0 where
 abbrev pub is_short : Books → Bool
 is_short b = nat_lt (COMMAND_NUMBER_MAX - b.numbered) (SPARE_NUMBERS + SPARE_NUMBERS_PER_GROUP * length b.machine.groups)
 
--- numbers the commands of a step, then holds its replies, with the number of the last command as their need
-abbrev pub numbering : Books → Effects → Books
-numbering b effects = record b {
+-- numbers the commands of a step of this request, if it is one, then holds its replies, with the number of the last
+-- command as their need
+abbrev pub numbering : Books → Option Ticket → Effects → Books
+numbering b own effects = record b {
   numbered = b.numbered + length effects.commands;
   queue = b.queue ++ effects.commands;
-  held = b.held ++ holding (b.numbered + length effects.commands) effects.replies;
+  held = b.held ++ holding (origin_of b.numbered own effects) effects.replies;
 }
 
 -- a step of the machine, and the token of the request that it comes from, if there is one
 abbrev pub stepped : Books → Outcome → List ReplyToken → Books
-stepped b o handed = numbering (record b { machine = o.after; tokens = b.tokens ++ handed }) o.effects
+stepped b o handed = numbering (record b { machine = o.after; tokens = b.tokens ++ handed }) (own_of handed) o.effects
 
 -- releases the replies whose commands are settled, each with the token of its request
 unfoldable pub letting_go : Books → Served
@@ -72,7 +75,7 @@ settling b count = letting_go (record b { settled = b.settled + count; course = 
 -- refuses with 15 the requests with a held reply, in the order of the replies, then the parked ones, by group and
 -- joining order
 unfoldable pub failing : Books → List Outgoing
-failing b = map refused_call (calls_of (replies_of b.held) ++ waiting_calls b.machine.groups)
+failing b = map refusal (calls_of (replies_of b.held) ++ waiting_calls b.machine.groups)
 
 -- the commands of the next batch, if any: those that were given back, or the longest prefix of the queue that fits one
 -- frame

@@ -16,6 +16,7 @@ use Rattle.cg_desk.specs.declared.desk.Phase.{Phase}
 use Rattle.cg_desk.specs.declared.desk.Phase.TheVariants as phase
 use Rattle.cg_desk.specs.declared.fault.SettleFault.{SettleFault}
 use Rattle.cg_desk.specs.declared.fault.SettleFault.TheVariants.{NotInFlight}
+use Rattle.cg_desk.specs.declared.held.HeldStep.{HeldStep}
 use Rattle.cg_desk.specs.declared.outgoing.Outgoing.{Outgoing}
 use Rattle.cg_desk.specs.declared.token.ReplyToken.{ReplyToken}
 
@@ -52,11 +53,11 @@ opened number machine = record { machine = machine; numbered = number; settled =
 -- a request, as an event with the ticket of this token: refused with 14 while loading, and with 15 after a failure or
 -- if command numbers are short
 unfoldable pub request_on : State → ReplyToken → Event → ℕ → Answer
-request_on Loading token e now = record { after = Loading; out = answer (call_of token) (Refused CoordinatorLoadInProgress) ∷ [] }
-request_on (Failed n s) token e now = record { after = Failed n s; out = answer (call_of token) (Refused CoordinatorNotAvailable) ∷ [] }
+request_on Loading token e now = record { after = Loading; out = answer (call_of token) (Refused CoordinatorLoadInProgress) 0 ∷ [] }
+request_on (Failed n s) token e now = record { after = Failed n s; out = answer (call_of token) (Refused CoordinatorNotAvailable) 0 ∷ [] }
 request_on (Serving b) token e now =
     if is_short b
-    then record { after = Serving b; out = answer (call_of token) (Refused CoordinatorNotAvailable) ∷ [] }
+    then record { after = Serving b; out = answer (call_of token) (Refused CoordinatorNotAvailable) 0 ∷ [] }
     else serving (served b (token ∷ []) e now)
 
 -- a Tick; it does nothing if command numbers are short
@@ -126,3 +127,9 @@ abbrev pub settled_of : State → ℕ
 settled_of Loading = 0
 settled_of (Failed n s) = s
 settled_of (Serving b) = b.settled
+
+-- the held steps, in the order in which they were made
+abbrev pub held_of : State → List HeldStep
+held_of Loading = []
+held_of (Failed n s) = []
+held_of (Serving b) = b.held

@@ -5,7 +5,7 @@ use Rattle.cg_request.specs.declared.event.Event.{Event}
 use Rattle.cg_request.specs.declared.ticket.Ticket.{Ticket}
 use Rattle.cg_record.specs.declared.command.Command.{Command}
 use Rattle.cg_record.specs.Spelling.{spelling}
-use Rattle.cg_desk.specs.Answering.{refused_call}
+use Rattle.cg_desk.specs.Answering.{refusal}
 use Rattle.cg_desk.specs.Bags.{AreSameTickets, bag_of, bag_of_replies, bag_of_tokens, together}
 use Rattle.cg_desk.specs.Desks.{State, Loading, Serving, Failed, gone_on, request_on, settle_on, tick_on}
 use Rattle.cg_desk.specs.Fronts.{in_frame}
@@ -35,7 +35,7 @@ pub record TicketsAreKept : Type 0 where
 -- every one of the requests is refused with 15, once
 pub record AreRefusedOnce (tokens : List ReplyToken) (out : List Outgoing) : Type 0 where
   pub calls : List Ticket
-  pub refused : out ≡ map refused_call calls
+  pub refused : out ≡ map refusal calls
   pub once : AreSameTickets (bag_of calls) (bag_of_tokens tokens)
 
 -- A batch is as long as one frame allows.

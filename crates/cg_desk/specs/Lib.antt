@@ -4,6 +4,7 @@ pub mod Refusals
 pub mod Tokens
 pub mod Bags
 pub mod Answering
+pub mod Origins
 pub mod Held
 pub mod Queues
 pub mod Fronts

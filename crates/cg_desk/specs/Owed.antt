@@ -2,7 +2,6 @@
 use Rattle.std.specs.Prelude.{ℕ, List}
 use Rattle.std.specs.List.{sum_by}
 use Rattle.cg_request.specs.declared.event.Event.{Event}
-use Rattle.cg_member.specs.declared.reply.Reply.{Reply}
 use Rattle.cg_request.specs.declared.ticket.Ticket.{Ticket}
 use Rattle.cg_group.specs.Machine.{step}
 use Rattle.cg_held.specs.Held.{Machine}
@@ -10,8 +9,6 @@ use Rattle.cg_member.specs.Waiting.{waiting_calls}
 use Rattle.cg_desk.specs.Books.{Books}
 use Rattle.cg_desk.specs.Held.{calls_of, replies_of}
 use Rattle.cg_desk.specs.Bags.{AreSameTickets, bag_of, bag_of_tokens, together}
-use Rattle.cg_desk.specs.Outgoings.{answer}
-use Rattle.cg_desk.specs.declared.outgoing.Outgoing.{Outgoing}
 use Rattle.cg_desk.specs.declared.token.ReplyToken.{ReplyToken}
 
 -- the sum of the weights of tickets
@@ -27,7 +24,3 @@ IsOwed b = AreSameTickets (bag_of_tokens b.tokens) (together (bag_of (calls_of (
 abbrev pub KeepsCalls : Machine → List ReplyToken → Event → ℕ → Type 0
 KeepsCalls s handed e now =
     AreSameTickets (together (bag_of (calls_of (step s e now).effects.replies)) (bag_of (waiting_calls (step s e now).after.groups))) (together (bag_of (waiting_calls s.groups)) (bag_of_tokens handed))
-
--- a reply as it leaves
-abbrev pub sent : Ticket × Reply → Outgoing
-sent r = answer r.0 r.1

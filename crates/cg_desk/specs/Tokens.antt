@@ -8,9 +8,13 @@ use Rattle.cg_desk.specs.declared.token.ReplyToken.{ReplyToken}
 abbrev pub call_of : ReplyToken → Ticket
 call_of token = token.ticket
 
+-- the second ticket is this ticket
+abbrev pub is_ticket : Ticket → Ticket → Bool
+is_ticket ticket other = nat_eq other.session ticket.session && nat_eq other.number ticket.number
+
 -- the token has this ticket
 abbrev pub is_for : Ticket → ReplyToken → Bool
-is_for ticket token = nat_eq (call_of token).session ticket.session && nat_eq (call_of token).number ticket.number
+is_for ticket token = is_ticket ticket (call_of token)
 
 -- one of the tokens has this ticket
 unfoldable pub has_token : Ticket → List ReplyToken → Bool

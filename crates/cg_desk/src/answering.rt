@@ -4,9 +4,11 @@ ghost use Rattle.std.specs.List.{position};
 ghost use Rattle.std.specs.Option.{MatchOption};
 ghost use Rattle.std.specs.VecDeque.{deque_len};
 ghost use Rattle.cg_desk.specs.Answering.{after_answering, answering, answering_one, refusal};
+ghost use Rattle.cg_desk.specs.Origins.{sent};
 ghost use Rattle.cg_desk.specs.Permits.{front_of};
 ghost use Rattle.cg_desk.specs.Tokens.{call_of, has_token, is_for, without};
 
+use crate::origin::Origin;
 use crate::outgoing::Outgoing;
 use crate::permit::Permit;
 use crate::token::ReplyToken;
@@ -34,18 +36,18 @@ fn take_token(tokens: &mut VecDeque<ReplyToken>, ticket: Ticket) -> Option<Reply
     tokens.remove(at)
 }
 
-/// Appends the reply to this ticket's request, if the request has a token. The reply depends on all commands up to
-/// number `need`. Linear in the tokens.
+/// Appends the reply to this ticket's request, if the request has a token. The reply was made by the step `origin`.
+/// Linear in the tokens.
 pub fn answer_call(
     tokens: &mut VecDeque<ReplyToken>,
     call: (Ticket, Reply),
-    need: u64,
+    origin: &Origin,
     permit: &Permit,
     out: &mut Vec<Outgoing>,
 )
-    requires need { need ≤ front_of permit.now }
+    requires need { origin.now.need ≤ front_of permit.now }
     requires room { vec_len out.old + deque_len tokens.old ≤ vec_capacity out.old }
-    ensures out { out.new.items ≡ out.old.items ++ answering_one call tokens.old.items }
+    ensures out { out.new.items ≡ out.old.items ++ answering_one (sent origin.now call) tokens.old.items }
     ensures tokens { tokens.new.items ≡ without call.0 tokens.old.items }
     ensures room { vec_len out.new + deque_len tokens.new ≤ vec_capacity out.new }
     ensures fewer { deque_len tokens.new ≤ deque_len tokens.old }
@@ -53,7 +55,10 @@ pub fn answer_call(
 {
     let (ticket, reply) = call;
     match take_token(tokens, ticket) {
-        Some(token) => out.push_reserved(token.spend(reply, need, permit)),
+        Some(token) => {
+            let made = origin.made_for(ticket);
+            out.push_reserved(token.spend(reply, origin.need, made, permit));
+        }
         None => {}
     }
 }
@@ -61,43 +66,43 @@ pub fn answer_call(
 fn answer_many(
     tokens: &mut VecDeque<ReplyToken>,
     replies: Vec<(Ticket, Reply)>,
-    need: u64,
+    origin: &Origin,
     permit: &Permit,
     out: &mut Vec<Outgoing>,
 )
-    requires need { need ≤ front_of permit.now }
+    requires need { origin.now.need ≤ front_of permit.now }
     requires room { vec_len out.old + deque_len tokens.old ≤ vec_capacity out.old }
-    ensures out { out.new.items ≡ out.old.items ++ answering replies.items tokens.old.items }
-    ensures tokens { tokens.new.items ≡ after_answering replies.items tokens.old.items }
+    ensures out { out.new.items ≡ out.old.items ++ answering (map (sent origin.now) replies.items) tokens.old.items }
+    ensures tokens { tokens.new.items ≡ after_answering (map (sent origin.now) replies.items) tokens.old.items }
     ensures room { vec_len out.new + deque_len tokens.new ≤ vec_capacity out.new }
     ensures fewer { deque_len tokens.new ≤ deque_len tokens.old }
     ensures capacity { vec_capacity out.new ≡ vec_capacity out.old }
 {
     for reply in replies {
-        answer_call(tokens, reply, need, permit, out);
+        answer_call(tokens, reply, origin, permit, out);
     }
 }
 
-/// Appends the replies in their order, each with the token of its request. Linear in the replies times the tokens.
+/// Appends the replies of the step `origin` in their order, each with the token of its request. Linear in the replies times the tokens.
 #[tactic(auto, unfolding(crate::specs::Answering::answering, crate::specs::Answering::after_answering))]
 pub fn answer_calls(
     tokens: &mut VecDeque<ReplyToken>,
     replies: Few<(Ticket, Reply)>,
-    need: u64,
+    origin: &Origin,
     permit: &Permit,
     out: &mut Vec<Outgoing>,
 )
-    requires need { need ≤ front_of permit.now }
+    requires need { origin.now.need ≤ front_of permit.now }
     requires room { vec_len out.old + deque_len tokens.old ≤ vec_capacity out.old }
-    ensures out { out.new.items ≡ out.old.items ++ answering replies tokens.old.items }
-    ensures tokens { tokens.new.items ≡ after_answering replies tokens.old.items }
+    ensures out { out.new.items ≡ out.old.items ++ answering (map (sent origin.now) replies) tokens.old.items }
+    ensures tokens { tokens.new.items ≡ after_answering (map (sent origin.now) replies) tokens.old.items }
     ensures room { vec_len out.new + deque_len tokens.new ≤ vec_capacity out.new }
     ensures fewer { deque_len tokens.new ≤ deque_len tokens.old }
     ensures capacity { vec_capacity out.new ≡ vec_capacity out.old }
 {
     match replies.into_items() {
-        Items::One([reply]) => answer_call(tokens, reply, need, permit, out),
-        Items::Many(replies) => answer_many(tokens, replies, need, permit, out),
+        Items::One([reply]) => answer_call(tokens, reply, origin, permit, out),
+        Items::Many(replies) => answer_many(tokens, replies, origin, permit, out),
     }
 }
 

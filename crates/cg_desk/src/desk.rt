@@ -5,11 +5,12 @@ ghost use Rattle.cg_desk.specs.Refusals.{is_refusal};
 ghost use Rattle.cg_desk.specs.Tokens.{call_of};
 
 use crate::fault::{SettleFault, TakeFault};
+use crate::held::HeldStep;
 use crate::outgoing::Outgoing;
 use crate::serving::Serving;
 use crate::token::ReplyToken;
 use cg_fold::Durable;
-use cg_group::{Groups, Reply, Request};
+use cg_group::{Groups, Reply, Request, Ticket};
 use cg_names::{Code, Moment};
 use cg_store::{Batch, Receipt};
 use std::alloc::{AllocError, Global};
@@ -40,7 +41,7 @@ fn refused_at_once(
     code: Code,
 ) -> Result<Vec<Outgoing>, (AllocError, ReplyToken)>
     requires { IsTrue (is_refusal code) }
-    ensures ok { IfOk result (λ out. out.items ≡ answer (call_of token) (Reply.Refused code) ∷ []) }
+    ensures ok { IfOk result (λ out. out.items ≡ answer (call_of token) (Reply.Refused code) 0 ∷ []) }
     ensures back { IfErr result (λ e. e.1 ≡ token) }
 {
     drop(request);
@@ -58,8 +59,9 @@ impl Desk {
     ghost use Rattle.cg_request.specs.Asking.{asked};
     ghost use Rattle.cg_held.specs.Reviving.{revive};
     ghost use Rattle.cg_store.specs.Receipts.{batch_of};
-    ghost use Rattle.cg_desk.specs.Desks.{IsOut, IsReasonAt, IsTakenFrom, failing_on, gone_on, is_out, numbered_of, opened, request_on, return_to, settle_on, settled_of, state_of, tick_on};
+    ghost use Rattle.cg_desk.specs.Desks.{IsOut, IsReasonAt, IsTakenFrom, failing_on, gone_on, held_of, is_out, numbered_of, opened, request_on, return_to, settle_on, settled_of, state_of, tick_on};
     ghost use Rattle.cg_desk.specs.Balanced.{IsOwedAt};
+    ghost use Rattle.cg_desk.specs.Held.{last_replies};
     ghost use Rattle.cg_desk.specs.Laws.{AreRefusedOnce, tokens_of};
     ghost use Rattle.cg_desk.specs.Serving.{books};
     ghost use Rattle.cg_desk.specs.Desks as state;
@@ -127,6 +129,30 @@ impl Desk {
             Phase::Loading => 0,
             Phase::Serving(serving) => serving.settled,
             Phase::Failed(_, settled) => *settled,
+        }
+    }
+
+    /// Returns the number of held steps. A step is held if it made replies that wait for a command to be settled.
+    pub fn held(&self) -> u64
+        ensures { result ≡ length (held_of (state_of self.now)) }
+    {
+        match &self.phase {
+            Phase::Loading => 0,
+            Phase::Failed(_, _) => 0,
+            Phase::Serving(serving) => serving.held.len() as u64,
+        }
+    }
+
+    /// Returns the replies of the held step that was made last, in their order, or none if no step is held. Does not
+    /// allocate.
+    #[tactic(auto, unfolding(crate::specs::Held::last_replies))]
+    pub fn last_held(&self) -> &[(Ticket, Reply)]
+        ensures { result.now ≡ last_replies (held_of (state_of self.now)) }
+    {
+        match &self.phase {
+            Phase::Loading => &[],
+            Phase::Failed(_, _) => &[],
+            Phase::Serving(serving) => HeldStep::last(&serving.held),
         }
     }
 

@@ -5,29 +5,30 @@ ghost use Rattle.cg_desk.specs.Answering.{after_answering, answering};
 ghost use Rattle.cg_desk.specs.Permits.{front_of};
 
 use crate::answering::answer_calls;
+use crate::origin::Origin;
 use crate::outgoing::Outgoing;
 use crate::permit::Permit;
 use crate::token::ReplyToken;
 use cg_group::{Few, Reply, Ticket};
 use std::collections::VecDeque;
 
-/// Replies of one step, in their order. They may leave once the command numbered `need` is settled.
+/// Replies of one step, in their order. They may leave once the command numbered `origin.need` is settled.
 #[derive(Debug, Drop)]
 pub struct HeldStep {
-    pub need: u64,
+    pub origin: Origin,
     pub replies: Few<(Ticket, Reply)>,
 }
 
 impl HeldStep {
-    ghost use Rattle.cg_desk.specs.Held.{holding, is_waiting, released, still_held};
+    ghost use Rattle.cg_desk.specs.Held.{holding, is_waiting, last_replies, released, still_held};
 
     /// Holds the replies of a step. A step without replies adds nothing.
-    pub fn hold(held: &mut VecDeque<HeldStep>, need: u64, replies: Few<(Ticket, Reply)>)
+    pub fn hold(held: &mut VecDeque<HeldStep>, origin: Origin, replies: Few<(Ticket, Reply)>)
         requires { deque_len held.old < deque_capacity held.old }
-        ensures { held.new.items ≡ held.old.items ++ holding need replies }
+        ensures { held.new.items ≡ held.old.items ++ holding origin replies }
     {
         if replies.len() > 0 {
-            held.push_back_reserved(HeldStep { need, replies });
+            held.push_back_reserved(HeldStep { origin, replies });
         }
     }
 
@@ -37,8 +38,19 @@ impl HeldStep {
         ensures { result ≡ is_waiting settled held.now.items }
     {
         match held.front() {
-            Some(next) => next.need > settled,
+            Some(next) => next.origin.need > settled,
             None => false,
+        }
+    }
+
+    /// Returns the replies of the step that was held last, or none if no step is held.
+    #[tactic(auto, using(crate::proofs::Leaving::last_is, crate::proofs::Leaving::last_none))]
+    pub fn last(held: &VecDeque<HeldStep>) -> &[(Ticket, Reply)]
+        ensures { result.now ≡ last_replies held.now.items }
+    {
+        match held.back() {
+            Some(last) => last.replies.as_slice(),
+            None => &[],
         }
     }
 
@@ -59,12 +71,12 @@ impl HeldStep {
         ensures capacity { vec_capacity out.new ≡ vec_capacity out.old }
     {
         while let Some(next) = held.front() {
-            if next.need > permit.front() {
+            if next.origin.need > permit.front() {
                 break;
             }
             match held.pop_front() {
-                Some(HeldStep { need, replies }) => {
-                    answer_calls(tokens, replies, need, permit, out);
+                Some(HeldStep { origin, replies }) => {
+                    answer_calls(tokens, replies, &origin, permit, out);
                 }
                 None => unreachable!(),
             }

@@ -1,7 +1,7 @@
 //! Laws of the desk. They relate definitions of `specs/`, so the bodies are empty; the contracts carry them over to
 //! `Desk`.
 ghost use Rattle.cg_desk.specs.Laws.{BatchesAreLongest, TicketsAreKept};
-ghost use Rattle.cg_desk.specs.Balanced.{DesksHaveDistinctMembers, DesksStayBalanced, RepliesFindTheirCalls};
+ghost use Rattle.cg_desk.specs.Balanced.{CommandsAreCountedOnce, DesksHaveDistinctMembers, DesksStayBalanced, RepliesFindTheirCalls};
 ghost use Rattle.cg_desk.specs.Made.{EventsKeepCalls};
 ghost use Rattle.cg_desk.specs.Turns.{TurnsKeepTheirCalls};
 
@@ -30,6 +30,12 @@ pub fn events_keep_calls()
 /// From recovery on, each pending request has one token: its reply is held, or it is parked in the machine.
 pub fn desks_stay_balanced()
     ensures { DesksStayBalanced }
+{}
+
+/// Each command is counted by at most one reply: the numbers of the replies that a request makes are together at most the
+/// commands that it makes, if no pending request has its ticket.
+pub fn commands_are_counted_once()
+    ensures { CommandsAreCountedOnce }
 {}
 
 /// In a desk that is balanced, no two members of a group have one id or one instance.

@@ -12,6 +12,7 @@ mod filling;
 mod flight;
 mod held;
 mod laws;
+mod origin;
 mod outgoing;
 mod permit;
 mod queue;
@@ -25,8 +26,9 @@ pub use bounds::{SPARE_NUMBERS, SPARE_NUMBERS_PER_GROUP};
 pub use desk::Desk;
 pub use fault::{SettleFault, TakeFault};
 pub use laws::{
-    batches_are_longest, desks_have_distinct_members, desks_stay_balanced, events_keep_calls,
-    replies_find_their_calls, tickets_are_kept, turns_keep_their_calls,
+    batches_are_longest, commands_are_counted_once, desks_have_distinct_members,
+    desks_stay_balanced, events_keep_calls, replies_find_their_calls, tickets_are_kept,
+    turns_keep_their_calls,
 };
 pub use outgoing::Outgoing;
 pub use permit::Permit;

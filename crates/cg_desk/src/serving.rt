@@ -7,12 +7,13 @@ ghost use Rattle.cg_desk.specs.Queues.{commands_of};
 use crate::bounds::{SPARE_NUMBERS, SPARE_NUMBERS_PER_GROUP};
 use crate::flight::Flight;
 use crate::held::HeldStep;
+use crate::origin::Origin;
 use crate::outgoing::Outgoing;
 use crate::permit::Permit;
 use crate::queue::Queue;
 use crate::refusing::{refuse_held, refuse_rest, refuse_waiting};
 use crate::token::ReplyToken;
-use cg_group::{Effects, Event, Groups, Request};
+use cg_group::{Effects, Event, Groups, Request, Ticket};
 use cg_names::Moment;
 use cg_store::COMMAND_NUMBER_MAX;
 use std::alloc::{AllocError, Global};
@@ -114,17 +115,24 @@ impl Serving {
         out
     }
 
-    // Numbers the commands of a step, holds its replies, and releases those whose commands are settled.
+    // Numbers the commands of a step of the request `own`, if it took one, holds its replies, and releases those whose
+    // commands are settled.
     #[tactic(auto, using(crate::proofs::Leaving::was_waiting))]
-    fn finish(&mut self, effects: Effects, out: Vec<Outgoing>) -> Vec<Outgoing>
+    fn finish(&mut self, own: Option<Ticket>, effects: Effects, out: Vec<Outgoing>) -> Vec<Outgoing>
         requires room { HasRoom self.old 0 out }
         requires numbers { self.old.numbered + length effects.commands < 2 ^ 64 }
-        ensures { letting_go (numbering (books self.old) effects) ≡ record { books = books self.new; out = result.items } }
+        ensures { letting_go (numbering (books self.old) own effects) ≡ record { books = books self.new; out = result.items } }
     {
         let Effects { commands, replies } = effects;
-        self.numbered += commands.len() as u64;
+        let made = commands.len() as u64;
+        self.numbered += made;
         self.queue.put(commands);
-        HeldStep::hold(&mut self.held, self.numbered, replies);
+        let origin = Origin {
+            need: self.numbered,
+            own,
+            made,
+        };
+        HeldStep::hold(&mut self.held, origin, replies);
         self.let_go(out)
     }
 
@@ -147,12 +155,13 @@ impl Serving {
             Ok(out) => out,
             Err(error) => return Err((error, token)),
         };
-        let event = request.into_event(token.ticket(), fresh);
+        let ticket = token.ticket();
+        let event = request.into_event(ticket, fresh);
         match self.groups.step(event, now) {
             Err(error) => Err((error, token)),
             Ok(effects) => {
                 self.tokens.push_back_reserved(token);
-                Ok(self.finish(effects, out))
+                Ok(self.finish(Some(ticket), effects, out))
             }
         }
     }
@@ -167,7 +176,7 @@ impl Serving {
     {
         let out = self.reserve(0)?;
         let effects = self.groups.step(Event::Tick, now)?;
-        Ok(self.finish(effects, out))
+        Ok(self.finish(None, effects, out))
     }
 
     /// Handles a closed session. If an allocation fails, nothing has changed.
@@ -181,7 +190,7 @@ impl Serving {
         // Reads the number because the prover takes its range from the type.
         let _numbered = self.numbered;
         let effects = self.groups.step(Event::Gone(session), now)?;
-        Ok(self.finish(effects, out))
+        Ok(self.finish(None, effects, out))
     }
 
     /// Refuses every pending request: first those with a held reply, in the order of the replies, then the parked ones,

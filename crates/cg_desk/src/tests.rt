@@ -9,6 +9,8 @@ use std::alloc::Global;
 use std::test::Fail;
 use uuid::Uuid;
 
+mod made;
+
 const CALL: Ticket = Ticket {
     session: 7,
     number: 3,

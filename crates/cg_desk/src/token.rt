@@ -32,22 +32,22 @@ impl ReplyToken {
         self.ticket
     }
 
-    /// Answers the request with a reply that depends on all commands up to number `need`.
-    pub fn spend(self, reply: Reply, need: u64, permit: &Permit) -> Outgoing
+    /// Answers the request, which made `made` commands, with a reply that depends on all commands up to number `need`.
+    pub fn spend(self, reply: Reply, need: u64, made: u64, permit: &Permit) -> Outgoing
         requires { need ≤ front_of permit.now }
-        ensures { result ≡ answer (call_of self) reply }
+        ensures { result ≡ answer (call_of self) reply made }
     {
         let ReplyToken { ticket } = self;
-        Outgoing::new(ticket, reply)
+        Outgoing::new(ticket, reply, made)
     }
 
     /// Answers the request with a code that depends on no command: -1 (an allocation failed), 14 (loading), 15 (not
     /// available) or 42 (malformed request).
     pub fn refuse(self, code: Code) -> Outgoing
         requires { IsTrue (is_refusal code) }
-        ensures { result ≡ answer (call_of self) (Reply.Refused code) }
+        ensures { result ≡ answer (call_of self) (Reply.Refused code) 0 }
     {
         let ReplyToken { ticket } = self;
-        Outgoing::new(ticket, Reply::Refused(code))
+        Outgoing::new(ticket, Reply::Refused(code), 0)
     }
 }

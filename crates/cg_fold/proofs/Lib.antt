@@ -12,3 +12,5 @@ pub mod Restock
 pub mod Added
 pub mod Commits
 pub mod Anew
+pub mod Firsts
+pub mod Popped

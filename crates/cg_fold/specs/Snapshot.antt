@@ -1,8 +1,10 @@
 -- The commands that build a state from the empty one.
 use Rattle.std.specs.Prelude.{◌≡◌, ℕ, zero, suc, ◌+◌, ◌<◌, Bool, List, [], ◌∷◌, ◌++◌, length, map as each, take, drop, filter, flat_map, Option, Some, None, IsTrue, bytes_eq}
-use Rattle.std.specs.declared.cmp.Ordering.TheVariants.{Less}
+use Rattle.std.specs.Option.{option_to_list}
+use Rattle.std.specs.declared.cmp.Ordering.{Ordering}
+use Rattle.std.specs.declared.cmp.Ordering.TheVariants.{Less, Greater}
 use Rattle.std.specs.FinMap as map
-use Rattle.std.specs.FinMap.{is_sorted}
+use Rattle.std.specs.FinMap.{find, is_sorted}
 use Rattle.cg_record.specs.declared.command.Command.{Command}
 use Rattle.cg_record.specs.declared.command.Command.TheVariants.{Assigned, Emptied, Committed}
 use Rattle.cg_record.specs.declared.entries.TheConstants.{ENTRIES_MAX}
@@ -12,6 +14,8 @@ use Rattle.cg_fold.specs.declared.key.OffsetKey.{OffsetKey}
 use Rattle.cg_fold.specs.declared.record.GroupRecord.{GroupRecord}
 use Rattle.cg_fold.specs.declared.key.StoredOffset.{StoredOffset}
 use Rattle.cg_fold.specs.Key.{KeptOffset, key_cmp, name_cmp}
+use Rattle.cg_fold.specs.Record.{KeptRecord}
+use Rattle.cg_fold.specs.Shelf.{KeptShelf, AreShelves, stock}
 use Rattle.cg_fold.specs.Durable.{State}
 
 -- the groups that have a record or an offset
@@ -46,6 +50,24 @@ pub record ComesFirst {X Y : Type 0} (left : List (List ℕ × X)) (right : List
   pub left_sorted : IsTrue (is_sorted name_cmp left_rest)
   pub right_sorted : IsTrue (is_sorted name_cmp right_rest)
   pub fewer : length left_rest + length right_rest < length left + length right
+
+-- which of two sorted lists has the first group: Less stands for the left one, Equal for both, Greater for the right one
+abbrev pub first_side : {X Y : Type 0} → List (List ℕ × X) → List (List ℕ × Y) → Option Ordering
+first_side [] [] = None
+first_side (kept ∷ left) [] = Some Less
+first_side [] (also ∷ right) = Some Greater
+first_side (kept ∷ left) (also ∷ right) = Some (name_cmp kept.0 also.0)
+
+-- the old list is the new one after the group's value, if the group has one
+pub record RemovesFirst {X : Type 0} (old new : List (List ℕ × X)) (group : List ℕ) (value : Option X) : Type 0 where
+  pub removed : old ≡ each (λ v. (group, v)) (option_to_list value) ++ new
+  pub found : find name_cmp group old ≡ value
+
+-- the first group of two lists is removed from both, with these values
+pub record PopsFirst {X Y : Type 0} (left : List (List ℕ × X)) (right : List (List ℕ × Y)) (group : List ℕ) (value : Option X) (other : Option Y) (left_rest : List (List ℕ × X)) (right_rest : List (List ℕ × Y)) : Type 0 where
+  pub first : ComesFirst left right group left_rest right_rest
+  pub of_left : RemovesFirst left left_rest group value
+  pub of_right : RemovesFirst right right_rest group other
 
 -- the command that sets a record
 abbrev pub record_command : List ℕ → ℕ → List ℕ → Option RosterParts → Command
@@ -89,3 +111,16 @@ group_commands state group = record_commands group (map.get state.records group)
 -- the commands that build a state, group by group
 abbrev pub snapshot_of : State → List Command
 snapshot_of state = flat_map (group_commands state) (in_order (groups_in state))
+
+-- the state of sorted records and shelves
+abbrev pub listed : List KeptRecord → List KeptShelf → State
+listed records shelves = record { records = map.from_sorted records; offsets = map.from_sorted (stock shelves) }
+
+-- records and shelves from which a snapshot can be made
+pub record AreListed (records : List KeptRecord) (shelves : List KeptShelf) : Type 0 where
+  pub by_group : IsTrue (is_sorted name_cmp records)
+  pub are_shelves : AreShelves (length (stock shelves)) shelves
+
+-- the commands of a snapshot that are left: these, and those of the records and shelves
+abbrev pub left_of : List Command → List KeptRecord → List KeptShelf → List Command
+left_of commands records shelves = commands ++ snapshot_of (listed records shelves)

@@ -2,21 +2,20 @@
 ghost use Rattle.std.specs.Prelude.{◌≡◌, ◌++◌, IfOk, OnOk, OnErr};
 ghost use Rattle.std.specs.Option.{option_copied};
 ghost use Rattle.std.specs.FinMap as finmap;
-ghost use Rattle.std.specs.Vec.Iter.{into_iter_items};
 ghost use Rattle.cg_fold.specs.Key.{key_of};
 ghost use Rattle.cg_fold.specs.Durable.{counts_of, effect, empty, with_record};
-ghost use Rattle.cg_fold.specs.Snapshot.{Ascending, group_commands, groups_in, in_order, snapshot_of};
+ghost use Rattle.cg_fold.specs.Snapshot.{Ascending, AreListed, group_commands, groups_in, in_order, listed, snapshot_of};
 
 use crate::key::StoredOffset;
 use crate::offsets::Offsets;
 use crate::record::GroupRecord;
 use crate::records::{self, Kept};
+use crate::shelves::Shelf;
 use crate::{either, grouped, snapshots};
 use cg_names::{GroupId, Topic};
-use cg_record::{Assigned, Command, Committed, Deleted, Emptied, Partition, Replaced};
+use cg_record::{Assigned, Command, Committed, Deleted, Emptied, Metadata, Partition, Replaced};
 use std::alloc::{AllocError, Global};
 use std::marker::Model;
-use std::vec::IntoIter;
 
 /// The durable state: the effect of all commands so far. Contracts see the maps of `State`.
 ///
@@ -73,14 +72,29 @@ impl Durable {
         }
     }
 
-    /// Applies a command that the caller gives away. The metadata of new offsets for partitions that have one already are
-    /// moved, without an allocation; all else is copied. If an allocation fails, nothing changes.
+    /// Applies a command that the caller gives away. The topics and metadata of a commit are moved, without an allocation if
+    /// its partitions have an offset already; all else is copied. If an allocation fails, nothing changes.
     pub fn apply_owned(&mut self, command: Command) -> Result<(), AllocError>
         ensures ok { OnOk result (self.new ≡ effect self.old command) }
         ensures err { OnErr result (self.new ≡ self.old) }
     {
+        let mut room = Vec::new(self.alloc);
+        self.apply_owned_in(&mut room, command)?;
+        Ok(())
+    }
+
+    /// Does what `apply_owned` does, and keeps the metadata of replaced offsets in `room`, as far as that has the capacity:
+    /// their memory can be used again, by `Decoder::next_in`.
+    pub fn apply_owned_in(
+        &mut self,
+        room: &mut Vec<Metadata>,
+        command: Command,
+    ) -> Result<(), AllocError>
+        ensures ok { OnOk result (self.new ≡ effect self.old command) }
+        ensures err { OnErr result (self.new ≡ self.old) }
+    {
         match command {
-            Command::Committed(commit) => self.take_commit(commit),
+            Command::Committed(commit) => self.take_commit(room, commit),
             other => self.apply(&other),
         }
     }
@@ -142,11 +156,11 @@ impl Durable {
         Ok(())
     }
 
-    fn take_commit(&mut self, commit: Committed) -> Result<(), AllocError>
+    fn take_commit(&mut self, room: &mut Vec<Metadata>, commit: Committed) -> Result<(), AllocError>
         ensures ok { OnOk result (self.new ≡ effect self.old (Command.Committed commit)) }
         ensures err { OnErr result (self.new ≡ self.old) }
     {
-        self.offsets.take_commit(commit)?;
+        self.offsets.take_commit_in(room, commit)?;
         Ok(())
     }
 
@@ -195,15 +209,6 @@ impl Durable {
         Ok(())
     }
 
-    // Returns the commands that build one group.
-    pub(crate) fn commands_of(&self, group: &GroupId) -> Result<IntoIter<Command>, AllocError>
-        ensures { IfOk result (λ commands. into_iter_items commands ≡ group_commands self.now group.now) }
-    {
-        let mut commands = Vec::new(self.alloc);
-        self.push_group(&mut commands, group)?;
-        Ok(commands.into_iter())
-    }
-
     /// Returns commands that build this state from the empty one: for each group its record, then its offsets. Copies
     /// the whole state.
     pub fn snapshot(&self) -> Result<Vec<Command>, AllocError>
@@ -223,5 +228,18 @@ impl Durable {
     {
         let Durable { offsets, .. } = self;
         offsets
+    }
+
+    /// Returns the records and the shelves, without a copy.
+    pub(crate) fn into_lists(self) -> (Vec<Kept>, Vec<Shelf>)
+        ensures value { listed result.0.items result.1.items ≡ self }
+        ensures are { AreListed result.0.items result.1.items }
+    {
+        let Durable {
+            records,
+            offsets,
+            ..
+        } = self;
+        (records, offsets.into_shelves())
     }
 }

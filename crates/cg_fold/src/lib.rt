@@ -4,6 +4,7 @@
 
 mod durable;
 mod either;
+mod first_group;
 mod grouped;
 mod key;
 mod law;
@@ -16,6 +17,7 @@ mod rows;
 mod shelves;
 mod snapshot;
 mod snapshots;
+mod taking;
 #[cfg(test)]
 mod tests;
 

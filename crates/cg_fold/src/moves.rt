@@ -1,16 +1,53 @@
-//! Offsets of a commit that its caller gives away, for partitions that have an offset already: the metadata are moved into
-//! the rows, so nothing is copied and nothing is allocated.
-ghost use Rattle.std.specs.Prelude.{◌≡◌, IsTrue, true, length, map};
-ghost use Rattle.std.specs.List.{fold, list_all};
+//! Offsets of a commit that its caller gives away: the topics and metadata are moved into the rows. For partitions that
+//! have an offset already nothing is copied, and nothing is allocated.
+ghost use Rattle.std.specs.Prelude.{◌≡◌, IsTrue, true, length, map, IfOk};
+ghost use Rattle.std.specs.List.{fold, list_all, prefix_len};
 ghost use Rattle.std.specs.FinMap.{is_sorted};
-ghost use Rattle.cg_fold.specs.Key.{key_cmp, kept_of, put_kept};
+ghost use Rattle.cg_fold.specs.Key.{IsOwn, is_below, key_cmp, kept_of, put_kept};
 ghost use Rattle.cg_fold.specs.Renewed.{has_row};
 
-use crate::key::StoredOffset;
-use crate::renewals::{Renewal, renew};
-use crate::rows::{Row, is_at, place_near, stored_at};
+use crate::key::{OffsetKey, StoredOffset};
+use crate::renewals::{Renewal, renew_in};
+use crate::rows::{Row, is_at, place, stored_at};
 use cg_names::GroupId;
-use cg_record::Entry;
+use cg_record::{Entry, Metadata};
+use std::alloc::{AllocError, Global};
+use std::collections::VecDeque;
+
+// Builds the row of an entry. Copies only the group id.
+fn row_from(group: &GroupId, entry: Entry) -> Result<Row, AllocError>
+    ensures { IfOk result (λ row. row ≡ kept_of group.now entry) }
+{
+    let group = group.clone()?;
+    let Entry {
+        topic,
+        partition,
+        offset,
+        metadata,
+    } = entry;
+    let key = OffsetKey {
+        group,
+        topic,
+        partition,
+    };
+    let stored = StoredOffset { offset, metadata };
+    Ok((key, stored))
+}
+
+/// Builds the rows of these entries, in order. Copies only the group id, once for each.
+pub fn rows_from(
+    alloc: Global,
+    group: &GroupId,
+    entries: Vec<Entry>,
+) -> Result<VecDeque<Row>, AllocError>
+    ensures { IfOk result (λ rows. rows.items ≡ map (kept_of group.now) entries.items) }
+{
+    let mut rows = VecDeque::with_capacity(alloc, entries.len())?;
+    for entry in entries {
+        rows.push_back(row_from(group, entry)?)?;
+    }
+    Ok(rows)
+}
 
 // Returns whether the partition of this entry has a row, which may be the one at `near`.
 fn has_row(rows: &[Row], near: usize, group: &GroupId, entry: &Entry) -> bool
@@ -44,8 +81,31 @@ pub fn have_rows(rows: &[Row], group: &GroupId, entries: &[Entry]) -> bool
     have_rows_near(rows, 0, group, entries)
 }
 
+// Returns the index of the row of an entry's partition, which has one: it may be the one at `near`.
+fn own_place(rows: &[Row], near: usize, group: &GroupId, entry: &Entry) -> usize
+    requires sorted { IsTrue (is_sorted key_cmp rows.now) }
+    requires has { has_row rows.now group.now entry.now ≡ true }
+    ensures value { result ≡ prefix_len (is_below (kept_of group.now entry.now).0) rows.now }
+    ensures own { IsOwn rows.now result (kept_of group.now entry.now).0 }
+{
+    if is_at(rows, near, group, &entry.topic, entry.partition) {
+        return near;
+    }
+    let at = place(rows, group, &entry.topic, entry.partition);
+    if !is_at(rows, at, group, &entry.topic, entry.partition) {
+        unreachable!()
+    }
+    at
+}
+
 // Sets the offset of an entry whose partition has a row, which may be the one at `near`. Returns the index after it.
-fn move_entry(rows: &mut Vec<Row>, near: usize, group: &GroupId, entry: Entry) -> usize
+fn move_entry(
+    rows: &mut Vec<Row>,
+    room: &mut Vec<Metadata>,
+    near: usize,
+    group: &GroupId,
+    entry: Entry,
+) -> usize
     requires sorted { IsTrue (is_sorted key_cmp rows.old.items) }
     requires has { has_row rows.old.items group.now entry ≡ true }
     ensures rows { rows.new.items ≡ put_kept rows.old.items (kept_of group.now entry) }
@@ -53,21 +113,23 @@ fn move_entry(rows: &mut Vec<Row>, near: usize, group: &GroupId, entry: Entry) -
     ensures len { length rows.new.items ≡ length rows.old.items }
     ensures keeps { (e : Entry) → has_row rows.new.items group.now e ≡ has_row rows.old.items group.now e }
 {
-    let at = place_near(rows, near, group, &entry.topic, entry.partition);
-    if !is_at(rows, at, group, &entry.topic, entry.partition) {
-        unreachable!()
-    }
+    let at = own_place(rows, near, group, &entry);
     let stored = StoredOffset {
         offset: entry.offset,
         metadata: entry.metadata,
     };
-    renew(rows, Renewal { at, stored });
+    renew_in(rows, room, Renewal { at, stored });
     at + 1
 }
 
-/// Sets the offsets of these entries, in order. The partition of each has a row. No allocation; the costs are those of
-/// `have_rows`.
-pub fn move_entries(rows: &mut Vec<Row>, group: &GroupId, entries: Vec<Entry>)
+/// Sets the offsets of these entries, in order. The partition of each has a row. Keeps the metadata that the rows had in
+/// `room`, as far as that has the capacity. No allocation; the costs are those of `have_rows`.
+pub fn move_entries(
+    rows: &mut Vec<Row>,
+    room: &mut Vec<Metadata>,
+    group: &GroupId,
+    entries: Vec<Entry>,
+)
     requires sorted { IsTrue (is_sorted key_cmp rows.old.items) }
     requires have { list_all (has_row rows.old.items group.now) entries.items ≡ true }
     ensures rows { rows.new.items ≡ fold put_kept rows.old.items (map (kept_of group.now) entries.items) }
@@ -76,6 +138,6 @@ pub fn move_entries(rows: &mut Vec<Row>, group: &GroupId, entries: Vec<Entry>)
 {
     let mut near = 0;
     for entry in entries {
-        near = move_entry(rows, near, group, entry);
+        near = move_entry(rows, room, near, group, entry);
     }
 }

@@ -14,7 +14,7 @@ use crate::key::StoredOffset;
 use crate::rows::{self, Row};
 use crate::shelves::{self, Shelf};
 use cg_names::{GroupId, Topic};
-use cg_record::{Committed, Partition};
+use cg_record::{Committed, Metadata, Partition};
 use std::alloc::{AllocError, Global};
 use std::marker::Model;
 
@@ -82,6 +82,15 @@ impl Offsets {
         self.shelves.as_slice()
     }
 
+    /// Returns the shelves, without a copy.
+    pub(crate) fn into_shelves(self) -> Vec<Shelf>
+        ensures value { from_sorted (stock result.items) ≡ self }
+        ensures are { AreShelves (finmap.len self) result.items }
+    {
+        let Offsets { shelves, .. } = self;
+        shelves
+    }
+
     /// Sets the offset of each entry of a commit. Allocates the metadata, a list if there are several entries, and the
     /// keys of new partitions. If an allocation fails, nothing changes; more than `u64::MAX` offsets, which fit no
     /// memory, count as a failed allocation.
@@ -97,16 +106,31 @@ impl Offsets {
         Ok(())
     }
 
-    /// Does what `commit` does with a commit that the caller gives away: to partitions that have an offset already its
-    /// metadata are moved, without an allocation.
+    /// Does what `commit` does with a commit that the caller gives away: its topics and metadata are moved, and nothing is
+    /// allocated if its partitions have an offset already.
     pub fn take_commit(&mut self, commit: Committed) -> Result<(), AllocError>
+        ensures ok { OnOk result (self.new ≡ fold (with_entry commit.group) self.old commit.entries) }
+        ensures err { OnErr result (self.new ≡ self.old) }
+    {
+        let mut room = Vec::new(self.alloc);
+        self.take_commit_in(&mut room, commit)?;
+        Ok(())
+    }
+
+    /// Does what `take_commit` does, and keeps the metadata of replaced offsets in `room`, as far as that has the capacity:
+    /// their memory can be used again.
+    pub fn take_commit_in(
+        &mut self,
+        room: &mut Vec<Metadata>,
+        commit: Committed,
+    ) -> Result<(), AllocError>
         ensures ok { OnOk result (self.new ≡ fold (with_entry commit.group) self.old commit.entries) }
         ensures err { OnErr result (self.new ≡ self.old) }
     {
         if commit.entries.len() as u64 > u64::MAX - self.len {
             return Err(AllocError);
         }
-        let grown = shelves::take(&mut self.shelves, self.alloc, commit)?;
+        let grown = shelves::take(&mut self.shelves, self.alloc, room, commit)?;
         self.len += grown;
         Ok(())
     }

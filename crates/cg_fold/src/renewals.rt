@@ -9,9 +9,10 @@ ghost use Rattle.cg_fold.specs.Renewed.{AreBelow, AreRenewals, IsRenewal, has_ro
 use crate::key::StoredOffset;
 use crate::rows::{self, Row};
 use cg_names::GroupId;
-use cg_record::Entry;
+use cg_record::{Entry, Metadata};
 use std::alloc::{AllocError, Global};
 use std::collections::VecDeque;
+use std::mem;
 
 /// A new value for a row, with the index of the row.
 #[derive(Drop)]
@@ -48,6 +49,23 @@ pub fn renew(rows: &mut Vec<Row>, renewal: Renewal)
     ensures { rows.new.items ≡ renewed rows.old.items renewal }
 {
     rows[renewal.at].1 = renewal.stored;
+}
+
+// Keeps metadata that are no longer needed, if `room` has the capacity.
+fn keep_spent(room: &mut Vec<Metadata>, spent: StoredOffset) {
+    let StoredOffset { metadata, .. } = spent;
+    if room.len() < room.capacity() {
+        room.push_reserved(metadata);
+    }
+}
+
+/// Sets the value of a row, and keeps the metadata that it had in `room`, if that has the capacity. No allocation.
+pub fn renew_in(rows: &mut Vec<Row>, room: &mut Vec<Metadata>, renewal: Renewal)
+    requires { renewal.at < length rows.old.items }
+    ensures { rows.new.items ≡ renewed rows.old.items renewal }
+{
+    let spent = mem::replace(&mut rows[renewal.at].1, renewal.stored);
+    keep_spent(room, spent);
 }
 
 /// Returns the new values for the rows of these entries, if all of these rows exist. Copies the metadata of each.

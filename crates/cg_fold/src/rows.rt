@@ -10,7 +10,7 @@ ghost use Rattle.cg_fold.specs.Key.{IsOther, IsOwn, kept_by, kept_of, is_below, 
 use crate::key::{OffsetKey, StoredOffset};
 use crate::{moves, renewals};
 use cg_names::{GroupId, Topic};
-use cg_record::{Committed, Entry, Partition};
+use cg_record::{Committed, Entry, Metadata, Partition};
 use std::alloc::{AllocError, Global};
 use std::cmp::Ordering;
 use std::collections::VecDeque;
@@ -58,6 +58,15 @@ impl Rows {
         self.rows.as_slice()
     }
 
+    /// Returns the rows as a vector, without a copy.
+    pub fn into_vec(self) -> Vec<Row>
+        ensures value { result.items ≡ self }
+        ensures sorted { IsTrue (is_sorted key_cmp self) }
+    {
+        let Rows { rows } = self;
+        rows
+    }
+
     /// Sets the offsets of a commit, in order. Returns the number of new rows. If an allocation fails, nothing changes.
     pub fn put_commit(&mut self, alloc: Global, commit: &Committed) -> Result<u64, AllocError>
         ensures ok { OnOk result (self.new ≡ fold put_kept self.old (kept_by commit.now)) }
@@ -76,19 +85,25 @@ impl Rows {
         }
     }
 
-    /// Sets the offsets of a commit, in order, and moves the metadata to partitions that have a row already. Returns the
-    /// number of new rows. If an allocation fails, nothing changes.
-    pub fn take_commit(&mut self, alloc: Global, commit: Committed) -> Result<u64, AllocError>
+    /// Sets the offsets of a commit, in order, and moves its topics and metadata. Keeps the metadata of replaced offsets in
+    /// `room`, as far as that has the capacity. Returns the number of new rows. If an allocation fails, nothing changes.
+    pub fn take_commit(
+        &mut self,
+        alloc: Global,
+        room: &mut Vec<Metadata>,
+        commit: Committed,
+    ) -> Result<u64, AllocError>
         ensures ok { OnOk result (self.new ≡ fold put_kept self.old (kept_by commit)) }
         ensures grown { IfOk result (λ grown. length self.new ≡ length self.old + grown) }
         ensures err { OnErr result (self.new ≡ self.old) }
     {
-        if !moves::have_rows(&self.rows, &commit.group, commit.entries.as_slice()) {
-            let grown = self.put_commit(alloc, &commit)?;
+        let Committed { group, entries } = commit;
+        let entries = entries.into_vec();
+        if !moves::have_rows(&self.rows, &group, &entries) {
+            let grown = self.put_all(moves::rows_from(alloc, &group, entries)?)?;
             return Ok(grown);
         }
-        let Committed { group, entries } = commit;
-        moves::move_entries(&mut self.rows, &group, entries.into_vec());
+        moves::move_entries(&mut self.rows, room, &group, entries);
         Ok(0)
     }
 
@@ -160,25 +175,6 @@ pub fn is_at(rows: &[Row], at: usize, group: &GroupId, topic: &Topic, partition:
     ensures other { OnFalse result (IsOther rows.now at (key_of group.now topic.now partition)) }
 {
     at < rows.len() && rows[at].0.compare(group, topic, partition) == Ordering::Equal
-}
-
-/// Returns the number of rows before a key, as `place` does; without a search where the row at `near` has the key. So a
-/// caller whose keys ascend with the rows gives the index after the last one.
-pub fn place_near(
-    rows: &[Row],
-    near: usize,
-    group: &GroupId,
-    topic: &Topic,
-    partition: Partition,
-) -> usize
-    requires { IsTrue (is_sorted key_cmp rows.now) }
-    ensures value { result ≡ prefix_len (is_below (key_of group.now topic.now partition)) rows.now }
-    ensures within { result ≤ length rows.now }
-{
-    if is_at(rows, near, group, topic, partition) {
-        return near;
-    }
-    place(rows, group, topic, partition)
 }
 
 // Inserts the row or replaces the one with its key, without an allocation: the caller reserves the room.

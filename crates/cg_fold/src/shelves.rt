@@ -8,7 +8,7 @@ ghost use Rattle.cg_fold.specs.Shelf.{AddsAt, GrowsAt, rows_at, with_more};
 use crate::grouped::{self, OfGroup};
 use crate::rows::{Row, Rows};
 use cg_names::GroupId;
-use cg_record::Committed;
+use cg_record::{Committed, Metadata};
 use std::alloc::{AllocError, Global};
 
 /// The offsets of a group, with the group's id.
@@ -76,6 +76,7 @@ pub fn add(shelves: &mut Vec<Shelf>, alloc: Global, commit: &Committed) -> Resul
 fn take_at(
     shelves: &mut Vec<Shelf>,
     alloc: Global,
+    room: &mut Vec<Metadata>,
     at: usize,
     commit: Committed,
 ) -> Result<u64, AllocError>
@@ -84,13 +85,33 @@ fn take_at(
     ensures grown { IfOk result (λ grown. GrowsAt shelves.old.items shelves.new.items at grown) }
     ensures err { OnErr result (shelves.new.items ≡ shelves.old.items) }
 {
-    let grown = shelves[at].1.take_commit(alloc, commit)?;
+    let grown = shelves[at].1.take_commit(alloc, room, commit)?;
     Ok(grown)
 }
 
-/// Does what `add` does with a commit that the caller gives away: to partitions that have an offset already its metadata
-/// are moved, without an allocation.
-pub fn take(shelves: &mut Vec<Shelf>, alloc: Global, commit: Committed) -> Result<u64, AllocError>
+// Builds a shelf with the offsets of a commit, and moves what it can.
+fn shelf_from(
+    alloc: Global,
+    room: &mut Vec<Metadata>,
+    commit: Committed,
+) -> Result<Shelf, AllocError>
+    ensures { IfOk result (λ shelf. shelf ≡ (commit.group, fold put_kept [] (kept_by commit))) }
+{
+    let mut rows = Rows::new(alloc);
+    let group = commit.group.clone()?;
+    rows.take_commit(alloc, room, commit)?;
+    Ok((group, rows))
+}
+
+/// Does what `add` does with a commit that the caller gives away: its topics and metadata are moved, and nothing is
+/// allocated if its partitions have an offset already. The metadata of replaced offsets are kept in `room`, as far as that
+/// has the capacity.
+pub fn take(
+    shelves: &mut Vec<Shelf>,
+    alloc: Global,
+    room: &mut Vec<Metadata>,
+    commit: Committed,
+) -> Result<u64, AllocError>
     requires { IsTrue (is_sorted name_cmp shelves.old.items) }
     ensures ok { OnOk result (shelves.new.items ≡ with_more commit.group (kept_by commit) shelves.old.items) }
     ensures grown { IfOk result (λ grown. length (rows_at commit.group shelves.new.items) ≡ length (rows_at commit.group shelves.old.items) + grown) }
@@ -98,10 +119,12 @@ pub fn take(shelves: &mut Vec<Shelf>, alloc: Global, commit: Committed) -> Resul
 {
     let at = grouped::place(shelves, &commit.group);
     if grouped::is_at(shelves, at, &commit.group) {
-        let grown = take_at(shelves, alloc, at, commit)?;
+        let grown = take_at(shelves, alloc, room, at, commit)?;
         Ok(grown)
     } else {
-        let grown = add(shelves, alloc, &commit)?;
+        let shelf = shelf_from(alloc, room, commit)?;
+        let grown = shelf.1.as_slice().len() as u64;
+        shelves.insert(at, shelf)?;
         Ok(grown)
     }
 }

@@ -1,37 +1,67 @@
 //! A snapshot that is made as it is read.
-ghost use Rattle.std.specs.Prelude.{◌≡◌, ◌∷◌, ◌++◌, [], IfOk, OnErr, flat_map};
-ghost use Rattle.std.specs.Option.{MatchOption, option_to_list};
+ghost use Rattle.std.specs.Prelude.{◌≡◌, ◌∷◌, ◌++◌, [], IfOk, OnErr};
+ghost use Rattle.std.specs.Option.{MatchOption};
 ghost use Rattle.std.specs.Vec.Iter.{into_iter_items};
-ghost use Rattle.cg_fold.specs.Snapshot.{group_commands, snapshot_of};
+ghost use Rattle.cg_fold.specs.Snapshot.{AreListed, left_of, snapshot_of};
 
 use crate::durable::Durable;
-use cg_names::GroupId;
+use crate::first_group::pop_first;
+use crate::records::Kept;
+use crate::shelves::Shelf;
+use crate::taking::commands_from;
 use cg_record::Command;
 use std::alloc::{AllocError, Global};
+use std::collections::VecDeque;
 use std::marker::Model;
 use std::vec::IntoIter;
 
-/// The commands of a snapshot that are left. Contracts see them in order. It holds the state, and copies the commands of
-/// one group at a time.
+/// The commands of a snapshot that are left. Contracts see them in order. It takes the state apart, group by group: names,
+/// rosters and metadata are moved into the commands, and their memory is free once the commands are dropped.
 #[derive(Drop)]
 pub struct Snapshot {
     alloc: Global,
-    durable: Durable,
-    // The groups whose commands were not copied yet.
-    ids: IntoIter<GroupId>,
+    // The groups whose commands were not made yet.
+    records: VecDeque<Kept>,
+    shelves: VecDeque<Shelf>,
     // The commands of the last group that are left.
     commands: IntoIter<Command>,
 }
 
 impl Model for Snapshot {
-    ghost use Rattle.std.specs.Prelude.{List, ◌++◌, flat_map};
+    ghost use Rattle.std.specs.Prelude.{List};
     ghost use Rattle.std.specs.Vec.Iter.{into_iter_items};
     ghost use Rattle.cg_record.specs.declared.command.Command.{Command};
-    ghost use Rattle.cg_fold.specs.Snapshot.{group_commands};
+    ghost use Rattle.cg_fold.specs.Snapshot.{AreListed, left_of};
 
     ghost Value = { List Command };
 
-    ghost view = { λ s. into_iter_items s.commands ++ flat_map (group_commands s.durable) (into_iter_items s.ids) };
+    ghost view = { λ s. left_of (into_iter_items s.commands) s.records.items s.shelves.items };
+
+    ghost invariant = { λ s. AreListed s.records.items s.shelves.items };
+}
+
+// Removes the next command and returns it: of the last group, or else of the first group that is left.
+fn next_of(
+    alloc: Global,
+    commands: &mut IntoIter<Command>,
+    records: &mut VecDeque<Kept>,
+    shelves: &mut VecDeque<Shelf>,
+) -> Result<Option<Command>, AllocError>
+    requires { AreListed records.old.items shelves.old.items }
+    ensures next { IfOk result (λ o. MatchOption o
+        ((left_of (into_iter_items commands.old) records.old.items shelves.old.items ≡ []) × (left_of (into_iter_items commands.new) records.new.items shelves.new.items ≡ []))
+        (λ command. left_of (into_iter_items commands.old) records.old.items shelves.old.items ≡ command ∷ left_of (into_iter_items commands.new) records.new.items shelves.new.items)) }
+    ensures listed { AreListed records.new.items shelves.new.items }
+{
+    loop {
+        if let Some(command) = commands.next() {
+            return Ok(Some(command));
+        }
+        let Some(first) = pop_first(records, shelves) else {
+            return Ok(None);
+        };
+        *commands = commands_from(alloc, first)?;
+    }
 }
 
 impl Snapshot {
@@ -39,13 +69,12 @@ impl Snapshot {
     pub fn new(alloc: Global, durable: Durable) -> Result<Self, AllocError>
         ensures { IfOk result (λ snapshot. snapshot ≡ snapshot_of durable) }
     {
-        let ids = durable.group_ids()?.into_iter();
-        let commands = Vec::new(alloc).into_iter();
+        let (records, shelves) = durable.into_lists();
         Ok(Snapshot {
             alloc,
-            durable,
-            ids,
-            commands,
+            records: VecDeque::from_vec(records),
+            shelves: VecDeque::from_vec(shelves),
+            commands: Vec::new(alloc).into_iter(),
         })
     }
 
@@ -56,14 +85,12 @@ impl Snapshot {
             ((self.old ≡ []) × (self.new ≡ []))
             (λ command. self.old ≡ command ∷ self.new)) }
     {
-        loop {
-            if let Some(command) = self.commands.next() {
-                return Ok(Some(command));
-            }
-            let Some(group) = self.ids.next() else {
-                return Ok(None);
-            };
-            self.commands = self.durable.commands_of(&group)?;
-        }
+        let next = next_of(
+            self.alloc,
+            &mut self.commands,
+            &mut self.records,
+            &mut self.shelves,
+        )?;
+        Ok(next)
     }
 }

@@ -1,5 +1,7 @@
 //! The group machine: the loaded groups, and the step function.
 ghost use Rattle.std.specs.Prelude.{◌≡◌, true, IfOk, IfErr, OnErr, length, slice_get};
+ghost use Rattle.std.specs.Map.Iter.{ShowsInOrder, deref};
+ghost use Rattle.cg_member.specs.declared.group.Group.{Group};
 ghost use Rattle.cg_held.specs.Props.{AreKnown-prop, IsTight-prop};
 ghost use Rattle.cg_held.specs.Sessions.{AreKnown, IsTight, is_home};
 ghost use Rattle.cg_member.specs.Waiting.{waiting_calls};
@@ -13,11 +15,13 @@ use cg_held::held::Held;
 use cg_held::reviving::revived_all;
 use cg_held::sessions::Homes;
 use cg_member::effects::Effects;
-use cg_names::Moment;
+use cg_member::group::Group;
+use cg_names::{GroupId, Moment};
 use cg_request::event::Event;
 use cg_request::ticket::Ticket;
 use std::alloc::{AllocError, Global};
 use std::collections::BTreeMap;
+use std::collections::btree_map::Values;
 use std::marker::Model;
 
 /// The state of the group machine: the loaded groups, the committed offsets, and the moment of the last event.
@@ -74,6 +78,14 @@ impl Groups {
         ensures { result ≡ length self.now.groups }
     {
         self.held.len() as u64
+    }
+
+    /// Returns an iterator over the loaded groups, by the bytes of their ids.
+    pub fn iter(&self) -> Values<'_, GroupId, Group>
+        ensures rest { result ≡ self.now.groups }
+        ensures runs { ShowsInOrder (deref {X = Group}) }
+    {
+        self.held.iter()
     }
 
     /// Returns the i-th parked call, counted from 0, by the bytes of the groups' ids and in joining order. Linear in

@@ -14,7 +14,8 @@ use crate::parking::{meet_join, meet_leave, meet_sync};
 use cg_fold::Offsets;
 use cg_held::changes::{Changes, swap_all};
 use cg_held::describing::{description, listings};
-use cg_held::everywhere::{Going, Ticking, everywhere};
+use cg_held::due::turn_due;
+use cg_held::everywhere::{Going, Ticking};
 use cg_held::held::Held;
 use cg_held::homes::turn_there;
 use cg_held::sessions::Homes;
@@ -208,7 +209,7 @@ fn meet_delete(
     }
 }
 
-// Processes a tick. Visits every loaded group, and copies only those that it changes.
+// Processes a tick. Visits only the groups that are due, and copies only those that it changes.
 #[tactic(auto, unfolding(cg_held::specs::Held::everywhere))]
 fn meet_tick(now: Moment, held: &mut Held, homes: &mut Homes) -> Result<Effects, AllocError>
     requires known { AreKnown (is_home homes.old) held.old }
@@ -220,13 +221,16 @@ fn meet_tick(now: Moment, held: &mut Held, homes: &mut Homes) -> Result<Effects,
     ensures err { OnErr result (held.new ≡ held.old) }
 {
     let alloc = held.allocator();
+    let due = held.due(now)?;
+    let ids = due.as_slice();
     let Changes {
         mut groups,
         effects,
-    } = everywhere(alloc, &Ticking(now), held)?;
+    } = turn_due(alloc, &Ticking(now), held, ids)?;
     let changed = groups.as_mut_slice();
     swap_all(held, changed);
     settle_all(homes, held, changed);
+    held.renew_all(now, ids);
     Ok(effects)
 }
 

@@ -25,7 +25,7 @@ use Rattle.cg_held.specs.Kept.{Ascending, ComeBefore, ComesBefore, Each}
 use Rattle.cg_request.specs.Names.{is_same}
 use Rattle.cg_member.specs.Rebalance.{turn_of}
 use Rattle.cg_held.proofs.Framed.{each-append}
-use Rattle.cg_held.proofs.InOrder.{before_found, come_before, differs_behind, found_alone, found_at, less_greater, none_found, same_order}
+use Rattle.cg_held.proofs.InOrder.{before_found, come_before, differs_behind, found_alone, less_greater, none_found, same_order}
 use Rattle.cg_held.proofs.KeptLists.{found-with_group, group_ids, same_self}
 
 -- `changed` with a first change, and with no change
@@ -250,52 +250,19 @@ module _ (turn : Group → Turn) where
           let with_these : List Command → List (Ticket × Reply) → Effects = λ cs rs. record { commands = cs; replies = rs } in
           ap (λ cs. with_these cs e.replies) commands ∙ ap (with_these f.commands) replies
 
-  -- invariant of the loop over all groups: a prefix of them had its steps
-
-  abbrev pub Onward : List Group → List Group → Changes → Type 0
-  Onward groups left done = (front : List Group) × (groups ≡ front ++ left) × HaveTurned turn groups (group_ids front) done
-
-  own_ids : (gs : List Group) → Each (λ (h : Group). is_one_of (group_ids gs) h.id ≡ true) gs
-  own_ids [] = tt
-  own_ids (g ∷ gs) = (or_left (is_same g.id g.id) (is_one_of (group_ids gs) g.id) (same_self g.id), more gs (own_ids gs))
+  -- the groups with these ids had their steps, and the event does not change the others
+  pub these_turned : (groups : List Group) (ids : List (List ℕ)) (done : Changes) → Each (λ (g : Group). is_one_of ids g.id ≡ false → turn g ≡ turn_of g) groups → HaveTurned turn groups ids done → Done groups done
+  these_turned groups ids done calm h = all_turned groups ids done (each groups calm) h
     where
-      more : (hs : List Group) → Each (λ (h : Group). is_one_of (group_ids gs) h.id ≡ true) hs → Each (λ (h : Group). is_one_of (group_ids (g ∷ gs)) h.id ≡ true) hs
-      more [] h = tt
-      more (x ∷ xs) h = (or_right (is_same x.id g.id) (is_one_of (group_ids gs) x.id) h.0, more xs h.1)
-
-  pub onward_end : (groups left : List Group) (done : Changes) → left ≡ [] → Onward groups left done → Done groups done
-  onward_end groups left done none (front, split, h) =
-      let whole : groups ≡ front = split ∙ ap (λ ys. front ++ ys) none ∙ append-nil front in
-      let P : List Group → Type 0 = λ fs. HaveTurned turn groups (group_ids fs) done in
-      all_turned groups (group_ids groups) done (each groups (own_ids groups)) (subst P (sym whole) h)
-    where
-      each : (hs : List Group) → Each (λ (h : Group). is_one_of (group_ids groups) h.id ≡ true) hs → Each (λ h. among (group_ids groups) turn h ≡ turn h) hs
+      each : (gs : List Group) → Each (λ (g : Group). is_one_of ids g.id ≡ false → turn g ≡ turn_of g) gs → Each (λ h. among ids turn h ≡ turn h) gs
       each [] h = tt
-      each (x ∷ xs) h = (took (group_ids groups) x h.0, each xs h.1)
-
-  pub onward_next : (groups left rest : List Group) (g : Group) (was now : Changes) → InOrder groups → left ≡ g ∷ rest
-      → ((groups : List Group) (ids : List (List ℕ)) → InOrder groups → find_group g.id groups ≡ Some g → ComeBefore ids g.id → HaveTurned turn groups ids was → HaveTurned turn groups (ids ++ g.id ∷ []) now)
-      → Onward groups left was → Onward groups rest now
-  onward_next groups left rest g was now o first turned (front, split, h) =
-      let here : groups ≡ front ++ g ∷ rest = split ∙ ap (λ ys. front ++ ys) first in
-      let O : List Group → Type 0 = λ gs. InOrder gs in
-      let F : List Group → Type 0 = λ gs. find_group g.id gs ≡ Some g in
-      let B : List (List ℕ) → Type 0 = λ xs. Ascending xs in
-      let ordered = subst O here o in
-      let ids_are : group_ids (front ++ g ∷ rest) ≡ group_ids front ++ g.id ∷ group_ids rest = ids_of front in
-      let H : List (List ℕ) → Type 0 = λ ids. HaveTurned turn groups ids now in (
-        front ++ g ∷ [],
-        here ∙ sym (append_assoc front (g ∷ []) rest),
-        subst H (sym (last front)) (turned groups (group_ids front) o (subst F (sym here) (found_at front g rest ordered)) (come_before (group_ids front) g.id (group_ids rest) (subst B ids_are ordered)) h),
+      each (g ∷ gs) h = (
+        (elim (is_one_of ids g.id) as (λ b. is_one_of ids g.id ≡ b → (if b then turn g else turn_of g) ≡ turn g) [
+          | true ↦ λ e. refl
+          | false ↦ λ e. sym (h.0 e)
+        ]) refl,
+        each gs h.1,
       )
-    where
-      ids_of : (fs : List Group) → group_ids (fs ++ g ∷ rest) ≡ group_ids fs ++ g.id ∷ group_ids rest
-      ids_of [] = refl
-      ids_of (x ∷ xs) = ap (λ ys. x.id ∷ ys) (ids_of xs)
-
-      last : (fs : List Group) → group_ids (fs ++ g ∷ []) ≡ group_ids fs ++ g.id ∷ []
-      last [] = refl
-      last (x ∷ xs) = ap (λ ys. x.id ∷ ys) (last xs)
 
   -- invariant of the loop over these ids: a prefix of them had its steps
 
@@ -323,17 +290,11 @@ module _ (turn : Group → Turn) where
   homeward_end groups es left done none calm (front, split, h) =
       let whole : keys_of es ≡ front = split ∙ ap (λ ys. front ++ ys) none ∙ append-nil front in
       let P : List (List ℕ) → Type 0 = λ ids. HaveTurned turn groups ids done in
-      all_turned groups (keys_of es) done (each groups calm) (subst P (sym whole) h)
+      these_turned groups (keys_of es) done (each groups calm) (subst P (sym whole) h)
     where
-      each : (gs : List Group) → Each (λ (g : Group). is_some (lookup (is_at (slice_cmp nat_cmp g.id)) es) ≡ false → turn g ≡ turn_of g) gs → Each (λ h. among (keys_of es) turn h ≡ turn h) gs
+      each : (gs : List Group) → Each (λ (g : Group). is_some (lookup (is_at (slice_cmp nat_cmp g.id)) es) ≡ false → turn g ≡ turn_of g) gs → Each (λ (g : Group). is_one_of (keys_of es) g.id ≡ false → turn g ≡ turn_of g) gs
       each [] h = tt
-      each (g ∷ gs) h = (
-        (elim (is_one_of (keys_of es) g.id) as (λ b. is_one_of (keys_of es) g.id ≡ b → (if b then turn g else turn_of g) ≡ turn g) [
-          | true ↦ λ e. refl
-          | false ↦ λ e. sym (h.0 (keys_have g.id es ∙ e))
-        ]) refl,
-        each gs h.1,
-      )
+      each (g ∷ gs) h = (λ e. h.0 (keys_have g.id es ∙ e), each gs h.1)
 
   -- the event changes no group
   pub none_touched : (groups : List Group) (done : Changes) → Each (λ (g : Group). false ≡ false → turn g ≡ turn_of g) groups → HaveTurned turn groups [] done → Done groups done

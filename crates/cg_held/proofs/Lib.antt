@@ -11,3 +11,6 @@ pub mod Revived
 pub mod Untouched
 pub mod Finding
 pub mod Tight
+pub mod DueGroups
+pub mod Quiet
+pub mod Timed

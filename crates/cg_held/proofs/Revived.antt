@@ -83,7 +83,7 @@ in_order-revived now state =
 
 -- one more group, inserted after those before it
 
-before_take : (xs : List (List ℕ)) (n : ℕ) (d : List ℕ) → n < length xs → Ascending xs → ComeBefore (take n xs) (get_or xs n d)
+pub before_take : (xs : List (List ℕ)) (n : ℕ) (d : List ℕ) → n < length xs → Ascending xs → ComeBefore (take n xs) (get_or xs n d)
 before_take [] n d lt h = absurd (omega arith)
 before_take (x ∷ xs) zero d lt h = tt
 before_take (x ∷ xs) (suc n) d lt h = (each_to_place (λ y. slice_cmp nat_cmp x y ≡ Less) xs h.0 n d (omega arith), before_take xs n d (omega arith) h.1)

@@ -1,15 +1,15 @@
 //! Events that concern many groups: a tick, and a closed session. A group that the event does not change is not copied.
 ghost use Rattle.std.specs.Prelude.{◌≡◌, ℕ, Some, List, [], ◌∷◌, ◌++◌, IfOk, OnOk};
 ghost use Rattle.cg_member.specs.declared.group.Group.{Group};
-ghost use Rattle.cg_held.specs.Changes.{AreHeld, HaveTurned, KeepIds, changed};
+ghost use Rattle.cg_held.specs.Changes.{HaveTurned, KeepIds};
 ghost use Rattle.cg_held.specs.Kept.{ComeBefore};
-ghost use Rattle.cg_held.specs.Held.{InOrder, find_group, groups_after, effects_of};
+ghost use Rattle.cg_held.specs.Held.{InOrder, find_group};
 
 use crate::changes::Changes;
 use crate::held::Held;
 use cg_member::group::Group;
 use cg_member::turn::Turn;
-use cg_names::Moment;
+use cg_names::{GroupId, Moment};
 use cg_turn::leaving::{gone_in, gone_touches};
 use cg_turn::ticking::{tick_touches, ticked};
 use std::alloc::{AllocError, Global};
@@ -99,20 +99,22 @@ pub fn turn_one<T: Turning>(
     Ok(())
 }
 
-/// Returns the changes of the event in all loaded groups. No group is replaced yet.
-pub fn everywhere<T: Turning>(
+/// Appends the step of the group with this id, if it is loaded and the event may change it.
+pub fn turn_named<T: Turning>(
     alloc: Global,
     turning: &T,
     groups: &Held,
-) -> Result<Changes, AllocError>
+    id: &GroupId,
+    done: &mut Changes,
+) -> Result<(), AllocError>
     requires { KeepIds (T.turns turning.now) }
-    ensures held { IfOk result (λ c. AreHeld groups.now c.groups.items) }
-    ensures groups { IfOk result (λ c. changed c.groups.items groups.now ≡ groups_after (T.turns turning.now) groups.now) }
-    ensures effects { IfOk result (λ c. c.effects ≡ effects_of (T.turns turning.now) groups.now) }
+    ensures { OnOk result
+        ((ids : List (List ℕ)) → ComeBefore ids id.now
+        → HaveTurned (T.turns turning.now) groups.now ids done.old → HaveTurned (T.turns turning.now) groups.now (ids ++ id.now ∷ []) done.new) }
 {
-    let mut done = Changes::new(alloc);
-    for group in groups.iter() {
-        turn_one(alloc, turning, group, &mut done)?;
-    }
-    Ok(done)
+    let Some(group) = groups.find(id) else {
+        return Ok(());
+    };
+    turn_one(alloc, turning, group, done)?;
+    Ok(())
 }

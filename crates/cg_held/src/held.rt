@@ -1,70 +1,59 @@
-//! The loaded groups, in a map by their ids.
-ghost use Rattle.std.specs.Prelude.{◌≡◌, ℕ, Some, None, [], length, is_some, slice_get, true, IfOk, OnErr, OnOk};
-ghost use Rattle.std.specs.BTreeMap.{get, is_at};
-ghost use Rattle.std.specs.Cmp.Lexicographic.{slice_cmp};
-ghost use Rattle.std.specs.Map.{set_value};
+//! The loaded groups, with an index of the moments at which ticks may change them.
+ghost use Rattle.std.specs.Prelude.{◌≡◌, ℕ, ◌<◌, List, Some, None, [], length, false, slice_get, IfOk, OnErr, OnOk};
 ghost use Rattle.std.specs.Map.Iter.{ShowsInOrder, deref};
 ghost use Rattle.std.specs.Option.{option_copied};
-ghost use Rattle.std.specs.Ordering.{nat_cmp};
 ghost use Rattle.cg_member.specs.declared.group.Group.{Group};
+ghost use Rattle.cg_held.specs.Changes.{is_one_of};
 ghost use Rattle.cg_held.specs.Held.{IsHeld, InOrder, find_group, with_group, without_group};
+ghost use Rattle.cg_held.specs.Kept.{Ascending, Each};
+ghost use Rattle.cg_held.specs.Timed.{AreTimed};
 ghost use Rattle.cg_member.specs.Membership.{hearing};
+ghost use Rattle.cg_member.specs.Rebalance.{turn_of};
+ghost use Rattle.cg_member.specs.Ticking.{ticked};
 ghost use Rattle.cg_member.specs.Waiting.{waiting_calls};
 
-use cg_member::calls::Calls;
+use crate::loaded::Loaded;
 use cg_member::group::Group;
 use cg_names::{GroupId, MemberId, Moment};
 use cg_request::ticket::Ticket;
+use cg_time::Deadlines;
+use cg_turn::ticking::next_deadline;
 use std::alloc::{AllocError, Global};
-use std::collections::BTreeMap;
 use std::collections::btree_map::Values;
 use std::marker::Model;
-use std::mem;
 
-/// The loaded groups by the bytes of their ids. Contracts see the list of groups.
-#[derive(Debug, Drop)]
+/// The loaded groups by the bytes of their ids. Contracts see the list of groups. An index has a moment for each group
+/// before which no tick changes it. Such a moment is kept when a member is heard, since that makes it only later; when
+/// it comes, the tick finds out the next one.
+#[derive(Drop)]
 pub struct Held {
-    alloc: Global,
-    groups: BTreeMap<GroupId, Group>,
+    loaded: Loaded,
+    deadlines: Deadlines<GroupId>,
+    /// The moments of the index hold if members are heard again at this moment or later.
+    since: Moment,
 }
 
 impl Model for Held {
     ghost use Rattle.std.specs.Prelude.{List};
-    ghost use Rattle.std.specs.BTreeMap.{values};
     ghost use Rattle.cg_member.specs.declared.group.Group.{Group};
-    ghost use Rattle.cg_held.specs.Held.{StandUnderIds, IsHeld, InOrder};
+    ghost use Rattle.cg_held.specs.Timed.{AreTimed};
 
     ghost Value = { List Group };
 
-    ghost view = { λ h. values h.groups };
+    ghost view = { λ h. h.loaded };
 
-    ghost invariant = { λ h. StandUnderIds h.groups.entries × InOrder (values h.groups) };
+    ghost invariant = { λ h. AreTimed h.since h.deadlines.entries h.loaded };
 }
 
-#[tactic(auto, unfolding(cg_member::specs::Membership::hearing))]
-fn hear_in(now: Moment, id: &MemberId, group: &mut Group)
-    ensures { group.new ≡ hearing now id.now group.old }
+// Keeps the index when a member of this group is heard. If it is heard before `since`, the next tick visits the group.
+fn hear_in_index(deadlines: &mut Deadlines<GroupId>, since: Moment, now: Moment, own: &GroupId)
+    ensures heard { (id : List ℕ) (groups : List Group) (g : Group) → InOrder groups → find_group own.now groups ≡ Some g
+        → AreTimed since deadlines.old.entries groups → AreTimed since deadlines.new.entries (with_group (hearing now id g) groups) }
+    ensures absent { (groups : List Group) → find_group own.now groups ≡ None
+        → AreTimed since deadlines.old.entries groups → AreTimed since deadlines.new.entries groups }
 {
-    group.members.hear(id, now);
-}
-
-// Exchanges the group with this id for the given one, which becomes the group as it was.
-fn swap_in(groups: &mut BTreeMap<GroupId, Group>, group: &mut Group)
-    requires { is_some (get (slice_cmp nat_cmp) groups.old group.old.id) ≡ true }
-    ensures after { groups.new.entries ≡ set_value (is_at (slice_cmp nat_cmp group.old.id)) groups.old.entries group.old }
-    ensures before { get (slice_cmp nat_cmp) groups.old group.old.id ≡ Some group.new }
-{
-    if let Some(place) = groups.get_mut(&group.id) {
-        mem::swap(place, group);
-    }
-}
-
-fn hear_among(groups: &mut BTreeMap<GroupId, Group>, own: &GroupId, id: &MemberId, now: Moment)
-    ensures some { (g : Group) → get (slice_cmp nat_cmp) groups.old own.now ≡ Some g → groups.new.entries ≡ set_value (is_at (slice_cmp nat_cmp own.now)) groups.old.entries (hearing now id.now g) }
-    ensures none { get (slice_cmp nat_cmp) groups.old own.now ≡ None → groups.new.entries ≡ groups.old.entries }
-{
-    if let Some(group) = groups.get_mut(own) {
-        hear_in(now, id, group);
+    if now.as_millis() < since.as_millis() {
+        let _found = deadlines.reschedule(own, Moment::from_millis(0));
     }
 }
 
@@ -74,21 +63,22 @@ impl Held {
         ensures { result ≡ [] }
     {
         Held {
-            alloc,
-            groups: BTreeMap::new(alloc),
+            loaded: Loaded::new(alloc),
+            deadlines: Deadlines::new(alloc),
+            since: Moment::from_millis(0),
         }
     }
 
     /// Returns the allocator of the groups.
     pub fn allocator(&self) -> Global {
-        self.alloc
+        self.loaded.allocator()
     }
 
     /// Returns the number of groups.
     pub fn len(&self) -> usize
         ensures { result ≡ length self.now }
     {
-        self.groups.len()
+        self.loaded.len()
     }
 
     /// Returns an iterator over the groups, by the bytes of their ids.
@@ -97,7 +87,7 @@ impl Held {
         ensures runs { ShowsInOrder (deref {X = Group}) }
         ensures in_order { InOrder self.now }
     {
-        self.groups.values()
+        self.loaded.iter()
     }
 
     /// Returns the group with this id. Costs one look-up.
@@ -105,20 +95,15 @@ impl Held {
         ensures found { option_copied result ≡ find_group id.now self.now }
         ensures in_order { InOrder self.now }
     {
-        self.groups.get(id)
+        self.loaded.find(id)
     }
 
     /// Returns the i-th parked call, counted from 0, by group and joining order. Linear in the members of all groups,
     /// no allocation.
-    #[tactic(auto, unfolding(cg_member::specs::Waiting::waiting_calls))]
     pub fn parked(&self, i: u64) -> Option<Ticket>
         ensures { result ≡ slice_get (waiting_calls self.now) i }
     {
-        self.groups
-            .values()
-            .flat_map(|g| g.members.as_slice().iter())
-            .filter_map(|m| Calls::Any.called(m.waits))
-            .nth(i as usize)
+        self.loaded.parked(i)
     }
 
     // Inserts a group whose id is not loaded.
@@ -126,8 +111,11 @@ impl Held {
         ensures ok { OnOk result (self.new ≡ with_group group self.old) }
         ensures err { OnErr result (self.new ≡ self.old) }
     {
+        let deadline = next_deadline(self.since, &group);
         let id = group.id.clone()?;
-        self.groups.insert(id, group)?;
+        self.deadlines.reserve(1)?;
+        self.loaded.add(group)?;
+        let _set = self.deadlines.set(id, deadline);
         Ok(())
     }
 
@@ -138,7 +126,7 @@ impl Held {
         ensures before { IfOk result (λ o. o ≡ find_group group.id self.old) }
         ensures err { OnErr result (self.new ≡ self.old) }
     {
-        if self.groups.contains_key(&group.id) {
+        if self.find(&group.id).is_some() {
             let mut group = group;
             self.swap(&mut group);
             return Ok(Some(group));
@@ -153,20 +141,61 @@ impl Held {
         ensures after { self.new ≡ with_group group.old self.old }
         ensures before { find_group group.old.id self.old ≡ Some group.new }
     {
-        swap_in(&mut self.groups, group);
+        let deadline = next_deadline(self.since, group);
+        let _found = self.deadlines.reschedule(&group.id, deadline);
+        self.loaded.swap(group);
     }
 
     /// Removes the group with this id, if it is loaded.
     pub fn remove(&mut self, id: &GroupId)
         ensures { self.new ≡ without_group id.now self.old }
     {
-        let _group = self.groups.remove(id);
+        self.deadlines.clear(id);
+        self.loaded.remove(id);
     }
 
     /// Sets the moment at which this member of this group was last heard. No allocation.
     pub fn hear(&mut self, group: &GroupId, id: &MemberId, now: Moment)
         ensures { (g : Group) → find_group group.now self.old ≡ Some g → self.new ≡ with_group (hearing now id.now g) self.old }
     {
-        hear_among(&mut self.groups, group, id, now);
+        hear_in_index(&mut self.deadlines, self.since, now, group);
+        self.loaded.hear(group, id, now);
+    }
+
+    /// Returns the ids of the groups that a tick at this moment may change, in their order. Costs a logarithm for each
+    /// of them, and constant time if there is none.
+    pub fn due(&self, now: Moment) -> Result<Vec<GroupId>, AllocError>
+        ensures ascending { IfOk result (λ ids. Ascending ids.items) }
+        ensures others { IfOk result (λ ids. Each (λ g. is_one_of ids.items g.id ≡ false → ticked now g ≡ turn_of g) self.now) }
+    {
+        self.deadlines.due(now)
+    }
+
+    // Notes that members are heard at this moment or later from now on.
+    fn advance(&mut self, now: Moment)
+        ensures { self.new ≡ self.old }
+    {
+        self.since = self.since.max(now);
+    }
+
+    // Finds out the next moment at which a tick may change the group.
+    fn renew(&mut self, id: &GroupId)
+        ensures { self.new ≡ self.old }
+    {
+        let Some(group) = self.loaded.find(id) else {
+            return;
+        };
+        let deadline = next_deadline(self.since, group);
+        let _found = self.deadlines.reschedule(id, deadline);
+    }
+
+    /// Finds out the next moments at which ticks may change these groups, after a tick at `now`. No allocation.
+    pub fn renew_all(&mut self, now: Moment, ids: &[GroupId])
+        ensures { self.new ≡ self.old }
+    {
+        self.advance(now);
+        for id in ids {
+            self.renew(id);
+        }
     }
 }

@@ -1,40 +1,19 @@
 //! Closed sessions: only the groups that the session index has for the session are visited.
-ghost use Rattle.std.specs.Prelude.{◌≡◌, ℕ, List, [], ◌∷◌, ◌++◌, false, IfOk, OnOk};
-ghost use Rattle.cg_member.specs.declared.group.Group.{Group};
-ghost use Rattle.cg_held.specs.Changes.{AreHeld, HaveTurned, KeepIds, changed};
-ghost use Rattle.cg_held.specs.Kept.{ComeBefore, Each};
+ghost use Rattle.std.specs.Prelude.{◌≡◌, false, IfOk};
+ghost use Rattle.cg_held.specs.Changes.{AreHeld, KeepIds, changed};
+ghost use Rattle.cg_held.specs.Kept.{Each};
 ghost use Rattle.cg_held.specs.Held.{effects_of, groups_after};
 ghost use Rattle.cg_member.specs.Rebalance.{turn_of};
 ghost use Rattle.cg_held.specs.Sessions.{is_home, is_noted};
 ghost use Rattle.std.specs.Prelude.{Some};
 
 use crate::changes::Changes;
-use crate::everywhere::{Turning, turn_one};
+use crate::everywhere::{Turning, turn_named};
 use crate::held::Held;
 use crate::sessions::{Home, Homes};
 use cg_names::GroupId;
 use std::alloc::{AllocError, Global};
 use std::collections::BTreeMap;
-
-// Appends the step of the group with this id, if it is loaded and the event may change it.
-fn turn_home<T: Turning>(
-    alloc: Global,
-    turning: &T,
-    groups: &Held,
-    id: &GroupId,
-    done: &mut Changes,
-) -> Result<(), AllocError>
-    requires { KeepIds (T.turns turning.now) }
-    ensures { OnOk result
-        ((ids : List (List ℕ)) → ComeBefore ids id.now
-        → HaveTurned (T.turns turning.now) groups.now ids done.old → HaveTurned (T.turns turning.now) groups.now (ids ++ id.now ∷ []) done.new) }
-{
-    let Some(group) = groups.find(id) else {
-        return Ok(());
-    };
-    turn_one(alloc, turning, group, done)?;
-    Ok(())
-}
 
 // Appends the steps of the groups with these ids, in order.
 fn turn_homes<T: Turning>(
@@ -51,7 +30,7 @@ fn turn_homes<T: Turning>(
 {
     let mut done = Changes::new(alloc);
     for id in ids.keys() {
-        turn_home(alloc, turning, groups, id, &mut done)?;
+        turn_named(alloc, turning, groups, id, &mut done)?;
     }
     Ok(done)
 }

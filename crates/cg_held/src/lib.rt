@@ -1,12 +1,14 @@
-//! The loaded groups by their ids, the session index of parked calls, recovery from the durable state, and events that
-//! concern many groups.
+//! The loaded groups by their ids, the session index of parked calls, the index of deadlines by group, recovery from the
+//! durable state, and events that concern many groups.
 #![tactic(auto)]
 
 pub mod changes;
 pub mod describing;
+pub mod due;
 pub mod everywhere;
 pub mod held;
 pub mod homes;
+pub mod loaded;
 pub mod reviving;
 pub mod sessions;
 pub mod settling;

@@ -25,7 +25,12 @@ use cg_names::NAME_BYTES_MAX;
 use std::alloc::{AllocError, Global};
 
 // The preconditions make both `unwrap` calls safe.
-fn entry_of(alloc: Global, key: Key<'_>, kept: Kept<'_>) -> Result<Entry, AllocError>
+fn entry_of(
+    alloc: Global,
+    room: &mut Vec<Metadata>,
+    key: Key<'_>,
+    kept: Kept<'_>,
+) -> Result<Entry, AllocError>
     requires key { IsKey key.topic.now key.partition }
     requires kept { IsKept kept.offset kept.metadata.now }
     ensures { IfOk result (λ e. e ≡ record { topic = key.entry.topic.now; partition = key.entry.partition; offset = kept.entry.offset; metadata = kept.entry.metadata.now }) }
@@ -33,7 +38,7 @@ fn entry_of(alloc: Global, key: Key<'_>, kept: Kept<'_>) -> Result<Entry, AllocE
     let partition = Partition::new(key.partition).unwrap();
     let offset = Offset::new(kept.offset).unwrap();
     let topic = name_of(alloc, key.topic)?;
-    let metadata = Metadata::from_bytes(alloc, kept.metadata)?;
+    let metadata = Metadata::from_bytes_in(alloc, room, kept.metadata)?;
     Ok(Entry {
         topic,
         partition,
@@ -46,6 +51,7 @@ fn entry_of(alloc: Global, key: Key<'_>, kept: Kept<'_>) -> Result<Entry, AllocE
 #[tactic(auto, unfolding(crate::specs::Reading::entry_at))]
 fn entry_at<'a>(
     alloc: Global,
+    room: &mut Vec<Metadata>,
     version: Version,
     front: &[Entry],
     bytes: &'a [u8],
@@ -57,7 +63,7 @@ fn entry_at<'a>(
         return Err(RecordFault::Repeated);
     }
     let (kept, rest) = kept_at(version, rest)?;
-    let entry = entry_of(alloc, key, kept)?;
+    let entry = entry_of(alloc, room, key, kept)?;
     Ok((entry, rest))
 }
 
@@ -65,6 +71,7 @@ fn entry_at<'a>(
 #[tactic(auto, using(crate::proofs::Steps::many_on, crate::proofs::Steps::many_fail, crate::proofs::Steps::many_end))]
 fn entries_at<'a>(
     alloc: Global,
+    room: &mut Vec<Metadata>,
     version: Version,
     count: u8,
     bytes: &'a [u8],
@@ -76,7 +83,7 @@ fn entries_at<'a>(
     let mut entries = Vec::with_capacity(alloc, count as usize)?;
     let mut rest = bytes;
     for _ in 0..count {
-        let (entry, after) = entry_at(alloc, version, entries.as_slice(), rest)?;
+        let (entry, after) = entry_at(alloc, room, version, entries.as_slice(), rest)?;
         entries.push(entry)?;
         rest = after;
     }
@@ -84,28 +91,30 @@ fn entries_at<'a>(
 }
 
 #[tactic(auto, unfolding(crate::specs::Reading::committed_at))]
-fn committed_at(
+fn committed_at<'a>(
     alloc: Global,
+    room: &mut Vec<Metadata>,
     version: Version,
-    bytes: &[u8],
-) -> Result<(Committed, &[u8]), RecordFault>
+    bytes: &'a [u8],
+) -> Result<(Committed, &'a [u8]), RecordFault>
     ensures { Builds (λ x. (x.0, x.1.now)) result (committed_at version bytes.now) }
 {
     let (group, rest) = name_at::<NAME_BYTES_MAX>(bytes)?;
     let (count, rest) = count_at(rest)?;
     let group = name_of(alloc, group)?;
-    let (entries, rest) = entries_at(alloc, version, count, rest)?;
+    let (entries, rest) = entries_at(alloc, room, version, count, rest)?;
     let entries = Entries::from_lawful(entries);
     Ok((Committed { group, entries }, rest))
 }
 
 #[tactic(auto, unfolding(crate::specs::Reading::body_at))]
-fn body_at(
+fn body_at<'a>(
     alloc: Global,
+    room: &mut Vec<Metadata>,
     version: Version,
     kind: u8,
-    bytes: &[u8],
-) -> Result<(Command, &[u8]), RecordFault>
+    bytes: &'a [u8],
+) -> Result<(Command, &'a [u8]), RecordFault>
     ensures { Builds (λ x. (x.0, x.1.now)) result (body_at version kind bytes.now) }
 {
     if kind == ASSIGNED_KIND {
@@ -118,7 +127,7 @@ fn body_at(
         let (replaced, rest) = replaced_at(alloc, version, bytes)?;
         Ok((Command::Replaced(replaced), rest))
     } else if kind == COMMITTED_KIND {
-        let (committed, rest) = committed_at(alloc, version, bytes)?;
+        let (committed, rest) = committed_at(alloc, room, version, bytes)?;
         Ok((Command::Committed(committed), rest))
     } else if kind == DELETED_KIND {
         let (deleted, rest) = deleted_at(alloc, version, bytes)?;
@@ -128,19 +137,20 @@ fn body_at(
     }
 }
 
-/// Decodes the next command.
+/// Decodes the next command. The metadata of a commit take the memory of those in `room`.
 #[tactic(auto, unfolding(crate::specs::Reading::command_at))]
-pub fn command_at(
+pub fn command_at<'a>(
     alloc: Global,
+    room: &mut Vec<Metadata>,
     version: Version,
-    bytes: &[u8],
-) -> Result<(Command, &[u8]), RecordFault>
+    bytes: &'a [u8],
+) -> Result<(Command, &'a [u8]), RecordFault>
     ensures builds { Builds (λ x. (x.0, x.1.now)) result (command_at version bytes.now) }
     ensures shorter { IfOk result (λ x. length x.1.now < length bytes.now) }
     ensures left { IfOk result (λ x. IsCommand x.0 × (left_in version bytes.now ≡ after_front (x.0 ∷ []) (left_in version x.1.now))) }
 {
     let (kind, rest) = byte_at(bytes)?;
-    body_at(alloc, version, kind, rest)
+    body_at(alloc, room, version, kind, rest)
 }
 
 // Decodes commands up to the end of the bytes.
@@ -153,9 +163,10 @@ fn commands_to_end(
     ensures { Builds (λ v. v.items) result (commands_to_end version (length bytes.now) bytes.now) }
 {
     let mut commands = Vec::new(alloc);
+    let mut room = Vec::new(alloc);
     let mut rest = bytes;
     while !rest.is_empty() {
-        let (command, after) = command_at(alloc, version, rest)?;
+        let (command, after) = command_at(alloc, &mut room, version, rest)?;
         commands.push(command)?;
         rest = after;
     }

@@ -11,6 +11,7 @@ use crate::command::Command;
 use crate::fault::RecordFault;
 use crate::fields::byte_at;
 use crate::format::Version;
+use crate::metadata::Metadata;
 use std::alloc::Global;
 use std::marker::Model;
 
@@ -56,10 +57,27 @@ impl<'a> Decoder<'a> {
         ensures fault { IfErr result (λ fault. Fails fault self.old) }
         ensures err { OnErr result (self.new ≡ self.old) }
     {
+        let mut room = Vec::new(alloc);
+        self.next_in(alloc, &mut room)
+    }
+
+    /// Does what `next` does. The metadata of a commit take the memory of those in `room`, which are no longer needed, one by
+    /// one: a caller that gives the metadata of replaced offsets back allocates only for longer ones.
+    pub fn next_in(
+        &mut self,
+        alloc: Global,
+        room: &mut Vec<Metadata>,
+    ) -> Result<Option<Command>, RecordFault>
+        ensures ok { IfOk result (λ o. MatchOption o
+            (self.old ≡ Ok [])
+            (λ command. IsCommand command × (self.old ≡ after_front (command ∷ []) self.new))) }
+        ensures fault { IfErr result (λ fault. Fails fault self.old) }
+        ensures err { OnErr result (self.new ≡ self.old) }
+    {
         if self.rest.is_empty() {
             return Ok(None);
         }
-        let (command, rest) = command_at(alloc, self.version, self.rest)?;
+        let (command, rest) = command_at(alloc, room, self.version, self.rest)?;
         self.rest = rest;
         Ok(Some(command))
     }

@@ -8,6 +8,14 @@ use std::marker::Model;
 /// Maximum size of the metadata of one committed offset, in bytes.
 pub const METADATA_BYTES_MAX: usize = 4_096;
 
+// Memory of this many bytes or fewer is used again for any metadata that fit it.
+const SMALL_BYTES: usize = 64;
+
+// Returns whether memory of this capacity is large enough for these bytes, and less than half of it would be wasted.
+fn is_fit(capacity: usize, bytes: usize) -> bool {
+    bytes <= capacity && (capacity <= SMALL_BYTES || capacity / 2 <= bytes)
+}
+
 /// The metadata of a committed offset: bytes that only clients read. Contracts see a list.
 #[derive(Debug, Drop)]
 pub struct Metadata {
@@ -31,6 +39,42 @@ impl Metadata {
         Ok(Metadata {
             bytes: Vec::from_slice(alloc, bytes)?,
         })
+    }
+
+    /// Copies the bytes as `from_bytes` does, into the memory of the last of `room`, which is removed: metadata that are no
+    /// longer needed. Allocates only if that memory is too small, or so large that much of it would be wasted.
+    pub(crate) fn from_bytes_in(
+        alloc: Global,
+        room: &mut Vec<Metadata>,
+        bytes: &[u8],
+    ) -> Result<Self, AllocError>
+        requires { length bytes.now ≤ METADATA_BYTES_MAX }
+        ensures { IfOk result (λ metadata. metadata ≡ bytes.now) }
+    {
+        match room.pop() {
+            Some(spent) => {
+                let metadata = spent.refilled(alloc, bytes)?;
+                Ok(metadata)
+            }
+            None => {
+                let metadata = Metadata::from_bytes(alloc, bytes)?;
+                Ok(metadata)
+            }
+        }
+    }
+
+    fn refilled(self, alloc: Global, bytes: &[u8]) -> Result<Self, AllocError>
+        requires { length bytes.now ≤ METADATA_BYTES_MAX }
+        ensures { IfOk result (λ metadata. metadata ≡ bytes.now) }
+    {
+        let Metadata { bytes: mut memory } = self;
+        if !is_fit(memory.capacity(), bytes.len()) {
+            let metadata = Metadata::from_bytes(alloc, bytes)?;
+            return Ok(metadata);
+        }
+        memory.clear();
+        memory.extend_from_slice(bytes)?;
+        Ok(Metadata { bytes: memory })
     }
 
     /// Wraps the bytes without a copy. Returns them unchanged if they are too long.

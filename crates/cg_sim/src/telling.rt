@@ -46,7 +46,7 @@ pub fn put_reply(outgoing: &Outgoing, out: &mut Vec<u8>) -> Result<(), Stop>
 
 /// Prints the refusal of a request that ran out of memory.
 pub fn put_refusal(ticket: Ticket, out: &mut Vec<u8>) -> Result<(), Stop>
-    ensures ok { OnOk result (out.new.items ≡ out.old.items ++ reply_text (answer ticket (Refused UnknownServerError))) }
+    ensures ok { OnOk result (out.new.items ≡ out.old.items ++ reply_text (answer ticket (Refused UnknownServerError) 0)) }
     ensures err { IfErr result (λ stop. stop ≡ Stop.Memory) }
 {
     put_reply(

@@ -53,12 +53,12 @@ inside-limit image sectors root has id index at is below =
     let tail : index_of id root.tail ≡ index_of id (ids_of (tails has)) = ap (index_of id) at.tail_ids in
     omega (arith, below, base, tail, index_of-below id (ids_of (tails has)) is, length-ids (tails has), length-append has.base (tails has))
 
-module _ (has : Content) (number : ℕ) (left : Frames) (cut : Cut) (cursor : Cursor) (before : State) (room : Vec ℕ Global) (folding : IsFolding has number left (record { cut = cut; cursor = cursor; durable = before; room = room })) where
+module _ (has : Content) (number : ℕ) (left : Frames) (cut : Cut) (cursor : Cursor) (before : State) (room : Vec ℕ Global) (spent : Vec (List ℕ) Global) (folding : IsFolding has number left (record { cut = cut; cursor = cursor; durable = before; room = room; spent = spent })) where
   -- a frame was found, and folded
-  pub folded-one : (image : Image) (sectors : ℕ) (root : Root) → LogAt image sectors root has → (frame : Frame) (next : Cursor) (now : State) (free : Vec ℕ Global) → IsNext (segments_of has) (segments_before (Some cut.id) has) folding.read frame next
+  pub folded-one : (image : Image) (sectors : ℕ) (root : Root) → LogAt image sectors root has → (frame : Frame) (next : Cursor) (now : State) (free : Vec ℕ Global) (kept : Vec (List ℕ) Global) → IsNext (segments_of has) (segments_before (Some cut.id) has) folding.read frame next
       → segment_index next < read_limit root (Some cut.id) → Adds true frame.count frame.payload.items before now
-      → (later : Frames) × (IsFrameRead More left later × IsFolding has number later (record { cut = cut; cursor = next; durable = now; room = free }))
-  folded-one image sectors root at frame next now free found below adds =
+      → (later : Frames) × (IsFrameRead More left later × IsFolding has number later (record { cut = cut; cursor = next; durable = now; room = free; spent = kept }))
+  folded-one image sectors root at frame next now free kept found below adds =
       let one : Frames = (frame.count, frame.payload.items) ∷ [] in
       let left_is : left ≡ (frame.count, frame.payload.items) ∷ found.more = append_cancel_left folding.read left ((frame.count, frame.payload.items) ∷ found.more) (sym folding.before ∙ found.limit_is) in (
         found.more,
@@ -76,7 +76,7 @@ module _ (has : Content) (number : ℕ) (left : Frames) (cut : Cut) (cursor : Cu
       )
 
   -- other memory for the next payload
-  pub folded-same : (free : Vec ℕ Global) → IsFolding has number left (record { cut = cut; cursor = cursor; durable = before; room = free })
+  pub folded-same : (free : Vec ℕ Global) → IsFolding has number left (record { cut = cut; cursor = cursor; durable = before; room = free; spent = spent })
   folded-same free = record {
     cut = folding.cut;
     read = folding.read;
@@ -160,9 +160,9 @@ module _ (image : Image) (sectors : ℕ) (root : Root) (has new : Content) (id :
   before-last =
       sym (append-nil (frames_of (segments_before (Some id) new))) ∙ ap (λ (l : Frames). frames_of (segments_before (Some id) new) ++ l) (sym from-last) ∙ frames-at-cut id new is-tail
 
-  pub IsFolding-begun : (number cut_number : ℕ) (cursor : Cursor) (durable : State) (room : Vec ℕ Global) → cut_number ≡ number → ((segments : List Filled) → IsAt segments cursor []) → durable ≡ empty
-      → IsFolding new number (frames_of new.base ++ frames_of (tails new)) (record { cut = record { id = id; number = cut_number }; cursor = cursor; durable = durable; room = room })
-  IsFolding-begun number cut_number cursor durable room number_is start nothing = record {
+  pub IsFolding-begun : (number cut_number : ℕ) (cursor : Cursor) (durable : State) (room : Vec ℕ Global) (spent : Vec (List ℕ) Global) → cut_number ≡ number → ((segments : List Filled) → IsAt segments cursor []) → durable ≡ empty
+      → IsFolding new number (frames_of new.base ++ frames_of (tails new)) (record { cut = record { id = id; number = cut_number }; cursor = cursor; durable = durable; room = room; spent = spent })
+  IsFolding-begun number cut_number cursor durable room spent number_is start nothing = record {
     cut = record { is_tail = is-tail; number_is = omega (arith, number_is, ap counted from-last) };
     read = [];
     before = before-last;

@@ -5,6 +5,7 @@ use crate::commands::Commands;
 use crate::snapshot_frames::SnapshotFrames;
 use cg_fold::Durable;
 use cg_log::Cursor;
+use cg_record::Metadata;
 use cg_root::SegmentId;
 
 /// Cut of a compaction: its tail, and the number of the last command before it.
@@ -26,6 +27,8 @@ pub(crate) struct Reading {
     pub(crate) durable: Durable,
     /// Memory for the next payload.
     pub(crate) room: Vec<u8>,
+    /// Metadata of replaced offsets: memory for the next ones.
+    pub(crate) spent: Vec<Metadata>,
 }
 
 /// What a compaction keeps while it writes.

@@ -13,7 +13,7 @@ use crate::fault::OpenFault;
 use cg_disk::SectorDisk;
 use cg_fold::Durable;
 use cg_log::Opening;
-use cg_record::{Decoder, RecordFault};
+use cg_record::{Decoder, ENTRIES_MAX, Metadata, RecordFault};
 use std::alloc::{AllocError, Global};
 
 /// The progress of a recovery, from the first frame on.
@@ -25,11 +25,21 @@ pub(crate) struct Loading {
     pub durable: Durable,
 }
 
-/// Applies the commands of a frame, one at a time. Returns `false` if its payload has a fault, or another number of
+/// Returns memory for the metadata of the offsets that one commit replaces; if the allocation fails, none.
+pub(crate) fn room_for_spent(alloc: Global) -> Vec<Metadata> {
+    match Vec::with_capacity(alloc, ENTRIES_MAX) {
+        Ok(room) => room,
+        Err(_) => Vec::new(alloc),
+    }
+}
+
+/// Applies the commands of a frame, one at a time. The metadata of replaced offsets go to `room`, and those of new ones
+/// take their memory. Returns `false` if its payload has a fault, or another number of
 /// commands than the frame counts: the state does not matter then.
 pub(crate) fn add_commands(
     alloc: Global,
     durable: &mut Durable,
+    room: &mut Vec<Metadata>,
     count: u64,
     payload: &[u8],
 ) -> Result<bool, AllocError>
@@ -40,9 +50,9 @@ pub(crate) fn add_commands(
     };
     let mut left = count;
     loop {
-        match decoder.next(alloc) {
+        match decoder.next_in(alloc, room) {
             Ok(Some(command)) if left > 0 => {
-                durable.apply_owned(command)?;
+                durable.apply_owned_in(room, command)?;
                 left -= 1;
             }
             Ok(Some(_)) => return Ok(false),
@@ -58,6 +68,7 @@ fn go_on(
     alloc: Global,
     all_read: bool,
     durable: &mut Durable,
+    room: &mut Vec<Metadata>,
     count: u64,
     payload: &[u8],
 ) -> Result<bool, AllocError>
@@ -67,7 +78,7 @@ fn go_on(
     if !all_read {
         return Ok(false);
     }
-    let is_text = add_commands(alloc, durable, count, payload)?;
+    let is_text = add_commands(alloc, durable, room, count, payload)?;
     Ok(is_text)
 }
 
@@ -83,10 +94,23 @@ impl Loading {
 
     // Adds a frame. A payload that cannot be decoded is only noted, because a later frame may be bad and is reported
     // first.
-    fn add(&mut self, alloc: Global, count: u64, payload: &[u8]) -> Result<(), AllocError>
+    fn add(
+        &mut self,
+        alloc: Global,
+        room: &mut Vec<Metadata>,
+        count: u64,
+        payload: &[u8],
+    ) -> Result<(), AllocError>
         ensures { (frames : Frames) → HasRead frames self.old → OnOk result (HasRead (frames ++ (count, payload.now) ∷ []) self.new) }
     {
-        self.all_read = go_on(alloc, self.all_read, &mut self.durable, count, payload)?;
+        self.all_read = go_on(
+            alloc,
+            self.all_read,
+            &mut self.durable,
+            room,
+            count,
+            payload,
+        )?;
         Ok(())
     }
 }
@@ -110,8 +134,9 @@ pub(crate) fn read_frames<D: SectorDisk>(
     ensures same_honesty { D.is_honest (disk_under opening.new) ≡ D.is_honest (disk_under opening.old) }
 {
     let mut loading = Loading::new(alloc);
+    let mut spent = room_for_spent(alloc);
     while let Some(count) = opening.next()? {
-        loading.add(alloc, count, opening.payload())?;
+        loading.add(alloc, &mut spent, count, opening.payload())?;
     }
     Ok(loading)
 }

@@ -20,7 +20,7 @@ ghost use Rattle.cg_store.specs.Phases.{IsEnd, is_compact_failure, phase_after};
 use crate::commands::Commands;
 use crate::compaction::{Compaction, Cut, Reading, Writing};
 use crate::fault::CompactFault;
-use crate::loading::add_commands;
+use crate::loading::{add_commands, room_for_spent};
 use crate::phase::{Phase, Progress};
 use crate::snapshot_frames::SnapshotFrames;
 use cg_disk::SectorDisk;
@@ -76,6 +76,7 @@ pub(crate) fn start<D: SectorDisk>(
         cursor: Cursor::start(),
         durable: Durable::new(alloc),
         room: Vec::new(alloc),
+        spent: room_for_spent(alloc),
     });
     Ok(())
 }
@@ -123,7 +124,13 @@ fn read_frame<D: SectorDisk>(
         return Ok(Progress::Done);
     };
     reading.cursor = next;
-    let is_text = add_commands(alloc, &mut reading.durable, frame.count, &frame.payload)?;
+    let is_text = add_commands(
+        alloc,
+        &mut reading.durable,
+        &mut reading.spent,
+        frame.count,
+        &frame.payload,
+    )?;
     reading.room = frame.payload;
     if is_text {
         Ok(Progress::More)

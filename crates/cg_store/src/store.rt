@@ -29,13 +29,21 @@ pub struct Store<D: SectorDisk> {
 }
 
 impl<D: SectorDisk> Store<D> {
-    ghost use Rattle.cg_store.specs.Store.{disk_of, front_of, room_of};
+    ghost use Rattle.cg_store.specs.Store.{disk_of, front_of, has_failed, room_of};
 
     /// Returns the number of the last command. A batch on which the disk failed does not count.
     pub fn front(&self) -> u64
         ensures { result ≡ front_of self.now }
     {
         self.log.number()
+    }
+
+    /// Returns whether the disk failed in an earlier call. Every further append and step of a compaction then reports
+    /// `Failed`.
+    pub fn has_failed(&self) -> bool
+        ensures { result ≡ has_failed self.now }
+    {
+        self.log.has_failed()
     }
 
     /// Returns how many segments of the disk are free: the root names none of them, and no compaction has taken one.

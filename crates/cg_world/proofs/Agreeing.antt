@@ -21,7 +21,7 @@ module _ (t : Transit) (front : ℕ) (failed : Bool) where
   served-agrees b handed e now h = record { way = h.way; stored = h.stored; enough = h.enough; serves = h.serves; rests = h.rests }
 
   request-at : (short : Bool) (b : Books) (token : ReplyToken) (e : Event) (now : ℕ) → Agree (Serving b) t front failed
-      → let a : Answer = if short then record { after = Serving b; out = answer (call_of token) (Refused CoordinatorNotAvailable) ∷ [] } else serving (served b (token ∷ []) e now) in
+      → let a : Answer = if short then record { after = Serving b; out = answer (call_of token) (Refused CoordinatorNotAvailable) 0 ∷ [] } else serving (served b (token ∷ []) e now) in
       Agree a.after t front failed
   request-at true b token e now h = h
   request-at false b token e now h = served-agrees b (token ∷ []) e now h

@@ -80,7 +80,7 @@ turn-next : (s : Step) (note : StepNote) (b : Books) (stored : Bool) → let w :
     IsAfter (turn s note w).after.desk (event_of s b) b ⊎ (is_serving (turn s note w).after.desk ≡ false)
 unfolding turn request_on tick_on gone_on settle_on
 turn-next (Request ticket r now fresh) note b stored =
-    inl (request-next (is_short b) b stored (record { ticket = ticket }) (asked r ticket fresh) now (answer ticket (Refused CoordinatorNotAvailable) ∷ []))
+    inl (request-next (is_short b) b stored (record { ticket = ticket }) (asked r ticket fresh) now (answer ticket (Refused CoordinatorNotAvailable) 0 ∷ []))
 turn-next (Gone session now) note b stored = inl (event-after b [] (event.Gone session) now)
 turn-next (Tick now) note b stored = inl (tick-next (is_short b) b now)
 turn-next Take Done b stored = inl (taking-next b)

@@ -6,6 +6,7 @@ use Rattle.std.proofs.Math.Nat.{ℕ_set}
 use Rattle.std.proofs.lemmas.Bool.{false≢true}
 use Rattle.cg_fold.specs.Durable.{State as Durable}
 use Rattle.cg_request.specs.declared.asking.Request.{Request as Asked}
+use Rattle.cg_request.specs.declared.asking.Request.TheVariants as asking
 use Rattle.cg_request.specs.declared.event.Event.{Event}
 use Rattle.cg_request.specs.declared.event.Event.TheVariants as event
 use Rattle.cg_member.specs.declared.reply.Reply.TheVariants.{Refused}
@@ -16,11 +17,12 @@ use Rattle.cg_held.specs.Reviving.{revive}
 use Rattle.cg_names.specs.declared.code.Code.TheVariants.{CoordinatorNotAvailable}
 use Rattle.cg_store.specs.Carried.{AreMade}
 use Rattle.cg_desk.specs.Balanced.{IsBalanced, IsOwedAt}
-use Rattle.cg_desk.specs.Books.{Books, IsTake, is_short, letting_go, returning, served, settling, taking}
-use Rattle.cg_desk.specs.Desks.{Answer, State, Loading, Serving, Failed, IsTakenFrom, at_rest, gone_on, opened, request_on, return_to, serving, settle_on, settled_of, tick_on}
-use Rattle.cg_desk.specs.Held.{holding, replies_of}
+use Rattle.cg_desk.specs.Books.{Books, Served, IsTake, is_short, letting_go, returning, served, settling, taking}
+use Rattle.cg_desk.specs.Desks.{Answer, State, Loading, Serving, Failed, IsTakenFrom, at_rest, gone_on, held_of, opened, request_on, return_to, serving, settle_on, settled_of, tick_on}
+use Rattle.cg_desk.specs.Held.{holding, leaving_of}
+use Rattle.cg_desk.specs.Origins.{origin_of, own_of}
 use Rattle.cg_desk.specs.Outgoings.{answer}
-use Rattle.cg_desk.specs.Owed.{KeepsCalls, sent}
+use Rattle.cg_desk.specs.Owed.{KeepsCalls}
 use Rattle.cg_desk.specs.Tokens.{call_of}
 use Rattle.cg_store.specs.declared.batch.Batch.{Batch}
 use Rattle.cg_desk.specs.declared.held.HeldStep.{HeldStep}
@@ -32,7 +34,7 @@ use Rattle.cg_desk.proofs.Living.{events_keep_calls, made-step}
 use Rattle.cg_desk.proofs.Owing.{leave-served, leave-settled, owed-served, owed-settled}
 use Rattle.cg_world.specs.Agreeing.{is_serving}
 use Rattle.cg_world.specs.Orderly.{AreInOrder, IsOrderlyAt, IsOrderlyDesk, due}
-use Rattle.cg_world.specs.Replying.{IsOrderly, LeavesWhenSettled, RepliesLeaveWhenSettled, held_in, left_by}
+use Rattle.cg_world.specs.Replying.{IsOrderly, LeavesWhenSettled, RepliesLeaveWhenSettled, asker, left_by}
 use Rattle.cg_world.specs.Runs.{AreNotes, after_run}
 use Rattle.cg_world.specs.Sights.{Sight}
 use Rattle.cg_world.specs.Turns.{Turn, answered, compacted, in_flight, settled, turn}
@@ -48,17 +50,17 @@ use Rattle.cg_world.proofs.Resting.{turn-stays-failed}
 
 -- what one step does to the replies
 pub record Leaves (s after : State) (made : List HeldStep) (left : List Outgoing) : Type 0 where
-  pub left_is : left ≡ map sent (replies_of (due (settled_of after) (held_in s ++ made)))
-  pub held_is : held_in after ≡ later (settled_of after) (held_in s ++ made)
+  pub left_is : left ≡ leaving_of (due (settled_of after) (held_of s ++ made))
+  pub held_is : held_of after ≡ later (settled_of after) (held_of s ++ made)
   pub orderly : IsOrderlyAt after
   pub grows : settled_of s ≤ settled_of after
   pub top : ℕ
-  pub in_order : AreInOrder 0 top (held_in s ++ made)
+  pub in_order : AreInOrder 0 top (held_of s ++ made)
 
 -- a step that releases no reply
 quiet-leaves : (b c : Books) → IsOrderlyDesk b → IsBalanced c → c.held ≡ b.held → c.numbered ≡ b.numbered → c.settled ≡ b.settled → Leaves (Serving b) (Serving c) [] []
 quiet-leaves b c h balanced held numbered settled = record {
-  left_is = ap (λ (l : List HeldStep). map sent (replies_of l)) (sym (ap (λ (l : List HeldStep). due c.settled l) (append-nil b.held) ∙ none));
+  left_is = ap (λ (l : List HeldStep). leaving_of l) (sym (ap (λ (l : List HeldStep). due c.settled l) (append-nil b.held) ∙ none));
   held_is = held ∙ sym (ap (λ (l : List HeldStep). later c.settled l) (append-nil b.held) ∙ all-later c.settled b.held none);
   orderly = record {
     balanced = balanced;
@@ -73,12 +75,27 @@ quiet-leaves b c h balanced held numbered settled = record {
     none : due c.settled b.held ≡ []
     none = ap (λ (n : ℕ). due n b.held) settled ∙ h.none_due
 
+-- the replies of a step, as they are held
+abbrev held_by : Books → Option Ticket → Event → ℕ → List HeldStep
+held_by b own e now = holding (origin_of b.numbered own (step b.machine e now).effects) (step b.machine e now).effects.replies
+
+asker-asked : (r : Asked) (ticket : Ticket) (fresh : List ℕ) → Some ticket ≡ asker (asked r ticket fresh)
+asker-asked (asking.Join r) ticket fresh = refl
+asker-asked (asking.Sync r) ticket fresh = refl
+asker-asked (asking.Beat r) ticket fresh = refl
+asker-asked (asking.Leave r) ticket fresh = refl
+asker-asked (asking.Commit r) ticket fresh = refl
+asker-asked (asking.Fetch r) ticket fresh = refl
+asker-asked (asking.Delete id) ticket fresh = refl
+asker-asked (asking.Describe id) ticket fresh = refl
+asker-asked asking.List ticket fresh = refl
+
 -- an event is handled
 served-leaves : (b : Books) (handed : List ReplyToken) (e : Event) (now : ℕ) → KeepsCalls b.machine handed e now → IsOrderlyDesk b
-    → Leaves (Serving b) (Serving (served b handed e now).books) (replies_to (Some (e, now)) b) (served b handed e now).out
+    → Leaves (Serving b) (Serving (served b handed e now).books) (held_by b (own_of handed) e now) (served b handed e now).out
 unfolding served letting_go
 served-leaves b handed e now keeps h = record {
-  left_is = leave-served b handed e now h.balanced.owed keeps ∙ ap (λ (l : List HeldStep). map sent (replies_of l)) (due-front b.settled 0 number all ordered);
+  left_is = leave-served b handed e now h.balanced.owed keeps ∙ ap (λ (l : List HeldStep). leaving_of l) (due-front b.settled 0 number all ordered);
   held_is = later-back b.settled 0 number all ordered;
   orderly = record {
     balanced = record { made = made-step b.machine e now h.balanced.made; owed = owed-served b handed e now h.balanced.owed keeps };
@@ -94,16 +111,16 @@ served-leaves b handed e now keeps h = record {
     number = b.numbered + length (step b.machine e now).effects.commands
 
     all : List HeldStep
-    all = b.held ++ holding number (step b.machine e now).effects.replies
+    all = b.held ++ held_by b (own_of handed) e now
 
     ordered : AreInOrder 0 number all
-    ordered = order-holding 0 b.numbered number b.held (step b.machine e now).effects.replies (omega arith) (omega arith) h.in_order
+    ordered = order-holding 0 b.numbered (origin_of b.numbered (own_of handed) (step b.machine e now).effects) b.held (step b.machine e now).effects.replies (omega arith) (omega arith) h.in_order
 
 -- a batch is settled
 settled-leaves : (b : Books) (count : ℕ) → IsOrderlyDesk b → Leaves (Serving b) (Serving (settling b count).books) [] (settling b count).out
 unfolding settling letting_go
 settled-leaves b count h = record {
-  left_is = leave-settled b count h.balanced.owed ∙ ap (λ (l : List HeldStep). map sent (replies_of l)) (due-front (b.settled + count) 0 b.numbered b.held h.in_order ∙ ap (λ (l : List HeldStep). due (b.settled + count) l) (sym (append-nil b.held)));
+  left_is = leave-settled b count h.balanced.owed ∙ ap (λ (l : List HeldStep). leaving_of l) (due-front (b.settled + count) 0 b.numbered b.held h.in_order ∙ ap (λ (l : List HeldStep). due (b.settled + count) l) (sym (append-nil b.held)));
   held_is = later-back (b.settled + count) 0 b.numbered b.held h.in_order ∙ ap (λ (l : List HeldStep). later (b.settled + count) l) (sym (append-nil b.held));
   orderly = record {
     balanced = record { made = h.balanced.made; owed = owed-settled b count h.balanced.owed };
@@ -121,11 +138,14 @@ same-leaves b h = quiet-leaves b b h h.balanced refl refl refl
 -- each step of a world that serves, up to a failure of its disk
 request-leaves : (short : Bool) (b : Books) (stored : Bool) (ticket : Ticket) (r : Asked) (now : ℕ) (fresh : List ℕ) → KeepsCalls b.machine (record { ticket = ticket } ∷ []) (asked r ticket fresh) now → IsOrderlyDesk b
     → let o : Option (Event × ℕ) = if short then None else Some (asked r ticket fresh, now) in
-    let a : Answer = if short then record { after = Serving b; out = answer ticket (Refused CoordinatorNotAvailable) ∷ [] } else serving (served b (record { ticket = ticket } ∷ []) (asked r ticket fresh) now) in
+    let a : Answer = if short then record { after = Serving b; out = answer ticket (Refused CoordinatorNotAvailable) 0 ∷ [] } else serving (served b (record { ticket = ticket } ∷ []) (asked r ticket fresh) now) in
     let t : Turn = answered (is_some o) (record { desk = Serving b; appended = stored }) a in
     Leaves (Serving b) t.after.desk (replies_to o b) t.left
 request-leaves true b stored ticket r now fresh keeps h = same-leaves b h
-request-leaves false b stored ticket r now fresh keeps h = served-leaves b (record { ticket = ticket } ∷ []) (asked r ticket fresh) now keeps h
+request-leaves false b stored ticket r now fresh keeps h =
+    let token : ReplyToken = record { ticket = ticket } in
+    let s : Served = served b (token ∷ []) (asked r ticket fresh) now in
+    subst (λ (own : Option Ticket). Leaves (Serving b) (Serving s.books) (held_by b own (asked r ticket fresh) now) s.out) (asker-asked r ticket fresh) (served-leaves b (token ∷ []) (asked r ticket fresh) now keeps h)
 
 tick-leaves : (short : Bool) (b : Books) (now : ℕ) → IsOrderlyDesk b
     → let o : Option (Event × ℕ) = if short then None else Some (event.Tick, now) in
@@ -223,25 +243,25 @@ grows (p ∷ ps) w h serves =
     let one = step-leaves p.0 p.1 w h (serves-before ps (turn p.0 p.1 w).after serves) in
     omega (arith, one.grows, grows ps (turn p.0 p.1 w).after one.orderly serves)
 
-none-at-end : (s : State) → is_serving s ≡ true → IsOrderlyAt s → [] ≡ map sent (replies_of (due (settled_of s) (held_in s ++ [])))
+none-at-end : (s : State) → is_serving s ≡ true → IsOrderlyAt s → [] ≡ leaving_of (due (settled_of s) (held_of s ++ []))
 none-at-end Loading serves h = absurd (false≢true serves)
 none-at-end (Failed n m) serves h = absurd (false≢true serves)
-none-at-end (Serving b) serves h = ap (λ (l : List HeldStep). map sent (replies_of l)) (sym (ap (λ (l : List HeldStep). due b.settled l) (append-nil b.held) ∙ h.none_due))
+none-at-end (Serving b) serves h = ap (λ (l : List HeldStep). leaving_of l) (sym (ap (λ (l : List HeldStep). due b.settled l) (append-nil b.held) ∙ h.none_due))
 
 leave : (ps : List (Step × StepNote)) (w : Sight) → IsOrderly w → AreNotes ps w → is_serving (after_run ps w).desk ≡ true
-    → left_by ps w ≡ map sent (replies_of (due (settled_of (after_run ps w).desk) (held_in w.desk ++ replies_by ps w)))
+    → left_by ps w ≡ leaving_of (due (settled_of (after_run ps w).desk) (held_of w.desk ++ replies_by ps w))
 unfolding after_run AreNotes left_by replies_by
 leave [] w h noted serves = none-at-end w.desk serves h
 leave (p ∷ ps) w h noted serves =
     let next : Sight = (turn p.0 p.1 w).after in
     let last : ℕ = settled_of (after_run ps next).desk in
     let one = step-leaves p.0 p.1 w h (serves-before ps next serves) in
-    let hs : List HeldStep = held_in w.desk ++ replies_in p.0 w.desk in
+    let hs : List HeldStep = held_of w.desk ++ replies_in p.0 w.desk in
     ap (λ (l : List Outgoing). l ++ left_by ps next) one.left_is
-    ∙ ap (λ (l : List Outgoing). map sent (replies_of (due (settled_of next.desk) hs)) ++ l) (leave ps next one.orderly noted.1 serves)
-    ∙ ap (λ (l : List HeldStep). map sent (replies_of (due (settled_of next.desk) hs)) ++ map sent (replies_of (due last (l ++ replies_by ps next)))) one.held_is
+    ∙ ap (λ (l : List Outgoing). leaving_of (due (settled_of next.desk) hs) ++ l) (leave ps next one.orderly noted.1 serves)
+    ∙ ap (λ (l : List HeldStep). leaving_of (due (settled_of next.desk) hs) ++ leaving_of (due last (l ++ replies_by ps next))) one.held_is
     ∙ chain (settled_of next.desk) last 0 one.top hs (replies_by ps next) (grows ps next one.orderly serves) one.in_order
-    ∙ ap (λ (l : List HeldStep). map sent (replies_of (due last l))) (append_assoc (held_in w.desk) (replies_in p.0 w.desk) (replies_by ps next))
+    ∙ ap (λ (l : List HeldStep). leaving_of (due last l)) (append_assoc (held_of w.desk) (replies_in p.0 w.desk) (replies_by ps next))
 
 pub opened-orderly : (n : ℕ) (state : Durable) (now : ℕ) → AreMade state → IsOrderlyAt (Serving (opened n (revive state now)))
 unfolding AreInOrder
@@ -249,7 +269,7 @@ opened-orderly n state now made = record { balanced = desks_stay_balanced.loaded
 
 pub leaves : (ps : List (Step × StepNote)) (w : Sight) → IsOrderly w → AreNotes ps w → LeavesWhenSettled ps w
 leaves ps w h noted serves =
-    leave ps w h noted serves ∙ ap (λ (l : List HeldStep). map sent (replies_of (due (settled_of (after_run ps w).desk) (held_in w.desk ++ l)))) (replies-made ps w)
+    leave ps w h noted serves ∙ ap (λ (l : List HeldStep). leaving_of (due (settled_of (after_run ps w).desk) (held_of w.desk ++ l))) (replies-made ps w)
 
 pub replies_leave_when_settled : RepliesLeaveWhenSettled
 replies_leave_when_settled = record { opened = opened-orderly; stays = stays; leave = leaves }
@@ -270,7 +290,7 @@ pub owed-now : (s : State) → ∥ IsOrderlyAt s ∥₁ → IsOwedAt s
 owed-now s h = ∥∥₁_elim h (owed-prop s) (orderly-owed s)
 
 asked-orderly : (short : Bool) (b : Books) (token : ReplyToken) (e : Event) (now : ℕ) → KeepsCalls b.machine (token ∷ []) e now → IsOrderlyDesk b
-    → let a : Answer = if short then record { after = Serving b; out = answer (call_of token) (Refused CoordinatorNotAvailable) ∷ [] } else serving (served b (token ∷ []) e now) in IsOrderlyAt a.after
+    → let a : Answer = if short then record { after = Serving b; out = answer (call_of token) (Refused CoordinatorNotAvailable) 0 ∷ [] } else serving (served b (token ∷ []) e now) in IsOrderlyAt a.after
 asked-orderly true b token e now keeps h = h
 asked-orderly false b token e now keeps h = (served-leaves b (token ∷ []) e now keeps h).orderly
 

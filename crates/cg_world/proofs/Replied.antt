@@ -1,5 +1,5 @@
 -- The replies of a run, step by step.
-use Rattle.std.proofs.Common.{ℕ, ◌+◌, ◌++◌, List, [], ◌∷◌, length}
+use Rattle.std.proofs.Common.{ℕ, ◌++◌, List, [], ◌∷◌}
 use Rattle.std.specs.Prelude.{Option, None, Some}
 use Rattle.cg_request.specs.declared.event.Event.{Event}
 use Rattle.cg_group.specs.Machine.{step}
@@ -7,7 +7,9 @@ use Rattle.cg_held.specs.Held.{Outcome}
 use Rattle.cg_desk.specs.Books.{Books}
 use Rattle.cg_desk.specs.Desks.{State, Loading, Serving, Failed}
 use Rattle.cg_desk.specs.Held.{holding}
+use Rattle.cg_desk.specs.Origins.{origin_of}
 use Rattle.cg_desk.specs.declared.held.HeldStep.{HeldStep}
+use Rattle.cg_world.specs.Replying.{asker}
 use Rattle.cg_world.specs.Sights.{Sight}
 use Rattle.cg_world.specs.Turns.{event_of, turn}
 use Rattle.cg_world.specs.declared.step.Step.{Step}
@@ -16,7 +18,7 @@ use Rattle.cg_world.specs.declared.step.StepNote.{StepNote}
 -- the replies of an event
 abbrev pub replies_to : Option (Event × ℕ) → Books → List HeldStep
 replies_to None b = []
-replies_to (Some e) b = let o : Outcome = step b.machine e.0 e.1 in holding (b.numbered + length o.effects.commands) o.effects.replies
+replies_to (Some e) b = let o : Outcome = step b.machine e.0 e.1 in holding (origin_of b.numbered (asker e.0) o.effects) o.effects.replies
 
 abbrev pub replies_in : Step → State → List HeldStep
 replies_in s Loading = []

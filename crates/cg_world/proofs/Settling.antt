@@ -39,7 +39,7 @@ unfolding served letting_go
 served-same b handed e now = refl
 
 asked-same : (short : Bool) (b : Books) (token : ReplyToken) (e : Event) (now : ℕ)
-    → let a : Answer = if short then record { after = Serving b; out = answer (call_of token) (Refused CoordinatorNotAvailable) ∷ [] } else serving (served b (token ∷ []) e now) in
+    → let a : Answer = if short then record { after = Serving b; out = answer (call_of token) (Refused CoordinatorNotAvailable) 0 ∷ [] } else serving (served b (token ∷ []) e now) in
     settled_of a.after ≡ b.settled
 asked-same true b token e now = refl
 asked-same false b token e now = served-same b (token ∷ []) e now

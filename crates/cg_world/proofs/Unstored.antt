@@ -53,7 +53,7 @@ answered-after false w a = refl
 
 -- what a request, a Tick and a closed session leave unstored: what was unstored before, and the commands of the event
 request-at : (short stored : Bool) (b : Books) (token : ReplyToken) (e : Event) (now : ℕ)
-    → let a : Answer = if short then record { after = Serving b; out = answer (call_of token) (Refused CoordinatorNotAvailable) ∷ [] } else serving (served b (token ∷ []) e now) in
+    → let a : Answer = if short then record { after = Serving b; out = answer (call_of token) (Refused CoordinatorNotAvailable) 0 ∷ [] } else serving (served b (token ∷ []) e now) in
     unstored_in stored b ++ commands_of (option_to_list (if short then None else Some (e, now))) b.machine ≡ unstored_at stored a.after
 request-at true stored b token e now = none-behind stored b
 request-at false stored b token e now = met-behind stored b (token ∷ []) e now

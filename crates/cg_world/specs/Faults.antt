@@ -31,5 +31,5 @@ stopped_by_device (Some cause.Device) = true
 
 -- the refusal of a step for which an allocation fails: a request is refused with -1
 abbrev pub refusal_of : Step → Option Outgoing
-refusal_of (Request ticket r now fresh) = Some (answer ticket (Refused UnknownServerError))
+refusal_of (Request ticket r now fresh) = Some (answer ticket (Refused UnknownServerError) 0)
 refusal_of step = None

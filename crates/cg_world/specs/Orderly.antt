@@ -8,7 +8,7 @@ use Rattle.cg_desk.specs.declared.held.HeldStep.{HeldStep}
 
 -- the need of the replies is settled
 abbrev pub is_due : ℕ → HeldStep → Bool
-is_due settled h = nat_le h.need settled
+is_due settled h = nat_le h.origin.need settled
 
 abbrev pub due : ℕ → List HeldStep → List HeldStep
 due settled held = filter (is_due settled) held
@@ -16,7 +16,7 @@ due settled held = filter (is_due settled) held
 -- the needs of held replies are in ascending order, and none is above the number of the last command
 unfoldable pub AreInOrder : ℕ → ℕ → List HeldStep → Type 0
 AreInOrder low top [] = Unit {0}
-AreInOrder low top (h ∷ hs) = (low ≤ h.need) × (h.need ≤ top) × AreInOrder h.need top hs
+AreInOrder low top (h ∷ hs) = (low ≤ h.origin.need) × (h.origin.need ≤ top) × AreInOrder h.origin.need top hs
 
 -- a desk that serves, between two steps: no held reply may leave yet
 pub record IsOrderlyDesk (b : Books) : Type 0 where

@@ -1,16 +1,18 @@
 -- The replies of a run, and when they leave.
-use Rattle.std.specs.Prelude.{◌≡◌, ◌+◌, ℕ, Bool, true, ◌++◌, List, [], ◌∷◌, length, map}
+use Rattle.std.specs.Prelude.{◌≡◌, ◌+◌, ℕ, Bool, true, ◌++◌, List, [], ◌∷◌, length, Option, None, Some}
 use Rattle.cg_fold.specs.Durable.{State as Durable}
 use Rattle.cg_request.specs.declared.event.Event.{Event}
+use Rattle.cg_request.specs.declared.event.Event.TheVariants as event
+use Rattle.cg_request.specs.declared.ticket.Ticket.{Ticket}
 use Rattle.cg_group.specs.Laws.{after_all, commands_of}
 use Rattle.cg_group.specs.Machine.{step}
 use Rattle.cg_held.specs.Held.{Machine, Outcome}
 use Rattle.cg_held.specs.Reviving.{revive}
 use Rattle.cg_store.specs.Carried.{AreMade}
 use Rattle.cg_desk.specs.Books.{Books}
-use Rattle.cg_desk.specs.Desks.{State, Loading, Serving, Failed, opened, settled_of}
-use Rattle.cg_desk.specs.Held.{holding, replies_of}
-use Rattle.cg_desk.specs.Owed.{sent}
+use Rattle.cg_desk.specs.Desks.{State, Loading, Serving, Failed, held_of, opened, settled_of}
+use Rattle.cg_desk.specs.Held.{holding, leaving_of}
+use Rattle.cg_desk.specs.Origins.{origin_of}
 use Rattle.cg_desk.specs.declared.held.HeldStep.{HeldStep}
 use Rattle.cg_desk.specs.declared.outgoing.Outgoing.{Outgoing}
 use Rattle.cg_world.specs.Agreeing.{is_serving}
@@ -21,26 +23,33 @@ use Rattle.cg_world.specs.Turns.{turn}
 use Rattle.cg_world.specs.declared.step.Step.{Step}
 use Rattle.cg_world.specs.declared.step.StepNote.{StepNote}
 
--- the replies of these events, each with its need: the number of the last command made up to the end of its event; commands
--- are counted on from `numbered`
+-- the ticket of the request that an event takes, if it takes one
+abbrev pub asker : Event → Option Ticket
+asker (event.Join ticket r fresh) = Some ticket
+asker (event.Sync ticket r) = Some ticket
+asker (event.Beat ticket r) = Some ticket
+asker (event.Leave ticket r) = Some ticket
+asker (event.Commit ticket r) = Some ticket
+asker (event.Fetch ticket r) = Some ticket
+asker (event.Delete ticket id) = Some ticket
+asker (event.Describe ticket id) = Some ticket
+asker (event.List ticket) = Some ticket
+asker (event.Gone session) = None
+asker event.Tick = None
+
+-- the replies of these events, each with its need: the number of the last command made up to the end of its event; and with
+-- the commands of its event, which the reply to the event's own request counts; commands are counted on from `numbered`
 unfoldable pub replies_made : ℕ → List (Event × ℕ) → Machine → List HeldStep
 replies_made numbered [] s = []
 replies_made numbered (e ∷ es) s =
     let o : Outcome = step s e.0 e.1 in
-    let last : ℕ = numbered + length o.effects.commands in
-    holding last o.effects.replies ++ replies_made last es o.after
+    holding (origin_of numbered (asker e.0) o.effects) o.effects.replies ++ replies_made (numbered + length o.effects.commands) es o.after
 
 -- the replies of events that reach a desk
 abbrev pub replies_at : List (Event × ℕ) → State → List HeldStep
 replies_at events Loading = []
 replies_at events (Failed n m) = []
 replies_at events (Serving b) = replies_made b.numbered events b.machine
-
--- the replies that are held
-abbrev pub held_in : State → List HeldStep
-held_in Loading = []
-held_in (Failed n m) = []
-held_in (Serving b) = b.held
 
 -- what leaves in a run, except what the desk refuses at once
 unfoldable pub left_by : List (Step × StepNote) → Sight → List Outgoing
@@ -56,7 +65,7 @@ IsOrderly w = IsOrderlyAt w.desk
 abbrev pub LeavesWhenSettled : List (Step × StepNote) → Sight → Type 0
 LeavesWhenSettled ps w =
     is_serving (after_run ps w).desk ≡ true
-    → left_by ps w ≡ map sent (replies_of (due (settled_of (after_run ps w).desk) (held_in w.desk ++ replies_at (events_of ps w) w.desk)))
+    → left_by ps w ≡ leaving_of (due (settled_of (after_run ps w).desk) (held_of w.desk ++ replies_at (events_of ps w) w.desk))
 
 -- The release law holds of every run after an opening, whatever its disk. Each prefix of a run is a run, so each reply
 -- leaves in the first step after which its need is settled.

@@ -28,7 +28,7 @@ impl<D: SectorDisk> World<D> {
         ensures ok { IfOk result
             (λ out. request_on (sight self.old).desk (record { ticket = ticket }) (asked request ticket fresh) now ≡ record { after = (sight self.new).desk; out = out.items }) }
         ensures err { OnErr result (sight self.new ≡ sight self.old) }
-        ensures last { IfErr result (λ last. last ≡ answer ticket (reply.Refused code.UnknownServerError)) }
+        ensures last { IfErr result (λ last. last ≡ answer ticket (reply.Refused code.UnknownServerError) 0) }
         ensures appended { (sight self.new).appended ≡ (sight self.old).appended }
         ensures store { store_of self.new ≡ store_of self.old }
         ensures opening { opening_of self.new ≡ opening_of self.old }

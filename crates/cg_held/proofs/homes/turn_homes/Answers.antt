@@ -11,7 +11,7 @@ loop-id-init g c =
 pub loop-id-preserved : goal.loop-id-preserved
 loop-id-preserved g c =
     let l = c.loop-id in
-    homeward_next (g.T.Turning.turns c.args.turning.now) c.args.groups.now (keys c.args.ids.now) l.id-iterator c.next.new.self c.in-Some.id.now l.done _ (ascending_from_sorted (keys c.args.ids.now) c.keys-id-items.ensures.ordered) c.in-Some.ensures.steps c.in_ok-turn_home.ensures l.invariant
+    homeward_next (g.T.Turning.turns c.args.turning.now) c.args.groups.now (keys c.args.ids.now) l.id-iterator c.next.new.self c.in-Some.id.now l.done _ (ascending_from_sorted (keys c.args.ids.now) c.keys-id-items.ensures.ordered) c.in-Some.ensures.steps c.in_ok-turn_named.ensures l.invariant
 
 pub returns-clause-held : goal.returns-clause-held
 returns-clause-held g c =

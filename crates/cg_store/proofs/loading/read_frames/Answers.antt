@@ -11,7 +11,7 @@ use Rattle.cg_store.proofs.loading.read_frames.Goals as goal
 pub returns-in_err-count-clause-tells : goal.returns-in_err-count-clause-tells
 returns-in_err-count-clause-tells g c image has =
     let size = g.D.SectorDisk.size in
-    let inv = c.loop-loading.invariant in
+    let inv = c.loop-spent.invariant in
     let so_far = inv.read image has in
     let fault = c.in_err-count.field-0.0 in
     let same : size (disk_under c.next.new.self) ≡ size (disk_under c.args.opening.now) = c.next.ensures.same_size ∙ inv.same_size in
@@ -19,9 +19,9 @@ returns-in_err-count-clause-tells g c image has =
     let p = err_from_is_err_and c.from_residual.result c.from_residual.ensures.1 in
     rw (p.1, p.2) (Tells-of_log image (size (disk_under c.args.opening.now)) fault told)
 
-pub loop-loading-preserved : goal.loop-loading-preserved
-loop-loading-preserved g c =
-    let inv = c.loop-loading.invariant in
+pub loop-spent-preserved : goal.loop-spent-preserved
+loop-spent-preserved g c =
+    let inv = c.loop-spent.invariant in
     record {
       read = λ image has.
           let so_far = inv.read image has in
@@ -39,7 +39,7 @@ loop-loading-preserved g c =
 pub returns-clause-read : goal.returns-clause-read
 returns-clause-read g c image has =
     let disk = g.D.SectorDisk in
-    let so_far = c.loop-loading.invariant.read image has in
+    let so_far = c.loop-spent.invariant.read image has in
     let all = c.in_ok-count.ensures.all image so_far.0 so_far.1.0 (ap Ok c.in_default.is) in
     let rest = all.1.1.1 in
     record {
@@ -47,5 +47,5 @@ returns-clause-read g c image has =
       tail = all.1.1.0;
       handed_out = subst (λ (l : Frames). HasReadTo disk.is_honest disk.history disk.size c.next.new.self image l) rest.0 all.0;
       carried = rest.1;
-      is_read = subst (λ (l : Frames). HasRead l c.loop-loading.loading) rest.0 so_far.1.1;
+      is_read = subst (λ (l : Frames). HasRead l c.loop-spent.loading) rest.0 so_far.1.1;
     }

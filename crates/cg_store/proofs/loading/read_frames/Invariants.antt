@@ -5,8 +5,8 @@ use Rattle.cg_log.specs.Segments.{Frames}
 use Rattle.cg_store.specs.Loading.{HasRead}
 use Rattle.cg_store.proofs.loading.read_frames.Given as goal
 
-abbrev pub invariant-loop-loading : goal.invariant-loop-loading
-invariant-loop-loading g l = record {
+abbrev pub invariant-loop-spent : goal.invariant-loop-spent
+invariant-loop-spent g l = record {
   read : (image : Image) → HasReadTo g.D.SectorDisk.is_honest g.D.SectorDisk.history g.D.SectorDisk.size l.initial.opening image []
       → (frames : Frames) × (HasReadTo g.D.SectorDisk.is_honest g.D.SectorDisk.history g.D.SectorDisk.size l.opening image frames × HasRead frames l.loading);
   some : (frames : Frames) × HasRead frames l.loading;
@@ -16,5 +16,5 @@ invariant-loop-loading g l = record {
   same_honesty : g.D.SectorDisk.is_honest (disk_under l.opening) ≡ g.D.SectorDisk.is_honest (disk_under l.initial.opening);
 }
 
-abbrev pub decreases-loop-loading : goal.decreases-loop-loading
-decreases-loop-loading g l = left_to_read l.opening
+abbrev pub decreases-loop-spent : goal.decreases-loop-spent
+decreases-loop-spent g l = left_to_read l.opening

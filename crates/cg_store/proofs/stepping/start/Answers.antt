@@ -16,6 +16,6 @@ returns-clause-begun g c has holds =
         rolled.1.1,
         begun.same,
         IsFolding-begun (present (disk.history (disk_of log))).content (disk.size (disk_of log)) (root_of log) has new c.in-Ok.id at begun
-            (number_of log) c.number-number.result c.start.result c.new.result c.new-2.result c.number-number.ensures.number c.start.ensures c.new.ensures,
+            (number_of log) c.number-number.result c.start.result c.new.result c.new-2.result c.room_for_spent.result c.number-number.ensures.number c.start.ensures c.new.ensures,
       ),
     )

@@ -1,7 +1,8 @@
-use Rattle.std.proofs.Common.{◌≡◌, ◌<◌, ◌≤◌, [], length, ap, sym, ◌∙◌, rules}
+use Rattle.std.proofs.Common.{◌≡◌, ◌<◌, ◌≤◌, [], length, map, ap, sym, ◌∙◌, rules}
 use Rattle.std.proofs.lemmas.List.{nil_from_length}
 use Rattle.cg_desk.specs.Permits.{front_of}
 use Rattle.cg_desk.specs.Held.{ready, released}
+use Rattle.cg_desk.specs.Origins.{sent}
 use Rattle.cg_desk.proofs.Leaving.{all-held, front_is, none-released, ready-none, released-front, still-front, told_many, told_out, told_then, told_tokens}
 use Rattle.cg_desk.proofs.held.HeldStep.release.Goals as goal
 
@@ -15,9 +16,9 @@ loop-next-preserved c =
     let items = front_is l.held.items c.pop_front.new.self.items popped some c.in-Some-pop_front.ensures.lookup c.pop_front.ensures.rest in
     let also = front_is l.held.items c.pop_front.new.self.items next some c.in-Some.ensures.lookup c.pop_front.ensures.rest in
     let same : popped ≡ next = cc in
-    let passes : popped.need ≤ front = search rules in
+    let passes : popped.origin.need ≤ front = search rules in
     let gone = released-front front popped c.pop_front.new.self.items l.held.items items passes in
-    let many = told_many (released front l.held.items) popped.replies (released front c.pop_front.new.self.items) l.tokens.items c.answer_calls.new.tokens.items l.out.items c.answer_calls.new.out.items gone c.answer_calls.ensures.tokens c.answer_calls.ensures.out in
+    let many = told_many (released front l.held.items) (map (sent popped.origin) popped.replies) (released front c.pop_front.new.self.items) l.tokens.items c.answer_calls.new.tokens.items l.out.items c.answer_calls.new.out.items gone c.answer_calls.ensures.tokens c.answer_calls.ensures.out in
     record {
       told = told_then _ _ _ _ _ _ _ _ _ l.invariant.told many;
       held = sym (still-front front popped c.pop_front.new.self.items l.held.items items passes) ∙ l.invariant.held;
@@ -31,7 +32,7 @@ returns-then-next-front c =
     let l = c.loop-next in
     let front = front_of c.args.permit.now in
     let some : 0 < length l.held.items = search rules in
-    let waits : front < c.in-Some.next.now.need = search rules in
+    let waits : front < c.in-Some.next.now.origin.need = search rules in
     let none = ready-none front c.in-Some.next.now l.held.items some c.in-Some.ensures.lookup waits in
     let empty = none-released front l.held.items none in
     record {

@@ -1,17 +1,16 @@
-use Rattle.std.proofs.Common.{List, ap, ◌∙◌}
+use Rattle.std.proofs.Common.{◌≡◌, List, Some, None, refl, sym, subst}
 use Rattle.cg_member.specs.declared.group.Group.{Group}
-use Rattle.cg_held.specs.Held.{find_group, with_group}
-use Rattle.cg_member.specs.Membership.{hearing}
-use Rattle.cg_held.proofs.Mapped.{heard_there, heard_whole}
+use Rattle.cg_held.specs.Held.{find_group}
+use Rattle.cg_held.specs.Timed.{AreTimed}
 use Rattle.cg_held.proofs.held.Held.hear.Goals as goal
 
 pub invariant_of-self : goal.invariant_of-self
 invariant_of-self c =
-    heard_whole c.args.group.now c.args.now c.args.id.now c.self.inside.groups.entries c.hear_among.new.groups.entries c.self.invariant.0 c.self.invariant.1 c.hear_among.ensures.some c.hear_among.ensures.none
-
-pub returns : goal.returns
-returns c =
-    λ g found.
-    heard_there c.args.group.now c.args.now c.args.id.now c.self.inside.groups.entries c.hear_among.new.groups.entries c.self.invariant.0 c.self.invariant.1 c.hear_among.ensures.some g
-    (ap (find_group c.args.group.now) c.self.view_is ∙ found)
-    ∙ ap (λ (gs : List Group). with_group (hearing c.args.now c.args.id.now g) gs) c.self.view_is
+    let since = c.self.inside.since in
+    let gs = c.self.inside.loaded in
+    let own = c.args.group.now in
+    let G : List Group → Type 0 = λ hs. AreTimed since c.hear_in_index.new.deadlines.entries hs in
+    (elim (find_group own gs) as (λ o. find_group own gs ≡ o → G c.hear.new.self) [
+      | None ↦ λ none. subst G (sym (c.hear.ensures.absent none)) (c.hear_in_index.ensures.absent gs none c.self.invariant)
+      | Some g ↦ λ found. subst G (sym (c.hear.ensures.heard g found)) (c.hear_in_index.ensures.heard c.args.id.now gs g c.hear.ensures.in_order found c.self.invariant)
+    ]) refl

@@ -1,32 +1,25 @@
-use Rattle.std.proofs.Common.{ℕ, List, is_some, refl, ap, sym, subst, ◌∙◌}
-use Rattle.std.specs.Map.{values_of}
+use Rattle.std.proofs.Common.{◌≡◌, ◌≤◌, ℕ, true, List, is_some, refl, sym, ap, subst, ◌∙◌, arith}
+use Rattle.std.proofs.lemmas.Bool.{OnTrue_at}
+use Rattle.std.specs.BTreeMap.{insert_entry}
+use Rattle.std.specs.Cmp.Lexicographic.{slice_cmp}
+use Rattle.std.specs.Ordering.{nat_cmp}
 use Rattle.cg_member.specs.declared.group.Group.{Group}
-use Rattle.cg_held.specs.Held.{IsHeld, StandUnderIds, InOrder, find_group, with_group}
-use Rattle.cg_held.proofs.KeptLists.{ascending-with_group}
-use Rattle.cg_held.proofs.Mapped.{lookup-own, replaced, stand-set_value}
+use Rattle.cg_turn.specs.Touching.{next_deadline}
+use Rattle.cg_held.specs.Held.{find_group, with_group}
+use Rattle.cg_held.specs.Timed.{AreTimed}
+use Rattle.cg_held.proofs.Timed.{has_key-timed, timed-put}
 use Rattle.cg_held.proofs.held.Held.swap.Goals as goal
-
-pub swap_in-requires : goal.swap_in-requires
-swap_in-requires c =
-    ap is_some (lookup-own c.args.group.now.id c.self.inside.groups.entries c.self.invariant.0 ∙ ap (find_group c.args.group.now.id) c.self.view_is) ∙ c.requires
 
 pub invariant_of-self : goal.invariant_of-self
 invariant_of-self c =
-    let es = c.self.inside.groups.entries in
-    let now = c.swap_in.ensures.after in
-    let held : IsHeld (values_of es) c.args.group.now.id = ap (λ (gs : List Group). is_some (find_group c.args.group.now.id gs)) c.self.view_is ∙ c.requires in
-    let S : List (List ℕ × Group) → Type 0 = λ es. StandUnderIds es in
-    let O : List Group → Type 0 = λ gs. InOrder gs in (
-      subst S (sym now) (stand-set_value c.args.group.now.id c.args.group.now es c.self.invariant.0 refl),
-      subst O (sym (ap values_of now ∙ replaced c.args.group.now es c.self.invariant.0 c.self.invariant.1 held)) (ascending-with_group c.args.group.now (values_of es) c.self.invariant.1),
-    )
-
-pub returns-clause-after : goal.returns-clause-after
-returns-clause-after c =
-    let es = c.self.inside.groups.entries in
-    let held : IsHeld (values_of es) c.args.group.now.id = ap (λ (gs : List Group). is_some (find_group c.args.group.now.id gs)) c.self.view_is ∙ c.requires in
-    ap values_of c.swap_in.ensures.after ∙ replaced c.args.group.now es c.self.invariant.0 c.self.invariant.1 held ∙ ap (with_group c.args.group.now) c.self.view_is
-
-pub returns-clause-before : goal.returns-clause-before
-returns-clause-before c =
-    sym (lookup-own c.args.group.now.id c.self.inside.groups.entries c.self.invariant.0 ∙ ap (find_group c.args.group.now.id) c.self.view_is) ∙ c.swap_in.ensures.before
+    let since = c.self.inside.since in
+    let before = c.self.inside.deadlines.entries in
+    let gs = c.self.inside.loaded in
+    let g = c.args.group.now in
+    let deadline : c.next_deadline-deadline.result ≤ next_deadline since g = omega (arith, c.next_deadline-deadline.ensures) in
+    let there : c.reschedule-found.result ≡ true =
+    c.reschedule-found.ensures.found ∙ has_key-timed since g.id before gs c.self.invariant ∙ ap (λ (hs : List Group). is_some (find_group g.id hs)) c.self.view_is ∙ c.requires in
+    let entries : c.reschedule-found.new.self.entries ≡ insert_entry (slice_cmp nat_cmp) before g.id c.next_deadline-deadline.result = OnTrue_at there c.reschedule-found.ensures.moved in
+    let E : List (List ℕ × ℕ) → Type 0 = λ es. AreTimed since es (with_group g gs) in
+    let G : List Group → Type 0 = λ hs. AreTimed since c.reschedule-found.new.self.entries hs in
+    subst G (sym c.swap.ensures.after) (subst E (sym entries) (timed-put since c.next_deadline-deadline.result g.id g before gs refl deadline c.self.invariant))

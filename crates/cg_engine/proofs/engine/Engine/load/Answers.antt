@@ -1,0 +1,14 @@
+use Rattle.std.proofs.Common.{◌≡◌, ◌⊎◌, inl, inr}
+use Rattle.cg_engine.proofs.Loads.{found-is}
+use Rattle.cg_engine.proofs.engine.Engine.load.Goals as goal
+
+pub returns-in-Err-clause-carried : goal.returns-in-Err-clause-carried
+returns-in-Err-clause-carried g c = λ is n state carries. inl (c.in-Err.ensures.carried is n state carries)
+
+pub returns-in-Err-clause-loaded : goal.returns-in-Err-clause-loaded
+returns-in-Err-clause-loaded g c = λ is. absurd (c.in-Err.ensures.never is)
+
+pub returns-clause-carried : goal.returns-clause-carried
+returns-clause-carried g c = λ is n state carries.
+    let same = c.in-Ok.ensures.carried is n state carries in
+    found-is _ n _ state c.counts-records.result same.0 same.1 c.counts-records.ensures

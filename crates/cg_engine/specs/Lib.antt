@@ -1,0 +1,10 @@
+pub mod Appended
+pub mod Booked
+pub mod Faults
+pub mod Left
+pub mod Loads
+pub mod Passes
+pub mod Stored
+pub mod Units
+pub mod Wanted
+pub mod Worth

@@ -1,0 +1,120 @@
+//! A pass whose call waits for its answer.
+ghost use Rattle.std.specs.Prelude.{◌≡◌, ◌+◌, ◌<◌, ◌≤◌};
+ghost use Rattle.cg_desk.specs.Outgoings.{made_of, reply_of, ticket_of};
+ghost use Rattle.cg_engine.specs.Units.{count_of};
+ghost use Rattle.cg_engine.specs.Worth.{worth};
+ghost use Rattle.cg_engine.specs.declared.bounds.TheConstants.{CALLS_MAX};
+
+use crate::answer::Answer;
+use crate::kind::CallKind;
+use crate::pass::SessionPass;
+use crate::units::{Part, Units};
+use cg_desk::Outgoing;
+use cg_group::Ticket;
+use crossbeam_channel::Receiver;
+use std::sync::Wait;
+use std::sync::ledger::Ledger;
+use std::thread;
+
+/// A pass without its part, which is away with the call.
+#[derive(Drop)]
+pub struct Caller<L: Ledger> {
+    pub number: u64,
+    pub calls: u64,
+    pub opening: u64,
+    pub units: Units<L>,
+    pub answers: Receiver<Answer<L>>,
+    ghost few: { count_of units ≤ calls },
+    ghost counted: { calls < CALLS_MAX },
+}
+
+impl<L: Ledger> Caller<L> {
+    ghost use Rattle.cg_engine.specs.Passes.{calls_of, number_of, units_of};
+
+    /// Ends a call that was refused before the desk met it. The call is counted.
+    pub fn refused(self, part: Part<L>) -> SessionPass<L>
+        ensures number { number_of result ≡ self.number }
+        ensures calls { calls_of result ≡ self.calls + 1 }
+        ensures units { units_of result ≡ count_of self.units }
+    {
+        let Caller {
+            number,
+            calls,
+            opening,
+            units,
+            answers,
+        } = self;
+        SessionPass {
+            number,
+            calls: calls + 1,
+            opening,
+            units,
+            part,
+            answers,
+        }
+    }
+
+    // Ends a call with its answer.
+    fn answered(self, answer: Answer<L>) -> (SessionPass<L>, Outgoing)
+        ensures number { number_of result.0 ≡ self.number }
+        ensures calls { calls_of result.0 ≡ self.calls + 1 }
+        ensures units { units_of result.0 ≡ count_of self.units + worth answer.kind (reply_of result.1) (made_of result.1) }
+        ensures outgoing { result.1 ≡ answer.outgoing }
+    {
+        let Caller {
+            number,
+            calls,
+            opening: _,
+            mut units,
+            answers,
+        } = self;
+        let Answer {
+            kind: _,
+            outgoing,
+            units: more,
+            opening,
+        } = answer;
+        let part = units.take_over(more);
+        let pass = SessionPass {
+            number,
+            calls: calls + 1,
+            opening,
+            units,
+            part,
+            answers,
+        };
+        (pass, outgoing)
+    }
+
+    /// Waits for the answer to the call with this ticket. No other answer comes, since a pass has one call at a time.
+    pub fn wait<R: Wait>(self, rt: &R, ticket: Ticket, kind: CallKind) -> (SessionPass<L>, Outgoing)
+        ensures number { number_of result.0 ≡ self.number }
+        ensures calls { calls_of result.0 ≡ self.calls + 1 }
+        ensures units { units_of result.0 ≡ count_of self.units + worth kind (reply_of result.1) (made_of result.1) }
+        ensures ticket { ticket_of result.1 ≡ ticket }
+    {
+        let answer = awaited(rt, &self.answers, ticket, kind);
+        self.answered(answer)
+    }
+}
+
+// Receives the answer to a call of this kind with this ticket.
+fn awaited<L: Ledger, R: Wait>(
+    rt: &R,
+    answers: &Receiver<Answer<L>>,
+    ticket: Ticket,
+    kind: CallKind,
+) -> Answer<L>
+    ensures ticket { ticket_of result.outgoing ≡ ticket }
+    ensures kind { result.kind ≡ kind }
+{
+    for _ in rt.forever() {
+        if let Ok(answer) = answers.recv(rt) {
+            if answer.outgoing.ticket() == ticket && answer.kind == kind {
+                return answer;
+            }
+        }
+        thread::yield_now();
+    }
+    unreachable!()
+}

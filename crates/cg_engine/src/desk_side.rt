@@ -1,0 +1,332 @@
+//! What the desk lock of an engine guards: the desk, the sessions, and the units that no answer has yet.
+ghost use Rattle.std.specs.Prelude.{◌≡◌, IfErr};
+ghost use Rattle.cg_desk.specs.Tokens.{call_of};
+ghost use Rattle.cg_engine.specs.Left.{AreRefusals};
+ghost use Rattle.cg_engine.specs.declared.bounds.TheConstants.{PARTS};
+
+use crate::answer::Answer;
+use crate::booked::BookedReceipt;
+use crate::bounds::{PARTS, PASSES_MAX};
+use crate::fault::{PassFault, RoundEnd, RoundFault, Skip};
+use crate::kind::CallKind;
+use crate::pass::SessionPass;
+use crate::session::{Session, Waiting};
+use crate::units::{Part, Pool};
+use cg_desk::{Desk, Outgoing, ReplyToken, SettleFault, TakeFault};
+use cg_fold::Durable;
+use cg_group::Request;
+use cg_names::{Code, Moment};
+use cg_store::{Batch, StoreFault};
+use crossbeam_channel::bounded;
+use slab::Slab;
+use std::alloc::{AllocError, Global};
+use std::sync::Wait;
+use std::sync::ledger::{Ledger, Share};
+use uuid::Uuid;
+
+/// What a round took from the desk.
+pub enum Taken<L: Ledger> {
+    /// A batch for the store, and the part on which its units come back.
+    Batch(Batch, Part<L>),
+    /// Nothing: the round is over.
+    End(RoundEnd),
+}
+
+/// A desk, the sessions that call it, and the units of settled commands that no answer has.
+pub struct DeskSide<L: Ledger> {
+    alloc: Global,
+    desk: Desk,
+    has_failed: bool,
+    // Number of commands that were loaded.
+    opening: u64,
+    sessions: Slab<Session<L>>,
+    pool: Pool<L>,
+    // The part for the next batch. It is away while a batch is in flight.
+    courier: Option<Part<L>>,
+    // A receipt that the desk could not settle for lack of memory. The next round settles it first.
+    unsettled: Option<BookedReceipt<L>>,
+}
+
+// Pays the units of an answer. An answer that no command backs is replaced by a refusal; a desk makes none.
+fn paid<L: Ledger>(
+    pool: &mut Pool<L>,
+    opening: u64,
+    waiting: Waiting<L>,
+    outgoing: Outgoing,
+) -> Answer<L> {
+    let Waiting { kind, part } = waiting;
+    let made = outgoing.made();
+    let worth = kind.worth(outgoing.reply(), made);
+    if worth == made && made <= pool.count() {
+        let units = pool.pay(part, worth);
+        return Answer {
+            kind,
+            outgoing,
+            units,
+            opening,
+        };
+    }
+    let token = ReplyToken::new(outgoing.ticket());
+    Answer {
+        kind,
+        outgoing: token.refuse(Code::CoordinatorNotAvailable),
+        units: part.without_units(),
+        opening,
+    }
+}
+
+// Sends a reply to the session that waits for it.
+fn deliver<L: Ledger, R: Wait>(
+    rt: &R,
+    sessions: &mut Slab<Session<L>>,
+    pool: &mut Pool<L>,
+    opening: u64,
+    outgoing: Outgoing,
+) {
+    let Some(session) = sessions.get_mut(outgoing.ticket().session as usize) else {
+        return;
+    };
+    if let Some(waiting) = session.waiting.take() {
+        let answer = paid(pool, opening, waiting, outgoing);
+        // A pass that is gone hears no answer.
+        let _ = session.answers.send(rt, answer);
+    }
+}
+
+impl<L: Ledger> DeskSide<L> {
+    /// Creates the side of a desk with nothing loaded.
+    pub fn new(alloc: Global, share: Share<L>) -> Result<Self, AllocError>
+        requires parts { share.parts ≡ PARTS }
+        requires none { share.amount ≡ 0 }
+    {
+        let mut pool = Pool::new(share, PARTS);
+        let courier = Some(pool.lend());
+        let desk = Desk::loading(alloc)?;
+        Ok(DeskSide {
+            alloc,
+            desk,
+            has_failed: false,
+            opening: 0,
+            sessions: Slab::new(alloc),
+            pool,
+            courier,
+            unsettled: None,
+        })
+    }
+
+    fn deliver_all<R: Wait>(&mut self, rt: &R, out: Vec<Outgoing>) {
+        for outgoing in out {
+            deliver(
+                rt,
+                &mut self.sessions,
+                &mut self.pool,
+                self.opening,
+                outgoing,
+            );
+        }
+    }
+
+    /// Returns the number of the last command.
+    pub fn numbered(&self) -> u64 {
+        self.desk.numbered()
+    }
+
+    /// Begins to serve a state. If an allocation fails, nothing changes.
+    pub fn load(&mut self, number: u64, durable: Durable, now: Moment) -> Result<(), AllocError> {
+        if !self.desk.is_loading() {
+            return Err(AllocError);
+        }
+        match self.desk.loaded(number, durable, now) {
+            Ok(()) => {
+                self.opening = number;
+                Ok(())
+            }
+            Err((error, _durable)) => Err(error),
+        }
+    }
+
+    /// Returns how many passes were made.
+    pub fn passes(&self) -> usize {
+        self.sessions.len()
+    }
+
+    /// Makes a pass.
+    pub fn pass(&mut self) -> Result<SessionPass<L>, PassFault> {
+        if self.sessions.len() >= PASSES_MAX || self.pool.parts() < 3 {
+            return Err(PassFault::Full);
+        }
+        let (answers, receiver) = bounded(self.alloc, 1)?;
+        self.sessions.reserve(1)?;
+        let units = self.pool.lend().without_units();
+        let part = self.pool.lend();
+        let session = Session {
+            answers,
+            waiting: None,
+        };
+        let key = self.sessions.insert_reserved(session);
+        Ok(SessionPass::new(key as u64, units, part, receiver))
+    }
+
+    // Notes that a session waits for its answer.
+    fn wait(&mut self, ticket_session: u64, waiting: Waiting<L>) {
+        if let Some(session) = self.sessions.get_mut(ticket_session as usize) {
+            session.waiting = Some(waiting);
+        }
+    }
+
+    /// Asks the desk. The answer goes to the session of the token. If an allocation fails, returns token and part.
+    pub fn request<R: Wait>(
+        &mut self,
+        rt: &R,
+        token: ReplyToken,
+        part: Part<L>,
+        request: Request,
+        now: Moment,
+        fresh: Uuid,
+    ) -> Result<(), (ReplyToken, Part<L>)>
+        ensures { IfErr result (λ refused. call_of refused.0 ≡ call_of token) }
+    {
+        let session = token.ticket().session;
+        let kind = CallKind::of(&request);
+        match self.desk.request(token, request, now, fresh) {
+            Ok(out) => {
+                self.wait(session, Waiting { kind, part });
+                self.deliver_all(rt, out);
+                Ok(())
+            }
+            Err((_memory, token)) => Err((token, part)),
+        }
+    }
+
+    /// Runs the time-dependent rules.
+    pub fn tick<R: Wait>(&mut self, rt: &R, now: Moment) -> Result<RoundEnd, RoundFault> {
+        if self.has_failed {
+            return Err(RoundFault::Failed);
+        }
+        if self.desk.is_loading() {
+            return Ok(RoundEnd::Nothing);
+        }
+        let out = self.desk.tick(now)?;
+        self.deliver_all(rt, out);
+        Ok(RoundEnd::Done)
+    }
+
+    /// Refuses every pending call, since the disk failed.
+    pub fn fail<R: Wait>(&mut self, rt: &R) {
+        self.has_failed = true;
+        let out = self.desk.fail();
+        self.deliver_all(rt, out);
+    }
+
+    /// Takes the next batch. Settles a receipt first that is left from an earlier round.
+    pub fn take<R: Wait>(&mut self, rt: &R) -> Result<Taken<L>, RoundFault> {
+        if self.has_failed {
+            return Err(RoundFault::Failed);
+        }
+        let nothing = match self.unsettled.take() {
+            Some(receipt) => self.settle(rt, receipt)?,
+            None => RoundEnd::Nothing,
+        };
+        let Some(part) = self.courier.take() else {
+            return Ok(Taken::End(RoundEnd::Skipped(Skip::InFlight)));
+        };
+        match self.desk.take_batch() {
+            Ok(Some(batch)) => Ok(Taken::Batch(batch, part)),
+            Ok(None) => {
+                self.courier = Some(part);
+                Ok(Taken::End(nothing))
+            }
+            Err(TakeFault::InFlight) => {
+                self.courier = Some(part);
+                Ok(Taken::End(RoundEnd::Skipped(Skip::InFlight)))
+            }
+            Err(TakeFault::Memory) => {
+                self.courier = Some(part);
+                Err(RoundFault::Memory)
+            }
+        }
+    }
+
+    // Puts the units of a settled batch into the pool, and keeps the part for the next batch.
+    fn collect(&mut self, units: crate::units::Units<L>) {
+        if self.pool.count().checked_add(units.count()).is_some() {
+            self.courier = Some(self.pool.collect(units));
+        }
+    }
+
+    /// Settles an appended batch and sends the replies that leave. A receipt that is refused is kept.
+    pub fn settle<R: Wait>(
+        &mut self,
+        rt: &R,
+        booked: BookedReceipt<L>,
+    ) -> Result<RoundEnd, RoundFault> {
+        let BookedReceipt { receipt, units } = booked;
+        match self.desk.settle(receipt) {
+            Ok(out) => {
+                self.collect(units);
+                self.deliver_all(rt, out);
+                Ok(RoundEnd::Done)
+            }
+            Err((fault, receipt)) => {
+                self.unsettled = Some(BookedReceipt { receipt, units });
+                match fault {
+                    SettleFault::Memory => Err(RoundFault::Memory),
+                    SettleFault::NotInFlight | SettleFault::Foreign => Err(RoundFault::Failed),
+                }
+            }
+        }
+    }
+
+    /// Takes back a batch that the store refused.
+    pub fn refused<R: Wait>(
+        &mut self,
+        rt: &R,
+        fault: Option<StoreFault>,
+        batch: Batch,
+        part: Part<L>,
+    ) -> Result<RoundEnd, RoundFault> {
+        self.courier = Some(part);
+        match fault {
+            // The store is not there yet.
+            None => self.give_back(batch, Ok(RoundEnd::Nothing)),
+            Some(StoreFault::Full) => self.give_back(batch, Ok(RoundEnd::Skipped(Skip::Full))),
+            Some(StoreFault::Memory) => self.give_back(batch, Err(RoundFault::Memory)),
+            Some(StoreFault::Device) => {
+                self.fail(rt);
+                Err(RoundFault::Device)
+            }
+            Some(StoreFault::Failed | StoreFault::OutOfOrder) => {
+                self.fail(rt);
+                Err(RoundFault::Failed)
+            }
+        }
+    }
+
+    fn give_back(
+        &mut self,
+        batch: Batch,
+        end: Result<RoundEnd, RoundFault>,
+    ) -> Result<RoundEnd, RoundFault> {
+        match self.desk.give_back(batch) {
+            Ok(()) => end,
+            Err(_) => Err(RoundFault::Failed),
+        }
+    }
+
+    /// Ends the side: refuses every pending call.
+    pub fn close(self) -> Vec<Outgoing>
+        ensures { AreRefusals result.items }
+    {
+        let DeskSide {
+            alloc: _,
+            desk,
+            has_failed: _,
+            opening: _,
+            sessions: _,
+            pool: _,
+            courier: _,
+            unsettled: _,
+        } = self;
+        desk.close()
+    }
+}

@@ -1,0 +1,190 @@
+//! The engine: a desk and a store behind two locks.
+ghost use Rattle.std.specs.Prelude.{◌≡◌, ◌⊎◌, ◌+◌, ◌≤◌, ℕ, true, IfErr, MatchResult};
+ghost use Rattle.cg_desk.specs.Outgoings.{made_of, reply_of, ticket_of};
+ghost use Rattle.cg_disk.specs.Disk.{Stays, present};
+ghost use Rattle.cg_fold.specs.Durable.{State};
+ghost use Rattle.cg_store.specs.Carried.{Carries};
+ghost use Rattle.cg_engine.specs.Loads.{IsPassing, Tells, found};
+ghost use Rattle.cg_engine.specs.Passes.{calls_after, calls_of, next_ticket, number_of, opening_of, units_of};
+ghost use Rattle.cg_engine.specs.Worth.{kind_of, worth};
+
+use crate::bounds::{CALLS_MAX, PARTS};
+use crate::desk_side::{DeskSide, Taken};
+use crate::fault::{LoadFault, PassFault, RoundEnd, RoundFault, Skip};
+use crate::kind::CallKind;
+use crate::loading::opened;
+use crate::pass::SessionPass;
+use crate::store_side::{BlankBook, StoreSide};
+use cg_desk::{Outgoing, ReplyToken};
+use cg_disk::SectorDisk;
+use cg_group::{Reply, Request};
+use cg_names::{Code, Moment};
+use cg_store::CompactFault;
+use std::alloc::{AllocError, Global};
+use std::sync::ledger::{Blank, Ledger};
+use std::sync::{Mutex, Wait};
+use std::thread;
+use uuid::Uuid;
+
+/// A desk and a store behind two locks, for any number of threads. No thread holds both locks.
+pub struct Engine<D: SectorDisk, L: Ledger> {
+    pub(crate) alloc: Global,
+    pub(crate) desk: Mutex<DeskSide<L>>,
+    pub(crate) store: Mutex<StoreSide<D, L>>,
+}
+
+impl<D: SectorDisk + Drop, L: Ledger> Engine<D, L> {
+    /// Creates an engine with nothing loaded.
+    pub fn new(alloc: Global, blank: Blank) -> Result<Self, AllocError>
+        requires name { blank.name ≡ L.name }
+        requires parts { blank.parts ≡ L.parts }
+        requires enough { PARTS ≤ blank.parts }
+    {
+        let (book, mut all) = blank.open::<L>();
+        let share = all.split_off(PARTS, 0);
+        let side = DeskSide::new(alloc, share)?;
+        Ok(Engine {
+            alloc,
+            desk: Mutex::new(side),
+            store: Mutex::new(StoreSide::Empty(BlankBook { book })),
+        })
+    }
+
+    /// Makes a pass.
+    pub fn pass<R: Wait>(&self, rt: &R) -> Result<SessionPass<L>, PassFault> {
+        self.desk.lock(rt).pass()
+    }
+
+    /// Returns the number of the last command that a request made.
+    pub fn numbered<R: Wait>(&self, rt: &R) -> u64 {
+        self.desk.lock(rt).numbered()
+    }
+
+    /// Returns the number of the last command that is stored.
+    pub fn front<R: Wait>(&self, rt: &R, pass: &SessionPass<L>) -> u64
+        ensures { opening_of pass.now + units_of pass.now ≤ result }
+    {
+        for _ in rt.forever() {
+            let front = self.store.lock(rt).front();
+            if pass.is_backed_by(front) {
+                return front;
+            }
+            thread::yield_now();
+        }
+        unreachable!()
+    }
+
+    // Ends a loading that found nothing to serve.
+    fn give_up<R: Wait>(&self, rt: &R, book: BlankBook<L>) {
+        *self.store.lock(rt) = StoreSide::Empty(book);
+    }
+
+    /// Opens the store of a disk and serves its groups from the moment `now`, which counts as the last heartbeat of every
+    /// member (KIP-62). Returns the numbers of commands, group records and offsets. After an error, returns the disk.
+    /// `Loaded` is reported where a disk is loaded already, or another thread loads one.
+    pub fn load<R: Wait>(
+        &self,
+        rt: &R,
+        disk: D,
+        now: Moment,
+    ) -> Result<(u64, u64, u64), (LoadFault, D)>
+        ensures carried { D.is_honest disk ≡ true → (n : ℕ) (state : State) → Carries (present (D.history disk)).content (D.size disk) n state
+            → MatchResult result (λ numbers. numbers ≡ found n state) (λ refused. IsPassing refused.0 ⊎ (refused.0 ≡ LoadFault.Loaded)) }
+        ensures tells { D.is_honest disk ≡ true → IfErr result (λ refused. Tells (present (D.history disk)).content (D.size disk) refused.0) }
+        ensures stays { D.is_honest disk ≡ true → IfErr result (λ refused. Stays (D.history disk) (D.history refused.1)) }
+        ensures loaded { IfErr result (λ refused. refused.0 ≡ LoadFault.Loaded → refused.1 ≡ disk) }
+    {
+        let Some(book) = self.store.lock(rt).begin() else {
+            return Err((LoadFault::Loaded, disk));
+        };
+        let (store, number, durable) = match opened(self.alloc, disk) {
+            Ok(opened) => opened,
+            Err(refused) => {
+                self.give_up(rt, book);
+                return Err(refused);
+            }
+        };
+        let (records, offsets) = durable.counts();
+        if self.desk.lock(rt).load(number, durable, now).is_err() {
+            self.give_up(rt, book);
+            return Err((LoadFault::Memory, store.into_disk()));
+        }
+        *self.store.lock(rt) = StoreSide::Loaded(book.with_store(store, None));
+        Ok((number, records, offsets))
+    }
+
+    /// Calls the desk, and waits for the answer to this call. The units of the pass grow by what the answer is worth:
+    /// settled commands, of which no other answer has a unit. A pass that has made its last call is answered 15, which
+    /// is not counted as a call. Where an allocation fails the answer is -1.
+    pub fn call<R: Wait>(
+        &self,
+        rt: &R,
+        pass: SessionPass<L>,
+        request: Request,
+        now: Moment,
+        fresh: Uuid,
+    ) -> (SessionPass<L>, Outgoing)
+        ensures number { number_of result.0 ≡ number_of pass }
+        ensures ticket { ticket_of result.1 ≡ next_ticket pass }
+        ensures calls { calls_of result.0 ≡ calls_after (calls_of pass) }
+        ensures limit { calls_of pass ≡ CALLS_MAX → reply_of result.1 ≡ Reply.Refused Code.CoordinatorNotAvailable }
+        ensures units { units_of result.0 ≡ units_of pass + worth (kind_of request) (reply_of result.1) (made_of result.1) }
+    {
+        let ticket = pass.next_ticket();
+        let kind = CallKind::of(&request);
+        let token = ReplyToken::new(ticket);
+        if pass.calls() >= CALLS_MAX {
+            return (pass, token.refuse(Code::CoordinatorNotAvailable));
+        }
+        let (caller, part) = pass.begin();
+        let asked = self
+            .desk
+            .lock(rt)
+            .request(rt, token, part, request, now, fresh);
+        match asked {
+            Ok(()) => caller.wait(rt, ticket, kind),
+            Err((token, part)) => (caller.refused(part), token.refuse(Code::UnknownServerError)),
+        }
+    }
+
+    /// Runs the time-dependent rules.
+    pub fn tick<R: Wait>(&self, rt: &R, now: Moment) -> Result<RoundEnd, RoundFault> {
+        self.desk.lock(rt).tick(rt, now)
+    }
+
+    /// Takes a batch, appends it and settles it.
+    pub fn flush_round<R: Wait>(&self, rt: &R) -> Result<RoundEnd, RoundFault> {
+        let taken = self.desk.lock(rt).take(rt);
+        let (batch, part) = match taken? {
+            Taken::Batch(batch, part) => (batch, part),
+            Taken::End(end) => return Ok(end),
+        };
+        let appended = self.store.lock(rt).append(batch, part);
+        match appended {
+            Ok(receipt) => self.desk.lock(rt).settle(rt, receipt),
+            Err((fault, batch, part)) => self.desk.lock(rt).refused(rt, fault, batch, part),
+        }
+    }
+
+    /// Does one step of a compaction.
+    pub fn compact_round<R: Wait>(&self, rt: &R) -> Result<RoundEnd, RoundFault> {
+        let compacted = self.store.lock(rt).compact();
+        match compacted {
+            None => Ok(RoundEnd::Nothing),
+            Some(Ok(_)) => Ok(RoundEnd::Done),
+            Some(Err(CompactFault::Memory)) => Err(RoundFault::Memory),
+            Some(Err(CompactFault::NoRoom)) => Ok(RoundEnd::Skipped(Skip::NoRoom)),
+            Some(Err(CompactFault::Device)) => {
+                self.desk.lock(rt).fail(rt);
+                Err(RoundFault::Device)
+            }
+            // The step of the phase is never in the wrong phase.
+            Some(Err(CompactFault::WrongPhase | CompactFault::Failed)) => Err(RoundFault::Failed),
+        }
+    }
+
+    /// Returns whether a compaction is wanted.
+    pub fn compact_wanted<R: Wait>(&self, rt: &R, least: u64) -> bool {
+        self.store.lock(rt).compact_wanted(least)
+    }
+}

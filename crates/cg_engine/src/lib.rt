@@ -1,0 +1,28 @@
+//! The engine: a desk (`cg_desk`) and a store (`cg_store`) behind two locks, for any number of threads. What a call is
+//! answered is worth a stored command: the answer carries units of a ledger, which only an append books.
+#![tactic(auto)]
+
+mod answer;
+mod appended;
+mod booked;
+mod bounds;
+mod caller;
+mod closed;
+mod desk_side;
+mod engine;
+mod fault;
+mod finish;
+mod kind;
+mod loading;
+mod pass;
+mod session;
+mod store_calls;
+mod store_side;
+mod units;
+
+pub use bounds::{CALLS_MAX, PARTS, PASSES_MAX};
+pub use closed::Closed;
+pub use engine::Engine;
+pub use fault::{FinishFault, LoadFault, PassFault, RoundEnd, RoundFault, Skip};
+pub use kind::CallKind;
+pub use pass::SessionPass;

@@ -1,0 +1,23 @@
+use Rattle.std.proofs.Common.{List, ap, ◌∙◌}
+use Rattle.std.specs.Map.{values_of}
+use Rattle.cg_member.specs.declared.group.Group.{Group}
+use Rattle.cg_held.specs.Held.{find_group, with_group}
+use Rattle.cg_member.specs.Membership.{hearing}
+use Rattle.cg_held.proofs.Mapped.{heard_there, heard_whole, lookup-own}
+use Rattle.cg_held.proofs.loaded.Loaded.hear.Goals as goal
+
+pub invariant_of-self : goal.invariant_of-self
+invariant_of-self c =
+    heard_whole c.args.group.now c.args.now c.args.id.now c.self.inside.groups.entries c.hear_among.new.groups.entries c.self.invariant.0 c.self.invariant.1 c.hear_among.ensures.some c.hear_among.ensures.none
+
+pub returns-clause-heard : goal.returns-clause-heard
+returns-clause-heard c =
+    λ g found.
+    heard_there c.args.group.now c.args.now c.args.id.now c.self.inside.groups.entries c.hear_among.new.groups.entries c.self.invariant.0 c.self.invariant.1 c.hear_among.ensures.some g
+    (ap (find_group c.args.group.now) c.self.view_is ∙ found)
+    ∙ ap (λ (gs : List Group). with_group (hearing c.args.now c.args.id.now g) gs) c.self.view_is
+
+pub returns-clause-absent : goal.returns-clause-absent
+returns-clause-absent c =
+    λ none.
+    ap values_of (c.hear_among.ensures.none (lookup-own c.args.group.now c.self.inside.groups.entries c.self.invariant.0 ∙ ap (find_group c.args.group.now) c.self.view_is ∙ none)) ∙ c.self.view_is
