@@ -36,7 +36,8 @@ def _run(task, jobs):
 
 def run_all(tasks, lanes, on_end, on_wait):
     """Runs every task whose predecessors ended well, those with the longest chain of successors first. A proof gets the lanes that
-    nothing else is ready for. Calls on_end(task) as each task ends or is left out, and on_wait(names) after a minute without either."""
+    nothing else is ready for; the first one, for which most others wait, gets half of the idle lanes at least. Calls on_end(task) as
+    each task ends or is left out, and on_wait(names) after a minute without either."""
     chain = {it.name: it.lines for it in tasks}
     for it in reversed(tasks):
         for before in it.after:
@@ -63,7 +64,8 @@ def run_all(tasks, lanes, on_end, on_wait):
                 idle = lanes - sum(running.values())
                 if idle < 1:
                     break
-                jobs = max(1, min(4, idle // (len(ready) - at))) if task.takes_jobs else 1
+                share = max(idle // (len(ready) - at), idle // 2 if at == 0 else 1)
+                jobs = max(1, min(4, share)) if task.takes_jobs else 1
                 left.remove(task)
                 running[task.name] = jobs
                 threading.Thread(target=lane, args=(task, jobs), daemon=True).start()

@@ -1,5 +1,5 @@
 -- What a failure of a desk sends.
-use Rattle.std.proofs.Common.{◌≡◌, ℕ, Bool, true, false, List, [], ◌∷◌, ◌++◌, length, map, take, refl, ap, sym, ◌∙◌, arith}
+use Rattle.std.proofs.Common.{◌≡◌, ℕ, Bool, true, false, List, [], ◌∷◌, ◌++◌, map, refl, ap, sym, ◌∙◌, arith}
 use Rattle.std.specs.Prelude.{if◌then◌else◌}
 use Rattle.std.specs.List.{sum_by}
 use Rattle.std.proofs.lemmas.List.{map-append}
@@ -67,7 +67,7 @@ pub by_tokens-once : (b : Books) → AreRefusedOnce b.tokens (by_tokens b)
 by_tokens-once b =
     let held : List Ticket = calls_of (replies_of b.held) in
     let left : List ReplyToken = after_answering (map refusal held) b.tokens in
-    let parked : List Ticket = take (length left) (waiting_calls b.machine.groups) in
+    let parked : List Ticket = waiting_calls b.machine.groups in
     once b.tokens (by_tokens b)
     (refuses-both (answering (map refusal held) b.tokens ++ answering (map refusal parked) left) (map refused (after_answering (map refusal parked) left))
     (refuses-both (answering (map refusal held) b.tokens) (answering (map refusal parked) left) (refuses-answering held b.tokens) (refuses-answering parked left))

@@ -1,9 +1,7 @@
 -- Replies leave in their order.
-use Rattle.std.proofs.Common.{◌≡◌, ℕ, zero, suc, ◌+◌, ◌-◌, ◌<◌, ◌≤◌, List, [], ◌∷◌, ◌++◌, length, get_or, map, take, drop, cond, true, false, refl, ap, sym, ◌∙◌, arith, leb, append_assoc, add-one, drop-cons, length-take}
-use Rattle.std.proofs.lemmas.List.{append-nil, get_or-take}
-use Rattle.std.proofs.lemmas.Option.{get_or_from_slice_get, slice_get_within}
-use Rattle.std.proofs.Math.ListN.{drop_of_length-le}
-use Rattle.std.specs.Prelude.{slice_get, nat_lt, Some, None}
+use Rattle.std.proofs.Common.{◌≡◌, ℕ, zero, suc, ◌+◌, ◌-◌, ◌<◌, ◌≤◌, List, [], ◌∷◌, ◌++◌, length, get_or, map, take, drop, cond, true, false, refl, ap, sym, ◌∙◌, arith, leb, append_assoc}
+use Rattle.std.proofs.lemmas.List.{append-nil}
+use Rattle.std.specs.Prelude.{nat_lt}
 use Rattle.std.proofs.lemmas.Bool.{le-leb, lt-leb, ltb-true}
 use Rattle.cg_member.specs.declared.reply.Reply.{Reply}
 use Rattle.cg_request.specs.declared.ticket.Ticket.{Ticket}
@@ -123,42 +121,18 @@ pub refusals-append : (rs qs : List (Ticket × Reply)) → map refusal (calls_of
 refusals-append [] qs = refl
 refusals-append (r ∷ rs) qs = ap (λ l. refusal r.0 ∷ l) (refusals-append rs qs)
 
-past-end : {X : Type 0} (xs : List X) (i : ℕ) → slice_get xs i ≡ None → length xs ≤ i
-past-end [] i none = omega arith
-past-end (x ∷ xs) zero none = absurd (cc)
-past-end (x ∷ xs) (suc i) none = let rest = past-end xs i none in omega arith
-
--- the parked requests from a position on, at most as many as there are tokens
-pub calls-front : (waiting : List Ticket) (count i : ℕ) (t : Ticket) → i < count → slice_get waiting i ≡ Some t → drop i (take count waiting) ≡ t ∷ drop (i + 1) (take count waiting)
-calls-front waiting count i t within found =
-    let there = slice_get_within waiting i t found in
-    let len = length-take count waiting in
-    let inside : i < length (take count waiting) = omega arith in
-    drop-cons (take count waiting) i t inside
-    ∙ ap (λ x. x ∷ drop (suc i) (take count waiting)) (get_or-take count waiting i t within ∙ get_or_from_slice_get waiting i t t found)
-    ∙ ap (λ n. t ∷ drop n (take count waiting)) (sym (add-one i))
-
-pub calls-end : (waiting : List Ticket) (count i : ℕ) → slice_get waiting i ≡ None → drop i (take count waiting) ≡ []
-calls-end waiting count i none =
-    let past = past-end waiting i none in
-    let len = length-take count waiting in
-    drop_of_length-le (take count waiting) (omega arith)
-
-pub calls-past : (waiting : List Ticket) (count i : ℕ) → count ≤ i → drop i (take count waiting) ≡ []
-calls-past waiting count i past = let len = length-take count waiting in drop_of_length-le (take count waiting) (omega arith)
-
 -- the requests of held replies are refused, then the parked ones, then the rest
 pub all_refused : (calls waiting : List Ticket) (t0 t1 t2 t3 : List ReplyToken) (out0 out1 out2 out3 : List Outgoing) → out0 ≡ []
     → out1 ≡ out0 ++ answering (map refusal calls) t0 → t1 ≡ after_answering (map refusal calls) t0
-    → out2 ≡ out1 ++ answering (map refusal (take (length t1) waiting)) t1 → t2 ≡ after_answering (map refusal (take (length t1) waiting)) t1
+    → out2 ≡ out1 ++ answering (map refusal waiting) t1 → t2 ≡ after_answering (map refusal waiting) t1
     → t3 ≡ t2 → out3 ≡ out2 ++ map refused t3
     → out3 ≡ (let left : List ReplyToken = after_answering (map refusal calls) t0 in
-    answering (map refusal calls) t0 ++ answering (map refusal (take (length left) waiting)) left ++ map refused (after_answering (map refusal (take (length left) waiting)) left))
+    answering (map refusal calls) t0 ++ answering (map refusal waiting) left ++ map refused (after_answering (map refusal waiting) left))
 all_refused calls waiting t0 t1 t2 t3 out0 out1 out2 out3 empty o1 k1 o2 k2 k3 o3 =
     o3
-    ∙ ap (λ l. l ++ map refused t3) (o2 ∙ ap (λ l. l ++ answering (map refusal (take (length t1) waiting)) t1) (o1 ∙ ap (λ l. l ++ answering (map refusal calls) t0) empty))
-    ∙ ap (λ t. (answering (map refusal calls) t0 ++ answering (map refusal (take (length t1) waiting)) t1) ++ map refused t) (k3 ∙ k2)
-    ∙ ap (λ t. answering (map refusal calls) t0 ++ answering (map refusal (take (length t) waiting)) t ++ map refused (after_answering (map refusal (take (length t) waiting)) t)) k1
+    ∙ ap (λ l. l ++ map refused t3) (o2 ∙ ap (λ l. l ++ answering (map refusal waiting) t1) (o1 ∙ ap (λ l. l ++ answering (map refusal calls) t0) empty))
+    ∙ ap (λ t. (answering (map refusal calls) t0 ++ answering (map refusal waiting) t1) ++ map refused t) (k3 ∙ k2)
+    ∙ ap (λ t. answering (map refusal calls) t0 ++ answering (map refusal waiting) t ++ map refused (after_answering (map refusal waiting) t)) k1
 
 pub front_waits : (settled : ℕ) (items : List HeldStep) (next : HeldStep) → 0 < length items → next ≡ get_or items 0 next → is_waiting settled items ≡ nat_lt settled next.origin.need
 front_waits settled [] next some front = absurd (omega arith)

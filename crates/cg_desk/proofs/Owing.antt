@@ -4,7 +4,6 @@ use Rattle.std.specs.Prelude.{Option, Some, None, is_some, nat_eq, nat_lt, ◌&&
 use Rattle.std.specs.List.{position, position_or_len}
 use Rattle.std.proofs.lemmas.Bool.{ltb-false}
 use Rattle.std.proofs.lemmas.List.{append-nil, map-append, nil_from_length, take-append-drop}
-use Rattle.std.proofs.Math.Seq.{take-length}
 use Rattle.std.proofs.lemmas.List.Concat.{flat_map-append}
 use Rattle.std.proofs.lemmas.List.Sums.{sum_by-append, sum_by-cons}
 use Rattle.cg_request.specs.declared.event.Event.{Event}
@@ -189,10 +188,6 @@ tokens-count : (tokens : List ReplyToken) → weight_of (λ t. 1) tokens ≡ len
 tokens-count [] = refl
 tokens-count (token ∷ tokens) = let one = sum_by-cons (λ (t : ReplyToken). 1) token tokens in let rest = tokens-count tokens in omega arith
 
-calls-count : (calls : List Ticket) → weight_calls (λ t. 1) calls ≡ length calls
-calls-count [] = refl
-calls-count (t ∷ calls) = let one = sum_by-cons (λ (u : Ticket). 1) t calls in let rest = calls-count calls in omega arith
-
 pub failed : (b : Books) → IsOwed b → by_tokens b ≡ map refusal (calls_of (replies_of b.held) ++ waiting_calls b.machine.groups)
 failed b owed =
     let held = calls_of (replies_of b.held) in
@@ -200,17 +195,12 @@ failed b owed =
     let answered = map refusal held in
     let left = after_answering answered b.tokens in
     let first = all-leave answered b.tokens (λ weight. weight_calls weight waiting) (λ weight. let all = owed weight in let calls = refusals-weight weight held in omega arith) in
-    let some = first.stay (λ t. 1) in
-    let left_count = tokens-count left in
-    let waiting_count = calls-count waiting in
-    let whole : take (length left) waiting ≡ waiting = (let same : length left ≡ length waiting = omega arith in ap (λ n. take n waiting) same ∙ take-length waiting) in
     let second = all-leave (map refusal waiting) left (λ weight. 0) (λ weight. let all = first.stay weight in let calls = refusals-weight weight waiting in omega arith) in
     let last = after_answering (map refusal waiting) left in
     let none_left = second.stay (λ t. 1) in
     let last_count = tokens-count last in
     let none : last ≡ [] = nil_from_length last (omega arith) in
-    ap (λ ts. (answering answered b.tokens ++ answering (map refusal ts) left) ++ map refused (after_answering (map refusal ts) left)) whole
-    ∙ ap (λ ts. (answering answered b.tokens ++ answering (map refusal waiting) left) ++ map refused ts) none
+    ap (λ ts. (answering answered b.tokens ++ answering (map refusal waiting) left) ++ map refused ts) none
     ∙ append-nil (answering answered b.tokens ++ answering (map refusal waiting) left)
     ∙ ap (λ l. l ++ answering (map refusal waiting) left) first.gone
     ∙ ap (λ l. answered ++ l) second.gone

@@ -1,5 +1,5 @@
 -- Tickets by their weights.
-use Rattle.std.proofs.Common.{◌≡◌, ℕ, ◌+◌, Bool, true, false, List, [], ◌∷◌, ◌++◌, length, get_or, map, take, refl, ap, arith}
+use Rattle.std.proofs.Common.{◌≡◌, ℕ, ◌+◌, Bool, true, false, List, [], ◌∷◌, ◌++◌, length, get_or, map, refl, ap, arith}
 use Rattle.std.specs.Prelude.{Option, Some, None, is_some, if◌then◌else◌}
 use Rattle.std.specs.List.{position, remove}
 use Rattle.std.proofs.lemmas.List.{get_or_default}
@@ -80,13 +80,13 @@ refused-weight weight (token ∷ tokens) =
     let rest = refused-weight weight tokens in
     omega arith
 
--- what a failure sends, by the tokens: the requests of held replies are refused in their order; then the parked ones, at
--- most as many as there are tokens left; then the rest
+-- what a failure sends, by the tokens: the requests of held replies are refused in their order, then the parked ones, then
+-- the rest
 abbrev pub by_tokens : Books → List Outgoing
 by_tokens b =
     let answered : List Outgoing = map refusal (calls_of (replies_of b.held)) in
     let left : List ReplyToken = after_answering answered b.tokens in
-    let waiting : List Outgoing = map refusal (take (length left) (waiting_calls b.machine.groups)) in
+    let waiting : List Outgoing = map refusal (waiting_calls b.machine.groups) in
     answering answered b.tokens ++ answering waiting left ++ map refused (after_answering waiting left)
 
 pub failed-kept : (b : Books) → AreKept b.tokens [] (by_tokens b) []
@@ -94,7 +94,7 @@ failed-kept b weight =
     let f : Outgoing → ℕ = λ (o : Outgoing). weight (ticket_of o) in
     let answered : List Outgoing = map refusal (calls_of (replies_of b.held)) in
     let left : List ReplyToken = after_answering answered b.tokens in
-    let waiting : List Outgoing = map refusal (take (length left) (waiting_calls b.machine.groups)) in
+    let waiting : List Outgoing = map refusal (waiting_calls b.machine.groups) in
     let last : List ReplyToken = after_answering waiting left in
     let outer = sum_by-append f (answering answered b.tokens ++ answering waiting left) (map refused last) in
     let inner = sum_by-append f (answering answered b.tokens) (answering waiting left) in

@@ -1,16 +1,19 @@
 //! Refusing every pending request, after a device failure or when the desk closes.
-ghost use Rattle.std.specs.Prelude.{◌≡◌, ◌≤◌, ◌+◌, ◌++◌, [], length, map, take, vec_len, vec_capacity};
+ghost use Rattle.std.specs.Prelude.{◌≡◌, ◌≤◌, ◌+◌, ◌++◌, [], map, option_to_list, vec_len, vec_capacity};
+ghost use Rattle.std.specs.List.{filter_map};
 ghost use Rattle.std.specs.VecDeque.{deque_len};
 ghost use Rattle.cg_desk.specs.Answering.{after_answering, answering, answering_one, refusal, refused};
 ghost use Rattle.cg_desk.specs.Held.{calls_of, replies_of};
 ghost use Rattle.cg_desk.specs.Tokens.{without};
-ghost use Rattle.cg_member.specs.Waiting.{waiting_calls};
+ghost use Rattle.cg_member.specs.Waiting.{called, waiting_calls};
+ghost use Rattle.cg_member.specs.declared.calls.Calls.TheVariants.{Any};
 
 use crate::answering::refuse_call;
 use crate::held::HeldStep;
 use crate::outgoing::Outgoing;
 use crate::token::ReplyToken;
-use cg_group::{Few, Groups, Items, Reply, Ticket};
+use cg_group::{Few, Group, Groups, Items, Member, Reply, Ticket};
+use cg_member::calls::Calls;
 use cg_names::Code;
 use std::collections::VecDeque;
 
@@ -77,20 +80,42 @@ pub fn refuse_held(
     }
 }
 
-/// Refuses the requests that are parked in the machine, by group and joining order, at most as many as there are
-/// tokens. Each one costs a pass over the groups.
-pub fn refuse_waiting(tokens: &mut VecDeque<ReplyToken>, groups: &Groups, out: &mut Vec<Outgoing>)
+#[tactic(auto, unfolding(crate::specs::Answering::answering, crate::specs::Answering::after_answering))]
+fn refuse_member(tokens: &mut VecDeque<ReplyToken>, member: &Member, out: &mut Vec<Outgoing>)
     requires { vec_len out.old + deque_len tokens.old ≤ vec_capacity out.old }
-    ensures out { out.new.items ≡ out.old.items ++ answering (map refusal (take (length tokens.old.items) (waiting_calls groups.now.groups))) tokens.old.items }
-    ensures tokens { tokens.new.items ≡ after_answering (map refusal (take (length tokens.old.items) (waiting_calls groups.now.groups))) tokens.old.items }
+    ensures out { out.new.items ≡ out.old.items ++ answering (map refusal (option_to_list (called Any member.now.waits))) tokens.old.items }
+    ensures tokens { tokens.new.items ≡ after_answering (map refusal (option_to_list (called Any member.now.waits))) tokens.old.items }
     ensures room { vec_len out.new + deque_len tokens.new ≤ vec_capacity out.new }
     ensures capacity { vec_capacity out.new ≡ vec_capacity out.old }
 {
-    for i in 0..tokens.len() as u64 {
-        let Some(ticket) = groups.parked(i) else {
-            break;
-        };
+    if let Some(ticket) = Calls::Any.called(member.waits) {
         refuse_call(tokens, ticket, out);
+    }
+}
+
+fn refuse_members(tokens: &mut VecDeque<ReplyToken>, group: &Group, out: &mut Vec<Outgoing>)
+    requires { vec_len out.old + deque_len tokens.old ≤ vec_capacity out.old }
+    ensures out { out.new.items ≡ out.old.items ++ answering (map refusal (filter_map (λ m. called Any m.waits) group.now.members)) tokens.old.items }
+    ensures tokens { tokens.new.items ≡ after_answering (map refusal (filter_map (λ m. called Any m.waits) group.now.members)) tokens.old.items }
+    ensures room { vec_len out.new + deque_len tokens.new ≤ vec_capacity out.new }
+    ensures capacity { vec_capacity out.new ≡ vec_capacity out.old }
+{
+    for member in group.members.as_slice() {
+        refuse_member(tokens, member, out);
+    }
+}
+
+/// Refuses the requests that are parked in the machine, by group and joining order. One pass over the members of all
+/// groups.
+pub fn refuse_waiting(tokens: &mut VecDeque<ReplyToken>, groups: &Groups, out: &mut Vec<Outgoing>)
+    requires { vec_len out.old + deque_len tokens.old ≤ vec_capacity out.old }
+    ensures out { out.new.items ≡ out.old.items ++ answering (map refusal (waiting_calls groups.now.groups)) tokens.old.items }
+    ensures tokens { tokens.new.items ≡ after_answering (map refusal (waiting_calls groups.now.groups)) tokens.old.items }
+    ensures room { vec_len out.new + deque_len tokens.new ≤ vec_capacity out.new }
+    ensures capacity { vec_capacity out.new ≡ vec_capacity out.old }
+{
+    for group in groups.iter() {
+        refuse_members(tokens, group, out);
     }
 }
 

@@ -1,49 +1,38 @@
-use Rattle.std.proofs.Common.{◌≡◌, ◌+◌, ◌<◌, ◌≤◌, length, map, take, drop, ap, rules}
-use Rattle.std.specs.Prelude.{slice_get, Some, None}
+use Rattle.std.proofs.Common.{◌≡◌, List, ◌∷◌, [], ◌++◌, map, ap, ◌∙◌, rules}
+use Rattle.std.proofs.lemmas.List.{map-append}
 use Rattle.cg_member.specs.Waiting.{waiting_calls}
-use Rattle.cg_desk.specs.Answering.{refusal}
-use Rattle.cg_desk.proofs.Leaving.{calls-front, calls-end, calls-past, told_one, told_out, told_then, told_tokens}
+use Rattle.cg_member.specs.declared.group.Group.{Group}
+use Rattle.cg_desk.specs.Answering.{after_answering, answering, refusal}
+use Rattle.cg_desk.proofs.Leaving.{told_many, told_out, told_then, told_tokens}
+use Rattle.cg_desk.proofs.Parked.{group_first, no_groups, parked_in}
 use Rattle.cg_desk.proofs.refusing.refuse_waiting.Goals as goal
 
-pub loop-i-preserved : goal.loop-i-preserved
-loop-i-preserved c =
-    let l = c.loop-i in
-    let waiting = waiting_calls c.args.groups.now.groups in
-    let count = length c.args.tokens.now.items in
-    let within : l.i < count = search rules in
-    let found : slice_get waiting l.i ≡ Some c.in-Some.ticket = search rules in
-    let front = calls-front waiting count l.i c.in-Some.ticket within found in
-    let one = told_one (map refusal (drop l.i (take count waiting))) (map refusal (drop (l.i + 1) (take count waiting))) (refusal c.in-Some.ticket) l.tokens.items c.refuse_call.new.tokens.items l.out.items c.refuse_call.new.out.items (ap (map refusal) front) c.refuse_call.ensures.tokens c.refuse_call.ensures.out in
+pub loop-group-preserved : goal.loop-group-preserved
+loop-group-preserved c =
+    let l = c.loop-group in
+    let group : Group = c.in-Some.group.now in
+    let rest : List Group = c.next.new.self in
+    let groups : l.group-iterator ≡ group ∷ rest = search rules in
+    let first =
+    ap (λ (gs : List Group). map refusal (waiting_calls gs)) groups
+    ∙ ap (map refusal) (group_first group rest)
+    ∙ map-append refusal (parked_in group.members) (waiting_calls rest) in
+    let many = told_many (map refusal (waiting_calls l.group-iterator)) (map refusal (parked_in group.members)) (map refusal (waiting_calls rest)) l.tokens.items c.refuse_members.new.tokens.items l.out.items c.refuse_members.new.out.items first c.refuse_members.ensures.tokens c.refuse_members.ensures.out in
     record {
-      told = told_then _ _ _ _ _ _ _ _ _ l.invariant.told one;
+      told = told_then _ _ _ _ _ _ _ _ _ l.invariant.told many;
       room = search rules;
       capacity = search rules;
     }
 
-pub returns-in_default : goal.returns-in_default
-returns-in_default c =
-    let l = c.loop-i in
-    let waiting = waiting_calls c.args.groups.now.groups in
-    let count = length c.args.tokens.now.items in
-    let missed : slice_get waiting l.i ≡ None = search rules in
-    let empty = ap (map refusal) (calls-end waiting count l.i missed) in
+pub returns : goal.returns
+returns c =
+    let l = c.loop-group in
+    let none : l.group-iterator ≡ [] = search rules in
+    let empty = ap (λ (gs : List Group). map refusal (waiting_calls gs)) none ∙ ap (map refusal) no_groups in
+    let begun : c.into_iter-group-iterator.result ≡ c.args.groups.now.groups = search rules in
     record {
-      out = told_out _ _ _ _ _ _ empty l.invariant.told;
-      tokens = told_tokens _ _ _ _ _ _ empty l.invariant.told;
-      room = search rules;
-      capacity = search rules;
-    }
-
-pub returns-after-loop-i : goal.returns-after-loop-i
-returns-after-loop-i c =
-    let l = c.loop-i in
-    let waiting = waiting_calls c.args.groups.now.groups in
-    let count = length c.args.tokens.now.items in
-    let past : count ≤ l.i = search rules in
-    let empty = ap (map refusal) (calls-past waiting count l.i past) in
-    record {
-      out = told_out _ _ _ _ _ _ empty l.invariant.told;
-      tokens = told_tokens _ _ _ _ _ _ empty l.invariant.told;
+      out = told_out _ _ _ _ _ _ empty l.invariant.told ∙ ap (λ gs. c.args.out.now.items ++ answering (map refusal (waiting_calls gs)) c.args.tokens.now.items) begun;
+      tokens = told_tokens _ _ _ _ _ _ empty l.invariant.told ∙ ap (λ gs. after_answering (map refusal (waiting_calls gs)) c.args.tokens.now.items) begun;
       room = search rules;
       capacity = search rules;
     }

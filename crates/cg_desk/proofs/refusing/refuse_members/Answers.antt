@@ -1,0 +1,47 @@
+use Rattle.std.proofs.Common.{◌≡◌, ◌+◌, ◌<◌, ◌≤◌, suc, List, ◌∷◌, [], ◌++◌, length, map, drop, ap, sym, ◌∙◌, rules, arith, add-one, drop-cons}
+use Rattle.std.proofs.Math.ListN.{drop_of_length-le}
+use Rattle.std.proofs.lemmas.List.{map-append}
+use Rattle.std.specs.Prelude.{option_to_list}
+use Rattle.cg_member.specs.Waiting.{called}
+use Rattle.cg_member.specs.declared.calls.Calls.TheVariants.{Any}
+use Rattle.cg_member.specs.declared.member.Member.{Member}
+use Rattle.cg_desk.specs.Answering.{after_answering, answering, refusal}
+use Rattle.cg_desk.proofs.Leaving.{told_many, told_out, told_then, told_tokens}
+use Rattle.cg_desk.proofs.Parked.{member_first, parked_in}
+use Rattle.cg_desk.proofs.refusing.refuse_members.Goals as goal
+
+pub loop-member-preserved : goal.loop-member-preserved
+loop-member-preserved c =
+    let l = c.loop-member in
+    let n = l.member-index in
+    let members : List Member = c.as_slice-member-items.result.now in
+    let member : Member = c.member-item.result in
+    let rest : List Member = drop (n + 1) members in
+    let here : drop n members ≡ member ∷ rest =
+    drop-cons members n member c.loop-member-test.true
+    ∙ ap (λ (m : Member). m ∷ drop (suc n) members) (sym c.member-item.is)
+    ∙ ap (λ k. member ∷ drop k members) (sym (add-one n)) in
+    let first =
+    ap (λ (ms : List Member). map refusal (parked_in ms)) here
+    ∙ ap (map refusal) (member_first member rest)
+    ∙ map-append refusal (option_to_list (called Any member.waits)) (parked_in rest) in
+    let many = told_many (map refusal (parked_in (drop n members))) (map refusal (option_to_list (called Any member.waits))) (map refusal (parked_in rest)) l.tokens.items c.refuse_member.new.tokens.items l.out.items c.refuse_member.new.out.items first c.refuse_member.ensures.tokens c.refuse_member.ensures.out in
+    record {
+      told = told_then _ _ _ _ _ _ _ _ _ l.invariant.told many;
+      room = search rules;
+      capacity = search rules;
+    }
+
+pub returns : goal.returns
+returns c =
+    let l = c.loop-member in
+    let members : List Member = c.as_slice-member-items.result.now in
+    let past : length members ≤ l.member-index = omega arith in
+    let empty = ap (λ (ms : List Member). map refusal (parked_in ms)) (drop_of_length-le members past) in
+    let own : members ≡ c.args.group.now.members = search rules in
+    record {
+      out = told_out _ _ _ _ _ _ empty l.invariant.told ∙ ap (λ ms. c.args.out.now.items ++ answering (map refusal (parked_in ms)) c.args.tokens.now.items) own;
+      tokens = told_tokens _ _ _ _ _ _ empty l.invariant.told ∙ ap (λ ms. after_answering (map refusal (parked_in ms)) c.args.tokens.now.items) own;
+      room = search rules;
+      capacity = search rules;
+    }
