@@ -36,8 +36,21 @@ fn rate<R: Clock>(
     Ok(tally.median().items_per_second())
 }
 
-// Returns the events per second of a kind that needs its own group for each event, beside `groups` other groups, or as
-// many as leave room for these. Each run has a new machine.
+// Times events of a kind that needs its own group for each event, in a machine that had none of them.
+fn time_once<R: Clock>(
+    rt: &R,
+    scene: &mut Scene,
+    sort: GroupEvent,
+    tally: &mut Tally,
+) -> Result<()> {
+    let events = scene.events_once(sort, EVENTS_ONCE)?;
+    let start = Instant::now(rt)?;
+    scene.step_all(events)?;
+    tally.add(rt, start, EVENTS_ONCE as u64)
+}
+
+// Returns the events per second of such a kind, beside `groups` other groups, or as many as leave room for these. Each
+// run has a new machine.
 fn rate_once<R: Clock>(
     rt: &R,
     alloc: Global,
@@ -49,10 +62,7 @@ fn rate_once<R: Clock>(
     let mut tally = Tally::new(alloc);
     for _ in 0..RUNS {
         let mut scene = Scene::new(alloc, groups, members)?;
-        let events = scene.events_once(sort, EVENTS_ONCE)?;
-        let start = Instant::now(rt)?;
-        scene.step_all(events)?;
-        tally.add(rt, start, EVENTS_ONCE as u64)?;
+        time_once(rt, &mut scene, sort, &mut tally)?;
     }
     Ok(tally.median().items_per_second())
 }
@@ -70,18 +80,29 @@ struct Rates {
     tick: u64,
 }
 
-fn measure_rates<R: Clock>(rt: &R, alloc: Global, groups: u64, members: u64) -> Result<Rates> {
-    let mut scene = Scene::new(alloc, groups, members)?;
+// Measures the events of each kind. The groups are those of the scene, or others like them.
+fn rates<R: Clock>(
+    rt: &R,
+    alloc: Global,
+    scene: &mut Scene,
+    groups: u64,
+    members: u64,
+) -> Result<Rates> {
     Ok(Rates {
-        beat: rate(rt, alloc, &mut scene, SharedEvent::Beat, EVENTS)?,
-        sync: rate(rt, alloc, &mut scene, SharedEvent::Sync, EVENTS)?,
-        join: rate(rt, alloc, &mut scene, SharedEvent::Join, EVENTS)?,
+        beat: rate(rt, alloc, scene, SharedEvent::Beat, EVENTS)?,
+        sync: rate(rt, alloc, scene, SharedEvent::Sync, EVENTS)?,
+        join: rate(rt, alloc, scene, SharedEvent::Join, EVENTS)?,
         new_group: rate_once(rt, alloc, GroupEvent::Join, groups, members)?,
         leader_sync: rate_once(rt, alloc, GroupEvent::LeaderSync, groups, members)?,
         session_closed: rate_once(rt, alloc, GroupEvent::Gone, groups, members)?,
-        idle_session_closed: rate(rt, alloc, &mut scene, SharedEvent::Gone, EVENTS_EVERYWHERE)?,
-        tick: rate(rt, alloc, &mut scene, SharedEvent::Tick, EVENTS_EVERYWHERE)?,
+        idle_session_closed: rate(rt, alloc, scene, SharedEvent::Gone, EVENTS_EVERYWHERE)?,
+        tick: rate(rt, alloc, scene, SharedEvent::Tick, EVENTS_EVERYWHERE)?,
     })
+}
+
+fn measure_rates<R: Clock>(rt: &R, alloc: Global, groups: u64, members: u64) -> Result<Rates> {
+    let mut scene = Scene::new(alloc, groups, members)?;
+    rates(rt, alloc, &mut scene, groups, members)
 }
 
 fn report_rate<R: Print>(rt: &R, sort: &str, rate: u64, base: u64) -> Result<()> {
