@@ -81,19 +81,17 @@ state-commit commit records before after now committed is =
     ap (state_of (records_of records)) committed ∙ ap (λ (s : State). state_of s.records (fold (with_entry commit.group) s.offsets commit.entries)) is
 
 -- the effect of a command that sets a record
-pub state-keep : (group : List ℕ) (new : GroupRecord) (before reserved after : List KeptRecord) (offsets : Offsets) (now : State)
-    → IsTrue (is_sorted name_cmp before) → reserved ≡ before → after ≡ put name_cmp group new reserved
-    → state before offsets ≡ now → state after offsets ≡ with_record now group new
-state-keep group new before reserved after offsets now sorted same stored is =
-    let maps : records_of after ≡ map.insert (records_of before) group new =
-    ap records_of (stored ∙ ap (put name_cmp group new) same) ∙ sym (insert-from_sorted name_total group new before (tested sorted)) in
+pub state-keep : (group : List ℕ) (new : GroupRecord) (before after : List KeptRecord) (offsets : Offsets) (now : State)
+    → IsTrue (is_sorted name_cmp before) → after ≡ put name_cmp group new before → state before offsets ≡ now → state after offsets ≡ with_record now group new
+state-keep group new before after offsets now sorted stored is =
+    let maps : records_of after ≡ map.insert (records_of before) group new = ap records_of stored ∙ sym (insert-from_sorted name_total group new before (tested sorted)) in
     ap (λ m. state_of m offsets) maps ∙ ap (λ s. with_record s group new) is
 
 -- the effect of a replacement
 found_then : (group : List ℕ) (new : Member) (found : Option GroupRecord) (before after : List KeptRecord) (offsets : Offsets)
     → IsTrue (is_sorted name_cmp before) → after ≡ put_found group (option_map (replaced_record new) found) before → state after offsets ≡ with_member (state before offsets) group new found
 found_then group new None before after offsets sorted same = ap (λ r. state r offsets) same
-found_then group new (Some held) before after offsets sorted same = state-keep group (replaced_record new held) before before after offsets (state before offsets) sorted refl same refl
+found_then group new (Some held) before after offsets sorted same = state-keep group (replaced_record new held) before after offsets (state before offsets) sorted same refl
 
 pub state-replace : (replaced : Replaced) (new : Member) (before after : List KeptRecord) (offsets : Offsets) (now : State)
     → IsTrue (is_sorted name_cmp before) → new ≡ replaced.member → after ≡ replaced_among replaced.group new before

@@ -3,8 +3,9 @@ pub mod KeyOrder
 pub mod Put
 pub mod Renewed
 pub mod Kept
-pub mod Taken
 pub mod Names
+pub mod Maps
+pub mod Taken
 pub mod Merging
 pub mod Own
 pub mod Stock

@@ -1,5 +1,5 @@
 -- The groups of two sorted lists.
-use Rattle.std.proofs.Common.{◌≡◌, ℕ, suc, ◌-◌, ◌<◌, Bool, true, false, List, [], ◌∷◌, ◌++◌, length, get_or, map as each, take, drop, ap, sym, ◌∙◌, refl, subst, arith}
+use Rattle.std.proofs.Common.{◌≡◌, ℕ, Bool, true, false, List, [], ◌∷◌, ◌++◌, length, map as each, drop, Some, None, ap, sym, ◌∙◌, refl, subst, arith}
 use Rattle.std.proofs.Math.Dec.{T}
 use Rattle.std.specs.Prelude.{◌||◌, IsTrue, bytes_eq}
 use Rattle.std.specs.List.{list_any}
@@ -9,6 +9,7 @@ use Rattle.std.specs.FinMap.{is_sorted}
 use Rattle.std.proofs.lemmas.List.Folds.{list_any-append}
 use Rattle.std.proofs.lemmas.Slice.Eq.{bytes_eq-Decides}
 use Rattle.cg_fold.specs.Key.{name_cmp}
+use Rattle.cg_fold.specs.Grouped.{first_group}
 use Rattle.cg_fold.specs.Snapshot.{ComesFirst, groups_of_either}
 use Rattle.cg_fold.proofs.KeyOrder.{name_total, name_same}
 use Rattle.cg_fold.proofs.Place.{below_all, both, less}
@@ -17,17 +18,6 @@ use Rattle.cg_fold.proofs.Names.{Before, in_order_is, in_order_first}
 
 abbrev groups : {X : Type 0} → List (List ℕ × X) → List (List ℕ)
 groups kept = each (λ k. k.0) kept
-
--- a list is its first element and the slice after it
-pub rest_is : {X : Type 0} (xs : List X) (x : X) → 0 < length xs → x ≡ get_or xs 0 x → xs ≡ x ∷ take (length xs - 1) (drop 1 xs)
-rest_is [] x some is = absurd (omega arith)
-rest_is {X = X} (y ∷ xs) x some is =
-    let less : suc (length xs) - 1 ≡ length xs = omega arith in
-    ap (λ z. z ∷ xs) (sym is) ∙ ap (λ l. x ∷ l) (sym (ap (λ n. take n xs) less ∙ whole xs))
-  where
-    whole : (l : List X) → take (length l) l ≡ l
-    whole [] = refl
-    whole (z ∷ l) = ap (λ m. z ∷ m) (whole l)
 
 other : (a b : Bool) → a ≡ false → (a || b) ≡ true → b ≡ true
 other true b off e = absurd cc
@@ -149,3 +139,51 @@ module _ {X Y : Type 0} where
       let lt : name_cmp l.0 k.0 ≡ Less = name_total.antisymm l.0 k.0 ∙ ap ordering_reverse gt in
       let before : Before l.0 (groups left) = subst (λ r. Before l.0 (groups r)) (sym is) (Before-less l.0 k.0 (groups left_rest) lt (Before-below k.0 left_rest (sorted_rest k left_rest (subst (λ m. IsTrue (is_sorted name_cmp m)) is sorted)).0)) in
       rw also_is (first_right left l right_rest sorted (subst (λ m. IsTrue (is_sorted name_cmp m)) also_is also) before)
+
+-- the same, by the first group of each list
+named : {X : Type 0} (k : List ℕ × X) (g : List ℕ) → Some k.0 ≡ Some g → k.0 ≡ g
+named k g is = cc
+
+module _ {X Y : Type 0} where
+  pub no_groups : (left : List (List ℕ × X)) (right : List (List ℕ × Y)) → first_group left ≡ None → first_group right ≡ None → groups_of_either left right ≡ []
+  no_groups [] [] is also_is = none_first {X = X} {Y = Y} [] [] refl refl
+  no_groups (k ∷ left) right is also_is = absurd cc
+  no_groups [] (l ∷ right) is also_is = absurd cc
+
+  pub pass_left : (left left' : List (List ℕ × X)) (right : List (List ℕ × Y)) (g : List ℕ) → IsTrue (is_sorted name_cmp left) → IsTrue (is_sorted name_cmp right)
+      → first_group left ≡ Some g → first_group right ≡ None → left' ≡ drop 1 left → ComesFirst left right g left' right
+  pass_left [] left' right g sorted also is none rest = absurd cc
+  pass_left (k ∷ left) left' (l ∷ right) g sorted also is none rest = absurd cc
+  pass_left (k ∷ left) left' [] g sorted also is none rest =
+      rw (sym (named k g is), rest) (left_alone (k ∷ left) [] k left sorted also refl refl)
+
+  pub pass_right : (left : List (List ℕ × X)) (right right' : List (List ℕ × Y)) (h : List ℕ) → IsTrue (is_sorted name_cmp left) → IsTrue (is_sorted name_cmp right)
+      → first_group left ≡ None → first_group right ≡ Some h → right' ≡ drop 1 right → ComesFirst left right h left right'
+  pass_right left [] right' h sorted also none is rest = absurd cc
+  pass_right (k ∷ left) (l ∷ right) right' h sorted also none is rest = absurd cc
+  pass_right [] (l ∷ right) right' h sorted also none is rest =
+      rw (sym (named l h is), rest) (right_alone [] (l ∷ right) l right sorted also refl refl)
+
+  pub pass_less : (left left' : List (List ℕ × X)) (right : List (List ℕ × Y)) (g h : List ℕ) → IsTrue (is_sorted name_cmp left) → IsTrue (is_sorted name_cmp right)
+      → first_group left ≡ Some g → first_group right ≡ Some h → name_cmp g h ≡ Less → left' ≡ drop 1 left → ComesFirst left right g left' right
+  pass_less [] left' right g h sorted also is also_is less rest = absurd cc
+  pass_less (k ∷ left) left' [] g h sorted also is also_is less rest = absurd cc
+  pass_less (k ∷ left) left' (l ∷ right) g h sorted also is also_is less rest =
+      let lt : name_cmp k.0 l.0 ≡ Less = rw (named k g is, named l h also_is) less in
+      rw (sym (named k g is), rest) (left_first (k ∷ left) (l ∷ right) k left l right sorted also refl refl lt)
+
+  pub pass_equal : (left left' : List (List ℕ × X)) (right right' : List (List ℕ × Y)) (g h : List ℕ) → IsTrue (is_sorted name_cmp left) → IsTrue (is_sorted name_cmp right)
+      → first_group left ≡ Some g → first_group right ≡ Some h → name_cmp g h ≡ Equal → left' ≡ drop 1 left → right' ≡ drop 1 right → ComesFirst left right g left' right'
+  pass_equal [] left' right right' g h sorted also is also_is tie rest other_rest = absurd cc
+  pass_equal (k ∷ left) left' [] right' g h sorted also is also_is tie rest other_rest = absurd cc
+  pass_equal (k ∷ left) left' (l ∷ right) right' g h sorted also is also_is tie rest other_rest =
+      let same : name_cmp k.0 l.0 ≡ Equal = rw (named k g is, named l h also_is) tie in
+      rw (sym (named k g is), rest, other_rest) (both_first (k ∷ left) (l ∷ right) k left l right sorted also refl refl same)
+
+  pub pass_greater : (left : List (List ℕ × X)) (right right' : List (List ℕ × Y)) (g h : List ℕ) → IsTrue (is_sorted name_cmp left) → IsTrue (is_sorted name_cmp right)
+      → first_group left ≡ Some g → first_group right ≡ Some h → name_cmp g h ≡ Greater → right' ≡ drop 1 right → ComesFirst left right h left right'
+  pass_greater [] right right' g h sorted also is also_is greater rest = absurd cc
+  pass_greater (k ∷ left) [] right' g h sorted also is also_is greater rest = absurd cc
+  pass_greater (k ∷ left) (l ∷ right) right' g h sorted also is also_is greater rest =
+      let gt : name_cmp k.0 l.0 ≡ Greater = rw (named k g is, named l h also_is) greater in
+      rw (sym (named l h also_is), rest) (right_first (k ∷ left) (l ∷ right) k left l right sorted also refl refl gt)

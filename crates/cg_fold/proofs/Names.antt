@@ -25,6 +25,17 @@ pub or_true : (b : Bool) → (b || true) ≡ true
 or_true true = refl
 or_true false = refl
 
+-- names that compare equal are the same
+pub tied : (g h : List ℕ) → eq_by_cmp name_cmp g h ≡ true → g ≡ h
+tied g h is = name_same g h (equal (name_cmp g h) is)
+
+pub strange : (g h : List ℕ) → eq_by_cmp name_cmp g h ≡ false → bytes_eq h g ≡ false
+strange g h is = step (bytes_eq h g) refl
+  where
+    step : (b : Bool) → bytes_eq h g ≡ b → b ≡ false
+    step false also = refl
+    step true also = sym (sym is ∙ ap (eq_by_cmp name_cmp g) ((bytes_eq-Decides h g).0 also) ∙ ap is_eq (tied_itself name_total g))
+
 -- two names compare equal exactly if they are the same
 pub tie_is_same : (a b : List ℕ) → eq_by_cmp name_cmp a b ≡ bytes_eq a b
 tie_is_same a b = cases (eq_by_cmp name_cmp a b) (bytes_eq a b) refl refl

@@ -23,7 +23,8 @@ use Rattle.cg_fold.proofs.KeyOrder.{key_total, key_same, name_total, name_same}
 use Rattle.cg_fold.proofs.Place.{above_all, below_all, both}
 use Rattle.cg_fold.proofs.Put.{tested, is_true, sorted-put, put_keeps_order}
 use Rattle.cg_fold.proofs.Own.{own-put, own-fold, length-fold, sorted-fold, some-more}
-use Rattle.cg_fold.proofs.Stock.{EachSound, sound, none_above, tied, strange, get-stock}
+use Rattle.cg_fold.proofs.Names.{strange, tied}
+use Rattle.cg_fold.proofs.Stock.{EachSound, sound, none_above, get-stock}
 use Rattle.cg_fold.proofs.Kept.{Offsets, map_of, filter_keeps_order}
 
 -- ---- a shelf inserted among the others

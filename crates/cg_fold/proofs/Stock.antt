@@ -5,23 +5,21 @@ use Rattle.std.specs.Prelude.{◌||◌, IsTrue, filter, bytes_eq}
 use Rattle.std.specs.List.{list_any}
 use Rattle.std.specs.Ordering.{eq_by_cmp, is_eq, is_lt, nat_cmp, ordering_then}
 use Rattle.std.specs.declared.cmp.Ordering.TheVariants.{Less}
-use Rattle.std.specs.Cmp.{tied_itself}
 use Rattle.std.specs.FinMap as map
 use Rattle.std.specs.FinMap.{find, is_sorted}
 use Rattle.std.specs.FinMap.Entries.{find-where_key}
 use Rattle.std.proofs.lemmas.List.Elements.{filter-append}
 use Rattle.std.proofs.lemmas.List.Folds.{list_any-append}
-use Rattle.std.proofs.lemmas.Slice.Eq.{bytes_eq-Decides}
 use Rattle.cg_fold.specs.declared.key.OffsetKey.{OffsetKey}
 use Rattle.cg_fold.specs.Key.{KeptOffset, key_cmp, name_cmp}
 use Rattle.cg_fold.specs.Record.{KeptRecord}
 use Rattle.cg_fold.specs.Shelf.{KeptShelf, AreOf, EachShelf, AreShelves, stock, rows_on, rows_at}
 use Rattle.cg_fold.specs.Durable.{State}
 use Rattle.cg_fold.specs.Snapshot.{groups_in, groups_of_either, in_order, is_of_group, offsets_in}
-use Rattle.cg_fold.proofs.KeyOrder.{key_same, name_total, name_same}
+use Rattle.cg_fold.proofs.KeyOrder.{key_same}
 use Rattle.cg_fold.proofs.Place.{and, below_all, both, less}
 use Rattle.cg_fold.proofs.Put.{tested}
-use Rattle.cg_fold.proofs.Names.{equal, in_order_same, itself}
+use Rattle.cg_fold.proofs.Names.{in_order_same, itself, strange, tied}
 use Rattle.cg_fold.proofs.Kept.{Offsets, map_of, state}
 
 or_false : (b : Bool) → (b || false) ≡ b
@@ -47,17 +45,6 @@ none_above x [] all = refl
 none_above x (s ∷ shelves) all =
     let parts = both (is_lt (name_cmp x s.0)) (below_all name_cmp x shelves) all in
     ap (λ r. cond (is_eq r) (Some s.1) (find name_cmp x shelves)) (less (name_cmp x s.0) parts.0) ∙ none_above x shelves parts.1
-
--- names that compare equal are the same
-pub tied : (g h : List ℕ) → eq_by_cmp name_cmp g h ≡ true → g ≡ h
-tied g h is = name_same g h (equal (name_cmp g h) is)
-
-pub strange : (g h : List ℕ) → eq_by_cmp name_cmp g h ≡ false → bytes_eq h g ≡ false
-strange g h is = step (bytes_eq h g) refl
-  where
-    step : (b : Bool) → bytes_eq h g ≡ b → b ≡ false
-    step false also = refl
-    step true also = sym (sym is ∙ ap (eq_by_cmp name_cmp g) ((bytes_eq-Decides h g).0 also) ∙ ap is_eq (tied_itself name_total g))
 
 filter-own : (g : List ℕ) (rows : List KeptOffset) → AreOf g rows → filter (λ row. is_of_group g row.0) rows ≡ rows
 filter-own g [] are = refl

@@ -1,5 +1,5 @@
 -- The records of groups, and the changes of a record.
-use Rattle.std.specs.Prelude.{◌≡◌, ℕ, List, Option, Some, None, slice_index_or, slice_set, refl}
+use Rattle.std.specs.Prelude.{ℕ, List, Option, Some, None, refl}
 use Rattle.std.specs.Option.{option_map}
 use Rattle.std.specs.Coded.{Coded, code_by, coded×, coded_list, coded_option, coded_ℕ}
 use Rattle.std.specs.FinMap.{find, put}
@@ -26,10 +26,6 @@ emptied_record e = record { generation = e.generation; kind = e.kind; roster = N
 -- the record after the replacement of a member, if it is allowed
 abbrev pub replaced_record : Member → GroupRecord → GroupRecord
 replaced_record new r = record r { roster = option_map (replaced_in new) r.roster }
-
--- the new records are the old ones, except for a replaced member in the record at this index
-abbrev pub ReplacesAt : List KeptRecord → List KeptRecord → ℕ → Member → Type 0
-ReplacesAt old new at member = (d : KeptRecord) → new ≡ slice_set old at ((slice_index_or old at d).0, replaced_record member (slice_index_or old at d).1)
 
 -- the sorted records with a new one, if there is one
 abbrev pub put_found : List ℕ → Option GroupRecord → List KeptRecord → List KeptRecord

@@ -1,5 +1,5 @@
 -- The shelves: the offsets of each group that has any.
-use Rattle.std.specs.Prelude.{◌≡◌, ℕ, ◌+◌, ◌<◌, List, [], ◌∷◌, length, flat_map, slice_index_or, slice_set, Option, Some, None, IsTrue}
+use Rattle.std.specs.Prelude.{◌≡◌, ℕ, ◌<◌, List, [], ◌∷◌, length, flat_map, Option, Some, None, IsTrue}
 use Rattle.std.specs.List.{fold}
 use Rattle.std.specs.Coded.{Coded, coded×, coded_list}
 use Rattle.std.specs.FinMap.{find, is_sorted, put}
@@ -51,11 +51,3 @@ rows_at group shelves = rows_on (find name_cmp group shelves)
 -- the shelves with these offsets added to the group's
 abbrev pub with_more : List ℕ → List KeptOffset → List KeptShelf → List KeptShelf
 with_more group new shelves = put name_cmp group (fold put_kept (rows_at group shelves) new) shelves
-
--- the new shelves are the old ones, except for these offsets added at this index
-abbrev pub AddsAt : List KeptShelf → List KeptShelf → ℕ → List KeptOffset → Type 0
-AddsAt old new at more = (d : KeptShelf) → new ≡ slice_set old at ((slice_index_or old at d).0, fold put_kept (slice_index_or old at d).1 more)
-
--- the shelf at this index has `grown` more offsets
-abbrev pub GrowsAt : List KeptShelf → List KeptShelf → ℕ → ℕ → Type 0
-GrowsAt old new at grown = (d : KeptShelf) → length (slice_index_or new at d).1 ≡ length (slice_index_or old at d).1 + grown

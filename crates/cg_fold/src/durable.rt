@@ -9,22 +9,23 @@ ghost use Rattle.cg_fold.specs.Snapshot.{Ascending, AreListed, group_commands, g
 use crate::key::StoredOffset;
 use crate::offsets::Offsets;
 use crate::record::GroupRecord;
-use crate::records::{self, Kept};
-use crate::shelves::Shelf;
+use crate::records::{self, Records};
+use crate::shelves::Shelves;
 use crate::{either, grouped, snapshots};
 use cg_names::{GroupId, Topic};
 use cg_record::{Assigned, Command, Committed, Deleted, Emptied, Metadata, Partition, Replaced};
 use std::alloc::{AllocError, Global};
+use std::collections::BTreeMap;
 use std::marker::Model;
 
 /// The durable state: the effect of all commands so far. Contracts see the maps of `State`.
 ///
-/// The records are in one sorted vector: a look-up takes time logarithmic in their number, and no allocation. A new
-/// group moves the records after it, and a deletion is linear in the records. The offsets are in `Offsets`.
+/// The records are in a map: a look-up takes time logarithmic in their number, and no allocation; so do a deletion and,
+/// but for the allocation, a new group. The offsets are in `Offsets`.
 #[derive(Drop)]
 pub struct Durable {
     alloc: Global,
-    records: Vec<Kept>,
+    records: Records,
     offsets: Offsets,
 }
 
@@ -38,9 +39,9 @@ impl Model for Durable {
 
     ghost coded = { state_code };
 
-    ghost view = { λ d. record { records = from_sorted d.records.items; offsets = d.offsets } };
+    ghost view = { λ d. record { records = from_sorted d.records.entries; offsets = d.offsets } };
 
-    ghost invariant = { λ d. IsTrue (is_sorted name_cmp d.records.items) };
+    ghost invariant = { λ d. IsTrue (is_sorted name_cmp d.records.entries) };
 }
 
 impl Durable {
@@ -50,7 +51,7 @@ impl Durable {
     {
         Durable {
             alloc,
-            records: Vec::new(alloc),
+            records: BTreeMap::new(alloc),
             offsets: Offsets::new(alloc),
         }
     }
@@ -106,7 +107,7 @@ impl Durable {
     {
         let group = assigned.group.clone()?;
         let record = GroupRecord::assigned(assigned)?;
-        self.keep((group, record))?;
+        self.keep(group, record)?;
         Ok(())
     }
 
@@ -117,17 +118,16 @@ impl Durable {
     {
         let group = emptied.group.clone()?;
         let record = GroupRecord::emptied(emptied)?;
-        self.keep((group, record))?;
+        self.keep(group, record)?;
         Ok(())
     }
 
-    // Sets the record of a group. Reserves the room first, so that a failed allocation changes nothing.
-    fn keep(&mut self, kept: Kept) -> Result<(), AllocError>
-        ensures ok { OnOk result (self.new ≡ with_record self.old kept.0 kept.1) }
+    // Sets the record of a group.
+    fn keep(&mut self, group: GroupId, held: GroupRecord) -> Result<(), AllocError>
+        ensures ok { OnOk result (self.new ≡ with_record self.old group held) }
         ensures err { OnErr result (self.new ≡ self.old) }
     {
-        self.records.reserve(1)?;
-        grouped::put(&mut self.records, kept);
+        grouped::put(&mut self.records, group, held)?;
         Ok(())
     }
 
@@ -144,7 +144,7 @@ impl Durable {
     fn delete(&mut self, deleted: &Deleted)
         ensures { self.new ≡ effect self.old (Command.Deleted deleted.now) }
     {
-        grouped::take_away(&mut self.records, &deleted.group);
+        let _record = grouped::take_away(&mut self.records, &deleted.group);
         self.offsets.forget(&deleted.group);
     }
 
@@ -231,9 +231,9 @@ impl Durable {
     }
 
     /// Returns the records and the shelves, without a copy.
-    pub(crate) fn into_lists(self) -> (Vec<Kept>, Vec<Shelf>)
-        ensures value { listed result.0.items result.1.items ≡ self }
-        ensures are { AreListed result.0.items result.1.items }
+    pub(crate) fn into_maps(self) -> (Records, Shelves)
+        ensures value { listed result.0.entries result.1.entries ≡ self }
+        ensures are { AreListed result.0.entries result.1.entries }
     {
         let Durable {
             records,

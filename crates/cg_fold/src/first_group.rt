@@ -1,16 +1,16 @@
-//! The first group of two queues that are sorted by group id.
+//! The first group of two maps.
 ghost use Rattle.std.specs.Prelude.{◌≡◌, ◌<◌, ◌∷◌, [], IsTrue, length};
-ghost use Rattle.std.specs.Option.{MatchOption};
+ghost use Rattle.std.specs.Option.{MatchOption, option_copied};
 ghost use Rattle.std.specs.FinMap.{is_sorted};
 ghost use Rattle.cg_fold.specs.Key.{name_cmp};
+ghost use Rattle.cg_fold.specs.Grouped.{first_group};
 ghost use Rattle.cg_fold.specs.Snapshot.{PopsFirst, first_side, groups_of_either};
 
-use crate::grouped::OfGroup;
+use crate::grouped::ByGroup;
 use cg_names::GroupId;
 use std::cmp::Ordering;
-use std::collections::VecDeque;
 
-/// The first group of two queues, with its value in each.
+/// The first group of two maps, with its value in each.
 #[derive(Drop)]
 pub struct FirstGroup<T, U> {
     pub group: GroupId,
@@ -18,38 +18,44 @@ pub struct FirstGroup<T, U> {
     pub right: Option<U>,
 }
 
-// Returns which queue has the first group: `Less` for the left one, `Equal` for both, `Greater` for the right one.
-fn side<T, U>(left: &VecDeque<OfGroup<T>>, right: &VecDeque<OfGroup<U>>) -> Option<Ordering>
-    ensures { result ≡ first_side left.now.items right.now.items }
+fn first_of<T>(kept: &ByGroup<T>) -> Option<&GroupId>
+    ensures { option_copied result ≡ first_group kept.now.entries }
 {
-    match (left.front(), right.front()) {
-        (None, None) => None,
-        (Some(_), None) => Some(Ordering::Less),
-        (None, Some(_)) => Some(Ordering::Greater),
-        (Some(kept), Some(also)) => Some(kept.0.cmp(&also.0)),
+    match kept.first_key_value() {
+        Some((group, _)) => Some(group),
+        None => None,
     }
 }
 
-fn pop<T>(queue: &mut VecDeque<OfGroup<T>>) -> OfGroup<T>
-    requires { 0 < length queue.old.items }
-    ensures { queue.old.items ≡ result ∷ queue.new.items }
+// Returns which map has the first group: `Less` for the left one, `Equal` for both, `Greater` for the right one.
+fn side<T, U>(left: &ByGroup<T>, right: &ByGroup<U>) -> Option<Ordering>
+    ensures { result ≡ first_side left.now.entries right.now.entries }
 {
-    match queue.pop_front() {
+    match (first_of(left), first_of(right)) {
+        (None, None) => None,
+        (Some(_), None) => Some(Ordering::Less),
+        (None, Some(_)) => Some(Ordering::Greater),
+        (Some(kept), Some(also)) => Some(kept.cmp(also)),
+    }
+}
+
+fn pop<T>(kept: &mut ByGroup<T>) -> (GroupId, T)
+    requires { 0 < length kept.old.entries }
+    ensures { kept.old.entries ≡ result ∷ kept.new.entries }
+{
+    match kept.pop_first() {
         Some(first) => first,
         None => unreachable!(),
     }
 }
 
-/// Removes the first group of two queues and returns it. Constant time.
-pub fn pop_first<T, U: Drop>(
-    left: &mut VecDeque<OfGroup<T>>,
-    right: &mut VecDeque<OfGroup<U>>,
-) -> Option<FirstGroup<T, U>>
-    requires left_sorted { IsTrue (is_sorted name_cmp left.old.items) }
-    requires right_sorted { IsTrue (is_sorted name_cmp right.old.items) }
+/// Removes the first group of two maps and returns it. Logarithmic in the groups.
+pub fn pop_first<T, U>(left: &mut ByGroup<T>, right: &mut ByGroup<U>) -> Option<FirstGroup<T, U>>
+    requires left_sorted { IsTrue (is_sorted name_cmp left.old.entries) }
+    requires right_sorted { IsTrue (is_sorted name_cmp right.old.entries) }
     ensures { MatchOption result
-        ((groups_of_either left.old.items right.old.items ≡ []) × (left.new.items ≡ left.old.items) × (right.new.items ≡ right.old.items))
-        (λ first. PopsFirst left.old.items right.old.items first.group first.left first.right left.new.items right.new.items) }
+        ((groups_of_either left.old.entries right.old.entries ≡ []) × (left.new.entries ≡ left.old.entries) × (right.new.entries ≡ right.old.entries))
+        (λ first. PopsFirst left.old.entries right.old.entries first.group first.left first.right left.new.entries right.new.entries) }
 {
     match side(left, right) {
         None => None,

@@ -9,27 +9,27 @@ ghost use Rattle.cg_fold.specs.Shelf.{AreShelves, stock};
 ghost use Rattle.cg_fold.specs.Snapshot.{offsets_in};
 ghost use Rattle.cg_fold.specs.Durable.{is_of_other, with_entry};
 
-use crate::grouped;
 use crate::key::StoredOffset;
 use crate::rows::{self, Row};
-use crate::shelves::{self, Shelf};
+use crate::shelves::{self, Shelves};
 use cg_names::{GroupId, Topic};
 use cg_record::{Committed, Metadata, Partition};
 use std::alloc::{AllocError, Global};
+use std::collections::BTreeMap;
 use std::marker::Model;
 
 /// The committed offsets of all groups. Contracts see the map of `State`.
 ///
-/// The offsets of each group are in a sorted vector of their own, its shelf. A look-up takes time logarithmic in the
-/// number of groups and of the group's offsets, and no allocation. A commit looks up its group once and each of its
+/// A map has the offsets of each group, in a sorted vector of their own, the group's shelf. A look-up takes time logarithmic
+/// in the number of groups and of the group's offsets, and no allocation. A commit looks up its group once and each of its
 /// partitions once. If the group has an offset for each of these partitions, only the metadata is copied. Otherwise the
 /// entries are copied with the group id and looked up again; a new partition moves the group's offsets after it, and a
-/// new group moves the shelves after its own, but not their contents.
+/// new group is looked up again. No commit and no deletion touches the offsets of other groups.
 #[derive(Drop)]
 pub struct Offsets {
     alloc: Global,
     len: u64,
-    shelves: Vec<Shelf>,
+    shelves: Shelves,
 }
 
 impl Model for Offsets {
@@ -42,9 +42,9 @@ impl Model for Offsets {
 
     ghost coded = { offsets_code };
 
-    ghost view = { λ o. from_sorted (stock o.shelves.items) };
+    ghost view = { λ o. from_sorted (stock o.shelves.entries) };
 
-    ghost invariant = { λ o. AreShelves o.len o.shelves.items };
+    ghost invariant = { λ o. AreShelves o.len o.shelves.entries };
 }
 
 impl Offsets {
@@ -55,7 +55,7 @@ impl Offsets {
         Offsets {
             alloc,
             len: 0,
-            shelves: Vec::new(alloc),
+            shelves: BTreeMap::new(alloc),
         }
     }
 
@@ -75,17 +75,17 @@ impl Offsets {
     }
 
     /// Returns the shelves. A group has a shelf exactly if it has an offset.
-    pub(crate) fn shelves(&self) -> &[Shelf]
-        ensures value { from_sorted (stock result.now) ≡ self.now }
-        ensures are { AreShelves (finmap.len self.now) result.now }
+    pub(crate) fn shelves(&self) -> &Shelves
+        ensures value { from_sorted (stock result.now.entries) ≡ self.now }
+        ensures are { AreShelves (finmap.len self.now) result.now.entries }
     {
-        self.shelves.as_slice()
+        &self.shelves
     }
 
     /// Returns the shelves, without a copy.
-    pub(crate) fn into_shelves(self) -> Vec<Shelf>
-        ensures value { from_sorted (stock result.items) ≡ self }
-        ensures are { AreShelves (finmap.len self) result.items }
+    pub(crate) fn into_shelves(self) -> Shelves
+        ensures value { from_sorted (stock result.entries) ≡ self }
+        ensures are { AreShelves (finmap.len self) result.entries }
     {
         let Offsets { shelves, .. } = self;
         shelves
@@ -135,12 +135,11 @@ impl Offsets {
         Ok(())
     }
 
-    /// Removes the offsets of a group. Linear in the groups, no allocation.
+    /// Removes the offsets of a group. Costs one look-up and the drop of these offsets, no allocation.
     pub fn forget(&mut self, group: &GroupId)
         ensures { self.new ≡ finmap.retain_keys self.old (is_of_other group.now) }
     {
-        let gone = shelves::rows_at(&self.shelves, group).len() as u64;
-        grouped::take_away(&mut self.shelves, group);
+        let gone = shelves::remove(&mut self.shelves, group);
         self.len -= gone;
     }
 

@@ -1,34 +1,26 @@
-//! The records of groups, sorted by group id.
-ghost use Rattle.std.specs.Prelude.{◌≡◌, ◌<◌, IsTrue, length};
+//! The records of groups, by group id.
+ghost use Rattle.std.specs.Prelude.{◌≡◌, IsTrue};
 ghost use Rattle.std.specs.FinMap.{is_sorted};
 ghost use Rattle.cg_fold.specs.Key.{name_cmp};
-ghost use Rattle.cg_fold.specs.Record.{ReplacesAt, replaced_among};
+ghost use Rattle.cg_fold.specs.Record.{replaced_among};
 
-use crate::grouped::{self, OfGroup};
+use crate::grouped::ByGroup;
 use crate::record::GroupRecord;
 use cg_names::{GroupId, MemberId};
 use cg_record::Member;
 
-/// The record of a group, with the group's id.
-pub type Kept = OfGroup<GroupRecord>;
+/// The record of each group that has one.
+pub type Records = ByGroup<GroupRecord>;
 
-fn replace_at(records: &mut Vec<Kept>, at: usize, new: Member, id: MemberId)
-    requires within { at < length records.old.items }
+/// Replaces a member in the record of a group, if it has one. `id` is a copy of the new member's id. Costs one look-up, no
+/// allocation.
+pub fn replace_in(records: &mut Records, group: &GroupId, new: Member, id: MemberId)
+    requires sorted { IsTrue (is_sorted name_cmp records.old.entries) }
     requires named { id ≡ new.id }
-    ensures { ReplacesAt records.old.items records.new.items at new }
+    ensures records { records.new.entries ≡ replaced_among group.now new records.old.entries }
+    ensures sorted { IsTrue (is_sorted name_cmp records.new.entries) }
 {
-    records[at].1.replace(new, id);
-}
-
-/// Replaces a member in the record of a group, if it has one. `id` is a copy of the new member's id. No allocation.
-pub fn replace_in(records: &mut Vec<Kept>, group: &GroupId, new: Member, id: MemberId)
-    requires sorted { IsTrue (is_sorted name_cmp records.old.items) }
-    requires named { id ≡ new.id }
-    ensures records { records.new.items ≡ replaced_among group.now new records.old.items }
-    ensures sorted { IsTrue (is_sorted name_cmp records.new.items) }
-{
-    let at = grouped::place(records, group);
-    if grouped::is_at(records, at, group) {
-        replace_at(records, at, new, id);
+    if let Some(record) = records.get_mut(group) {
+        record.replace(new, id);
     }
 }

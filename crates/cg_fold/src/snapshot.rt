@@ -6,12 +6,11 @@ ghost use Rattle.cg_fold.specs.Snapshot.{AreListed, left_of, snapshot_of};
 
 use crate::durable::Durable;
 use crate::first_group::pop_first;
-use crate::records::Kept;
-use crate::shelves::Shelf;
+use crate::records::Records;
+use crate::shelves::Shelves;
 use crate::taking::commands_from;
 use cg_record::Command;
 use std::alloc::{AllocError, Global};
-use std::collections::VecDeque;
 use std::marker::Model;
 use std::vec::IntoIter;
 
@@ -21,8 +20,8 @@ use std::vec::IntoIter;
 pub struct Snapshot {
     alloc: Global,
     // The groups whose commands were not made yet.
-    records: VecDeque<Kept>,
-    shelves: VecDeque<Shelf>,
+    records: Records,
+    shelves: Shelves,
     // The commands of the last group that are left.
     commands: IntoIter<Command>,
 }
@@ -35,23 +34,23 @@ impl Model for Snapshot {
 
     ghost Value = { List Command };
 
-    ghost view = { λ s. left_of (into_iter_items s.commands) s.records.items s.shelves.items };
+    ghost view = { λ s. left_of (into_iter_items s.commands) s.records.entries s.shelves.entries };
 
-    ghost invariant = { λ s. AreListed s.records.items s.shelves.items };
+    ghost invariant = { λ s. AreListed s.records.entries s.shelves.entries };
 }
 
 // Removes the next command and returns it: of the last group, or else of the first group that is left.
 fn next_of(
     alloc: Global,
     commands: &mut IntoIter<Command>,
-    records: &mut VecDeque<Kept>,
-    shelves: &mut VecDeque<Shelf>,
+    records: &mut Records,
+    shelves: &mut Shelves,
 ) -> Result<Option<Command>, AllocError>
-    requires { AreListed records.old.items shelves.old.items }
+    requires { AreListed records.old.entries shelves.old.entries }
     ensures next { IfOk result (λ o. MatchOption o
-        ((left_of (into_iter_items commands.old) records.old.items shelves.old.items ≡ []) × (left_of (into_iter_items commands.new) records.new.items shelves.new.items ≡ []))
-        (λ command. left_of (into_iter_items commands.old) records.old.items shelves.old.items ≡ command ∷ left_of (into_iter_items commands.new) records.new.items shelves.new.items)) }
-    ensures listed { AreListed records.new.items shelves.new.items }
+        ((left_of (into_iter_items commands.old) records.old.entries shelves.old.entries ≡ []) × (left_of (into_iter_items commands.new) records.new.entries shelves.new.entries ≡ []))
+        (λ command. left_of (into_iter_items commands.old) records.old.entries shelves.old.entries ≡ command ∷ left_of (into_iter_items commands.new) records.new.entries shelves.new.entries)) }
+    ensures listed { AreListed records.new.entries shelves.new.entries }
 {
     loop {
         if let Some(command) = commands.next() {
@@ -69,11 +68,11 @@ impl Snapshot {
     pub fn new(alloc: Global, durable: Durable) -> Result<Self, AllocError>
         ensures { IfOk result (λ snapshot. snapshot ≡ snapshot_of durable) }
     {
-        let (records, shelves) = durable.into_lists();
+        let (records, shelves) = durable.into_maps();
         Ok(Snapshot {
             alloc,
-            records: VecDeque::from_vec(records),
-            shelves: VecDeque::from_vec(shelves),
+            records,
+            shelves,
             commands: Vec::new(alloc).into_iter(),
         })
     }

@@ -9,7 +9,7 @@ abbrev pub invariant-loop-id : goal.invariant-loop-id
 invariant-loop-id g l = record {
   left_sorted : IsTrue (is_sorted name_cmp l.more_left);
   right_sorted : IsTrue (is_sorted name_cmp l.more_right);
-  rest : l.ids.items ++ groups_of_either l.more_left l.more_right ≡ groups_of_either l.left l.right;
+  rest : l.ids.items ++ groups_of_either l.more_left l.more_right ≡ groups_of_either l.left.entries l.right.entries;
 }
 
 abbrev pub decreases-loop-id : goal.decreases-loop-id

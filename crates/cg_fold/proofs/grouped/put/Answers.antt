@@ -1,26 +1,7 @@
-use Rattle.std.proofs.Common.{◌≡◌, get_or, ◌∙◌, arith, rules}
-use Rattle.std.specs.List.{insert}
-use Rattle.cg_fold.proofs.KeyOrder.{name_total}
-use Rattle.cg_fold.proofs.Put.{put_over, put_between, put_keeps_order}
+use Rattle.std.proofs.Common.{◌∙◌}
+use Rattle.cg_fold.specs.Key.{name_cmp}
+use Rattle.cg_fold.proofs.Maps.{insert_entry-put}
 use Rattle.cg_fold.proofs.grouped.put.Goals as goal
 
-pub insert-requires : goal.insert-requires
-insert-requires g c = omega (arith, c.place-at.ensures.within, c.deref.ensures.len)
-
-pub returns-then-is_at-clause-entries : goal.returns-then-is_at-clause-entries
-returns-then-is_at-clause-entries g c =
-    let found : c.index_mut.result.now ≡ get_or c.args.kept.now.items c.place-at.result c.index_mut.result.now = search rules in
-    put_over name_total c.args.kept.now.items c.deref.result.now c.deref-2.result.now c.place-at.result c.args.entry.0 c.args.entry.1 c.index_mut.result.now
-    c.deref.ensures.value c.deref-2.ensures.value c.place-at.ensures.value c.if-is_at.ensures.own found
-
-pub returns-then-is_at-clause-sorted : goal.returns-then-is_at-clause-sorted
-returns-then-is_at-clause-sorted g c = put_keeps_order name_total c.args.entry.0 c.args.entry.1 c.args.kept.now.items _ (returns-then-is_at-clause-entries g c) c.requires.sorted
-
-pub returns-else-is_at-clause-entries : goal.returns-else-is_at-clause-entries
-returns-else-is_at-clause-entries g c =
-    let inserted : c.insert.new.self.items ≡ insert c.args.kept.now.items c.place-at.result (c.args.entry.0, c.args.entry.1) = search rules in
-    inserted ∙ put_between name_total c.args.kept.now.items c.deref.result.now c.deref-2.result.now c.place-at.result c.args.entry.0 c.args.entry.1
-    c.deref.ensures.value c.deref-2.ensures.value c.place-at.ensures.value c.if-is_at.ensures.other
-
-pub returns-else-is_at-clause-sorted : goal.returns-else-is_at-clause-sorted
-returns-else-is_at-clause-sorted g c = put_keeps_order name_total c.args.entry.0 c.args.entry.1 c.args.kept.now.items _ (returns-else-is_at-clause-entries g c) c.requires.sorted
+pub returns-clause-ok : goal.returns-clause-ok
+returns-clause-ok g c = c.in_ok-insert.ensures.entries ∙ insert_entry-put name_cmp c.args.group c.args.value c.args.kept.now.entries

@@ -1,6 +1,7 @@
-use Rattle.std.proofs.Common.{rules}
-use Rattle.std.proofs.lemmas.Fn.{filter_same}
+use Rattle.std.proofs.Common.{◌∙◌}
+use Rattle.cg_fold.proofs.Maps.{remove_entry-filter}
+use Rattle.cg_fold.proofs.Put.{tested}
 use Rattle.cg_fold.proofs.grouped.take_away.Goals as goal
 
-pub returns : goal.returns
-returns g c = filter_same _ _ _ (λ x b f k. search rules) _ _ c.retain.ensures.filtered
+pub returns-clause-entries : goal.returns-clause-entries
+returns-clause-entries g c = c.remove.ensures.entries ∙ remove_entry-filter c.args.group.now c.args.kept.now.entries (tested c.requires)

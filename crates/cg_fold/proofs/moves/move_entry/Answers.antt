@@ -1,6 +1,5 @@
-use Rattle.std.proofs.Common.{ap, ◌∙◌, subst, refl}
-use Rattle.std.specs.List.{prefix_len}
-use Rattle.cg_fold.specs.Key.{IsOwn, is_below, kept_of}
+use Rattle.std.proofs.Common.{◌∙◌, refl}
+use Rattle.cg_fold.specs.Key.{kept_of}
 use Rattle.cg_fold.proofs.KeyOrder.{key_total}
 use Rattle.cg_fold.proofs.Put.{put_keeps_order}
 use Rattle.cg_fold.proofs.Renewed.{has_row-renewed, renewal-at, renewed_is_put}

@@ -1,23 +1,38 @@
-use Rattle.cg_fold.specs.Key.{kept_by}
-use Rattle.cg_fold.proofs.Added.{added_over, added_between, grown_over, grown_between}
+use Rattle.std.proofs.Common.{◌≡◌, Some, None, ap, ◌∙◌, rules}
+use Rattle.std.proofs.lemmas.Map.Steps.{set_value_same}
+use Rattle.std.specs.BTreeMap.{is_at}
+use Rattle.std.specs.Map.{lookup, set_value}
+use Rattle.std.specs.FinMap.{put}
+use Rattle.cg_fold.specs.Key.{kept_by, name_cmp}
+use Rattle.cg_fold.proofs.Added.{added_over, grown_over, grown_between}
 use Rattle.cg_fold.proofs.shelves.take.Goals as goal
 
-pub returns-in_ok-grown-clause-ok : goal.returns-in_ok-grown-clause-ok
-returns-in_ok-grown-clause-ok c =
-    added_over c.args.shelves.now.items c.deref.result.now c.deref-2.result.now c.take_at.new.shelves.items c.place-at.result c.args.commit.group (kept_by c.args.commit)
-    c.deref.ensures.value c.deref-2.ensures.value c.place-at.ensures.value c.if-is_at.ensures.own c.in_ok-grown.ensures.ok
+pub returns-in_err-grown-clause-err : goal.returns-in_err-grown-clause-err
+returns-in_err-grown-clause-err c =
+    let shelves = c.args.shelves.now.entries in
+    let own = is_at (name_cmp c.args.commit.group) in
+    let there : lookup own shelves ≡ Some c.in-Some.rows.now = search rules in
+    let same : (c.get_mut.follows.lender c.take_commit.new.self).entries ≡ shelves =
+    (c.get_mut.follows.holds c.take_commit.new.self).0 ∙ ap (set_value own shelves) c.in_err-grown.ensures.err ∙ set_value_same own shelves c.in-Some.rows.now there in
+    search (rules, same)
 
-pub returns-in_ok-grown-clause-grown : goal.returns-in_ok-grown-clause-grown
-returns-in_ok-grown-clause-grown c =
-    grown_over c.args.shelves.now.items c.deref.result.now c.deref-2.result.now c.take_at.new.shelves.items c.place-at.result c.args.commit.group (kept_by c.args.commit) c.in_ok-grown.grown
-    c.deref.ensures.value c.deref-2.ensures.value c.place-at.ensures.value c.if-is_at.ensures.own c.in_ok-grown.ensures.ok c.in_ok-grown.ensures.grown
+pub returns-in-Some-clause-ok : goal.returns-in-Some-clause-ok
+returns-in-Some-clause-ok c =
+    let shelves = c.args.shelves.now.entries in
+    let there : lookup (is_at (name_cmp c.args.commit.group)) shelves ≡ Some c.in-Some.rows.now = search rules in
+    added_over shelves (c.get_mut.follows.lender c.take_commit.new.self).entries c.args.commit.group c.in-Some.rows.now c.take_commit.new.self (kept_by c.args.commit) there
+    (c.get_mut.follows.holds c.take_commit.new.self).0 c.in_ok-grown.ensures.ok c.requires
 
-pub returns-in_ok-insert-clause-ok : goal.returns-in_ok-insert-clause-ok
-returns-in_ok-insert-clause-ok c =
-    added_between c.args.shelves.now.items c.deref.result.now c.deref-2.result.now c.insert.new.self.items c.place-at.result c.args.commit.group (kept_by c.args.commit) c.in_ok-shelf.shelf c.requires
-    c.deref.ensures.value c.deref-2.ensures.value c.place-at.ensures.value c.if-is_at.ensures.other c.in_ok-shelf.ensures c.in_ok-insert.ensures.items
+pub returns-in-Some-clause-grown : goal.returns-in-Some-clause-grown
+returns-in-Some-clause-grown c =
+    let shelves = c.args.shelves.now.entries in
+    let there : lookup (is_at (name_cmp c.args.commit.group)) shelves ≡ Some c.in-Some.rows.now = search rules in
+    grown_over shelves (c.get_mut.follows.lender c.take_commit.new.self).entries c.args.commit.group c.in-Some.rows.now c.take_commit.new.self (kept_by c.args.commit) there
+    (c.get_mut.follows.holds c.take_commit.new.self).0 c.in_ok-grown.ensures.ok c.requires c.in_ok-grown.grown c.in_ok-grown.ensures.grown
 
-pub returns-in_ok-insert-clause-grown : goal.returns-in_ok-insert-clause-grown
-returns-in_ok-insert-clause-grown c =
-    grown_between c.args.shelves.now.items c.deref.result.now c.deref-2.result.now c.insert.new.self.items c.place-at.result c.args.commit.group (kept_by c.args.commit) c.as_slice.result.now c.in_ok-shelf.shelf c.requires
-    c.deref.ensures.value c.deref-2.ensures.value c.place-at.ensures.value c.if-is_at.ensures.other c.in_ok-shelf.ensures c.in_ok-insert.ensures.items c.as_slice.ensures.value
+pub returns-clause-grown : goal.returns-clause-grown
+returns-clause-grown c =
+    let shelves = c.args.shelves.now.entries in
+    let absent : lookup (is_at (name_cmp c.args.commit.group)) shelves ≡ None = search rules in
+    let stored : c.put.new.kept.entries ≡ put name_cmp c.args.commit.group c.in_ok-rows.rows shelves = search rules in
+    grown_between shelves c.put.new.kept.entries c.args.commit.group c.in_ok-rows.rows (kept_by c.args.commit) absent stored c.in_ok-rows.ensures c.as_slice.result.now c.as_slice.ensures.value

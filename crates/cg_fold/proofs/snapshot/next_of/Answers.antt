@@ -11,20 +11,20 @@ returns-in_default-pop_first-clause-next c =
     let new = into_iter_items c.next.new.self in
     let before : length old ≡ 0 = omega (arith, c.in_default.ensures.cases.0) in
     let after : length new ≡ 0 = omega (arith, c.in_default.ensures.cases.1) in (
-      sym c.loop-command.invariant.same ∙ left_none old c.loop-command.records.items c.loop-command.shelves.items c.loop-command.invariant.listed (no_commands old before) none.0,
-      ap (λ l. left_of new l c.pop_first.new.right.items) none.1 ∙ ap (left_of new c.loop-command.records.items) none.2
-          ∙ left_none new c.loop-command.records.items c.loop-command.shelves.items c.loop-command.invariant.listed (no_commands new after) none.0,
+      sym c.loop-command.invariant.same ∙ left_none old c.loop-command.records.entries c.loop-command.shelves.entries c.loop-command.invariant.listed (no_commands old before) none.0,
+      ap (λ l. left_of new l c.pop_first.new.right.entries) none.1 ∙ ap (left_of new c.loop-command.records.entries) none.2
+          ∙ left_none new c.loop-command.records.entries c.loop-command.shelves.entries c.loop-command.invariant.listed (no_commands new after) none.0,
     )
 
 pub commands_from-requires : goal.commands_from-requires
 commands_from-requires c =
-    own_first c.loop-command.records.items c.pop_first.new.left.items c.loop-command.shelves.items c.pop_first.new.right.items _ _ _ c.loop-command.invariant.listed c.in-Some-pop_first.ensures
+    own_first c.loop-command.records.entries c.pop_first.new.left.entries c.loop-command.shelves.entries c.pop_first.new.right.entries _ _ _ c.loop-command.invariant.listed c.in-Some-pop_first.ensures
 
 pub loop-command-preserved : goal.loop-command-preserved
 loop-command-preserved c =
     let before : length (into_iter_items c.loop-command.commands) ≡ 0 = omega (arith, c.in_default.ensures.cases.0) in
     record {
-      listed = listed_rest c.loop-command.records.items c.pop_first.new.left.items c.loop-command.shelves.items c.pop_first.new.right.items _ _ _ c.loop-command.invariant.listed c.in-Some-pop_first.ensures;
-      same = left_first (into_iter_items c.loop-command.commands) (into_iter_items c.in_ok-commands.field-0) c.loop-command.records.items c.pop_first.new.left.items c.loop-command.shelves.items c.pop_first.new.right.items _ _ _ c.loop-command.invariant.listed c.in-Some-pop_first.ensures
+      listed = listed_rest c.loop-command.records.entries c.pop_first.new.left.entries c.loop-command.shelves.entries c.pop_first.new.right.entries _ _ _ c.loop-command.invariant.listed c.in-Some-pop_first.ensures;
+      same = left_first (into_iter_items c.loop-command.commands) (into_iter_items c.in_ok-commands.field-0) c.loop-command.records.entries c.pop_first.new.left.entries c.loop-command.shelves.entries c.pop_first.new.right.entries _ _ _ c.loop-command.invariant.listed c.in-Some-pop_first.ensures
           (no_commands (into_iter_items c.loop-command.commands) before) c.in_ok-commands.ensures ∙ c.loop-command.invariant.same;
     }

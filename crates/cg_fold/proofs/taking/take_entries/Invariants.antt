@@ -1,4 +1,4 @@
-use Rattle.std.proofs.Common.{◌≡◌, ◌≤◌, length, map, take, drop}
+use Rattle.std.proofs.Common.{◌≡◌, map, take, drop}
 use Rattle.cg_fold.specs.Snapshot.{entry_of}
 use Rattle.cg_fold.proofs.taking.take_entries.Given as goal
 

@@ -4,5 +4,5 @@ use Rattle.cg_fold.proofs.durable.Durable.replace.Goals as goal
 
 pub returns-clause-ok : goal.returns-clause-ok
 returns-clause-ok c =
-    state-replace c.args.replaced.now c.in_ok-member.member c.self.inside.records.items c.replace_in.new.records.items c.self.inside.offsets c.args.self.now
+    state-replace c.args.replaced.now c.in_ok-member.member c.self.inside.records.entries c.replace_in.new.records.entries c.self.inside.offsets c.args.self.now
     c.self.invariant (c.in_ok-member.ensures.cases ∙ c.member.ensures.value) c.replace_in.ensures.records c.self.view_is

@@ -12,22 +12,22 @@ overflow_add-self c =
       arith,
       length-map commit.entries (kept_of commit.group),
       c.in_ok-grown.ensures.grown,
-      length-rows-more commit.group c.self.inside.shelves.items c.add.new.shelves.items (kept_by commit) c.in_ok-grown.ensures.ok,
+      length-rows-more commit.group c.self.inside.shelves.entries c.add.new.shelves.entries (kept_by commit) c.in_ok-grown.ensures.ok,
     )
 
 pub invariant_of-self-2 : goal.invariant_of-self-2
 invariant_of-self-2 c =
     let commit = c.args.commit.now in
     let some : 0 < length (kept_by commit) = omega (arith, length-map commit.entries (kept_of commit.group), c.len.ensures.lawful.some) in
-    shelves-more commit.group c.self.inside.len _ c.self.inside.shelves.items c.add.new.shelves.items (kept_by commit) c.self.invariant some
+    shelves-more commit.group c.self.inside.len _ c.self.inside.shelves.entries c.add.new.shelves.entries (kept_by commit) c.self.invariant some
     (own-kept commit.group commit.entries) c.in_ok-grown.ensures.ok
     (omega (
       arith,
       c.in_ok-grown.ensures.grown,
-      length-stock-more commit.group c.self.inside.len c.self.inside.shelves.items c.add.new.shelves.items (kept_by commit) c.self.invariant c.in_ok-grown.ensures.ok,
+      length-stock-more commit.group c.self.inside.len c.self.inside.shelves.entries c.add.new.shelves.entries (kept_by commit) c.self.invariant c.in_ok-grown.ensures.ok,
     ))
 
 pub returns-clause-ok : goal.returns-clause-ok
 returns-clause-ok c =
-    shelves-commit c.args.commit.now c.self.inside.len c.self.inside.shelves.items c.add.new.shelves.items (kept_by c.args.commit.now) c.args.self.now
+    shelves-commit c.args.commit.now c.self.inside.len c.self.inside.shelves.entries c.add.new.shelves.entries (kept_by c.args.commit.now) c.args.self.now
     c.self.invariant refl c.in_ok-grown.ensures.ok c.self.view_is

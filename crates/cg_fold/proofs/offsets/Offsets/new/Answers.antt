@@ -5,4 +5,4 @@ use Rattle.cg_fold.proofs.Kept.{map-nil, map_of}
 use Rattle.cg_fold.proofs.offsets.Offsets.new.Goals as goal
 
 pub returns : goal.returns
-returns c = ap (λ l. map_of (stock l)) c.new.ensures.items ∙ map-nil key_cmp
+returns c = ap (λ l. map_of (stock l)) c.new.ensures.empty ∙ map-nil key_cmp
