@@ -50,7 +50,10 @@ fn pop<T>(kept: &mut ByGroup<T>) -> (GroupId, T)
 }
 
 /// Removes the first group of two maps and returns it. Logarithmic in the groups.
-pub fn pop_first<T, U>(left: &mut ByGroup<T>, right: &mut ByGroup<U>) -> Option<FirstGroup<T, U>>
+pub fn pop_first<T, U: Drop>(
+    left: &mut ByGroup<T>,
+    right: &mut ByGroup<U>,
+) -> Option<FirstGroup<T, U>>
     requires left_sorted { IsTrue (is_sorted name_cmp left.old.entries) }
     requires right_sorted { IsTrue (is_sorted name_cmp right.old.entries) }
     ensures { MatchOption result
