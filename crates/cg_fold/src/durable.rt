@@ -20,8 +20,8 @@ use std::marker::Model;
 
 /// The durable state: the effect of all commands so far. Contracts see the maps of `State`.
 ///
-/// The records are in a map: a look-up takes time logarithmic in their number, and no allocation; so do a deletion and,
-/// but for the allocation, a new group. The offsets are in `Offsets`.
+/// The records are in an ordered map: a look-up, a new group and a deletion take time logarithmic in their number, and only
+/// a new group allocates. The offsets are in `Offsets`.
 #[derive(Drop)]
 pub struct Durable {
     alloc: Global,

@@ -18,6 +18,7 @@ pub struct FirstGroup<T, U> {
     pub right: Option<U>,
 }
 
+// Returns the first group of a map, if there is one.
 fn first_of<T>(kept: &ByGroup<T>) -> Option<&GroupId>
     ensures { option_copied result ≡ first_group kept.now.entries }
 {

@@ -20,11 +20,11 @@ use std::marker::Model;
 
 /// The committed offsets of all groups. Contracts see the map of `State`.
 ///
-/// A map has the offsets of each group, in a sorted vector of their own, the group's shelf. A look-up takes time logarithmic
-/// in the number of groups and of the group's offsets, and no allocation. A commit looks up its group once and each of its
-/// partitions once. If the group has an offset for each of these partitions, only the metadata is copied. Otherwise the
-/// entries are copied with the group id and looked up again; a new partition moves the group's offsets after it, and a
-/// new group is looked up again. No commit and no deletion touches the offsets of other groups.
+/// The offsets of each group are in a sorted vector of their own, its shelf, and the shelves in an ordered map. A look-up
+/// takes time logarithmic in the number of groups and of the group's offsets, and no allocation. A commit looks up its
+/// group once and each of its partitions once. If the group has an offset for each of these partitions, only the metadata
+/// is copied. Otherwise the entries are copied with the group id and looked up again; a new partition moves the group's
+/// offsets after it, and a new group is looked up once more. The offsets of other groups are never moved.
 #[derive(Drop)]
 pub struct Offsets {
     alloc: Global,
