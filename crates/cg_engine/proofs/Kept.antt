@@ -41,12 +41,13 @@ module _ {D : Type 0} {g : _} (honest : D → Bool) (history : D → History) wh
 
   -- what a store leaves on its disk
   pub left-of : (size : D → ℕ) (store : Store D g) (front : ℕ) (disk : D) (appended : Option Appended) → sectors_of store ≡ size (disk_of store) → front ≡ front_of store → disk ≡ disk_of store
-      → IsKept honest history store appended → HasLeft honest history size disk front
+      → IsKept honest history store appended → HasLeft honest history size appended disk front
   left-of size store front disk appended size_is front_is disk_is kept =
       let same_disk = sym disk_is in
       let same_front = sym front_is in
-      coe 0 1 (i. HasLeft honest history size (same_disk i) (same_front i)) (record {
+      coe 0 1 (i. HasLeft honest history size appended (same_disk i) (same_front i)) (record {
         state = kept.state;
+        known = kept.known;
         images = λ now. let stored = kept.stored now in
             (stored.failing, subst (λ (n : ℕ). AllCarryOr (history (disk_of store)) n (front_of store) kept.state stored.failing) size_is stored.images);
       })

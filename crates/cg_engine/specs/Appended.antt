@@ -3,6 +3,7 @@ use Rattle.std.specs.Prelude.{◌≡◌, ℕ, List, length, Option, Some, None}
 use Rattle.cg_fold.specs.Durable.{State, after, folded}
 use Rattle.cg_record.specs.declared.command.Command.{Command}
 use Rattle.cg_store.specs.Carried.{joined}
+use Rattle.cg_trail.specs.Trails.{TrailParts, BeginsWith}
 use Rattle.cg_engine.specs.declared.appended.Appended.{Appended}
 
 -- the commands of the loaded state
@@ -21,3 +22,12 @@ state_in a = after (folded (loaded_in a)) (appended_in a)
 abbrev pub Knows : Option Appended → State → Type 0
 Knows None state = Unit {0}
 Knows (Some a) state = state_in a ≡ state
+
+-- a trail that made these commands has the same loaded state, and the appended commands are the first of these
+abbrev pub Bears : Appended → TrailParts → List Command → Type 0
+Bears a t made = (t.loaded ≡ loaded_in a) × BeginsWith made (appended_in a)
+
+-- the same, where the appended commands are noted
+abbrev pub BearsIfNoted : Option Appended → TrailParts → List Command → Type 0
+BearsIfNoted None t made = ⊥
+BearsIfNoted (Some a) t made = Bears a t made

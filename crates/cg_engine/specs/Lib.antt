@@ -1,9 +1,13 @@
 pub mod Appended
 pub mod Booked
+pub mod BorneOut
 pub mod Faults
 pub mod Left
 pub mod Loads
+pub mod Noted
 pub mod Passes
+pub mod Recorders
+pub mod Sides
 pub mod Stored
 pub mod Units
 pub mod Wanted

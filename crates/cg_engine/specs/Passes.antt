@@ -3,6 +3,7 @@ use Rattle.std.specs.Prelude.{ℕ, ◌+◌, nat_lt, if◌then◌else◌}
 use Rattle.cg_request.specs.declared.ticket.Ticket.{Ticket}
 use Rattle.cg_engine.specs.Units.{count_of}
 use Rattle.cg_engine.specs.declared.bounds.TheConstants.{CALLS_MAX}
+use Rattle.cg_engine.specs.declared.noted.Noted.{Noted}
 use Rattle.cg_engine.specs.declared.pass.SessionPass.{SessionPass}
 
 abbrev pub number_of : {L : Type 0} → SessionPass L → ℕ
@@ -15,6 +16,10 @@ calls_of pass = pass.calls
 -- the units of the answers so far
 abbrev pub units_of : {L : Type 0} → SessionPass L → ℕ
 units_of pass = count_of pass.units
+
+-- the answers that the pass noted, for the test of a trail
+abbrev pub noted_of : {L : Type 0} → SessionPass L → Noted
+noted_of pass = pass.noted
 
 -- how many commands were loaded, as the last answer said
 abbrev pub opening_of : {L : Type 0} → SessionPass L → ℕ

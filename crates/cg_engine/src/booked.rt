@@ -1,7 +1,7 @@
 //! A store with the book of its ledger: an append books a unit for each command.
-ghost use Rattle.std.specs.Prelude.{◌≡◌, ◌+◌, length, MatchResult, OnErr, OnOk};
+ghost use Rattle.std.specs.Prelude.{◌≡◌, ◌+◌, length, IfOk, IsTrue, ◌↔◌, MatchResult, OnErr, OnOk};
 ghost use Rattle.cg_fold.specs.Durable.{State, after};
-ghost use Rattle.cg_engine.specs.Appended.{state_in};
+ghost use Rattle.cg_engine.specs.Appended.{BearsIfNoted, state_in};
 ghost use Rattle.cg_engine.specs.Left.{HasLeft};
 ghost use Rattle.cg_engine.specs.Wanted.{is_wanted};
 ghost use Rattle.cg_engine.specs.Stored.{IsKept, Stores};
@@ -13,7 +13,10 @@ use crate::appended::Appended;
 use crate::store_calls;
 use crate::units::{Part, Units};
 use cg_disk::SectorDisk;
+use cg_record::Command;
 use cg_store::{Batch, Commands, CompactFault, Phase, Progress, Receipt, Store, StoreFault};
+use cg_trail::Trail;
+use std::alloc::{AllocError, Global};
 use std::sync::ledger::{Book, Ledger};
 
 /// The receipt for a batch, with a unit for each of its commands.
@@ -168,9 +171,19 @@ impl<D: SectorDisk, L: Ledger> BookedStore<D, L> {
         }
     }
 
+    /// Returns whether the commands appended since loading are noted, and bear a trail out that made these commands.
+    pub fn bears(&self, alloc: Global, trail: &Trail, made: &[Command]) -> Result<bool, AllocError>
+        ensures { IfOk result (λ bears. IsTrue bears ↔ BearsIfNoted (appended_of self.now) trail.now made.now) }
+    {
+        match &self.appended {
+            None => Ok(false),
+            Some(appended) => appended.bears(alloc, trail, made),
+        }
+    }
+
     /// Ends the store. Returns the number of its last command and the disk, without a disk call.
     pub fn close(self) -> (u64, D)
-        ensures { ∥ HasLeft D.is_honest D.history D.size result.1 result.0 ∥₁ }
+        ensures { ∥ HasLeft D.is_honest D.history D.size (appended_of self) result.1 result.0 ∥₁ }
     {
         let BookedStore {
             store,

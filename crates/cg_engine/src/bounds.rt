@@ -1,10 +1,21 @@
 //! Bounds of an engine.
+use cg_desk::{SPARE_NUMBERS, SPARE_NUMBERS_PER_GROUP};
+use cg_group::GROUPS_MAX;
+use cg_store::COMMAND_NUMBER_MAX;
 
 /// Most passes of an engine.
 pub const PASSES_MAX: usize = 65_536;
 
 /// Parts into which the ledger of an engine is cut at least: two for each pass, one for a batch, and one that stays.
 pub const PARTS: u64 = 262_144;
+
+/// Parts that the ledger's pool has before it lends two to a pass: these, and one that stays.
+pub const PARTS_FOR_PASS: u64 = 3;
+
+/// Command number up to which a desk never runs short of numbers, however many groups it has.
+pub const NUMBERED_SURELY: u64 = COMMAND_NUMBER_MAX
+    - SPARE_NUMBERS
+    - SPARE_NUMBERS_PER_GROUP * GROUPS_MAX as u64;
 
 /// Most calls of a pass.
 pub const CALLS_MAX: u64 = 9_223_372_036_854_775_807;

@@ -1,17 +1,20 @@
 //! A pass whose call waits for its answer.
 ghost use Rattle.std.specs.Prelude.{◌≡◌, ◌+◌, ◌<◌, ◌≤◌};
 ghost use Rattle.cg_desk.specs.Outgoings.{made_of, reply_of, ticket_of};
+ghost use Rattle.cg_engine.specs.Noted.{IsNoted};
 ghost use Rattle.cg_engine.specs.Units.{count_of};
 ghost use Rattle.cg_engine.specs.Worth.{worth};
 ghost use Rattle.cg_engine.specs.declared.bounds.TheConstants.{CALLS_MAX};
 
 use crate::answer::Answer;
 use crate::kind::CallKind;
+use crate::noted::Noted;
 use crate::pass::SessionPass;
 use crate::units::{Part, Units};
 use cg_desk::Outgoing;
 use cg_group::Ticket;
 use crossbeam_channel::Receiver;
+use std::alloc::Global;
 use std::sync::Wait;
 use std::sync::ledger::Ledger;
 use std::thread;
@@ -24,18 +27,20 @@ pub struct Caller<L: Ledger> {
     pub opening: u64,
     pub units: Units<L>,
     pub answers: Receiver<Answer<L>>,
+    pub noted: Noted,
     ghost few: { count_of units ≤ calls },
     ghost counted: { calls < CALLS_MAX },
 }
 
 impl<L: Ledger> Caller<L> {
-    ghost use Rattle.cg_engine.specs.Passes.{calls_of, number_of, units_of};
+    ghost use Rattle.cg_engine.specs.Passes.{calls_of, noted_of, number_of, units_of};
 
     /// Ends a call that was refused before the desk met it. The call is counted.
     pub fn refused(self, part: Part<L>) -> SessionPass<L>
         ensures number { number_of result ≡ self.number }
         ensures calls { calls_of result ≡ self.calls + 1 }
         ensures units { units_of result ≡ count_of self.units }
+        ensures noted { noted_of result ≡ self.noted }
     {
         let Caller {
             number,
@@ -43,6 +48,7 @@ impl<L: Ledger> Caller<L> {
             opening,
             units,
             answers,
+            noted,
         } = self;
         SessionPass {
             number,
@@ -51,15 +57,17 @@ impl<L: Ledger> Caller<L> {
             units,
             part,
             answers,
+            noted,
         }
     }
 
     // Ends a call with its answer.
-    fn answered(self, answer: Answer<L>) -> (SessionPass<L>, Outgoing)
+    fn answered(self, alloc: Global, answer: Answer<L>) -> (SessionPass<L>, Outgoing)
         ensures number { number_of result.0 ≡ self.number }
         ensures calls { calls_of result.0 ≡ self.calls + 1 }
         ensures units { units_of result.0 ≡ count_of self.units + worth answer.kind (reply_of result.1) (made_of result.1) }
         ensures outgoing { result.1 ≡ answer.outgoing }
+        ensures noted { IsNoted self.noted (ticket_of result.1) (reply_of result.1) (noted_of result.0) }
     {
         let Caller {
             number,
@@ -67,6 +75,7 @@ impl<L: Ledger> Caller<L> {
             opening: _,
             mut units,
             answers,
+            mut noted,
         } = self;
         let Answer {
             kind: _,
@@ -75,6 +84,7 @@ impl<L: Ledger> Caller<L> {
             opening,
         } = answer;
         let part = units.take_over(more);
+        noted.note(alloc, &outgoing);
         let pass = SessionPass {
             number,
             calls: calls + 1,
@@ -82,19 +92,27 @@ impl<L: Ledger> Caller<L> {
             units,
             part,
             answers,
+            noted,
         };
         (pass, outgoing)
     }
 
     /// Waits for the answer to the call with this ticket. No other answer comes, since a pass has one call at a time.
-    pub fn wait<R: Wait>(self, rt: &R, ticket: Ticket, kind: CallKind) -> (SessionPass<L>, Outgoing)
+    pub fn wait<R: Wait>(
+        self,
+        rt: &R,
+        alloc: Global,
+        ticket: Ticket,
+        kind: CallKind,
+    ) -> (SessionPass<L>, Outgoing)
         ensures number { number_of result.0 ≡ self.number }
         ensures calls { calls_of result.0 ≡ self.calls + 1 }
         ensures units { units_of result.0 ≡ count_of self.units + worth kind (reply_of result.1) (made_of result.1) }
         ensures ticket { ticket_of result.1 ≡ ticket }
+        ensures noted { IsNoted self.noted (ticket_of result.1) (reply_of result.1) (noted_of result.0) }
     {
         let answer = awaited(rt, &self.answers, ticket, kind);
-        self.answered(answer)
+        self.answered(alloc, answer)
     }
 }
 

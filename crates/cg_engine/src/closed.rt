@@ -1,6 +1,7 @@
 //! What is left of an engine.
 use cg_desk::Outgoing;
 use cg_disk::SectorDisk;
+use cg_trail::Trail;
 
 /// What an engine leaves when it is finished.
 #[derive(Drop)]
@@ -11,4 +12,6 @@ pub struct Closed<D: SectorDisk + Drop> {
     pub disk: Option<D>,
     /// Refusals of the calls that were pending.
     pub refused: Vec<Outgoing>,
+    /// What the desk did since loading, where a trail was kept.
+    pub trail: Option<Trail>,
 }

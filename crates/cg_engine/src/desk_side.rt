@@ -6,17 +6,20 @@ ghost use Rattle.cg_engine.specs.declared.bounds.TheConstants.{PARTS};
 
 use crate::answer::Answer;
 use crate::booked::BookedReceipt;
-use crate::bounds::{PARTS, PASSES_MAX};
+use crate::bounds::{PARTS, PARTS_FOR_PASS, PASSES_MAX};
 use crate::fault::{PassFault, RoundEnd, RoundFault, Skip};
 use crate::kind::CallKind;
 use crate::pass::SessionPass;
+use crate::recorder::{Begun, Recorder};
 use crate::session::{Session, Waiting};
 use crate::units::{Part, Pool};
 use cg_desk::{Desk, Outgoing, ReplyToken, SettleFault, TakeFault};
 use cg_fold::Durable;
-use cg_group::Request;
+use cg_group::{Request, Ticket};
 use cg_names::{Code, Moment};
+use cg_record::Command;
 use cg_store::{Batch, StoreFault};
+use cg_trail::Trail;
 use crossbeam_channel::bounded;
 use slab::Slab;
 use std::alloc::{AllocError, Global};
@@ -45,6 +48,7 @@ pub struct DeskSide<L: Ledger> {
     courier: Option<Part<L>>,
     // A receipt that the desk could not settle for lack of memory. The next round settles it first.
     unsettled: Option<BookedReceipt<L>>,
+    recorder: Recorder,
 }
 
 // Pays the units of an answer. An answer that no command backs is replaced by a refusal; a desk makes none.
@@ -94,8 +98,11 @@ fn deliver<L: Ledger, R: Wait>(
 }
 
 impl<L: Ledger> DeskSide<L> {
+    ghost use Rattle.cg_engine.specs.Recorders.{trail_of};
+    ghost use Rattle.cg_engine.specs.Sides.{recorder_of};
+
     /// Creates the side of a desk with nothing loaded.
-    pub fn new(alloc: Global, share: Share<L>) -> Result<Self, AllocError>
+    pub fn new(alloc: Global, share: Share<L>, trail: bool) -> Result<Self, AllocError>
         requires parts { share.parts ≡ PARTS }
         requires none { share.amount ≡ 0 }
     {
@@ -111,6 +118,7 @@ impl<L: Ledger> DeskSide<L> {
             pool,
             courier,
             unsettled: None,
+            recorder: Recorder::new(trail),
         })
     }
 
@@ -131,14 +139,24 @@ impl<L: Ledger> DeskSide<L> {
         self.desk.numbered()
     }
 
-    /// Begins to serve a state. If an allocation fails, nothing changes.
-    pub fn load(&mut self, number: u64, durable: Durable, now: Moment) -> Result<(), AllocError> {
+    /// Begins to serve a state, and a trail where the commands of its snapshot are given. If an allocation fails,
+    /// nothing changes.
+    pub fn load(
+        &mut self,
+        number: u64,
+        durable: Durable,
+        now: Moment,
+        loaded: Option<Vec<Command>>,
+    ) -> Result<(), AllocError> {
         if !self.desk.is_loading() {
             return Err(AllocError);
         }
         match self.desk.loaded(number, durable, now) {
             Ok(()) => {
                 self.opening = number;
+                if let Some(loaded) = loaded {
+                    self.recorder.load(self.alloc, loaded, now);
+                }
                 Ok(())
             }
             Err((error, _durable)) => Err(error),
@@ -152,7 +170,7 @@ impl<L: Ledger> DeskSide<L> {
 
     /// Makes a pass.
     pub fn pass(&mut self) -> Result<SessionPass<L>, PassFault> {
-        if self.sessions.len() >= PASSES_MAX || self.pool.parts() < 3 {
+        if self.sessions.len() >= PASSES_MAX || self.pool.parts() < PARTS_FOR_PASS {
             return Err(PassFault::Full);
         }
         let (answers, receiver) = bounded(self.alloc, 1)?;
@@ -164,7 +182,8 @@ impl<L: Ledger> DeskSide<L> {
             waiting: None,
         };
         let key = self.sessions.insert_reserved(session);
-        Ok(SessionPass::new(key as u64, units, part, receiver))
+        let noted = self.recorder.noted(self.alloc);
+        Ok(SessionPass::new(key as u64, units, part, receiver, noted))
     }
 
     // Notes that a session waits for its answer.
@@ -172,6 +191,21 @@ impl<L: Ledger> DeskSide<L> {
         if let Some(session) = self.sessions.get_mut(ticket_session as usize) {
             session.waiting = Some(waiting);
         }
+    }
+
+    // Prepares to record a request that the desk will hand to its machine.
+    fn begin(
+        &mut self,
+        ticket: Ticket,
+        request: Request,
+        now: Moment,
+        fresh: Uuid,
+    ) -> Result<(Request, Option<Begun>), AllocError> {
+        if self.has_failed {
+            return Ok((request, None));
+        }
+        self.recorder
+            .begin(self.alloc, &self.desk, ticket, request, now, fresh)
     }
 
     /// Asks the desk. The answer goes to the session of the token. If an allocation fails, returns token and part.
@@ -186,11 +220,16 @@ impl<L: Ledger> DeskSide<L> {
     ) -> Result<(), (ReplyToken, Part<L>)>
         ensures { IfErr result (λ refused. call_of refused.0 ≡ call_of token) }
     {
-        let session = token.ticket().session;
+        let ticket = token.ticket();
         let kind = CallKind::of(&request);
+        let Ok((request, begun)) = self.begin(ticket, request, now, fresh) else {
+            return Err((token, part));
+        };
         match self.desk.request(token, request, now, fresh) {
             Ok(out) => {
-                self.wait(session, Waiting { kind, part });
+                self.recorder
+                    .end(self.alloc, &self.desk, begun, out.as_slice());
+                self.wait(ticket.session, Waiting { kind, part });
                 self.deliver_all(rt, out);
                 Ok(())
             }
@@ -206,7 +245,10 @@ impl<L: Ledger> DeskSide<L> {
         if self.desk.is_loading() {
             return Ok(RoundEnd::Nothing);
         }
+        let held = self.recorder.begin_tick(&self.desk)?;
         let out = self.desk.tick(now)?;
+        self.recorder
+            .end_tick(self.alloc, &self.desk, held, now, out.as_slice());
         self.deliver_all(rt, out);
         Ok(RoundEnd::Done)
     }
@@ -313,9 +355,17 @@ impl<L: Ledger> DeskSide<L> {
         }
     }
 
-    /// Ends the side: refuses every pending call.
-    pub fn close(self) -> Vec<Outgoing>
-        ensures { AreRefusals result.items }
+    /// Returns the trail, if one is kept.
+    pub fn recorder(&self) -> &Recorder
+        ensures { result.now ≡ recorder_of self.now }
+    {
+        &self.recorder
+    }
+
+    /// Ends the side: refuses every pending call. Returns the refusals, and the trail, if one was kept.
+    pub fn close(self) -> (Vec<Outgoing>, Option<Trail>)
+        ensures refused { AreRefusals result.0.items }
+        ensures trail { result.1 ≡ trail_of (recorder_of self) }
     {
         let DeskSide {
             alloc: _,
@@ -326,7 +376,8 @@ impl<L: Ledger> DeskSide<L> {
             pool: _,
             courier: _,
             unsettled: _,
+            recorder,
         } = self;
-        desk.close()
+        (desk.close(), recorder.into_trail())
     }
 }

@@ -5,9 +5,11 @@ ghost use Rattle.cg_disk.specs.Disk.{Stays, present};
 ghost use Rattle.cg_fold.specs.Durable.{State};
 ghost use Rattle.cg_store.specs.Carried.{Carries};
 ghost use Rattle.cg_engine.specs.Loads.{IsPassing, Tells, found};
-ghost use Rattle.cg_engine.specs.Passes.{calls_after, calls_of, next_ticket, number_of, opening_of, units_of};
+ghost use Rattle.cg_engine.specs.Noted.{IsNoted};
+ghost use Rattle.cg_engine.specs.Passes.{calls_after, calls_of, next_ticket, noted_of, number_of, opening_of, units_of};
 ghost use Rattle.cg_engine.specs.Worth.{kind_of, worth};
 
+use crate::appended::snapshots;
 use crate::bounds::{CALLS_MAX, PARTS};
 use crate::desk_side::{DeskSide, Taken};
 use crate::fault::{LoadFault, PassFault, RoundEnd, RoundFault, Skip};
@@ -29,22 +31,25 @@ use uuid::Uuid;
 /// A desk and a store behind two locks, for any number of threads. No thread holds both locks.
 pub struct Engine<D: SectorDisk, L: Ledger> {
     pub(crate) alloc: Global,
+    /// Whether a trail is kept.
+    pub(crate) trail: bool,
     pub(crate) desk: Mutex<DeskSide<L>>,
     pub(crate) store: Mutex<StoreSide<D, L>>,
 }
 
 impl<D: SectorDisk + Drop, L: Ledger> Engine<D, L> {
-    /// Creates an engine with nothing loaded.
-    pub fn new(alloc: Global, blank: Blank) -> Result<Self, AllocError>
+    /// Creates an engine with nothing loaded. With a trail it records each step of its desk, and `finish` tests the record.
+    pub fn new(alloc: Global, blank: Blank, trail: bool) -> Result<Self, AllocError>
         requires name { blank.name ≡ L.name }
         requires parts { blank.parts ≡ L.parts }
         requires enough { PARTS ≤ blank.parts }
     {
         let (book, mut all) = blank.open::<L>();
         let share = all.split_off(PARTS, 0);
-        let side = DeskSide::new(alloc, share)?;
+        let side = DeskSide::new(alloc, share, trail)?;
         Ok(Engine {
             alloc,
+            trail,
             desk: Mutex::new(side),
             store: Mutex::new(StoreSide::Empty(BlankBook { book })),
         })
@@ -105,11 +110,16 @@ impl<D: SectorDisk + Drop, L: Ledger> Engine<D, L> {
             }
         };
         let (records, offsets) = durable.counts();
-        if self.desk.lock(rt).load(number, durable, now).is_err() {
+        let Ok((loaded, appended)) = snapshots(self.alloc, self.trail, &durable) else {
+            self.give_up(rt, book);
+            return Err((LoadFault::Memory, store.into_disk()));
+        };
+        let served = self.desk.lock(rt).load(number, durable, now, loaded);
+        if served.is_err() {
             self.give_up(rt, book);
             return Err((LoadFault::Memory, store.into_disk()));
         }
-        *self.store.lock(rt) = StoreSide::Loaded(book.with_store(store, None));
+        *self.store.lock(rt) = StoreSide::Loaded(book.with_store(store, appended));
         Ok((number, records, offsets))
     }
 
@@ -128,6 +138,7 @@ impl<D: SectorDisk + Drop, L: Ledger> Engine<D, L> {
         ensures ticket { ticket_of result.1 ≡ next_ticket pass }
         ensures calls { calls_of result.0 ≡ calls_after (calls_of pass) }
         ensures limit { calls_of pass ≡ CALLS_MAX → reply_of result.1 ≡ Reply.Refused Code.CoordinatorNotAvailable }
+        ensures noted { IsNoted (noted_of pass) (ticket_of result.1) (reply_of result.1) (noted_of result.0) }
         ensures units { units_of result.0 ≡ units_of pass + worth (kind_of request) (reply_of result.1) (made_of result.1) }
     {
         let ticket = pass.next_ticket();
@@ -142,7 +153,7 @@ impl<D: SectorDisk + Drop, L: Ledger> Engine<D, L> {
             .lock(rt)
             .request(rt, token, part, request, now, fresh);
         match asked {
-            Ok(()) => caller.wait(rt, ticket, kind),
+            Ok(()) => caller.wait(rt, self.alloc, ticket, kind),
             Err((token, part)) => (caller.refused(part), token.refuse(Code::UnknownServerError)),
         }
     }

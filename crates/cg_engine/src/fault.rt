@@ -1,6 +1,7 @@
 //! What the calls of an engine report.
 ghost use Rattle.std.specs.Prelude.{◌≡◌};
 ghost use Rattle.cg_engine.specs.Faults.{of_opening};
+ghost use Rattle.cg_engine.specs.declared.fault.FinishFault.TheVariants as finish_fault;
 ghost use Rattle.cg_engine.specs.declared.fault.PassFault.TheVariants as pass_fault;
 ghost use Rattle.cg_engine.specs.declared.fault.RoundFault.TheVariants as round_fault;
 
@@ -106,15 +107,24 @@ pub enum RoundFault {
 /// The reason why an engine was not finished.
 #[derive(Clone, Copy, Debug, PartialEq, Eq, Error)]
 pub enum FinishFault {
-    /// An allocation failed.
-    #[error("no memory to replay the trail")]
+    /// An allocation failed: in the test of the trail, or when a step or an answer was to be recorded.
+    #[error("no memory for the trail")]
     Memory,
-    /// The trail differs from what the engine did.
+    /// The machine replies other than the trail records, or the answers of the passes or the stored commands are not those
+    /// of the trail.
     #[error("the trail differs")]
     TrailDiffers,
-    /// The passes are not all that the engine made.
+    /// The passes are not all that the engine made, each once.
     #[error("a pass is missing")]
     MissingPass,
+}
+
+impl From<AllocError> for FinishFault {
+    ghost from_gives = { λ _ fault. fault ≡ finish_fault.Memory };
+
+    fn from(_: AllocError) -> Self {
+        FinishFault::Memory
+    }
 }
 
 impl From<AllocError> for RoundFault {

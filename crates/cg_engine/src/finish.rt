@@ -1,64 +1,201 @@
 //! The end of an engine.
-ghost use Rattle.std.specs.Prelude.{◌≡◌, IfErr, IfOk};
+ghost use Rattle.std.specs.Prelude.{◌≡◌, ◌≢◌, ◌↔◌, None, IfErr, IfOk, IsErrOf, IsTrue, MatchOption, OnOk, vec_len};
+ghost use Rattle.cg_engine.specs.BorneOut.{AreAll, AreAllIn, IsBorneOut, IsTested, IsTestedBy, has_number};
 ghost use Rattle.cg_engine.specs.Left.{AreRefusals, Leaves};
+ghost use Rattle.cg_engine.specs.Recorders.{trail_of};
+ghost use Rattle.cg_engine.specs.Sides.{noted_by, recorder_of};
 
 use crate::closed::Closed;
 use crate::desk_side::DeskSide;
 use crate::engine::Engine;
 use crate::fault::FinishFault;
 use crate::pass::SessionPass;
+use crate::recorder::Recorder;
 use crate::store_side::StoreSide;
 use cg_disk::SectorDisk;
+use cg_trail::Trail;
+use std::alloc::{AllocError, Global};
 use std::sync::Mutex;
 use std::sync::ledger::Ledger;
 
+// Returns whether one of the passes has this number.
+fn has_number<L: Ledger>(passes: &[SessionPass<L>], number: u64) -> bool
+    ensures { result ≡ has_number number passes.now }
+{
+    passes.iter().any(|pass| pass.number() == number)
+}
+
+// Returns whether these are all passes of an engine that made this many, each once.
+fn are_all<L: Ledger>(made: usize, passes: &[SessionPass<L>]) -> bool
+    ensures { IsTrue result ↔ AreAll made passes.now }
+{
+    if passes.len() != made {
+        return false;
+    }
+    for number in 0..made as u64 {
+        if !has_number(passes, number) {
+            return false;
+        }
+    }
+    true
+}
+
+// Returns whether each pass has noted all its answers, if a trail is kept.
+fn are_whole<L: Ledger>(passes: &[SessionPass<L>]) -> bool {
+    passes.iter().all(|pass| !pass.noted.is_lost())
+}
+
+// Returns whether the answers of each pass are replies of the trail, each a different one, in the order of the trail.
+fn are_in<L: Ledger>(passes: &[SessionPass<L>], trail: &Trail) -> bool
+    ensures { IsTrue result ↔ AreAllIn passes.now trail.now }
+{
+    let mut rest = passes;
+    while let [pass, others @ ..] = rest {
+        if !pass.noted.are_in(trail) {
+            return false;
+        }
+        rest = others;
+    }
+    true
+}
+
+// Tests a trail: the machine runs over it again, and store and passes bear it out.
+fn is_tested<D: SectorDisk + Drop, L: Ledger>(
+    alloc: Global,
+    trail: &Trail,
+    store: &StoreSide<D, L>,
+    passes: &[SessionPass<L>],
+) -> Result<bool, AllocError>
+    ensures { IfOk result (λ tested. IsTrue tested ↔ IsTested trail.now (noted_by store.now) passes.now) }
+{
+    let Some(made) = trail.replay()? else {
+        return Ok(false);
+    };
+    let bears = store.bears(alloc, trail, made.as_slice())?;
+    Ok(bears && are_in(passes, trail))
+}
+
+// Tests the trail, if one is kept.
+fn test_of<D: SectorDisk + Drop, L: Ledger>(
+    alloc: Global,
+    recorder: &Recorder,
+    store: &StoreSide<D, L>,
+    passes: &[SessionPass<L>],
+) -> Result<(), FinishFault>
+    ensures ok { OnOk result (IsTestedBy recorder.now (noted_by store.now) passes.now) }
+    ensures differs { IsErrOf result FinishFault.TrailDiffers → ¬ IsTestedBy recorder.now (noted_by store.now) passes.now }
+    ensures never { IfErr result (λ fault. fault ≢ FinishFault.MissingPass) }
+{
+    let trail = match recorder {
+        Recorder::Off | Recorder::Waiting => return Ok(()),
+        Recorder::Lost => return Err(FinishFault::Memory),
+        Recorder::On(trail) => trail,
+    };
+    if !are_whole(passes) {
+        return Err(FinishFault::Memory);
+    }
+    if is_tested(alloc, trail, store, passes)? {
+        Ok(())
+    } else {
+        Err(FinishFault::TrailDiffers)
+    }
+}
+
+// Tests the passes of an engine that made this many, then its trail.
+fn tested<D: SectorDisk + Drop, L: Ledger>(
+    alloc: Global,
+    desk: &DeskSide<L>,
+    store: &StoreSide<D, L>,
+    made: usize,
+    passes: &[SessionPass<L>],
+) -> Result<(), FinishFault>
+    ensures all { OnOk result (AreAll made passes.now) }
+    ensures missing { IsErrOf result FinishFault.MissingPass ↔ (¬ AreAll made passes.now) }
+    ensures ok { OnOk result (IsTestedBy (recorder_of desk.now) (noted_by store.now) passes.now) }
+    ensures differs { IsErrOf result FinishFault.TrailDiffers → ¬ IsTestedBy (recorder_of desk.now) (noted_by store.now) passes.now }
+{
+    if !are_all(made, passes) {
+        return Err(FinishFault::MissingPass);
+    }
+    test_of(alloc, desk.recorder(), store, passes)
+}
+
 impl<D: SectorDisk + Drop, L: Ledger> Engine<D, L> {
-    /// Ends the engine: refuses every pending call, and gives the disk back. The passes have to be all that it made;
-    /// otherwise engine and passes are returned.
+    /// Ends the engine: refuses every pending call, and gives the disk back. The passes have to be all that it made, each
+    /// once; and if a trail was kept, the trail is tested. Otherwise engine and passes are returned: first for a missing
+    /// pass, then where an allocation failed, now or when a step or an answer was to be recorded, then for a trail that
+    /// differs.
     pub fn finish(
         self,
         passes: Vec<SessionPass<L>>,
     ) -> Result<Closed<D>, (FinishFault, Self, Vec<SessionPass<L>>)>
-        ensures left { IfOk result (λ closed. ∥ Leaves D.is_honest D.history D.size closed.disk closed.front ∥₁) }
+        ensures left { IfOk result (λ closed. ∥ Leaves D.is_honest D.history D.size None closed.disk closed.front ∥₁) }
         ensures refused { IfOk result (λ closed. AreRefusals closed.refused.items) }
-        ensures passes { IfErr result (λ refused. (refused.0 ≡ FinishFault.MissingPass) × (refused.2 ≡ passes)) }
-    {
-        let Engine { alloc, desk, store } = self;
-        let desk = desk.into_inner();
-        if desk.passes() != passes.len() {
-            let engine = Engine {
-                alloc,
-                desk: Mutex::new(desk),
-                store,
-            };
-            return Err((FinishFault::MissingPass, engine, passes));
-        }
-        Ok(closed(desk, store.into_inner()))
-    }
-
-    /// Ends the engine without its passes. For a caller that cannot hand them in.
-    pub fn abandon(self) -> Closed<D>
-        ensures left { ∥ Leaves D.is_honest D.history D.size result.disk result.front ∥₁ }
-        ensures refused { AreRefusals result.refused.items }
+        ensures all { OnOk result (AreAll (vec_len passes) passes.items) }
+        ensures trail { IfOk result (λ closed. MatchOption closed.trail (Unit {0}) (λ trail. ∥ IsBorneOut D.is_honest D.history D.size trail passes.items closed.disk closed.front ∥₁)) }
+        ensures passes { IfErr result (λ refused. refused.2 ≡ passes) }
     {
         let Engine {
-            alloc: _,
+            alloc,
+            trail,
             desk,
             store,
         } = self;
-        closed(desk.into_inner(), store.into_inner())
+        let desk = desk.into_inner();
+        let store = store.into_inner();
+        match tested(alloc, &desk, &store, desk.passes(), passes.as_slice()) {
+            Ok(()) => Ok(closed(desk, store)),
+            Err(fault) => {
+                let engine = Engine {
+                    alloc,
+                    trail,
+                    desk: Mutex::new(desk),
+                    store: Mutex::new(store),
+                };
+                Err((fault, engine, passes))
+            }
+        }
+    }
+
+    /// Ends the engine without its passes and without a test of its trail, which is dropped. For a caller that cannot
+    /// hand the passes in.
+    pub fn abandon(self) -> Closed<D>
+        ensures left { ∥ Leaves D.is_honest D.history D.size None result.disk result.front ∥₁ }
+        ensures refused { AreRefusals result.refused.items }
+        ensures trail { result.trail ≡ None }
+    {
+        let Engine {
+            alloc: _,
+            trail: _,
+            desk,
+            store,
+        } = self;
+        let Closed {
+            front,
+            disk,
+            refused,
+            trail: _,
+        } = closed(desk.into_inner(), store.into_inner());
+        Closed {
+            front,
+            disk,
+            refused,
+            trail: None,
+        }
     }
 }
 
 fn closed<D: SectorDisk + Drop, L: Ledger>(desk: DeskSide<L>, store: StoreSide<D, L>) -> Closed<D>
-    ensures left { ∥ Leaves D.is_honest D.history D.size result.disk result.front ∥₁ }
+    ensures left { ∥ Leaves D.is_honest D.history D.size (noted_by store) result.disk result.front ∥₁ }
     ensures refused { AreRefusals result.refused.items }
+    ensures trail { result.trail ≡ trail_of (recorder_of desk) }
 {
-    let refused = desk.close();
+    let (refused, trail) = desk.close();
     let (front, disk) = store.close();
     Closed {
         front,
         disk,
         refused,
+        trail,
     }
 }

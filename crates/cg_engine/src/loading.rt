@@ -1,11 +1,11 @@
 //! Opening a store for an engine.
-ghost use Rattle.std.specs.Prelude.{◌≡◌, ◌≢◌, ◌⊎◌, ℕ, true, None, IfErr, IfOk, MatchResult};
+ghost use Rattle.std.specs.Prelude.{◌≡◌, ◌≢◌, ◌⊎◌, ℕ, true, IfErr, IfOk, MatchResult};
 ghost use Rattle.cg_disk.specs.Disk.{Stays, present};
 ghost use Rattle.cg_fold.specs.Durable.{State};
 ghost use Rattle.cg_store.specs.Carried.{Carries};
 ghost use Rattle.cg_store.specs.Store.{disk_of};
 ghost use Rattle.cg_engine.specs.Loads.{IsPassing, Tells};
-ghost use Rattle.cg_engine.specs.Stored.{IsKept};
+ghost use Rattle.cg_engine.specs.Stored.{Stores};
 
 use crate::fault::LoadFault;
 use cg_disk::SectorDisk;
@@ -21,7 +21,7 @@ pub fn opened<D: SectorDisk>(
     ensures carried { D.is_honest disk ≡ true → (n : ℕ) (state : State) → Carries (present (D.history disk)).content (D.size disk) n state
         → MatchResult result (λ o. (o.1 ≡ n) × (o.2 ≡ state)) (λ refused. IsPassing refused.0) }
     ensures never { IfErr result (λ refused. refused.0 ≢ LoadFault.Loaded) }
-    ensures kept { IfOk result (λ o. ∥ IsKept D.is_honest D.history o.0 None ∥₁) }
+    ensures stored { IfOk result (λ o. Stores D.is_honest D.history o.0 o.2) }
     ensures tells { D.is_honest disk ≡ true → IfErr result (λ refused. Tells (present (D.history disk)).content (D.size disk) refused.0) }
     ensures stays { D.is_honest disk ≡ true → MatchResult result (λ o. Stays (D.history disk) (D.history (disk_of o.0))) (λ refused. Stays (D.history disk) (D.history refused.1)) }
 {

@@ -6,6 +6,7 @@ ghost use Rattle.cg_engine.specs.declared.bounds.TheConstants.{CALLS_MAX};
 use crate::answer::Answer;
 use crate::bounds::CALLS_MAX;
 use crate::caller::Caller;
+use crate::noted::Noted;
 use crate::units::{Part, Units};
 use cg_group::Ticket;
 use crossbeam_channel::Receiver;
@@ -21,12 +22,14 @@ pub struct SessionPass<L: Ledger> {
     pub(crate) units: Units<L>,
     pub(crate) part: Part<L>,
     pub(crate) answers: Receiver<Answer<L>>,
+    /// The answers so far, for the test of a trail.
+    pub(crate) noted: Noted,
     ghost few: { count_of units ≤ calls },
     ghost counted: { calls ≤ CALLS_MAX },
 }
 
 impl<L: Ledger> SessionPass<L> {
-    ghost use Rattle.cg_engine.specs.Passes.{calls_of, next_ticket, number_of, opening_of, units_of};
+    ghost use Rattle.cg_engine.specs.Passes.{calls_of, next_ticket, noted_of, number_of, opening_of, units_of};
 
     // Creates a pass that has made no call.
     pub(crate) fn new(
@@ -34,6 +37,7 @@ impl<L: Ledger> SessionPass<L> {
         units: Units<L>,
         part: Part<L>,
         answers: Receiver<Answer<L>>,
+        noted: Noted,
     ) -> Self
         requires { count_of units ≡ 0 }
         ensures number { number_of result ≡ number }
@@ -47,6 +51,7 @@ impl<L: Ledger> SessionPass<L> {
             units,
             part,
             answers,
+            noted,
         }
     }
 
@@ -94,6 +99,7 @@ impl<L: Ledger> SessionPass<L> {
         ensures number { result.0.number ≡ number_of self }
         ensures calls { result.0.calls ≡ calls_of self }
         ensures units { count_of result.0.units ≡ units_of self }
+        ensures noted { result.0.noted ≡ noted_of self }
     {
         let SessionPass {
             number,
@@ -102,6 +108,7 @@ impl<L: Ledger> SessionPass<L> {
             units,
             part,
             answers,
+            noted,
         } = self;
         let caller = Caller {
             number,
@@ -109,6 +116,7 @@ impl<L: Ledger> SessionPass<L> {
             opening,
             units,
             answers,
+            noted,
         };
         (caller, part)
     }

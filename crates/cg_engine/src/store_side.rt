@@ -1,5 +1,6 @@
 //! The store's side of an engine: what the store lock guards.
-ghost use Rattle.std.specs.Prelude.{◌≡◌};
+ghost use Rattle.std.specs.Prelude.{◌≡◌, ◌↔◌, IfOk, IsTrue};
+ghost use Rattle.cg_engine.specs.Appended.{BearsIfNoted};
 ghost use Rattle.cg_engine.specs.Left.{Leaves};
 ghost use Rattle.cg_engine.specs.Stored.{IsKept};
 
@@ -7,7 +8,10 @@ use crate::appended::Appended;
 use crate::booked::{BookedReceipt, BookedStore};
 use crate::units::Part;
 use cg_disk::SectorDisk;
+use cg_record::Command;
 use cg_store::{Batch, CompactFault, Progress, Store, StoreFault};
+use cg_trail::Trail;
+use std::alloc::{AllocError, Global};
 use std::mem;
 use std::sync::ledger::{Book, Ledger};
 
@@ -43,6 +47,8 @@ impl<L: Ledger> BlankBook<L> {
 }
 
 impl<D: SectorDisk + Drop, L: Ledger> StoreSide<D, L> {
+    ghost use Rattle.cg_engine.specs.Sides.{noted_by};
+
     /// Begins a loading: returns the book if nothing is loaded.
     pub fn begin(&mut self) -> Option<BlankBook<L>> {
         match mem::replace(self, StoreSide::Loading) {
@@ -94,9 +100,19 @@ impl<D: SectorDisk + Drop, L: Ledger> StoreSide<D, L> {
         }
     }
 
+    /// Returns whether the commands appended since loading are noted, and bear a trail out that made these commands.
+    pub fn bears(&self, alloc: Global, trail: &Trail, made: &[Command]) -> Result<bool, AllocError>
+        ensures { IfOk result (λ bears. IsTrue bears ↔ BearsIfNoted (noted_by self.now) trail.now made.now) }
+    {
+        match self {
+            StoreSide::Loaded(store) => store.bears(alloc, trail, made),
+            StoreSide::Empty(_) | StoreSide::Loading => Ok(false),
+        }
+    }
+
     /// Ends the side. Returns the number of the last command, 0 where nothing is loaded, and the disk.
     pub fn close(self) -> (u64, Option<D>)
-        ensures { ∥ Leaves D.is_honest D.history D.size result.1 result.0 ∥₁ }
+        ensures { ∥ Leaves D.is_honest D.history D.size (noted_by self) result.1 result.0 ∥₁ }
     {
         match self {
             StoreSide::Loaded(store) => {

@@ -1,0 +1,13 @@
+use Rattle.std.proofs.Common.{◌≡◌}
+use Rattle.std.proofs.Math.Logic.{∥∥₁_map}
+use Rattle.cg_engine.specs.Sides.{noted_by, recorder_of}
+use Rattle.cg_engine.proofs.BorneOut.{borne-out, forgot}
+use Rattle.cg_engine.proofs.engine.Engine.finish.Goals as goal
+
+pub returns-in-Ok-clause-left : goal.returns-in-Ok-clause-left
+returns-in-Ok-clause-left g c = ∥∥₁_map c.closed.ensures.left (forgot g.D.SectorDisk.is_honest g.D.SectorDisk.history g.D.SectorDisk.size _ _ _)
+
+pub returns-in-Ok-clause-trail : goal.returns-in-Ok-clause-trail
+returns-in-Ok-clause-trail g c =
+    borne-out g.D.SectorDisk.is_honest g.D.SectorDisk.history g.D.SectorDisk.size (recorder_of c.into_inner-desk.result) c.closed.result.trail (noted_by c.into_inner-store.result) c.args.passes.items
+    c.closed.result.disk c.closed.result.front c.closed.ensures.trail (rw c.as_slice.ensures.value at c.in-Ok.ensures.ok) c.closed.ensures.left
