@@ -81,7 +81,7 @@ struct Rates {
 }
 
 // Measures the events of each kind. The groups are those of the scene, or others like them.
-fn rates<R: Clock>(
+fn rates_over<R: Clock>(
     rt: &R,
     alloc: Global,
     scene: &mut Scene,
@@ -102,7 +102,7 @@ fn rates<R: Clock>(
 
 fn measure_rates<R: Clock>(rt: &R, alloc: Global, groups: u64, members: u64) -> Result<Rates> {
     let mut scene = Scene::new(alloc, groups, members)?;
-    rates(rt, alloc, &mut scene, groups, members)
+    rates_over(rt, alloc, &mut scene, groups, members)
 }
 
 fn report_rate<R: Print>(rt: &R, sort: &str, rate: u64, base: u64) -> Result<()> {
