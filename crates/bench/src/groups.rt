@@ -36,8 +36,8 @@ fn rate<R: Clock>(
     Ok(tally.median().items_per_second())
 }
 
-// Times events of a kind that needs its own group for each event, in a machine that had none of them.
-fn time_once<R: Clock>(
+// Times events of a kind that needs its own group for each event.
+fn time_events<R: Clock>(
     rt: &R,
     scene: &mut Scene,
     sort: GroupEvent,
@@ -49,8 +49,20 @@ fn time_once<R: Clock>(
     tally.add(rt, start, EVENTS_ONCE as u64)
 }
 
-// Returns the events per second of such a kind, beside `groups` other groups, or as many as leave room for these. Each
-// run has a new machine.
+// Times them once, in a new machine with this many groups.
+fn time_once<R: Clock>(
+    rt: &R,
+    alloc: Global,
+    sort: GroupEvent,
+    groups: u64,
+    members: u64,
+    tally: &mut Tally,
+) -> Result<()> {
+    let mut scene = Scene::new(alloc, groups, members)?;
+    time_events(rt, &mut scene, sort, tally)
+}
+
+// Returns the events per second of such a kind, beside `groups` other groups, or as many as leave room for these.
 fn rate_once<R: Clock>(
     rt: &R,
     alloc: Global,
@@ -61,8 +73,7 @@ fn rate_once<R: Clock>(
     let groups = groups.min((GROUPS_MAX - EVENTS_ONCE) as u64);
     let mut tally = Tally::new(alloc);
     for _ in 0..RUNS {
-        let mut scene = Scene::new(alloc, groups, members)?;
-        time_once(rt, &mut scene, sort, &mut tally)?;
+        time_once(rt, alloc, sort, groups, members, &mut tally)?;
     }
     Ok(tally.median().items_per_second())
 }
