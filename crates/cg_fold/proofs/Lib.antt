@@ -12,6 +12,6 @@ pub mod Stock
 pub mod Restock
 pub mod Added
 pub mod Commits
-pub mod Anew
+pub mod Rebuilding
 pub mod Firsts
 pub mod Popped

@@ -4,7 +4,7 @@ use Rattle.cg_disk.specs.Disk.{History, Image, LeavesOnly, present}
 use Rattle.cg_disk.proofs.Moments.{LeavesOnly-starts, LeavesOnly-weaker}
 use Rattle.cg_fold.specs.Durable.{State, folded}
 use Rattle.cg_fold.specs.Snapshot.{snapshot_of}
-use Rattle.cg_fold.proofs.Anew.{folded_snapshot}
+use Rattle.cg_fold.proofs.Rebuilding.{folded_snapshot}
 use Rattle.cg_log.specs.Carried.{Content, tails, Carries as LogCarries}
 use Rattle.cg_log.specs.Cursors.{segments_before, tails_from}
 use Rattle.cg_log.specs.Log.{HasFresh, LogHas, disk_of, end_of, number_of, root_of}

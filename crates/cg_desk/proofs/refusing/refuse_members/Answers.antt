@@ -1,13 +1,9 @@
-use Rattle.std.proofs.Common.{◌≡◌, ◌+◌, ◌<◌, ◌≤◌, suc, List, ◌∷◌, [], ◌++◌, length, map, drop, ap, sym, ◌∙◌, rules, arith, add-one, drop-cons}
+use Rattle.std.proofs.Common.{◌≡◌, ◌≤◌, List, ◌++◌, length, map, ap, ◌∙◌, rules, arith}
 use Rattle.std.proofs.Math.ListN.{drop_of_length-le}
-use Rattle.std.proofs.lemmas.List.{map-append}
-use Rattle.std.specs.Prelude.{option_to_list}
-use Rattle.cg_member.specs.Waiting.{called}
-use Rattle.cg_member.specs.declared.calls.Calls.TheVariants.{Any}
 use Rattle.cg_member.specs.declared.member.Member.{Member}
 use Rattle.cg_desk.specs.Answering.{after_answering, answering, refusal}
 use Rattle.cg_desk.proofs.Leaving.{told_many, told_out, told_then, told_tokens}
-use Rattle.cg_desk.proofs.Parked.{member_first, parked_in}
+use Rattle.cg_desk.proofs.Parked.{parked_in, refused_from}
 use Rattle.cg_desk.proofs.refusing.refuse_members.Goals as goal
 
 pub loop-member-preserved : goal.loop-member-preserved
@@ -16,16 +12,8 @@ loop-member-preserved c =
     let n = l.member-index in
     let members : List Member = c.as_slice-member-items.result.now in
     let member : Member = c.member-item.result in
-    let rest : List Member = drop (n + 1) members in
-    let here : drop n members ≡ member ∷ rest =
-    drop-cons members n member c.loop-member-test.true
-    ∙ ap (λ (m : Member). m ∷ drop (suc n) members) (sym c.member-item.is)
-    ∙ ap (λ k. member ∷ drop k members) (sym (add-one n)) in
-    let first =
-    ap (λ (ms : List Member). map refusal (parked_in ms)) here
-    ∙ ap (map refusal) (member_first member rest)
-    ∙ map-append refusal (option_to_list (called Any member.waits)) (parked_in rest) in
-    let many = told_many (map refusal (parked_in (drop n members))) (map refusal (option_to_list (called Any member.waits))) (map refusal (parked_in rest)) l.tokens.items c.refuse_member.new.tokens.items l.out.items c.refuse_member.new.out.items first c.refuse_member.ensures.tokens c.refuse_member.ensures.out in
+    let first = refused_from members n member c.loop-member-test.true c.member-item.is in
+    let many = told_many _ _ _ l.tokens.items c.refuse_member.new.tokens.items l.out.items c.refuse_member.new.out.items first c.refuse_member.ensures.tokens c.refuse_member.ensures.out in
     record {
       told = told_then _ _ _ _ _ _ _ _ _ l.invariant.told many;
       room = search rules;

@@ -1,10 +1,9 @@
 use Rattle.std.proofs.Common.{◌≡◌, List, ◌∷◌, [], ◌++◌, map, ap, ◌∙◌, rules}
-use Rattle.std.proofs.lemmas.List.{map-append}
 use Rattle.cg_member.specs.Waiting.{waiting_calls}
 use Rattle.cg_member.specs.declared.group.Group.{Group}
 use Rattle.cg_desk.specs.Answering.{after_answering, answering, refusal}
 use Rattle.cg_desk.proofs.Leaving.{told_many, told_out, told_then, told_tokens}
-use Rattle.cg_desk.proofs.Parked.{group_first, no_groups, parked_in}
+use Rattle.cg_desk.proofs.Parked.{no_groups, refused_first}
 use Rattle.cg_desk.proofs.refusing.refuse_waiting.Goals as goal
 
 pub loop-group-preserved : goal.loop-group-preserved
@@ -13,11 +12,8 @@ loop-group-preserved c =
     let group : Group = c.in-Some.group.now in
     let rest : List Group = c.next.new.self in
     let groups : l.group-iterator ≡ group ∷ rest = search rules in
-    let first =
-    ap (λ (gs : List Group). map refusal (waiting_calls gs)) groups
-    ∙ ap (map refusal) (group_first group rest)
-    ∙ map-append refusal (parked_in group.members) (waiting_calls rest) in
-    let many = told_many (map refusal (waiting_calls l.group-iterator)) (map refusal (parked_in group.members)) (map refusal (waiting_calls rest)) l.tokens.items c.refuse_members.new.tokens.items l.out.items c.refuse_members.new.out.items first c.refuse_members.ensures.tokens c.refuse_members.ensures.out in
+    let first = refused_first l.group-iterator rest group groups in
+    let many = told_many _ _ _ l.tokens.items c.refuse_members.new.tokens.items l.out.items c.refuse_members.new.out.items first c.refuse_members.ensures.tokens c.refuse_members.ensures.out in
     record {
       told = told_then _ _ _ _ _ _ _ _ _ l.invariant.told many;
       room = search rules;
