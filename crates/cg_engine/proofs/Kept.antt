@@ -5,7 +5,7 @@ use Rattle.cg_record.specs.declared.command.Command.{Command}
 use Rattle.cg_store.specs.Store.{disk_of, front_of, sectors_of}
 use Rattle.cg_store.specs.declared.store.Store.{Store}
 use Rattle.std.specs.Prelude.{List}
-use Rattle.cg_engine.specs.Appended.{Knows, state_in}
+use Rattle.cg_engine.specs.Appended.{AreAsMany, Knows, appended_in, state_in}
 use Rattle.cg_engine.specs.Left.{HasLeft}
 use Rattle.cg_engine.specs.Stored.{AllCarryOr, IsKept, Stores}
 use Rattle.cg_engine.specs.declared.appended.Appended.{Appended}
@@ -16,6 +16,20 @@ pub booked-still : {R E : Type 0} (r : Result R E) (opening old_total new_total 
     → MatchResult r (λ _. (new_front ≡ old_front + k) × (new_total ≡ old_total + k)) (λ _. (new_front ≡ old_front) × (new_total ≡ old_total)) → opening + new_total ≡ new_front
 booked-still (Ok r) opening old_total new_total old_front new_front k was now = let a = now.0 in let b = now.1 in omega arith
 booked-still (Err e) opening old_total new_total old_front new_front k was now = let a = now.0 in let b = now.1 in omega arith
+
+-- the noted commands are as many as the book has units
+pub counted-still : {R E : Type 0} (r : Result R E) (was now old_total new_total old_front new_front k : ℕ)
+    → MatchResult r (λ _. (new_front ≡ old_front + k) × (new_total ≡ old_total + k)) (λ _. (new_front ≡ old_front) × (new_total ≡ old_total))
+    → MatchResult r (λ _. now ≡ was + k) (λ _. now ≡ was)
+    → was ≡ old_total → now ≡ new_total
+counted-still (Ok r) was now old_total new_total old_front new_front k booked noted counted = let b = booked.1 in omega arith
+counted-still (Err e) was now old_total new_total old_front new_front k booked noted counted = let b = booked.1 in omega arith
+
+pub counted-some : (now : Appended) (total : ℕ) → length (appended_in now) ≡ total → AreAsMany (Some now) total
+counted-some now total is a same = let e : a ≡ now = cc in ap (λ x. length (appended_in x)) e ∙ is
+
+pub counted-none : (total : ℕ) → AreAsMany None total
+counted-none total a same = absurd (cc)
 
 module _ {D : Type 0} {g : _} (honest : D → Bool) (history : D → History) where
   -- where no batch is noted

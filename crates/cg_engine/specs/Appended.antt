@@ -1,5 +1,6 @@
 -- What an engine that keeps a trail knows of its store: the loaded state, and the batches that were appended to it.
 use Rattle.std.specs.Prelude.{◌≡◌, ℕ, List, length, Option, Some, None}
+use Rattle.std.specs.Option.{ForSome}
 use Rattle.cg_fold.specs.Durable.{State, after, folded}
 use Rattle.cg_record.specs.declared.command.Command.{Command}
 use Rattle.cg_store.specs.Carried.{joined}
@@ -22,6 +23,10 @@ state_in a = after (folded (loaded_in a)) (appended_in a)
 abbrev pub Knows : Option Appended → State → Type 0
 Knows None state = Unit {0}
 Knows (Some a) state = state_in a ≡ state
+
+-- where the appended commands are noted, they are this many
+abbrev pub AreAsMany : Option Appended → ℕ → Type 0
+AreAsMany appended number = ForSome appended (λ a. length (appended_in a) ≡ number)
 
 -- a trail that made these commands has the same loaded state, and the appended commands are the first of these
 abbrev pub Bears : Appended → TrailParts → List Command → Type 0

@@ -11,5 +11,9 @@ store_in booked = booked.store
 abbrev pub opening_in : {D L : Type 0} {g : _} → BookedStore D L g → ℕ
 opening_in booked = booked.opening
 
+-- the number of the commands that were appended since then
+abbrev pub since_in : {D L : Type 0} {g : _} → BookedStore D L g → ℕ
+since_in booked = booked.book.total
+
 abbrev pub appended_of : {D L : Type 0} {g : _} → BookedStore D L g → Option Appended
 appended_of booked = booked.appended

@@ -1,5 +1,5 @@
 -- What the end of an engine shows of its trail.
-use Rattle.std.specs.Prelude.{◌≡◌, ◌<◌, ℕ, Bool, true, List, [], ◌∷◌, length, nat_eq, Option, Some, None, IsTrue}
+use Rattle.std.specs.Prelude.{◌≡◌, ◌+◌, ◌<◌, ℕ, Bool, true, List, [], ◌∷◌, length, nat_eq, Option, Some, None, IsTrue}
 use Rattle.std.specs.List.{list_any}
 use Rattle.cg_disk.specs.Disk.{History}
 use Rattle.cg_fold.specs.Durable.{after, folded}
@@ -8,7 +8,7 @@ use Rattle.cg_trail.specs.Trails.{TrailParts, BeginsWith, IsLawful, made_by}
 use Rattle.cg_engine.specs.Appended.{BearsIfNoted}
 use Rattle.cg_engine.specs.Left.{LeavesIn}
 use Rattle.cg_engine.specs.Noted.{AreIn}
-use Rattle.cg_engine.specs.Passes.{noted_of, number_of}
+use Rattle.cg_engine.specs.Passes.{noted_of, number_of, units_of}
 use Rattle.cg_engine.specs.declared.appended.Appended.{Appended}
 use Rattle.cg_engine.specs.declared.pass.SessionPass.{SessionPass}
 use Rattle.cg_engine.specs.declared.recorder.Recorder.{Recorder}
@@ -27,24 +27,38 @@ abbrev pub AreAllIn : {L : Type 0} → List (SessionPass L) → TrailParts → T
 AreAllIn [] t = Unit {0}
 AreAllIn (pass ∷ passes) t = AreIn (noted_of pass) t × AreAllIn passes t
 
--- The trail is lawful, it begins with the loaded state, the appended commands are the first that it makes, and the
--- answers of the passes are its replies.
-abbrev pub IsTested : {L : Type 0} → TrailParts → Option Appended → List (SessionPass L) → Type 0
-IsTested t appended passes = IsLawful t × BearsIfNoted appended t (made_by t) × AreAllIn passes t
+-- the units of the passes together
+abbrev pub units_with : {L : Type 0} → List (SessionPass L) → ℕ
+units_with [] = 0
+units_with (pass ∷ passes) = units_of pass + units_with passes
+
+-- each command that was appended since loading is worth a unit: one of a pass, or one that no pass has
+abbrev pub AreCounted : {L : Type 0} → ℕ → List (SessionPass L) → ℕ → Type 0
+AreCounted since passes unpaid = since ≡ units_with passes + unpaid
+
+-- The trail is lawful, it begins with the loaded state, the appended commands are the first that it makes, the answers of
+-- the passes are its replies, and the units add up.
+abbrev pub IsTested : {L : Type 0} → TrailParts → Option Appended → ℕ → List (SessionPass L) → ℕ → Type 0
+IsTested t appended since passes unpaid = IsLawful t × BearsIfNoted appended t (made_by t) × AreAllIn passes t × AreCounted since passes unpaid
 
 -- the same, where a trail is kept
-abbrev pub IsTestedBy : {L : Type 0} → Recorder → Option Appended → List (SessionPass L) → Type 0
-IsTestedBy Off appended passes = Unit {0}
-IsTestedBy Waiting appended passes = Unit {0}
-IsTestedBy (On t) appended passes = IsTested t appended passes
-IsTestedBy Lost appended passes = ⊥
+abbrev pub IsTestedBy : {L : Type 0} → Recorder → Option Appended → ℕ → List (SessionPass L) → ℕ → Type 0
+IsTestedBy Off appended since passes unpaid = Unit {0}
+IsTestedBy Waiting appended since passes unpaid = Unit {0}
+IsTestedBy (On t) appended since passes unpaid = IsTested t appended since passes unpaid
+IsTestedBy Lost appended since passes unpaid = ⊥
 
 -- The trail is lawful. The answers of each pass are its replies. Some first commands of those that it makes were appended
 -- since loading: every crash image of the disk carries this number and the state after them; if the disk failed, an image
--- may have the batch that failed as well.
+-- may have the batch that failed as well. The number is that of the loaded commands and these, and each of these is worth a
+-- unit: one of a pass, or one of a tick, of a call without an answer, or of a batch that is not settled.
 pub record IsBorneOut {D L : Type 0} (honest : D → Bool) (history : D → History) (size : D → ℕ) (t : TrailParts) (passes : List (SessionPass L)) (disk : Option D) (front : ℕ) : Type 0 where
   pub lawful : IsLawful t
   pub answers : AreAllIn passes t
   pub appended : List Command
   pub begun : BeginsWith (made_by t) appended
   pub images : LeavesIn honest history size disk front (after (folded t.loaded) appended)
+  pub opening : ℕ
+  pub unpaid : ℕ
+  pub number : front ≡ opening + length appended
+  pub counted : AreCounted (length appended) passes unpaid

@@ -1,7 +1,9 @@
 -- What the two sides of an engine keep for the test of a trail.
-use Rattle.std.specs.Prelude.{Option, None}
-use Rattle.cg_engine.specs.Booked.{appended_of}
+use Rattle.std.specs.Prelude.{ℕ, ◌+◌, Option, None, Some}
+use Rattle.cg_engine.specs.Booked.{appended_of, opening_in, since_in}
+use Rattle.cg_engine.specs.Units.{count_of, units_in}
 use Rattle.cg_engine.specs.declared.appended.Appended.{Appended}
+use Rattle.cg_engine.specs.declared.booked.BookedReceipt.{BookedReceipt}
 use Rattle.cg_engine.specs.declared.desk_side.DeskSide.{DeskSide}
 use Rattle.cg_engine.specs.declared.recorder.Recorder.{Recorder}
 use Rattle.cg_engine.specs.declared.store_side.StoreSide.{StoreSide}
@@ -15,3 +17,23 @@ abbrev pub noted_by : {D L : Type 0} {g : _} → StoreSide D L g → Option Appe
 noted_by (Empty book) = None
 noted_by Loading = None
 noted_by (Loaded store) = appended_of store
+
+-- the number of the commands that were loaded, and of those that were appended since; 0 where nothing is loaded
+abbrev pub opening_by : {D L : Type 0} {g : _} → StoreSide D L g → ℕ
+opening_by (Empty book) = 0
+opening_by Loading = 0
+opening_by (Loaded store) = opening_in store
+
+abbrev pub since_by : {D L : Type 0} {g : _} → StoreSide D L g → ℕ
+since_by (Empty book) = 0
+since_by Loading = 0
+since_by (Loaded store) = since_in store
+
+-- the units of an appended batch that is not settled
+abbrev pub unsettled_units : {L : Type 0} → Option (BookedReceipt L) → ℕ
+unsettled_units None = 0
+unsettled_units (Some booked) = count_of booked.units
+
+-- the units that no pass has: of settled commands on which no answer to a call rests, and of a batch that is not settled
+abbrev pub unpaid_in : {L : Type 0} → DeskSide L → ℕ
+unpaid_in desk = units_in desk.pool + unsettled_units desk.unsettled

@@ -1,6 +1,6 @@
 //! The commands that a store got since loading, for an engine that keeps a trail.
-ghost use Rattle.std.specs.Prelude.{◌≡◌, ◌<◌, ◌++◌, ◌↔◌, IfOk, IsTrue, MatchOption, OnOk, vec_capacity, vec_len};
-ghost use Rattle.cg_engine.specs.Appended.{Bears, Knows};
+ghost use Rattle.std.specs.Prelude.{◌≡◌, ◌+◌, ◌<◌, ◌++◌, ◌↔◌, length, IfOk, IsTrue, MatchOption, OnOk, vec_capacity, vec_len};
+ghost use Rattle.cg_engine.specs.Appended.{AreAsMany, Bears, Knows};
 ghost use Rattle.cg_fold.specs.Durable.{after};
 ghost use Rattle.cg_store.specs.Carried.{joined};
 ghost use Rattle.cg_trail.specs.Trails.{BeginsWith};
@@ -24,7 +24,8 @@ pub fn snapshots(
     trail: bool,
     durable: &Durable,
 ) -> Result<(Option<Vec<Command>>, Option<Appended>), AllocError>
-    ensures { IfOk result (λ both. Knows both.1 durable.now) }
+    ensures known { IfOk result (λ both. Knows both.1 durable.now) }
+    ensures none { IfOk result (λ both. AreAsMany both.1 0) }
 {
     if !trail {
         return Ok((None, None));
@@ -86,13 +87,14 @@ fn are_same(a: &[Command], b: &[Command]) -> bool
 }
 
 impl Appended {
-    ghost use Rattle.cg_engine.specs.Appended.{state_in};
+    ghost use Rattle.cg_engine.specs.Appended.{appended_in, state_in};
 
     /// Makes room for one more batch, and copies its commands for it.
     pub fn reserve(&mut self, commands: &Commands) -> Result<Commands, AllocError>
         ensures copy { IfOk result (λ copy. copy ≡ commands.now) }
         ensures room { OnOk result (vec_len self.new.batches < vec_capacity self.new.batches) }
         ensures same { state_in self.new ≡ state_in self.old }
+        ensures same_commands { appended_in self.new ≡ appended_in self.old }
     {
         self.batches.reserve(1)?;
         let copy = commands.clone()?;
@@ -113,7 +115,8 @@ impl Appended {
     /// Notes an appended batch, for which there is room.
     pub fn push(&mut self, copy: Commands)
         requires { vec_len self.old.batches < vec_capacity self.old.batches }
-        ensures { state_in self.new ≡ after (state_in self.old) copy }
+        ensures state { state_in self.new ≡ after (state_in self.old) copy }
+        ensures more { length (appended_in self.new) ≡ length (appended_in self.old) + length copy }
     {
         self.batches.push_reserved(copy);
     }

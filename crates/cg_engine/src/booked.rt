@@ -1,7 +1,7 @@
 //! A store with the book of its ledger: an append books a unit for each command.
 ghost use Rattle.std.specs.Prelude.{◌≡◌, ◌+◌, length, IfOk, IsTrue, ◌↔◌, MatchResult, OnErr, OnOk};
 ghost use Rattle.cg_fold.specs.Durable.{State, after};
-ghost use Rattle.cg_engine.specs.Appended.{BearsIfNoted, state_in};
+ghost use Rattle.cg_engine.specs.Appended.{AreAsMany, BearsIfNoted, appended_in, state_in};
 ghost use Rattle.cg_engine.specs.Left.{HasLeft};
 ghost use Rattle.cg_engine.specs.Wanted.{is_wanted};
 ghost use Rattle.cg_engine.specs.Stored.{IsKept, Stores};
@@ -36,6 +36,7 @@ pub struct BookedStore<D: SectorDisk, L: Ledger> {
     book: Book<L>,
     appended: Option<Appended>,
     ghost booked: { opening + book.total ≡ front_of store },
+    ghost counted: { AreAsMany appended book.total },
     ghost kept: { ∥ IsKept D.is_honest D.history store appended ∥₁ },
 }
 
@@ -89,6 +90,9 @@ fn append_noted<D: SectorDisk, L: Ledger>(
     ensures noted { MatchResult result
         (λ _. state_in appended.new ≡ after (state_in appended.old) batch.commands)
         (λ _. state_in appended.new ≡ state_in appended.old) }
+    ensures counted { MatchResult result
+        (λ _. length (appended_in appended.new) ≡ length (appended_in appended.old) + length batch.commands)
+        (λ _. length (appended_in appended.new) ≡ length (appended_in appended.old)) }
     ensures ok { (state : State) → Stores D.is_honest D.history store.old state → OnOk result (Stores D.is_honest D.history store.new (after state batch.commands)) }
     ensures err { (state : State) → Stores D.is_honest D.history store.old state → OnErr result (Stores D.is_honest D.history store.new state) }
 {
@@ -105,11 +109,12 @@ fn append_noted<D: SectorDisk, L: Ledger>(
 }
 
 impl<D: SectorDisk, L: Ledger> BookedStore<D, L> {
-    ghost use Rattle.cg_engine.specs.Booked.{store_in, opening_in, appended_of};
+    ghost use Rattle.cg_engine.specs.Booked.{store_in, opening_in, since_in, appended_of};
 
     /// Begins to book what a store appends, with an empty book.
     pub fn new(store: Store<D>, book: Book<L>, appended: Option<Appended>) -> Self
         requires none { book.total ≡ 0 }
+        requires counted { AreAsMany appended 0 }
         requires kept { ∥ IsKept D.is_honest D.history store appended ∥₁ }
         ensures store { store_in result ≡ store }
         ensures opening { opening_in result ≡ front_of store }
@@ -128,6 +133,13 @@ impl<D: SectorDisk, L: Ledger> BookedStore<D, L> {
         ensures { result ≡ front_of (store_in self.now) }
     {
         self.store.front()
+    }
+
+    /// Returns how many commands were appended since loading.
+    pub fn since_loading(&self) -> u64
+        ensures { result ≡ since_in self.now }
+    {
+        self.store.front() - self.opening
     }
 
     /// Appends a batch and books a unit for each of its commands.
@@ -157,6 +169,13 @@ impl<D: SectorDisk, L: Ledger> BookedStore<D, L> {
         store_calls::compact(&mut self.store)
     }
 
+    /// Returns how many segments are free.
+    pub fn free_count(&self) -> u64
+        ensures { result ≡ (room_of (store_in self.now)).segments }
+    {
+        self.store.free_count()
+    }
+
     /// Returns whether a compaction is under way, or fewer segments than `least` are free. A store that has failed wants
     /// no compaction.
     pub fn compact_wanted(&self, least: u64) -> bool
@@ -183,7 +202,9 @@ impl<D: SectorDisk, L: Ledger> BookedStore<D, L> {
 
     /// Ends the store. Returns the number of its last command and the disk, without a disk call.
     pub fn close(self) -> (u64, D)
-        ensures { ∥ HasLeft D.is_honest D.history D.size (appended_of self) result.1 result.0 ∥₁ }
+        ensures front { result.0 ≡ opening_in self + since_in self }
+        ensures counted { AreAsMany (appended_of self) (since_in self) }
+        ensures left { ∥ HasLeft D.is_honest D.history D.size (appended_of self) result.1 result.0 ∥₁ }
     {
         let BookedStore {
             store,

@@ -6,10 +6,11 @@ use cg_store::COMMAND_NUMBER_MAX;
 /// Most passes of an engine.
 pub const PASSES_MAX: usize = 65_536;
 
-/// Parts into which the ledger of an engine is cut at least: two for each pass, one for a batch, and one that stays.
+/// Parts of the ledger that an engine needs: two for each pass, one for a batch, and one that stays are 131,074; these are
+/// the next power of two.
 pub const PARTS: u64 = 262_144;
 
-/// Parts that the ledger's pool has before it lends two to a pass: these, and one that stays.
+/// Fewest parts that the pool has before a new pass: two for the pass, and one that stays.
 pub const PARTS_FOR_PASS: u64 = 3;
 
 /// Command number up to which a desk never runs short of numbers, however many groups it has.

@@ -1,5 +1,5 @@
 //! What the desk lock of an engine guards: the desk, the sessions, and the units that no answer has yet.
-ghost use Rattle.std.specs.Prelude.{◌≡◌, IfErr};
+ghost use Rattle.std.specs.Prelude.{◌≡◌, ◌↔◌, IfErr, IsTrue};
 ghost use Rattle.cg_desk.specs.Tokens.{call_of};
 ghost use Rattle.cg_engine.specs.Left.{AreRefusals};
 ghost use Rattle.cg_engine.specs.declared.bounds.TheConstants.{PARTS};
@@ -99,7 +99,7 @@ fn deliver<L: Ledger, R: Wait>(
 
 impl<L: Ledger> DeskSide<L> {
     ghost use Rattle.cg_engine.specs.Recorders.{trail_of};
-    ghost use Rattle.cg_engine.specs.Sides.{recorder_of};
+    ghost use Rattle.cg_engine.specs.Sides.{recorder_of, unpaid_in};
 
     /// Creates the side of a desk with nothing loaded.
     pub fn new(alloc: Global, share: Share<L>, trail: bool) -> Result<Self, AllocError>
@@ -360,6 +360,17 @@ impl<L: Ledger> DeskSide<L> {
         ensures { result.now ≡ recorder_of self.now }
     {
         &self.recorder
+    }
+
+    /// Returns whether this is the number of the units that no pass has.
+    pub fn has_unpaid(&self, units: u64) -> bool
+        ensures { IsTrue result ↔ (unpaid_in self.now ≡ units) }
+    {
+        let unsettled = match &self.unsettled {
+            Some(booked) => booked.units.count(),
+            None => 0,
+        };
+        self.pool.count().checked_add(unsettled) == Some(units)
     }
 
     /// Ends the side: refuses every pending call. Returns the refusals, and the trail, if one was kept.

@@ -28,7 +28,8 @@ use std::sync::{Mutex, Wait};
 use std::thread;
 use uuid::Uuid;
 
-/// A desk and a store behind two locks, for any number of threads. No thread holds both locks.
+/// A desk and a store behind two locks, for any number of threads. No thread holds both locks. An engine loads one disk,
+/// once. It has no thread of its own: its callers flush, tick and compact.
 pub struct Engine<D: SectorDisk, L: Ledger> {
     pub(crate) alloc: Global,
     /// Whether a trail is kept.
@@ -38,7 +39,8 @@ pub struct Engine<D: SectorDisk, L: Ledger> {
 }
 
 impl<D: SectorDisk + Drop, L: Ledger> Engine<D, L> {
-    /// Creates an engine with nothing loaded. With a trail it records each step of its desk, and `finish` tests the record.
+    /// Creates an engine with nothing loaded. With a trail it records each step of its desk, and `finish` tests the record:
+    /// every request, reply and batch then stays in memory.
     pub fn new(alloc: Global, blank: Blank, trail: bool) -> Result<Self, AllocError>
         requires name { blank.name ≡ L.name }
         requires parts { blank.parts ≡ L.parts }
@@ -55,17 +57,19 @@ impl<D: SectorDisk + Drop, L: Ledger> Engine<D, L> {
         })
     }
 
-    /// Makes a pass.
+    /// Makes a pass. An engine makes at most 65,536 of them (`PASSES_MAX`); one that is dropped is not replaced.
     pub fn pass<R: Wait>(&self, rt: &R) -> Result<SessionPass<L>, PassFault> {
         self.desk.lock(rt).pass()
     }
 
-    /// Returns the number of the last command that a request made.
+    /// Returns the number of the last command that the desk numbered, for a request or a tick, or that was loaded. It may not
+    /// be stored yet. With nothing loaded it is 0.
     pub fn numbered<R: Wait>(&self, rt: &R) -> u64 {
         self.desk.lock(rt).numbered()
     }
 
-    /// Returns the number of the last command that is stored.
+    /// Returns the number of the last command that is stored: at least the number of the loaded commands and the units of the
+    /// pass. While the store is behind that, the call looks again.
     pub fn front<R: Wait>(&self, rt: &R, pass: &SessionPass<L>) -> u64
         ensures { opening_of pass.now + units_of pass.now ≤ result }
     {
@@ -163,7 +167,8 @@ impl<D: SectorDisk + Drop, L: Ledger> Engine<D, L> {
         self.desk.lock(rt).tick(rt, now)
     }
 
-    /// Takes a batch, appends it and settles it.
+    /// Takes a batch, appends it and settles it: its replies leave. Nothing tells when a command is pending, so a flusher
+    /// calls again and again.
     pub fn flush_round<R: Wait>(&self, rt: &R) -> Result<RoundEnd, RoundFault> {
         let taken = self.desk.lock(rt).take(rt);
         let (batch, part) = match taken? {
@@ -177,7 +182,8 @@ impl<D: SectorDisk + Drop, L: Ledger> Engine<D, L> {
         }
     }
 
-    /// Does one step of a compaction.
+    /// Does the next step of the compaction under way, or begins one if there is none: for a caller that looked at
+    /// `compact_wanted`.
     pub fn compact_round<R: Wait>(&self, rt: &R) -> Result<RoundEnd, RoundFault> {
         let compacted = self.store.lock(rt).compact();
         match compacted {
@@ -194,8 +200,13 @@ impl<D: SectorDisk + Drop, L: Ledger> Engine<D, L> {
         }
     }
 
-    /// Returns whether a compaction is wanted.
+    /// Returns whether a compaction is under way, or fewer segments than `least` are free. A store that has failed wants none.
     pub fn compact_wanted<R: Wait>(&self, rt: &R, least: u64) -> bool {
         self.store.lock(rt).compact_wanted(least)
+    }
+
+    /// Returns how many segments of the log are free; 0 where nothing is loaded.
+    pub fn free_count<R: Wait>(&self, rt: &R) -> u64 {
+        self.store.lock(rt).free_count()
     }
 }

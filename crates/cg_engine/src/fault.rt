@@ -75,7 +75,8 @@ impl From<AllocError> for PassFault {
 pub enum Skip {
     /// The store has no room for the batch, which waits for the next round.
     Full,
-    /// The compaction has no room; it is over.
+    /// The compaction has no room, or read a damaged frame; it is over. If segments are free, the disk is damaged, and the
+    /// next load says how.
     NoRoom,
     /// Another thread has a batch in flight.
     InFlight,
@@ -90,16 +91,16 @@ pub enum RoundEnd {
     Skipped(Skip),
 }
 
-/// The reason why a round did nothing.
+/// The reason why a round was not done. Replies may have left in it.
 #[derive(Clone, Copy, Debug, PartialEq, Eq, Error)]
 pub enum RoundFault {
-    /// An allocation failed.
+    /// An allocation failed. The work stays for the next round; a compaction is over.
     #[error("no memory for a round")]
     Memory,
-    /// The disk failed in this round.
+    /// The disk failed in this round. Every pending call was refused with 15.
     #[error("the disk failed")]
     Device,
-    /// The disk failed in an earlier round.
+    /// The disk failed in an earlier round, or desk and store do not fit each other.
     #[error("the disk failed earlier")]
     Failed,
 }

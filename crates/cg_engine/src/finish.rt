@@ -1,9 +1,10 @@
 //! The end of an engine.
-ghost use Rattle.std.specs.Prelude.{◌≡◌, ◌≢◌, ◌↔◌, None, IfErr, IfOk, IsErrOf, IsTrue, MatchOption, OnOk, vec_len};
-ghost use Rattle.cg_engine.specs.BorneOut.{AreAll, AreAllIn, IsBorneOut, IsTested, IsTestedBy, has_number};
+ghost use Rattle.std.specs.Prelude.{◌≡◌, ◌≢◌, ◌↔◌, ◌+◌, ◌<◌, None, IfErr, IfOk, IsErrOf, IsTrue, MatchOption, OnOk, vec_len};
+ghost use Rattle.cg_engine.specs.Appended.{AreAsMany};
+ghost use Rattle.cg_engine.specs.BorneOut.{AreAll, AreAllIn, AreCounted, IsBorneOut, IsTested, IsTestedBy, has_number, units_with};
 ghost use Rattle.cg_engine.specs.Left.{AreRefusals, Leaves};
 ghost use Rattle.cg_engine.specs.Recorders.{trail_of};
-ghost use Rattle.cg_engine.specs.Sides.{noted_by, recorder_of};
+ghost use Rattle.cg_engine.specs.Sides.{noted_by, opening_by, recorder_of, since_by, unpaid_in};
 
 use crate::closed::Closed;
 use crate::desk_side::DeskSide;
@@ -18,11 +19,14 @@ use std::alloc::{AllocError, Global};
 use std::sync::Mutex;
 use std::sync::ledger::Ledger;
 
-// Returns whether one of the passes has this number.
+// Returns whether one of the passes has this number. If they are in the order of their numbers, it looks at one.
 fn has_number<L: Ledger>(passes: &[SessionPass<L>], number: u64) -> bool
     ensures { result ≡ has_number number passes.now }
 {
-    passes.iter().any(|pass| pass.number() == number)
+    let in_place = passes
+        .get(number as usize)
+        .is_some_and(|pass| pass.number() == number);
+    in_place || passes.iter().any(|pass| pass.number() == number)
 }
 
 // Returns whether these are all passes of an engine that made this many, each once.
@@ -59,34 +63,62 @@ fn are_in<L: Ledger>(passes: &[SessionPass<L>], trail: &Trail) -> bool
     true
 }
 
-// Tests a trail: the machine runs over it again, and store and passes bear it out.
+// Returns what is left of a number of units without those of the passes, unless these are more.
+fn without_passes<L: Ledger>(units: u64, passes: &[SessionPass<L>]) -> Option<u64>
+    ensures { MatchOption result (units < units_with passes.now) (λ left. left + units_with passes.now ≡ units) }
+{
+    let mut left = units;
+    let mut rest = passes;
+    while let [pass, others @ ..] = rest {
+        left = left.checked_sub(pass.units())?;
+        rest = others;
+    }
+    Some(left)
+}
+
+// Returns whether each command that was appended since loading is worth a unit: one of a pass, or one that no pass has.
+fn are_counted<D: SectorDisk + Drop, L: Ledger>(
+    desk: &DeskSide<L>,
+    store: &StoreSide<D, L>,
+    passes: &[SessionPass<L>],
+) -> bool
+    ensures { IsTrue result ↔ AreCounted (since_by store.now) passes.now (unpaid_in desk.now) }
+{
+    match without_passes(store.since_loading(), passes) {
+        Some(left) => desk.has_unpaid(left),
+        None => false,
+    }
+}
+
+// Tests a trail: the machine runs over it again, and store, passes and units bear it out.
 fn is_tested<D: SectorDisk + Drop, L: Ledger>(
     alloc: Global,
     trail: &Trail,
+    desk: &DeskSide<L>,
     store: &StoreSide<D, L>,
     passes: &[SessionPass<L>],
 ) -> Result<bool, AllocError>
-    ensures { IfOk result (λ tested. IsTrue tested ↔ IsTested trail.now (noted_by store.now) passes.now) }
+    ensures { IfOk result (λ tested. IsTrue tested ↔ IsTested trail.now (noted_by store.now) (since_by store.now) passes.now (unpaid_in desk.now)) }
 {
     let Some(made) = trail.replay()? else {
         return Ok(false);
     };
     let bears = store.bears(alloc, trail, made.as_slice())?;
-    Ok(bears && are_in(passes, trail))
+    Ok(bears && are_in(passes, trail) && are_counted(desk, store, passes))
 }
 
 // Tests the trail, if one is kept.
 fn test_of<D: SectorDisk + Drop, L: Ledger>(
     alloc: Global,
-    recorder: &Recorder,
+    desk: &DeskSide<L>,
     store: &StoreSide<D, L>,
     passes: &[SessionPass<L>],
 ) -> Result<(), FinishFault>
-    ensures ok { OnOk result (IsTestedBy recorder.now (noted_by store.now) passes.now) }
-    ensures differs { IsErrOf result FinishFault.TrailDiffers → ¬ IsTestedBy recorder.now (noted_by store.now) passes.now }
+    ensures ok { OnOk result (IsTestedBy (recorder_of desk.now) (noted_by store.now) (since_by store.now) passes.now (unpaid_in desk.now)) }
+    ensures differs { IsErrOf result FinishFault.TrailDiffers → ¬ IsTestedBy (recorder_of desk.now) (noted_by store.now) (since_by store.now) passes.now (unpaid_in desk.now) }
     ensures never { IfErr result (λ fault. fault ≢ FinishFault.MissingPass) }
 {
-    let trail = match recorder {
+    let trail = match desk.recorder() {
         Recorder::Off | Recorder::Waiting => return Ok(()),
         Recorder::Lost => return Err(FinishFault::Memory),
         Recorder::On(trail) => trail,
@@ -94,7 +126,7 @@ fn test_of<D: SectorDisk + Drop, L: Ledger>(
     if !are_whole(passes) {
         return Err(FinishFault::Memory);
     }
-    if is_tested(alloc, trail, store, passes)? {
+    if is_tested(alloc, trail, desk, store, passes)? {
         Ok(())
     } else {
         Err(FinishFault::TrailDiffers)
@@ -111,13 +143,13 @@ fn tested<D: SectorDisk + Drop, L: Ledger>(
 ) -> Result<(), FinishFault>
     ensures all { OnOk result (AreAll made passes.now) }
     ensures missing { IsErrOf result FinishFault.MissingPass ↔ (¬ AreAll made passes.now) }
-    ensures ok { OnOk result (IsTestedBy (recorder_of desk.now) (noted_by store.now) passes.now) }
-    ensures differs { IsErrOf result FinishFault.TrailDiffers → ¬ IsTestedBy (recorder_of desk.now) (noted_by store.now) passes.now }
+    ensures ok { OnOk result (IsTestedBy (recorder_of desk.now) (noted_by store.now) (since_by store.now) passes.now (unpaid_in desk.now)) }
+    ensures differs { IsErrOf result FinishFault.TrailDiffers → ¬ IsTestedBy (recorder_of desk.now) (noted_by store.now) (since_by store.now) passes.now (unpaid_in desk.now) }
 {
     if !are_all(made, passes) {
         return Err(FinishFault::MissingPass);
     }
-    test_of(alloc, desk.recorder(), store, passes)
+    test_of(alloc, desk, store, passes)
 }
 
 impl<D: SectorDisk + Drop, L: Ledger> Engine<D, L> {
@@ -186,6 +218,8 @@ impl<D: SectorDisk + Drop, L: Ledger> Engine<D, L> {
 }
 
 fn closed<D: SectorDisk + Drop, L: Ledger>(desk: DeskSide<L>, store: StoreSide<D, L>) -> Closed<D>
+    ensures front { result.front ≡ opening_by store + since_by store }
+    ensures counted { AreAsMany (noted_by store) (since_by store) }
     ensures left { ∥ Leaves D.is_honest D.history D.size (noted_by store) result.disk result.front ∥₁ }
     ensures refused { AreRefusals result.refused.items }
     ensures trail { result.trail ≡ trail_of (recorder_of desk) }

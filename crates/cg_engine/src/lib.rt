@@ -1,5 +1,6 @@
-//! The engine: a desk (`cg_desk`) and a store (`cg_store`) behind two locks, for any number of threads. What a call is
-//! answered is worth a stored command: the answer carries units of a ledger, which only an append books.
+//! The engine: a desk (`cg_desk`) and a store (`cg_store`) behind two locks, for any number of threads. An answer that
+//! acknowledges a write carries a unit of a ledger. Only an append makes units, one for each stored command, so there is no
+//! acknowledgement without its command.
 #![tactic(auto)]
 
 mod answer;

@@ -1,6 +1,6 @@
 //! The store's side of an engine: what the store lock guards.
-ghost use Rattle.std.specs.Prelude.{◌≡◌, ◌↔◌, IfOk, IsTrue};
-ghost use Rattle.cg_engine.specs.Appended.{BearsIfNoted};
+ghost use Rattle.std.specs.Prelude.{◌≡◌, ◌+◌, ◌↔◌, IfOk, IsTrue};
+ghost use Rattle.cg_engine.specs.Appended.{AreAsMany, BearsIfNoted};
 ghost use Rattle.cg_engine.specs.Left.{Leaves};
 ghost use Rattle.cg_engine.specs.Stored.{IsKept};
 
@@ -39,7 +39,8 @@ impl<L: Ledger> BlankBook<L> {
         store: Store<D>,
         appended: Option<Appended>,
     ) -> BookedStore<D, L>
-        requires { ∥ IsKept D.is_honest D.history store appended ∥₁ }
+        requires counted { AreAsMany appended 0 }
+        requires kept { ∥ IsKept D.is_honest D.history store appended ∥₁ }
     {
         let BlankBook { book } = self;
         BookedStore::new(store, book, appended)
@@ -47,7 +48,7 @@ impl<L: Ledger> BlankBook<L> {
 }
 
 impl<D: SectorDisk + Drop, L: Ledger> StoreSide<D, L> {
-    ghost use Rattle.cg_engine.specs.Sides.{noted_by};
+    ghost use Rattle.cg_engine.specs.Sides.{noted_by, opening_by, since_by};
 
     /// Begins a loading: returns the book if nothing is loaded.
     pub fn begin(&mut self) -> Option<BlankBook<L>> {
@@ -64,6 +65,16 @@ impl<D: SectorDisk + Drop, L: Ledger> StoreSide<D, L> {
     pub fn front(&self) -> u64 {
         match self {
             StoreSide::Loaded(store) => store.front(),
+            StoreSide::Empty(_) | StoreSide::Loading => 0,
+        }
+    }
+
+    /// Returns how many commands were appended since loading; 0 where nothing is loaded.
+    pub fn since_loading(&self) -> u64
+        ensures { result ≡ since_by self.now }
+    {
+        match self {
+            StoreSide::Loaded(store) => store.since_loading(),
             StoreSide::Empty(_) | StoreSide::Loading => 0,
         }
     }
@@ -91,6 +102,14 @@ impl<D: SectorDisk + Drop, L: Ledger> StoreSide<D, L> {
         }
     }
 
+    /// Returns how many segments are free; 0 where nothing is loaded.
+    pub fn free_count(&self) -> u64 {
+        match self {
+            StoreSide::Loaded(store) => store.free_count(),
+            StoreSide::Empty(_) | StoreSide::Loading => 0,
+        }
+    }
+
     /// Returns whether a compaction is under way, or fewer segments than `least` are free: of a store that has not
     /// failed.
     pub fn compact_wanted(&self, least: u64) -> bool {
@@ -112,7 +131,9 @@ impl<D: SectorDisk + Drop, L: Ledger> StoreSide<D, L> {
 
     /// Ends the side. Returns the number of the last command, 0 where nothing is loaded, and the disk.
     pub fn close(self) -> (u64, Option<D>)
-        ensures { ∥ Leaves D.is_honest D.history D.size (noted_by self) result.1 result.0 ∥₁ }
+        ensures front { result.0 ≡ opening_by self + since_by self }
+        ensures counted { AreAsMany (noted_by self) (since_by self) }
+        ensures left { ∥ Leaves D.is_honest D.history D.size (noted_by self) result.1 result.0 ∥₁ }
     {
         match self {
             StoreSide::Loaded(store) => {

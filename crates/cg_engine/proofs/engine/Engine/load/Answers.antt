@@ -13,5 +13,5 @@ returns-clause-carried g c = λ is n state carries.
     let same = c.in-Ok.ensures.carried is n state carries in
     found-is _ n _ state c.counts-records.result same.0 same.1 c.counts-records.ensures
 
-pub with_store-requires : goal.with_store-requires
-with_store-requires g c = ∣ record { state = c.in-Ok.opened.2; known = c.in-Ok-snapshots.ensures; stored = c.in-Ok.ensures.stored } ∣₁
+pub with_store-requires-clause-kept : goal.with_store-requires-clause-kept
+with_store-requires-clause-kept g c = ∣ record { state = c.in-Ok.opened.2; known = c.in-Ok-snapshots.ensures.known; stored = c.in-Ok.ensures.stored } ∣₁
