@@ -30,3 +30,6 @@ pub use engine::Engine;
 pub use fault::{FinishFault, LoadFault, PassFault, RoundEnd, RoundFault, Skip};
 pub use kind::CallKind;
 pub use pass::SessionPass;
+
+#[cfg(test)]
+mod tests;

@@ -1,0 +1,2 @@
+//! Tests of an engine, on a disk in memory.
+mod reports;
