@@ -37,7 +37,7 @@ cut_in (is.Reading reading) = Some reading.cut
 cut_in (is.Writing writing) = Some writing.cut
 cut_in (is.Ready cut) = Some cut
 
--- the commands of the snapshot that it has not written yet
+-- in the phase Writing the commands of the snapshot that it has not written yet; none in the others
 abbrev pub unwritten_in : Compaction → List Command
 unwritten_in is.Idle = []
 unwritten_in (is.Reading reading) = []
@@ -105,7 +105,7 @@ IsFrameRead Done old new = (old ≡ []) × (new ≡ [])
 abbrev pub IsFull : List Command → List Command → Type 0
 IsFull commands others = (next : Command) (rest : List Command) → others ≡ next ∷ rest → LARGEST_PAYLOAD_BYTES < length (spelling (commands ++ next ∷ []))
 
--- these commands of a snapshot make its next frame, and as many as fit: then others are left
+-- the next frame of a snapshot has these first commands of those that are left: as many as fit
 pub record IsNextFrame (commands old new : List Command) : Type 0 where
   pub is_batch : IsBatch commands
   pub order : old ≡ commands ++ new

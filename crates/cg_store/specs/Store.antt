@@ -19,11 +19,11 @@ use Rattle.cg_store.specs.declared.fault.StoreFault.{StoreFault}
 use Rattle.cg_store.specs.declared.fault.OpenFault.{OpenFault}
 use Rattle.cg_store.specs.declared.store.Store.{Store}
 
--- its disk
+-- the disk of a store
 abbrev pub disk_of : {D : Type 0} {g : _} → Store D g → D
 disk_of store = log_model.disk_of store.log
 
--- how many sectors its disk has
+-- how many sectors the disk has
 abbrev pub sectors_of : {D : Type 0} {g : _} → Store D g → ℕ
 sectors_of store = store.sectors
 
@@ -31,42 +31,42 @@ sectors_of store = store.sectors
 abbrev pub room_of : {D : Type 0} {g : _} → Store D g → Room
 room_of store = room_at store.sectors (log_model.taken_of store.log) (log_model.root_of store.log) (log_model.end_of store.log)
 
--- the root of its log, and the position of the next frame in the last tail
+-- the root of the log, and the position of the next frame in the last tail
 abbrev pub root_of : {D : Type 0} {g : _} → Store D g → Root
 root_of store = log_model.root_of store.log
 
 abbrev pub end_of : {D : Type 0} {g : _} → Store D g → ℕ
 end_of store = log_model.end_of store.log
 
--- the phase of its compaction
+-- the phase of the compaction
 abbrev pub phase_of : {D : Type 0} {g : _} → Store D g → Phase
 phase_of store = phase_in store.compaction
 
--- its compaction
+-- the compaction under way, if there is one
 abbrev pub compaction_of : {D : Type 0} {g : _} → Store D g → Compaction
 compaction_of store = store.compaction
 
--- the cut of its compaction, if one is under way
+-- the cut of the compaction, if one is under way
 abbrev pub cut_of : {D : Type 0} {g : _} → Store D g → Option Cut
 cut_of store = cut_in store.compaction
 
--- the segments that its compaction has written so far
+-- the segments that the compaction has written so far
 abbrev pub fresh_of : {D : Type 0} {g : _} → Store D g → List ℕ
 fresh_of store = log_model.fresh_of store.log
 
--- the position of the next frame in the last of them
+-- the position of the next frame in the last of these segments
 abbrev pub fresh_end_of : {D : Type 0} {g : _} → Store D g → ℕ
 fresh_end_of store = log_model.fresh_end_of store.log
 
--- the commands of the snapshot that its compaction has not written yet
+-- the commands of the snapshot that the compaction has not written yet, in the phase Writing
 abbrev pub unwritten_of : {D : Type 0} {g : _} → Store D g → List Command
 unwritten_of store = unwritten_in store.compaction
 
--- the number of its last command
+-- the number of the last command
 abbrev pub front_of : {D : Type 0} {g : _} → Store D g → ℕ
 front_of store = log_model.number_of store.log
 
--- its disk failed
+-- the disk has failed
 abbrev pub has_failed : {D : Type 0} {g : _} → Store D g → Bool
 has_failed store = log_model.has_failed store.log
 
@@ -87,7 +87,7 @@ pub record IsUnchanged {D : Type 0} {g : _} (old new : Store D g) : Type 0 where
   pub sectors : sectors_of new ≡ sectors_of old
   pub compaction : new.compaction ≡ old.compaction
 
--- the fault that needs no disk call, if there is one
+-- the fault that needs neither memory nor the disk, if there is one
 abbrev pub refusal : {D : Type 0} {g : _} → Store D g → Batch → Option StoreFault
 refusal store batch = refusal_of (has_failed store) (room_of store) (front_of store) batch.first batch.commands
 

@@ -1,5 +1,6 @@
 -- JOIN (protocol guide, "JoinGroup"; KIP-345): its checks, in the order of the refusals. The name of its group
--- (24) and its timeouts (26) were checked before.
+-- (24) and its session timeout (26) were checked before. `fresh` are the bytes of the UUID that was drawn, `loaded` is the
+-- number of loaded groups.
 use Rattle.std.specs.Prelude.{ℕ, Bool, false, nat_le, List, length, Option, Some, None, Result, Ok, is_some}
 use Rattle.cg_names.specs.declared.code.Code.{Code}
 use Rattle.cg_names.specs.declared.code.Code.TheVariants.{CoordinatorNotAvailable, InconsistentGroupProtocol, UnknownMemberId, GroupMaxSizeReached}

@@ -18,7 +18,8 @@ abbrev pub last_moment : ℕ
 last_moment = 2 ^ 64 - 1
 
 -- the moment at which the session of the member expires, or the last moment: a member with a parked call does not expire.
--- One that was heard after `since` counts as heard at `since`.
+-- `since` is the moment of the last tick: heartbeats after it do not change the entry of a group in the index of deadlines,
+-- so who was heard later counts as heard then, and the moment may be too early, but not too late.
 abbrev pub expiry : ℕ → Member → ℕ
 expiry since m = if is_waiting Any m then last_moment else min (min m.heard since + m.session) last_moment
 

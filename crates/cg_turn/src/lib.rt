@@ -1,5 +1,6 @@
-//! The steps of one group: each takes a request, a closed session or a tick, and returns the changed group with its
-//! replies and commands. The functions implement the definitions in `specs/`, here and in `cg_member`.
+//! The steps of one group: a JOIN, a LEAVE, a SYNC, a closed session or a tick returns the changed group with its replies
+//! and commands; of a BEAT and a COMMIT the checks and the command are here, and `cg_group` changes the member in place.
+//! The functions implement the definitions in `specs/`, here and in `cg_member`.
 #![tactic(auto)]
 
 pub mod admission;
