@@ -111,8 +111,8 @@ pub enum FinishFault {
     /// An allocation failed: in the test of the trail, or when a step or an answer was to be recorded.
     #[error("no memory for the trail")]
     Memory,
-    /// The machine replies other than the trail records, or the answers of the passes or the stored commands are not those
-    /// of the trail.
+    /// The machine replies other than the trail records, the answers of the passes or the stored commands are not those of
+    /// the trail, or the units do not add up.
     #[error("the trail differs")]
     TrailDiffers,
     /// The passes are not all that the engine made, each once.
