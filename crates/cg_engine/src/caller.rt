@@ -7,6 +7,7 @@ ghost use Rattle.cg_engine.specs.Worth.{worth};
 ghost use Rattle.cg_engine.specs.declared.bounds.TheConstants.{CALLS_MAX};
 
 use crate::answer::Answer;
+use crate::before_wait::BeforeWait;
 use crate::kind::CallKind;
 use crate::noted::Noted;
 use crate::pass::SessionPass;
@@ -98,12 +99,14 @@ impl<L: Ledger> Caller<L> {
     }
 
     /// Waits for the answer to the call with this ticket. No other answer comes, since a pass has one call at a time.
-    pub fn wait<R: Wait>(
+    pub fn wait<R: Wait, I: BeforeWait>(
         self,
         rt: &R,
         alloc: Global,
         ticket: Ticket,
         kind: CallKind,
+        has_pending: bool,
+        before_wait: &mut I,
     ) -> (SessionPass<L>, Outgoing)
         ensures number { number_of result.0 ≡ self.number }
         ensures calls { calls_of result.0 ≡ self.calls + 1 }
@@ -111,23 +114,41 @@ impl<L: Ledger> Caller<L> {
         ensures ticket { ticket_of result.1 ≡ ticket }
         ensures noted { IsNoted self.noted (ticket_of result.1) (reply_of result.1) (noted_of result.0) }
     {
-        let answer = awaited(rt, &self.answers, ticket, kind);
+        let answer = awaited(rt, &self.answers, ticket, kind, has_pending, before_wait);
         self.answered(alloc, answer)
     }
 }
 
+// Receives the next answer. If none is there yet, `before_wait` is called first.
+fn received<L: Ledger, R: Wait, I: BeforeWait>(
+    rt: &R,
+    answers: &Receiver<Answer<L>>,
+    has_pending: bool,
+    before_wait: &mut I,
+) -> Option<Answer<L>> {
+    match answers.try_recv(rt) {
+        Ok(answer) => Some(answer),
+        Err(_) => {
+            before_wait.before_wait(has_pending);
+            answers.recv(rt).ok()
+        }
+    }
+}
+
 // Receives the answer to a call of this kind with this ticket.
-fn awaited<L: Ledger, R: Wait>(
+fn awaited<L: Ledger, R: Wait, I: BeforeWait>(
     rt: &R,
     answers: &Receiver<Answer<L>>,
     ticket: Ticket,
     kind: CallKind,
+    has_pending: bool,
+    before_wait: &mut I,
 ) -> Answer<L>
     ensures ticket { ticket_of result.outgoing ≡ ticket }
     ensures kind { result.kind ≡ kind }
 {
     for _ in rt.forever() {
-        if let Ok(answer) = answers.recv(rt) {
+        if let Some(answer) = received(rt, answers, has_pending, before_wait) {
             if answer.outgoing.ticket() == ticket && answer.kind == kind {
                 return answer;
             }

@@ -7,6 +7,7 @@ ghost use Rattle.cg_engine.specs.declared.bounds.TheConstants.{PARTS};
 use crate::answer::Answer;
 use crate::booked::BookedReceipt;
 use crate::bounds::{PARTS, PARTS_FOR_PASS, PASSES_MAX};
+use crate::delivery::{Deliveries, Delivery};
 use crate::fault::{PassFault, RoundEnd, RoundFault, Skip};
 use crate::kind::CallKind;
 use crate::pass::SessionPass;
@@ -49,6 +50,8 @@ pub struct DeskSide<L: Ledger> {
     // A receipt that the desk could not settle for lack of memory. The next round settles it first.
     unsettled: Option<BookedReceipt<L>>,
     recorder: Recorder,
+    // Whether the wait for commands was ended from outside.
+    woken: bool,
 }
 
 // Pays the units of an answer. An answer that no command backs is replaced by a refusal; a desk makes none.
@@ -79,21 +82,26 @@ fn paid<L: Ledger>(
     }
 }
 
-// Sends a reply to the session that waits for it.
+// Addresses a reply to the session that waits for it.
 fn deliver<L: Ledger, R: Wait>(
     rt: &R,
     sessions: &mut Slab<Session<L>>,
     pool: &mut Pool<L>,
     opening: u64,
     outgoing: Outgoing,
+    deliveries: &mut Deliveries<L>,
 ) {
     let Some(session) = sessions.get_mut(outgoing.ticket().session as usize) else {
         return;
     };
     if let Some(waiting) = session.waiting.take() {
         let answer = paid(pool, opening, waiting, outgoing);
-        // A pass that is gone hears no answer.
-        let _ = session.answers.send(rt, answer);
+        match session.answers.clone() {
+            Ok(to) => deliveries.add(rt, Delivery { to, answer }),
+            Err(_) => {
+                let _ = session.answers.send(rt, answer);
+            }
+        }
     }
 }
 
@@ -119,10 +127,11 @@ impl<L: Ledger> DeskSide<L> {
             courier,
             unsettled: None,
             recorder: Recorder::new(trail),
+            woken: false,
         })
     }
 
-    fn deliver_all<R: Wait>(&mut self, rt: &R, out: Vec<Outgoing>) {
+    fn deliver_all<R: Wait>(&mut self, rt: &R, out: Vec<Outgoing>, deliveries: &mut Deliveries<L>) {
         for outgoing in out {
             deliver(
                 rt,
@@ -130,8 +139,31 @@ impl<L: Ledger> DeskSide<L> {
                 &mut self.pool,
                 self.opening,
                 outgoing,
+                deliveries,
             );
         }
+    }
+
+    /// Returns whether a flush round has something to do: commands wait for a batch and none is in flight, or a receipt has
+    /// to be settled.
+    pub fn has_pending(&self) -> bool {
+        let in_flight = self.courier.is_none();
+        self.unsettled.is_some() || !in_flight && self.desk.settled() < self.desk.numbered()
+    }
+
+    /// Ends a wait for commands.
+    pub fn wake(&mut self) {
+        self.woken = true;
+    }
+
+    /// Returns whether the wait for commands is over.
+    pub fn ends_wait(&self) -> bool {
+        self.woken || self.has_pending()
+    }
+
+    /// Forgets that a wait was ended.
+    pub fn clear_wake(&mut self) {
+        self.woken = false;
     }
 
     /// Returns the number of the last command.
@@ -217,6 +249,7 @@ impl<L: Ledger> DeskSide<L> {
         request: Request,
         now: Moment,
         fresh: Uuid,
+        deliveries: &mut Deliveries<L>,
     ) -> Result<(), (ReplyToken, Part<L>)>
         ensures { IfErr result (λ refused. call_of refused.0 ≡ call_of token) }
     {
@@ -230,7 +263,7 @@ impl<L: Ledger> DeskSide<L> {
                 self.recorder
                     .end(self.alloc, &self.desk, begun, out.as_slice());
                 self.wait(ticket.session, Waiting { kind, part });
-                self.deliver_all(rt, out);
+                self.deliver_all(rt, out, deliveries);
                 Ok(())
             }
             Err((_memory, token)) => Err((token, part)),
@@ -238,7 +271,12 @@ impl<L: Ledger> DeskSide<L> {
     }
 
     /// Runs the time-dependent rules.
-    pub fn tick<R: Wait>(&mut self, rt: &R, now: Moment) -> Result<RoundEnd, RoundFault> {
+    pub fn tick<R: Wait>(
+        &mut self,
+        rt: &R,
+        now: Moment,
+        deliveries: &mut Deliveries<L>,
+    ) -> Result<RoundEnd, RoundFault> {
         if self.has_failed {
             return Err(RoundFault::Failed);
         }
@@ -249,24 +287,28 @@ impl<L: Ledger> DeskSide<L> {
         let out = self.desk.tick(now)?;
         self.recorder
             .end_tick(self.alloc, &self.desk, held, now, out.as_slice());
-        self.deliver_all(rt, out);
+        self.deliver_all(rt, out, deliveries);
         Ok(RoundEnd::Done)
     }
 
     /// Refuses every pending call, since the disk failed.
-    pub fn fail<R: Wait>(&mut self, rt: &R) {
+    pub fn fail<R: Wait>(&mut self, rt: &R, deliveries: &mut Deliveries<L>) {
         self.has_failed = true;
         let out = self.desk.fail();
-        self.deliver_all(rt, out);
+        self.deliver_all(rt, out, deliveries);
     }
 
     /// Takes the next batch. Settles a receipt first that is left from an earlier round.
-    pub fn take<R: Wait>(&mut self, rt: &R) -> Result<Taken<L>, RoundFault> {
+    pub fn take<R: Wait>(
+        &mut self,
+        rt: &R,
+        deliveries: &mut Deliveries<L>,
+    ) -> Result<Taken<L>, RoundFault> {
         if self.has_failed {
             return Err(RoundFault::Failed);
         }
         let nothing = match self.unsettled.take() {
-            Some(receipt) => self.settle(rt, receipt)?,
+            Some(receipt) => self.settle(rt, receipt, deliveries)?,
             None => RoundEnd::Nothing,
         };
         let Some(part) = self.courier.take() else {
@@ -301,12 +343,13 @@ impl<L: Ledger> DeskSide<L> {
         &mut self,
         rt: &R,
         booked: BookedReceipt<L>,
+        deliveries: &mut Deliveries<L>,
     ) -> Result<RoundEnd, RoundFault> {
         let BookedReceipt { receipt, units } = booked;
         match self.desk.settle(receipt) {
             Ok(out) => {
                 self.collect(units);
-                self.deliver_all(rt, out);
+                self.deliver_all(rt, out, deliveries);
                 Ok(RoundEnd::Done)
             }
             Err((fault, receipt)) => {
@@ -326,6 +369,7 @@ impl<L: Ledger> DeskSide<L> {
         fault: Option<StoreFault>,
         batch: Batch,
         part: Part<L>,
+        deliveries: &mut Deliveries<L>,
     ) -> Result<RoundEnd, RoundFault> {
         self.courier = Some(part);
         match fault {
@@ -334,11 +378,11 @@ impl<L: Ledger> DeskSide<L> {
             Some(StoreFault::Full) => self.give_back(batch, Ok(RoundEnd::Skipped(Skip::Full))),
             Some(StoreFault::Memory) => self.give_back(batch, Err(RoundFault::Memory)),
             Some(StoreFault::Device) => {
-                self.fail(rt);
+                self.fail(rt, deliveries);
                 Err(RoundFault::Device)
             }
             Some(StoreFault::Failed | StoreFault::OutOfOrder) => {
-                self.fail(rt);
+                self.fail(rt, deliveries);
                 Err(RoundFault::Failed)
             }
         }
@@ -388,6 +432,7 @@ impl<L: Ledger> DeskSide<L> {
             courier: _,
             unsettled: _,
             recorder,
+            woken: _,
         } = self;
         (desk.close(), recorder.into_trail())
     }

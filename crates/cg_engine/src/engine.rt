@@ -1,6 +1,7 @@
 //! The engine: a desk and a store behind two locks.
 ghost use Rattle.std.specs.Prelude.{◌≡◌, ◌⊎◌, ◌+◌, ◌≤◌, ℕ, true, IfErr, MatchResult};
 ghost use Rattle.cg_desk.specs.Outgoings.{made_of, reply_of, ticket_of};
+ghost use Rattle.cg_desk.specs.Tokens.{call_of};
 ghost use Rattle.cg_disk.specs.Disk.{Stays, present};
 ghost use Rattle.cg_fold.specs.Durable.{State};
 ghost use Rattle.cg_store.specs.Carried.{Carries};
@@ -10,22 +11,26 @@ ghost use Rattle.cg_engine.specs.Passes.{calls_after, calls_of, next_ticket, not
 ghost use Rattle.cg_engine.specs.Worth.{kind_of, worth};
 
 use crate::appended::snapshots;
+use crate::before_wait::{BeforeWait, NotifiesFlusher};
 use crate::bounds::{CALLS_MAX, PARTS};
+use crate::delivery::Deliveries;
 use crate::desk_side::{DeskSide, Taken};
 use crate::fault::{LoadFault, PassFault, RoundEnd, RoundFault, Skip};
 use crate::kind::CallKind;
 use crate::loading::opened;
 use crate::pass::SessionPass;
 use crate::store_side::{BlankBook, StoreSide};
+use crate::units::Part;
 use cg_desk::{Outgoing, ReplyToken};
 use cg_disk::SectorDisk;
 use cg_group::{Reply, Request};
 use cg_names::{Code, Moment};
-use cg_store::CompactFault;
+use cg_store::{Batch, CompactFault};
 use std::alloc::{AllocError, Global};
 use std::sync::ledger::{Blank, Ledger};
-use std::sync::{Mutex, Wait};
+use std::sync::{Condvar, Mutex, MutexGuard, Wait};
 use std::thread;
+use std::time::{Clock, Duration};
 use uuid::Uuid;
 
 /// A desk and a store behind two locks, for any number of threads. No thread holds both locks. An engine loads one disk,
@@ -36,6 +41,8 @@ pub struct Engine<D: SectorDisk, L: Ledger> {
     pub(crate) trail: bool,
     pub(crate) desk: Mutex<DeskSide<L>>,
     pub(crate) store: Mutex<StoreSide<D, L>>,
+    /// Notified where commands are pending.
+    pub(crate) pending: Condvar,
 }
 
 impl<D: SectorDisk + Drop, L: Ledger> Engine<D, L> {
@@ -54,6 +61,7 @@ impl<D: SectorDisk + Drop, L: Ledger> Engine<D, L> {
             trail,
             desk: Mutex::new(side),
             store: Mutex::new(StoreSide::Empty(BlankBook { book })),
+            pending: Condvar::new(),
         })
     }
 
@@ -145,6 +153,29 @@ impl<D: SectorDisk + Drop, L: Ledger> Engine<D, L> {
         ensures noted { IsNoted (noted_of pass) (ticket_of result.1) (reply_of result.1) (noted_of result.0) }
         ensures units { units_of result.0 ≡ units_of pass + worth (kind_of request) (reply_of result.1) (made_of result.1) }
     {
+        let mut before_wait = NotifiesFlusher {
+            pending: &self.pending,
+        };
+        self.call_with(rt, pass, request, now, fresh, &mut before_wait)
+    }
+
+    /// Does what `call` does, but leaves to `before_wait` who flushes what is pending.
+    pub fn call_with<R: Wait, I: BeforeWait>(
+        &self,
+        rt: &R,
+        pass: SessionPass<L>,
+        request: Request,
+        now: Moment,
+        fresh: Uuid,
+        before_wait: &mut I,
+    ) -> (SessionPass<L>, Outgoing)
+        ensures number { number_of result.0 ≡ number_of pass }
+        ensures ticket { ticket_of result.1 ≡ next_ticket pass }
+        ensures calls { calls_of result.0 ≡ calls_after (calls_of pass) }
+        ensures limit { calls_of pass ≡ CALLS_MAX → reply_of result.1 ≡ Reply.Refused Code.CoordinatorNotAvailable }
+        ensures noted { IsNoted (noted_of pass) (ticket_of result.1) (reply_of result.1) (noted_of result.0) }
+        ensures units { units_of result.0 ≡ units_of pass + worth (kind_of request) (reply_of result.1) (made_of result.1) }
+    {
         let ticket = pass.next_ticket();
         let kind = CallKind::of(&request);
         let token = ReplyToken::new(ticket);
@@ -152,34 +183,112 @@ impl<D: SectorDisk + Drop, L: Ledger> Engine<D, L> {
             return (pass, token.refuse(Code::CoordinatorNotAvailable));
         }
         let (caller, part) = pass.begin();
-        let asked = self
-            .desk
-            .lock(rt)
-            .request(rt, token, part, request, now, fresh);
-        match asked {
-            Ok(()) => caller.wait(rt, self.alloc, ticket, kind),
+        match self.ask(rt, token, part, request, now, fresh) {
+            Ok(has_pending) => caller.wait(rt, self.alloc, ticket, kind, has_pending, before_wait),
             Err((token, part)) => (caller.refused(part), token.refuse(Code::UnknownServerError)),
         }
     }
 
-    /// Runs the time-dependent rules.
-    pub fn tick<R: Wait>(&self, rt: &R, now: Moment) -> Result<RoundEnd, RoundFault> {
-        self.desk.lock(rt).tick(rt, now)
+    // Hands a request to the desk, and sends the answers that it makes. Returns whether commands wait for a batch, and none
+    // is in flight.
+    fn ask<R: Wait>(
+        &self,
+        rt: &R,
+        token: ReplyToken,
+        part: Part<L>,
+        request: Request,
+        now: Moment,
+        fresh: Uuid,
+    ) -> Result<bool, (ReplyToken, Part<L>)>
+        ensures { IfErr result (λ refused. call_of refused.0 ≡ call_of token) }
+    {
+        let mut deliveries = Deliveries::new(self.alloc);
+        let mut desk = self.desk.lock(rt);
+        desk.request(rt, token, part, request, now, fresh, &mut deliveries)?;
+        let has_pending = desk.has_pending();
+        drop(desk);
+        deliveries.send_all(rt);
+        Ok(has_pending)
     }
 
-    /// Takes a batch, appends it and settles it: its replies leave. Nothing tells when a command is pending, so a flusher
-    /// calls again and again.
-    pub fn flush_round<R: Wait>(&self, rt: &R) -> Result<RoundEnd, RoundFault> {
-        let taken = self.desk.lock(rt).take(rt);
-        let (batch, part) = match taken? {
-            Taken::Batch(batch, part) => (batch, part),
-            Taken::End(end) => return Ok(end),
-        };
-        let appended = self.store.lock(rt).append(batch, part);
-        match appended {
-            Ok(receipt) => self.desk.lock(rt).settle(rt, receipt),
-            Err((fault, batch, part)) => self.desk.lock(rt).refused(rt, fault, batch, part),
+    // Frees the desk lock, notifies a thread in `await_commands` if commands are pending, and sends the answers.
+    fn unlock<R: Wait>(
+        &self,
+        rt: &R,
+        desk: MutexGuard<'_, DeskSide<L>>,
+        deliveries: Deliveries<L>,
+    ) {
+        let has_pending = desk.has_pending();
+        drop(desk);
+        if has_pending {
+            self.pending.notify_one();
         }
+        deliveries.send_all(rt);
+    }
+
+    /// Runs the time-dependent rules.
+    pub fn tick<R: Wait>(&self, rt: &R, now: Moment) -> Result<RoundEnd, RoundFault> {
+        let mut deliveries = Deliveries::new(self.alloc);
+        let mut desk = self.desk.lock(rt);
+        let end = desk.tick(rt, now, &mut deliveries);
+        self.unlock(rt, desk, deliveries);
+        end
+    }
+
+    /// Waits until a flush round has something to do, until `wake` is called, or for this time.
+    pub fn await_commands<R: Wait + Clock>(&self, rt: &R, most: Duration) {
+        let (mut desk, _) = self
+            .pending
+            .wait_timeout_while(rt, self.desk.lock(rt), most, |desk| !desk.ends_wait());
+        desk.clear_wake();
+    }
+
+    /// Ends the wait of whoever waits for commands, or else the next one.
+    pub fn wake<R: Wait>(&self, rt: &R) {
+        self.desk.lock(rt).wake();
+        self.pending.notify_one();
+    }
+
+    /// Takes a batch, appends it and settles it: its replies leave. A flusher calls this whenever `await_commands`
+    /// returns.
+    pub fn flush_round<R: Wait>(&self, rt: &R) -> Result<RoundEnd, RoundFault> {
+        match self.take(rt)? {
+            Taken::Batch(batch, part) => self.store_batch(rt, batch, part),
+            Taken::End(end) => Ok(end),
+        }
+    }
+
+    // Takes a batch from the desk.
+    fn take<R: Wait>(&self, rt: &R) -> Result<Taken<L>, RoundFault> {
+        let mut deliveries = Deliveries::new(self.alloc);
+        let taken = self.desk.lock(rt).take(rt, &mut deliveries);
+        deliveries.send_all(rt);
+        taken
+    }
+
+    // Appends a batch, and settles it or gives it back.
+    fn store_batch<R: Wait>(
+        &self,
+        rt: &R,
+        batch: Batch,
+        part: Part<L>,
+    ) -> Result<RoundEnd, RoundFault> {
+        let appended = self.store.lock(rt).append(batch, part);
+        let mut deliveries = Deliveries::new(self.alloc);
+        let mut desk = self.desk.lock(rt);
+        let end = match appended {
+            Ok(receipt) => desk.settle(rt, receipt, &mut deliveries),
+            Err((fault, batch, part)) => desk.refused(rt, fault, batch, part, &mut deliveries),
+        };
+        self.unlock(rt, desk, deliveries);
+        end
+    }
+
+    // Refuses every pending call, since the disk failed.
+    fn fail<R: Wait>(&self, rt: &R) {
+        let mut deliveries = Deliveries::new(self.alloc);
+        self.desk.lock(rt).fail(rt, &mut deliveries);
+        deliveries.send_all(rt);
     }
 
     /// Does the next step of the compaction under way, or begins one if there is none: for a caller that looked at
@@ -192,7 +301,7 @@ impl<D: SectorDisk + Drop, L: Ledger> Engine<D, L> {
             Some(Err(CompactFault::Memory)) => Err(RoundFault::Memory),
             Some(Err(CompactFault::NoRoom)) => Ok(RoundEnd::Skipped(Skip::NoRoom)),
             Some(Err(CompactFault::Device)) => {
-                self.desk.lock(rt).fail(rt);
+                self.fail(rt);
                 Err(RoundFault::Device)
             }
             // The step of the phase is never in the wrong phase.

@@ -16,8 +16,8 @@ use crate::store_side::StoreSide;
 use cg_disk::SectorDisk;
 use cg_trail::Trail;
 use std::alloc::{AllocError, Global};
-use std::sync::Mutex;
 use std::sync::ledger::Ledger;
+use std::sync::{Condvar, Mutex};
 
 // Returns whether one of the passes has this number. If they are in the order of their numbers, it looks at one.
 fn has_number<L: Ledger>(passes: &[SessionPass<L>], number: u64) -> bool
@@ -172,6 +172,7 @@ impl<D: SectorDisk + Drop, L: Ledger> Engine<D, L> {
             trail,
             desk,
             store,
+            pending: _,
         } = self;
         let desk = desk.into_inner();
         let store = store.into_inner();
@@ -183,6 +184,7 @@ impl<D: SectorDisk + Drop, L: Ledger> Engine<D, L> {
                     trail,
                     desk: Mutex::new(desk),
                     store: Mutex::new(store),
+                    pending: Condvar::new(),
                 };
                 Err((fault, engine, passes))
             }
@@ -201,6 +203,7 @@ impl<D: SectorDisk + Drop, L: Ledger> Engine<D, L> {
             trail: _,
             desk,
             store,
+            pending: _,
         } = self;
         let Closed {
             front,

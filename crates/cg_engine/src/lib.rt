@@ -5,11 +5,13 @@
 
 mod answer;
 mod appended;
+mod before_wait;
 mod booked;
 mod bounds;
 mod caller;
 mod closed;
 mod copies;
+mod delivery;
 mod desk_side;
 mod engine;
 mod fault;
@@ -24,6 +26,7 @@ mod store_calls;
 mod store_side;
 mod units;
 
+pub use before_wait::BeforeWait;
 pub use bounds::{CALLS_MAX, PARTS, PASSES_MAX};
 pub use closed::Closed;
 pub use engine::Engine;
