@@ -1,6 +1,7 @@
 """The gate of this repository, and its parts. Run by `make`:
 
   gate sim                proves the script program and what it uses, over kept work, and runs it on standard input
+  gate build PROGRAM ..   proves and builds programs and what they use, over kept work
   gate check [CRATE ..]   proves the crates (all by default), what they use and their tests, over kept work
   gate test               proves every crate from nothing, in a copy, with tests, edits, programs and example scripts;
                           the last line is 'N passed, M failed'
@@ -110,19 +111,36 @@ def run_tasks(tasks, on_done=lambda name: None):
     lanes.run_all(tasks, processors(), on_end, lambda names: say(f"still at {', '.join(names)}"))
 
 
-def sim():
+def build(name):
+    """Proves and builds a program and what it uses, over kept work. Returns its path, or None if it is not proved."""
     crates = crates_of(os.getcwd())
-    program = named(crates, "cg_sim")
+    program = next((it for it in crates if it.name == name and it.is_program), None)
+    if program is None:
+        sys.exit(f"gate: crates.txt names no program {name}")
     needed = [*program.below(), program]
     held = rtlib.lock(needed)
     tasks = [*proofs_of([it for it in crates if it in needed]).values()]
     run_tasks(tasks)
-    if not all(it.ended_well for it in tasks):
-        return 1
     for it in held:
         os.close(it)
+    return f"{program.folder}/out/{program.name}" if all(it.ended_well for it in tasks) else None
+
+
+def sim():
+    program = build("cg_sim")
+    if not program:
+        return 1
     say("proved; running crates/cg_sim/out/cg_sim on standard input")
-    return subprocess.run([f"{program.folder}/out/{program.name}"]).returncode
+    return subprocess.run([program]).returncode
+
+
+def build_all(names):
+    for name in names:
+        program = build(name)
+        if not program:
+            return 1
+        say(f"proved and built {os.path.relpath(program)}")
+    return 0
 
 
 def chosen_of(crates, names):
@@ -247,6 +265,8 @@ def main(words):
         return task(words[1:])
     if words == ["sim"]:
         return sim()
+    if words[:1] == ["build"]:
+        return build_all(words[1:])
     if words == ["test"]:
         return test(os.getcwd())
     if words == ["prose"]:

@@ -1,0 +1,19 @@
+-- What clap finds, seen as rows.
+use Rattle.std.proofs.Common.{◌≡◌, ◌∙◌, ℕ, List, Option, ap, subst, codes}
+use Rattle.clap.specs.Walk.{first_of}
+use Rattle.clap.specs.Words.{Text, first_value, one_of, one_text, rows_of}
+use Rattle.clap.proofs.WalkLemmas.{first_value-rows, one_text-rows}
+use Rattle.clap.specs.declared.parser.matches.Found.{Found}
+use Rattle.cg_server.specs.CommandLine.{AreAsked, AsksFor, HasNumbers, asked_port, port_in, rows_in}
+use Rattle.cg_server.specs.declared.command_line.Arguments.{Arguments}
+
+pub port_rows : (f : Found) (words : List Text) → rows_of f ≡ rows_in words → asked_port (first_value f (codes "listen")) ≡ port_in words
+port_rows f words e = ap asked_port (first_value-rows f (codes "listen") ∙ ap (first_of (codes "listen")) e)
+
+number_rows : (f : Found) (words : List Text) (id : Text) (default number : ℕ) → rows_of f ≡ rows_in words
+    → AsksFor default (one_text f id) number → AsksFor default (one_of id (rows_in words)) number
+number_rows f words id default number e = subst (λ (t : Option Text). AsksFor default t number) (one_text-rows f id ∙ ap (one_of id) e)
+
+pub numbers_rows : (f : Found) (words : List Text) (a : Arguments) → rows_of f ≡ rows_in words → HasNumbers (one_text f) a → AreAsked words a
+numbers_rows f words a e (segments, tick, free) =
+    (number_rows f words (codes "segments") _ _ e segments, number_rows f words (codes "tick-ms") _ _ e tick, number_rows f words (codes "compact-free") _ _ e free)

@@ -1,0 +1,5 @@
+pub mod Accounts
+pub mod Asked
+pub mod Crossing
+pub mod EngineCrossing
+pub mod Written

@@ -1,0 +1,4 @@
+pub mod Address
+pub mod CommandLine
+pub mod Refusing
+pub mod Ending

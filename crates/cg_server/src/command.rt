@@ -1,0 +1,159 @@
+//! The whole program, from the words of its command line to its exit status.
+ghost use Rattle.std.specs.Prelude.{◌≡◌, ◌≢◌, ◌⊎◌, None, map, []};
+ghost use Rattle.clap.specs.Words.{kind_of};
+ghost use Rattle.cg_server.specs.CommandLine.{faults_of, port_in};
+ghost use Rattle.cg_server.specs.Ending.{EndsSomehow, IsRefused, Refuses};
+
+use crate::command_line::{Arguments, LogPlace, Refusal, parse_words};
+use crate::disks::{found_file, new_file, new_memory};
+use crate::serve::{refuse, serve};
+use crate::stop::{STATUS_USAGE, Stop};
+use cg_disk::SectorDisk;
+use clap::Error;
+use clap::error::ErrorKind;
+use std::alloc::Global;
+use std::convert::AsStr;
+use std::io::{Eprint, Write};
+use std::net::{Ipv4Addr, Net, SocketAddr, TcpListener, TcpStream};
+use std::random::RandomSource;
+use std::rt::Files;
+use std::sync::Wait;
+use std::thread::Threads;
+use std::time::Clock;
+
+/// What standard error has of an address that is not on loopback.
+const BAD_ADDRESS: &[u8] = b"\
+error: invalid value for '--listen <ADDR>': an address is 127.0.0.1: and a port from 0 to 65535
+
+For more information, try '--help'.
+";
+
+/// Runs the server as the words ask for it, which are those of the command line without the program's name. Returns the
+/// exit status. Prints what is wrong with the words, and help, to `faults`.
+pub fn command<
+    E: Alloc<A = Global>
+        + Files
+        + Threads
+        + Wait
+        + Clock
+        + RandomSource
+        + Net<Listener = TcpListener, Stream = TcpStream>
+        + Eprint
+        + Sync,
+    S: AsStr,
+    W: Write,
+    F: Write,
+>(rt: &E, words: &[S], writer: &mut W, faults: &mut F) -> u8
+where
+    E::File: Send,
+    ensures serves { faults_of (map S.text words.now) ≡ [] → port_in (map S.text words.now) ≢ None → EndsSomehow result (W.contents writer.old) (W.contents writer.new) }
+    ensures address { port_in (map S.text words.now) ≡ None → IsRefused result (W.contents writer.old) (W.contents writer.new) }
+    ensures refuses { faults_of (map S.text words.now) ≢ [] → IsRefused result (W.contents writer.old) (W.contents writer.new) }
+{
+    match parse_words(rt.alloc(), words) {
+        Ok(arguments) => serve_place(rt, &arguments, writer),
+        Err(Refusal::Words(error)) => refuse_words(&error, writer, faults),
+        Err(Refusal::Address) => refuse_address(faults),
+    }
+}
+
+// Serves the log where the words say that it is.
+fn serve_place<
+    E: Alloc<A = Global>
+        + Files
+        + Threads
+        + Wait
+        + Clock
+        + RandomSource
+        + Net<Listener = TcpListener, Stream = TcpStream>
+        + Eprint
+        + Sync,
+    W: Write,
+>(rt: &E, arguments: &Arguments<'_>, writer: &mut W) -> u8
+where
+    E::File: Send,
+    ensures { EndsSomehow result (W.contents writer.old) (W.contents writer.new) }
+{
+    let segments = arguments.segments;
+    match arguments.place {
+        LogPlace::Memory => serve_made(rt, new_memory(rt.alloc(), segments), arguments, writer),
+        LogPlace::NewFile(path) => {
+            serve_made(
+                rt,
+                new_file(rt, rt.alloc(), path, segments),
+                arguments,
+                writer,
+            )
+        }
+        LogPlace::File(path) => serve_made(rt, found_file(rt, path), arguments, writer),
+    }
+}
+
+// Serves a disk, unless it was not made.
+fn serve_made<
+    D: SectorDisk + Drop + Send,
+    E: Alloc<A = Global>
+        + Threads
+        + Wait
+        + Clock
+        + RandomSource
+        + Net<Listener = TcpListener, Stream = TcpStream>
+        + Eprint
+        + Sync,
+    W: Write,
+>(rt: &E, made: Result<D, Stop>, arguments: &Arguments<'_>, writer: &mut W) -> u8
+    ensures { EndsSomehow result (W.contents writer.old) (W.contents writer.new) }
+{
+    let disk = match made {
+        Ok(disk) => disk,
+        Err(stop) => return refuse_start(writer, stop),
+    };
+    match bound(rt, arguments) {
+        Ok(listener) => serve(rt, listener, disk, arguments.options, writer),
+        Err(stop) => refuse_start(writer, stop),
+    }
+}
+
+// Prints why the server does not begin. Returns the exit status.
+fn refuse_start<W: Write>(writer: &mut W, stop: Stop) -> u8
+    ensures { EndsSomehow result (W.contents writer.old) (W.contents writer.new) }
+{
+    refuse(writer, stop)
+}
+
+// Binds the address, unless no connection is to be served.
+fn bound<E: Net<Listener = TcpListener, Stream = TcpStream>>(
+    rt: &E,
+    arguments: &Arguments<'_>,
+) -> Result<Option<TcpListener>, Stop> {
+    if arguments.options.connections == Some(0) {
+        return Ok(None);
+    }
+    let address = SocketAddr::from((Ipv4Addr::LOCALHOST, arguments.port));
+    match TcpListener::bind(rt, address) {
+        Ok(listener) => Ok(Some(listener)),
+        Err(_) => Err(Stop::Net),
+    }
+}
+
+// Prints the text of `clap` for words that it refused, unless it ran out of memory.
+fn refuse_words<W: Write, F: Write>(error: &Error, writer: &mut W, faults: &mut F) -> u8
+    ensures { ((kind_of error.now ≡ ErrorKind.OutOfMemory) × Refuses Stop.Memory result (W.contents writer.old) (W.contents writer.new))
+        ⊎ ((kind_of error.now ≢ ErrorKind.OutOfMemory) × (result ≡ STATUS_USAGE) × (W.contents writer.new ≡ W.contents writer.old)) }
+{
+    match error.kind() {
+        ErrorKind::OutOfMemory => refuse(writer, Stop::Memory),
+        _ => {
+            let _unwritten = write!(faults, "{error}");
+            STATUS_USAGE
+        }
+    }
+}
+
+// Says what an address is.
+fn refuse_address<F: Write>(faults: &mut F) -> u8
+    ensures { result ≡ STATUS_USAGE }
+{
+    let _unwritten = faults.write_all(BAD_ADDRESS);
+    STATUS_USAGE
+}

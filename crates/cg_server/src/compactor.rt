@@ -1,0 +1,71 @@
+//! The compactor.
+use crate::server::Server;
+use cg_disk::SectorDisk;
+use cg_engine::{RoundEnd, RoundFault};
+use std::sync::Wait;
+use std::sync::ledger::Ledger;
+use std::time::{Clock, Duration};
+
+// What a round of a compaction asks for.
+#[derive(Clone, Copy, Debug, Drop, PartialEq, Eq)]
+enum After {
+    /// The next round at once: the compaction is under way.
+    Again,
+    /// A pause of one tick.
+    Pause,
+    /// The same, and a look of the flusher: there may be room now, or the disk failed.
+    Notify,
+}
+
+// Returns whether a compaction is under way: only then is one wanted where no free segment is asked for.
+fn is_under_way<D: SectorDisk + Drop, L: Ledger, R: Wait>(
+    rt: &R,
+    server: &Server<'_, D, L>,
+) -> bool {
+    server.engine.compact_wanted(rt, 0)
+}
+
+// Does one round of a compaction if one is wanted. A switch, a round that was skipped and a fault are followed by a pause.
+fn compact_once<D: SectorDisk + Drop, L: Ledger, R: Wait>(
+    rt: &R,
+    server: &Server<'_, D, L>,
+) -> After {
+    let least = server.options.compact_free;
+    if !server.is_full() && !server.engine.compact_wanted(rt, least) {
+        return After::Pause;
+    }
+    let was_under_way = is_under_way(rt, server);
+    match server.engine.compact_round(rt) {
+        Ok(RoundEnd::Done) if is_under_way(rt, server) => After::Again,
+        Ok(RoundEnd::Done) | Err(RoundFault::Device | RoundFault::Failed) => After::Notify,
+        // What a compaction had taken is free again.
+        Ok(RoundEnd::Skipped(_)) if was_under_way => After::Notify,
+        Ok(RoundEnd::Nothing | RoundEnd::Skipped(_)) | Err(RoundFault::Memory) => After::Pause,
+    }
+}
+
+/// Compacts the log until the server is over, whenever too few segments are free or the log is full. The bell rings when
+/// the log becomes full: then the next compaction begins without a pause.
+pub fn compact_until_over<D: SectorDisk + Drop, L: Ledger, R: Wait + Clock>(
+    rt: &R,
+    server: &Server<'_, D, L>,
+) {
+    let pause = Duration::from_millis(server.options.tick_ms);
+    for _ in rt.forever() {
+        // A ring from before this round is met by this round. The end of the server is noted before its ring.
+        server.compact.hush(rt);
+        if server.is_over() {
+            return;
+        }
+        match compact_once(rt, server) {
+            After::Again => {}
+            After::Pause => {
+                server.compact.wait(rt, pause);
+            }
+            After::Notify => {
+                server.wake_flusher(rt);
+                server.compact.wait(rt, pause);
+            }
+        }
+    }
+}

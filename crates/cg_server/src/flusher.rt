@@ -1,0 +1,112 @@
+//! The flusher.
+use crate::server::Server;
+use cg_disk::SectorDisk;
+use cg_engine::{RoundEnd, RoundFault, Skip};
+use std::io::Eprint;
+use std::sync::Wait;
+use std::sync::ledger::Ledger;
+use std::time::{Clock, Duration};
+
+/// How flushing ends.
+#[derive(Clone, Copy, Debug, Drop, PartialEq, Eq)]
+pub enum FlushEnd {
+    /// The server is over.
+    Over,
+    /// The disk failed.
+    Device,
+}
+
+// What a flush round asks for.
+enum After {
+    /// The next round at once.
+    Again,
+    /// A sleep until commands wait for the disk: none does now.
+    Sleep,
+    /// The same while another thread stores a batch.
+    InFlight,
+    /// A pause of one tick: the log is full.
+    Full,
+    /// A pause of one tick: an allocation failed.
+    Tick,
+    /// The end: the disk failed.
+    End,
+}
+
+fn next_after(ended: Result<RoundEnd, RoundFault>) -> After {
+    match ended {
+        Ok(RoundEnd::Done) => After::Again,
+        Ok(RoundEnd::Skipped(Skip::Full)) => After::Full,
+        Ok(RoundEnd::Nothing | RoundEnd::Skipped(Skip::NoRoom)) => After::Sleep,
+        Ok(RoundEnd::Skipped(Skip::InFlight)) => After::InFlight,
+        Err(RoundFault::Memory) => After::Tick,
+        Err(RoundFault::Device | RoundFault::Failed) => After::End,
+    }
+}
+
+// Says once, on standard error and to the compactor, that the log is full.
+fn begin_full<D: SectorDisk + Drop, L: Ledger, R: Wait + Eprint>(
+    rt: &R,
+    server: &Server<'_, D, L>,
+) {
+    if !server.is_full() {
+        let free = server.engine.free_count(rt);
+        let _ = eprintln!(rt;
+            "cg_server: the log is full, {free} segments free: no reply leaves before it has room"
+        );
+        server.begin_full(rt);
+    }
+}
+
+// Says once, on standard error, that the log has room again.
+fn end_full<D: SectorDisk + Drop, L: Ledger, R: Wait + Eprint>(rt: &R, server: &Server<'_, D, L>) {
+    if server.is_full() {
+        let free = server.engine.free_count(rt);
+        let _ = eprintln!(rt; "cg_server: the log has room again, {free} segments free");
+        server.end_full();
+    }
+}
+
+/// Stores what waits for the disk until the server is over or the disk fails. Goes to the next batch at once while
+/// commands wait, and sleeps where none does.
+pub fn flush_until_over<D: SectorDisk + Drop, L: Ledger, R: Wait + Clock + Eprint>(
+    rt: &R,
+    server: &Server<'_, D, L>,
+) -> FlushEnd {
+    let tick = Duration::from_millis(server.options.tick_ms);
+    for _ in rt.forever() {
+        if server.is_over() {
+            return FlushEnd::Over;
+        }
+        match next_after(server.engine.flush_round(rt)) {
+            After::Again => end_full(rt, server),
+            After::Sleep => {
+                end_full(rt, server);
+                server.engine.await_commands(rt, tick);
+            }
+            After::InFlight => server.engine.await_commands(rt, tick),
+            After::Full => {
+                begin_full(rt, server);
+                server.flush.wait(rt, tick);
+            }
+            After::Tick => {
+                server.flush.wait(rt, tick);
+            }
+            After::End => return FlushEnd::Device,
+        }
+    }
+    unreachable!()
+}
+
+/// Waits until the server is over.
+pub fn wait_until_over<D: SectorDisk + Drop, L: Ledger, R: Wait + Clock>(
+    rt: &R,
+    server: &Server<'_, D, L>,
+) {
+    let tick = Duration::from_millis(server.options.tick_ms);
+    for _ in rt.forever() {
+        if server.is_over() {
+            return;
+        }
+        server.flush.wait(rt, tick);
+    }
+}

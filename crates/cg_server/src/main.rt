@@ -1,0 +1,70 @@
+//! Serves consumer groups on the loopback address (docs/PROTOCOL.md): a listener, an engine over a disk in a file or in
+//! memory, and one worker for each connection.
+#![tactic(auto)]
+
+mod acceptor;
+mod address;
+mod bell;
+mod command;
+mod command_line;
+mod compactor;
+mod crew;
+mod disks;
+mod flusher;
+mod moments;
+mod options;
+mod outbox;
+mod output;
+mod serve;
+mod server;
+mod session;
+mod stop;
+mod storage_thread;
+mod streams;
+mod ticker;
+mod worker;
+
+pub use command::command;
+pub use options::Options;
+pub use serve::serve;
+use std::env;
+use std::io::{self, ErrorKind, Write};
+use std::process::ExitCode;
+pub use stop::{STATUS_CLOSED, STATUS_DISK, STATUS_NET, STATUS_USAGE, Stop};
+
+fn main(rt: HostRuntime) -> ExitCode {
+    let mut writer = io::writer(&rt);
+    let stderr = rt.stderr();
+    let mut faults = &stderr;
+    match words(&rt) {
+        Ok(words) => {
+            let words = after_name(words.as_slice());
+            ExitCode::from(command(&rt, words, &mut writer, &mut faults))
+        }
+        Err(error) => ExitCode::from(refuse_encoding(&error, &mut writer, &mut faults)),
+    }
+}
+
+// Copies the words of the command line.
+fn words(rt: &HostRuntime) -> io::Result<Vec<String>> {
+    Ok(env::args(rt)?.collect(rt.alloc())?)
+}
+
+// Returns the words after the program's name.
+fn after_name(words: &[String]) -> &[String] {
+    match words {
+        [_, rest @ ..] => rest,
+        [] => words,
+    }
+}
+
+// Reports why the words could not be copied: one is not text, or an allocation failed.
+fn refuse_encoding<W: Write, F: Write>(error: &io::Error, writer: &mut W, faults: &mut F) -> u8 {
+    match error.kind() {
+        ErrorKind::OutOfMemory => serve::refuse(writer, Stop::Memory),
+        _ => {
+            let _unwritten = faults.write_all(b"error: a word on the command line is not UTF-8\n");
+            STATUS_USAGE
+        }
+    }
+}

@@ -1,0 +1,164 @@
+//! What the threads of a server share.
+use crate::bell::Bell;
+use crate::moments::Moments;
+use crate::options::Options;
+use crate::streams::Streams;
+use cg_disk::SectorDisk;
+use cg_engine::{Engine, SessionPass};
+use std::alloc::Global;
+use std::net::{Net, SocketAddr, TcpStream};
+use std::sync::atomic::{AtomicBool, Ordering};
+use std::sync::ledger::Ledger;
+use std::sync::{Mutex, Wait};
+use std::thread;
+use std::time::{Clock, Duration};
+
+/// Number of times that a server which closes tries to connect to itself.
+const CONNECTS_MAX: u32 = 1_000;
+
+/// Pause between two of them, in milliseconds.
+const CONNECT_PAUSE_MS: u64 = 10;
+
+/// What the threads of a server share.
+#[derive(Drop)]
+pub struct Server<'a, D: SectorDisk, L: Ledger> {
+    pub alloc: Global,
+    pub engine: &'a Engine<D, L>,
+    pub options: Options,
+    pub moments: Moments,
+    pub streams: Streams,
+    /// Wakes the flusher while the log is full, an allocation failed or the disk failed.
+    pub flush: Bell,
+    /// Wakes the compactor.
+    pub compact: Bell,
+    /// Wakes the ticker.
+    pub tick: Bell,
+    /// The address that the server listens on.
+    address: SocketAddr,
+    // Passes that no worker has.
+    passes: Mutex<Vec<SessionPass<L>>>,
+    // Whether the thread that accepts connections runs.
+    begun: AtomicBool,
+    // Whether connections are no longer accepted.
+    closing: AtomicBool,
+    // Whether the last worker has ended.
+    over: AtomicBool,
+    // Whether the log has no room for the next batch.
+    full: AtomicBool,
+}
+
+impl<'a, D: SectorDisk + Drop, L: Ledger> Server<'a, D, L> {
+    /// Creates the shared part of a server that listens on this address.
+    pub fn new(
+        alloc: Global,
+        engine: &'a Engine<D, L>,
+        options: Options,
+        address: SocketAddr,
+    ) -> Self {
+        Server {
+            alloc,
+            engine,
+            options,
+            moments: Moments::new(),
+            streams: Streams::new(alloc),
+            flush: Bell::new(),
+            compact: Bell::new(),
+            tick: Bell::new(),
+            address,
+            passes: Mutex::new(Vec::new(alloc)),
+            begun: AtomicBool::new(false),
+            closing: AtomicBool::new(false),
+            over: AtomicBool::new(false),
+            full: AtomicBool::new(false),
+        }
+    }
+
+    /// Returns a pass that a worker gave back, or else a new one. Returns `None` if there is none to be had.
+    pub fn take_pass<R: Wait>(&self, rt: &R) -> Option<SessionPass<L>> {
+        let idle = self.passes.lock(rt).pop();
+        match idle {
+            Some(pass) => Some(pass),
+            None => self.engine.pass(rt).ok(),
+        }
+    }
+
+    /// Keeps a pass for the next worker.
+    pub fn give_pass<R: Wait>(&self, rt: &R, pass: SessionPass<L>) {
+        let _ = self.passes.lock(rt).push(pass);
+    }
+
+    /// Notes that the thread that accepts connections runs.
+    pub fn begin(&self) {
+        self.begun.store(true, Ordering::SeqCst);
+    }
+
+    /// Returns whether the thread that accepts connections runs.
+    pub fn has_begun(&self) -> bool {
+        self.begun.load(Ordering::SeqCst)
+    }
+
+    /// Returns whether connections are no longer accepted.
+    pub fn is_closing(&self) -> bool {
+        self.closing.load(Ordering::SeqCst)
+    }
+
+    /// Returns whether the last worker has ended.
+    pub fn is_over(&self) -> bool {
+        self.over.load(Ordering::SeqCst)
+    }
+
+    /// Returns whether the log has no room for the next batch.
+    pub fn is_full(&self) -> bool {
+        self.full.load(Ordering::SeqCst)
+    }
+
+    /// Notes that the log has no room for the next batch, and wakes the compactor.
+    pub fn begin_full<R: Wait>(&self, rt: &R) {
+        self.full.store(true, Ordering::SeqCst);
+        self.compact.ring(rt);
+    }
+
+    /// Notes that the log has room again.
+    pub fn end_full(&self) {
+        self.full.store(false, Ordering::SeqCst);
+    }
+
+    /// Accepts no more connections, and shuts down the open ones.
+    pub fn refuse<R: Wait>(&self, rt: &R) {
+        self.closing.store(true, Ordering::SeqCst);
+        self.streams.shut_down(rt);
+    }
+
+    /// Accepts no more connections, and shuts down the open ones. Connects to the server once, so that the thread that
+    /// waits for a connection wakes up.
+    pub fn close<R: Wait + Clock + Net>(&self, rt: &R) {
+        self.refuse(rt);
+        for _ in 0..CONNECTS_MAX {
+            if TcpStream::connect(rt, self.address).is_ok() {
+                return;
+            }
+            // No descriptor is free until a worker has ended.
+            thread::sleep(rt, Duration::from_millis(CONNECT_PAUSE_MS));
+        }
+    }
+
+    /// Wakes the flusher, whatever it waits for.
+    pub fn wake_flusher<R: Wait>(&self, rt: &R) {
+        self.engine.wake(rt);
+        self.flush.ring(rt);
+    }
+
+    /// Prints the other threads that the last worker has ended.
+    pub fn end<R: Wait>(&self, rt: &R) {
+        self.over.store(true, Ordering::SeqCst);
+        self.wake_flusher(rt);
+        self.compact.ring(rt);
+        self.tick.ring(rt);
+    }
+
+    /// Returns the passes, once no worker is left.
+    pub fn into_passes(self) -> Vec<SessionPass<L>> {
+        let Server { passes, .. } = self;
+        passes.into_inner()
+    }
+}
