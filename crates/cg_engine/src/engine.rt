@@ -33,6 +33,10 @@ use std::thread;
 use std::time::{Clock, Duration};
 use uuid::Uuid;
 
+/// Looks at a desk lock that is taken, before a caller sleeps until it is free. The lock is held for about a microsecond at a
+/// time, and a sleep with its wake-up takes longer.
+const LOCK_LOOKS: u32 = 32;
+
 /// A desk and a store behind two locks, for any number of threads. No thread holds both locks. An engine loads one disk,
 /// once. It has no thread of its own: its callers flush, tick and compact.
 pub struct Engine<D: SectorDisk, L: Ledger> {
@@ -189,6 +193,17 @@ impl<D: SectorDisk + Drop, L: Ledger> Engine<D, L> {
         }
     }
 
+    // Takes the desk lock for a call. While other callers have it, lets them run for a few looks before it sleeps.
+    fn lock_desk<R: Wait>(&self, rt: &R) -> MutexGuard<'_, DeskSide<L>> {
+        for _ in 0..LOCK_LOOKS {
+            if let Some(desk) = self.desk.try_lock() {
+                return desk;
+            }
+            thread::yield_now();
+        }
+        self.desk.lock(rt)
+    }
+
     // Hands a request to the desk, and sends the answers that it makes. Returns whether commands wait for a batch, and none
     // is in flight.
     fn ask<R: Wait>(
@@ -203,7 +218,7 @@ impl<D: SectorDisk + Drop, L: Ledger> Engine<D, L> {
         ensures { IfErr result (λ refused. call_of refused.0 ≡ call_of token) }
     {
         let mut deliveries = Deliveries::new(self.alloc);
-        let mut desk = self.desk.lock(rt);
+        let mut desk = self.lock_desk(rt);
         desk.request(rt, token, part, request, now, fresh, &mut deliveries)?;
         let has_pending = desk.has_pending();
         drop(desk);

@@ -1,2 +1,6 @@
-//! Tests of an engine, on a disk in memory.
+//! Threads over one engine, on a disk in memory. A turn is one look and a pause of a millisecond.
+mod actor;
 mod reports;
+mod scenario;
+mod scripts;
+mod storm;

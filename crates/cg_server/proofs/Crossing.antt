@@ -8,7 +8,7 @@ use Rattle.std.proofs.alloc.Global.TheSendSync as global
 use Rattle.std.proofs.sync.Mutex.TheSendSync as mutex
 use Rattle.std.specs.declared.sync.ledger.Ledger as ledger
 use Rattle.cg_disk.specs.declared.disk.SectorDisk as disk
-use Rattle.cg_server.proofs.EngineCrossing.{engine_shared}
+use Rattle.cg_engine.proofs.Crossing.{engine_shared}
 use Rattle.cg_engine.proofs.pass.SessionPass.TheSendSync as pass
 use Rattle.cg_server.specs.contracts.server.Server as Server
 use Rattle.cg_server.proofs.bell.Bell.TheSendSync as bell

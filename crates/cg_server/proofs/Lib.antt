@@ -1,5 +1,4 @@
 pub mod Accounts
 pub mod Asked
 pub mod Crossing
-pub mod EngineCrossing
 pub mod Written

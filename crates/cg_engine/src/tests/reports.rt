@@ -2,6 +2,7 @@
 ghost use Rattle.std.specs.Prelude.{◌≡◌, ◌≤◌};
 ghost use Rattle.cg_engine.specs.declared.bounds.TheConstants.{PARTS};
 
+use super::scenario::formatted;
 use crate::{Engine, FinishFault, LoadFault, PARTS, RoundEnd};
 use cg_disk::MemDisk;
 use cg_names::Moment;
@@ -10,14 +11,6 @@ use std::marker::Brand;
 use std::sync::Wait;
 use std::sync::ledger::{Blank, Ledger};
 use std::test::Fail;
-
-const SEGMENTS: u64 = 8;
-
-pub(super) fn formatted(alloc: Global) -> Option<MemDisk> {
-    let mut disk = MemDisk::new(alloc, 4 + 2048 * SEGMENTS).ok()?;
-    cg_store::format(alloc, &mut disk).ok()?;
-    Some(disk)
-}
 
 // Returns whether `finish` wants a pass that is not handed in.
 fn misses_a_pass<L: Ledger>(alloc: Global, engine: Engine<MemDisk, L>) -> bool {

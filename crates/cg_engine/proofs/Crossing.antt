@@ -1,4 +1,4 @@
--- An engine may be shared among threads.
+-- Values that may go to another thread.
 use denote.RattleType.{RattleType}
 use denote.Param.Send.{IsSend, IsSync, sendable, enum_send, struct_send, struct_sync, recorded_send, recorded_sync, view_send}
 use denote.Struct.Declared.{shape}
