@@ -31,17 +31,122 @@ pub enum Benchmark<'a> {
     CompactPart(CompactPart, &'a str),
 }
 
-fn file<'a>(alloc: Global) -> Arg<'a> {
-    Arg::new(alloc, "FILE").required(true).help(
-        "A file on the disk to be measured; it is made and removed",
-    )
+/// Benchmark with parts that run alone.
+#[derive(Clone, Copy)]
+enum Parts {
+    Fold,
+    Load,
+    Compact,
 }
 
-// An argument with these words, of which none or one is given.
-fn part<'a>(alloc: Global, names: &'a [&'a str]) -> Arg<'a> {
-    Arg::new(alloc, "PART")
-        .value_parser(names)
-        .help("One part, run once, for its peak of memory")
+impl Parts {
+    fn names(self) -> &'static [&'static str] {
+        match self {
+            Parts::Fold => NAMES.as_slice(),
+            Parts::Load => once::NAMES.as_slice(),
+            Parts::Compact => compact_once::NAMES.as_slice(),
+        }
+    }
+}
+
+/// Subcommand without subcommands.
+#[derive(Clone, Copy)]
+struct Leaf {
+    name: &'static str,
+    about: &'static str,
+    has_file: bool,
+    /// The benchmark of which it runs one part, if the command line names one.
+    parts: Option<Parts>,
+}
+
+/// Subcommands of `bench` before `desk`.
+static BEFORE_DESK: [Leaf; 3] = [
+    Leaf {
+        name: "frames",
+        about: "Frames appended per second, beside a plain program",
+        has_file: true,
+        parts: None,
+    },
+    Leaf {
+        name: "groups",
+        about: "Events of the group machine per second",
+        has_file: false,
+        parts: None,
+    },
+    Leaf {
+        name: "fold",
+        about: "The durable state: apply, snapshot, load and step",
+        has_file: false,
+        parts: Some(Parts::Fold),
+    },
+];
+
+/// Subcommands of `desk`.
+static DESK: [Leaf; 3] = [
+    Leaf {
+        name: "commits",
+        about: "Commits per second, beside the disk alone",
+        has_file: true,
+        parts: None,
+    },
+    Leaf {
+        name: "settles",
+        about: "The settling of a batch, by the replies that leave and those that stay",
+        has_file: false,
+        parts: None,
+    },
+    Leaf {
+        name: "requests",
+        about: "Requests per second, by the calls whose replies are held",
+        has_file: false,
+        parts: None,
+    },
+];
+
+/// Subcommands of `bench` after `desk`.
+static AFTER_DESK: [Leaf; 3] = [
+    Leaf {
+        name: "lines",
+        about: "Bytes of lines read and printed per second",
+        has_file: false,
+        parts: None,
+    },
+    Leaf {
+        name: "load",
+        about: "Logs loaded, beside a plain read, and appends that roll",
+        has_file: true,
+        parts: Some(Parts::Load),
+    },
+    Leaf {
+        name: "compact",
+        about: "A log compacted, beside a plain copy, and beside commits",
+        has_file: true,
+        parts: Some(Parts::Compact),
+    },
+];
+
+fn arguments<'a>(alloc: Global, leaf: &Leaf) -> Result<Vec<Arg<'a>>, AllocError> {
+    let mut arguments = Vec::new(alloc);
+    if leaf.has_file {
+        let file = Arg::new(alloc, "FILE").required(true).help(
+            "A file on the disk to be measured; it is made and removed",
+        );
+        arguments.push(file)?;
+    }
+    if let Some(parts) = leaf.parts {
+        let part = Arg::new(alloc, "PART")
+            .value_parser(parts.names())
+            .help("One part, run once, for its peak of memory");
+        arguments.push(part)?;
+    }
+    Ok(arguments)
+}
+
+fn subcommand<'a>(alloc: Global, leaf: &Leaf) -> Result<Command<'a>, AllocError> {
+    let arguments = arguments(alloc, leaf)?;
+    Command::new(alloc, leaf.name)
+        .about(leaf.about)
+        .args(arguments)
 }
 
 // Adds a subcommand. It drops both if an allocation fails, so its caller has one way out.
@@ -55,65 +160,23 @@ fn with<'a>(
     }
 }
 
-fn frames<'a>(alloc: Global) -> Result<Command<'a>, AllocError> {
-    Command::new(alloc, "frames")
-        .about("Frames appended per second, beside a plain program")
-        .arg(file(alloc))
-}
-
-fn fold<'a>(alloc: Global) -> Result<Command<'a>, AllocError> {
-    Command::new(alloc, "fold")
-        .about("The durable state: apply, snapshot, load and step")
-        .arg(part(alloc, NAMES.as_slice()))
-}
-
-fn load<'a>(alloc: Global) -> Result<Command<'a>, AllocError> {
-    let load = Command::new(alloc, "load")
-        .about("Logs loaded, beside a plain read, and appends that roll")
-        .arg(file(alloc))?;
-    load.arg(part(alloc, once::NAMES.as_slice()))
-}
-
-fn compact<'a>(alloc: Global) -> Result<Command<'a>, AllocError> {
-    let compact = Command::new(alloc, "compact")
-        .about("A log compacted, beside a plain copy, and beside commits")
-        .arg(file(alloc))?;
-    compact.arg(part(alloc, compact_once::NAMES.as_slice()))
-}
-
-fn desk_commits<'a>(alloc: Global) -> Result<Command<'a>, AllocError> {
-    Command::new(alloc, "commits")
-        .about("Commits per second, beside the disk alone")
-        .arg(file(alloc))
-}
-
-fn desk_settles<'a>(alloc: Global) -> Command<'a> {
-    Command::new(alloc, "settles").about(
-        "The settling of a batch, by the replies that leave and those that stay",
-    )
-}
-
-fn desk_requests<'a>(alloc: Global) -> Command<'a> {
-    Command::new(alloc, "requests").about(
-        "Requests per second, by the calls whose replies are held",
-    )
+fn with_all<'a>(
+    alloc: Global,
+    command: Command<'a>,
+    leaves: &[Leaf],
+) -> Result<Command<'a>, AllocError> {
+    let mut command = command;
+    for leaf in leaves {
+        command = with(command, subcommand(alloc, leaf))?;
+    }
+    Ok(command)
 }
 
 fn desk<'a>(alloc: Global) -> Result<Command<'a>, AllocError> {
     let desk = Command::new(alloc, "desk")
         .about("The desk with its store")
         .subcommand_required(true);
-    let desk = with(desk, desk_commits(alloc))?;
-    let desk = with(desk, Ok(desk_settles(alloc)))?;
-    with(desk, Ok(desk_requests(alloc)))
-}
-
-fn groups<'a>(alloc: Global) -> Command<'a> {
-    Command::new(alloc, "groups").about("Events of the group machine per second")
-}
-
-fn lines<'a>(alloc: Global) -> Command<'a> {
-    Command::new(alloc, "lines").about("Bytes of lines read and printed per second")
+    with_all(alloc, desk, DESK.as_slice())
 }
 
 /// Describes the command line.
@@ -121,13 +184,9 @@ pub fn command<'a>(alloc: Global) -> Result<Command<'a>, AllocError> {
     let bench = Command::new(alloc, "bench")
         .about("Measures one part of the coordinator, and prints what it took")
         .subcommand_required(true);
-    let bench = with(bench, frames(alloc))?;
-    let bench = with(bench, Ok(groups(alloc)))?;
-    let bench = with(bench, fold(alloc))?;
+    let bench = with_all(alloc, bench, BEFORE_DESK.as_slice())?;
     let bench = with(bench, desk(alloc))?;
-    let bench = with(bench, Ok(lines(alloc)))?;
-    let bench = with(bench, load(alloc))?;
-    with(bench, compact(alloc))
+    with_all(alloc, bench, AFTER_DESK.as_slice())
 }
 
 fn desk_part<'a>(matches: &ArgMatches<'a>) -> Option<DeskPart<'a>> {

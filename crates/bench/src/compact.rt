@@ -6,12 +6,13 @@ mod plain_copy;
 mod steps;
 mod turns;
 
+use crate::desk::store::reopened;
 use crate::tally::{Median, Tally, thousandths};
 use anyhow::Result;
 use cg_disk::{FileDisk, SectorDisk};
 use cg_gate::{FIRST_SEGMENT_SECTOR, SEGMENT_SECTORS};
 use cg_store::Store;
-use full_log::{FRAMES, Share, TENTH, THREE_TENTHS, fill, open_store};
+use full_log::{FRAMES, Share, TENTH, THREE_TENTHS, fill};
 use plain_copy::copy;
 use std::alloc::Global;
 use std::fs;
@@ -49,7 +50,17 @@ impl Alone {
 
     // Times a compaction of the log in the file. Returns the frames of its snapshot.
     fn compact<R: Clock + Files>(&mut self, rt: &R, alloc: Global, path: &str) -> Result<u64> {
-        let mut store = open_store(rt, alloc, path)?;
+        let disk = FileDisk::open(rt, path, None)?;
+        self.compact_disk(rt, alloc, disk)
+    }
+
+    fn compact_disk<R: Clock, D: SectorDisk + Drop>(
+        &mut self,
+        rt: &R,
+        alloc: Global,
+        disk: D,
+    ) -> Result<u64> {
+        let mut store = reopened(alloc, disk)?;
         self.compact_store(rt, &mut store)
     }
 
@@ -219,13 +230,21 @@ fn measure_turns<R: Clock + Files + Print>(
 /// Measures compactions alone and beside commits, over a file that it creates and removes, and the plain copy over one
 /// more.
 pub fn measure<R: Clock + Files + Print + Alloc<A = Global>>(rt: &R, path: &str) -> Result<()> {
-    let alloc = rt.alloc();
-    let plain_path = format!(in alloc; "{path}.plain")?;
+    let plain_path = format!(in rt.alloc(); "{path}.plain")?;
+    measure_files(rt, rt.alloc(), path, &plain_path)
+}
+
+fn measure_files<R: Clock + Files + Print>(
+    rt: &R,
+    alloc: Global,
+    path: &str,
+    plain_path: &str,
+) -> Result<()> {
     drop(FileDisk::open(rt, path, Some(DISK_SECTORS))?);
-    drop(FileDisk::open(rt, &plain_path, Some(DISK_SECTORS))?);
-    measure_alone(rt, alloc, path, &plain_path, THREE_TENTHS)?;
-    measure_alone(rt, alloc, path, &plain_path, TENTH)?;
-    for commits in COMMITS {
+    drop(FileDisk::open(rt, plain_path, Some(DISK_SECTORS))?);
+    measure_alone(rt, alloc, path, plain_path, THREE_TENTHS)?;
+    measure_alone(rt, alloc, path, plain_path, TENTH)?;
+    for &commits in &COMMITS {
         measure_turns(rt, alloc, path, commits)?;
     }
     fs::remove_file(rt, path)?;

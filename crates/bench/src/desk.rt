@@ -1,7 +1,7 @@
 //! The desk with its store: commits per second beside the disk's own calls, the settling of a batch by the replies that
 //! leave and those that stay, and requests by the number of held replies.
 pub mod batch;
-mod commits;
+pub mod commits;
 mod requests;
 pub mod scene;
 mod settles;

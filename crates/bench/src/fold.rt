@@ -4,7 +4,7 @@ mod commands;
 mod commits;
 mod copy;
 pub mod part;
-mod state;
+pub mod state;
 
 use crate::machine::revived;
 use crate::tally::{RUNS, Tally, hundredths, print_row};
@@ -131,9 +131,20 @@ fn revive<R: Clock>(
 ) -> Result<Groups> {
     let start = Instant::now(rt)?;
     let loaded = revived(alloc, durable)?;
-    tally.add(rt, start, groups)?;
-    ensure!(loaded.held() == groups, "a group is not loaded");
+    add_revival(rt, start, groups, loaded.held(), tally)?;
     Ok(loaded)
+}
+
+fn add_revival<R: Clock>(
+    rt: &R,
+    start: Instant,
+    groups: u64,
+    loaded: u64,
+    tally: &mut Tally,
+) -> Result<()> {
+    tally.add(rt, start, groups)?;
+    ensure!(loaded == groups, "a group is not loaded");
+    Ok(())
 }
 
 // Times one COMMIT to each group.
@@ -176,13 +187,35 @@ fn run_parts<R: Clock>(
         &mut tallies.drop,
     )?;
     let durable = apply(rt, alloc, ascending, groups, &mut tallies.apply)?;
+    read_state(rt, alloc, &durable, groups, tallies)?;
+    load_state(rt, alloc, durable, groups, tallies)
+}
+
+// Runs the parts that leave the state as it is.
+fn read_state<R: Clock>(
+    rt: &R,
+    alloc: Global,
+    durable: &Durable,
+    groups: u64,
+    tallies: &mut Tallies,
+) -> Result<()> {
     let (records, offsets) = durable.counts();
     ensure!(
         offsets / u64::from(OFFSETS) == records,
         "a group lacks an offset"
     );
-    let taken = snapshot(rt, &durable, groups, &mut tallies.snapshot)?;
-    copy_commands(rt, alloc, &taken, groups, &mut tallies.copy)?;
+    let taken = snapshot(rt, durable, groups, &mut tallies.snapshot)?;
+    copy_commands(rt, alloc, &taken, groups, &mut tallies.copy)
+}
+
+// Runs the parts that load the groups.
+fn load_state<R: Clock>(
+    rt: &R,
+    alloc: Global,
+    durable: Durable,
+    groups: u64,
+    tallies: &mut Tallies,
+) -> Result<()> {
     let mut loaded = revive(rt, alloc, durable, groups, &mut tallies.revive)?;
     step_groups(rt, alloc, &mut loaded, &mut tallies.step)
 }
@@ -220,7 +253,7 @@ pub fn measure<R: Clock + Print + Alloc<A = Global>>(rt: &R) -> Result<()> {
     let alloc = rt.alloc();
     let base = measure_groups(rt, alloc, 512)?;
     report(rt, 512, base, base)?;
-    for groups in [1_024, 2_048, 4_096] {
+    for &groups in &[1_024, 2_048, 4_096] {
         let times = measure_groups(rt, alloc, groups)?;
         report(rt, groups, times, base)?;
     }

@@ -1,7 +1,6 @@
 //! Frames appended per second, beside a plain program that writes the same bytes with the same two syncs, over disks in
 //! memory and in files.
-ghost use Rattle.std.specs.Prelude.{◌≡◌, ◌^◌, ◌<◌, ◌≤◌, length};
-ghost use Rattle.cg_disk.specs.Mem.{mem_size};
+ghost use Rattle.std.specs.Prelude.{◌≡◌, ◌^◌, ◌<◌, ◌≤◌};
 
 mod segment;
 
@@ -22,6 +21,13 @@ const SEGMENT: Segment = Segment {
     first: 0,
     sectors: SEGMENT_SECTORS,
 };
+
+/// Payload of a frame, and the frame that the plain program writes for it.
+#[derive(Clone, Copy)]
+struct Frame<'a> {
+    payload: &'a [u8],
+    plain: &'a PlainFrames,
+}
 
 /// Times of the appends and of the plain program.
 #[derive(Drop)]
@@ -57,14 +63,14 @@ fn framed<R: Clock, D: SectorDisk>(
     tally.add(rt, start, frames)
 }
 
-fn plain_on_disk<R: Clock>(
+fn plain_on_disk<R: Clock, D: SectorDisk>(
     rt: &R,
-    disk: &mut MemDisk,
+    disk: &mut D,
     plain: &PlainFrames,
     tally: &mut Tally,
 ) -> Result<()>
-    requires { SEGMENT_SECTORS ≤ mem_size disk.old }
-    ensures { mem_size disk.new ≡ mem_size disk.old }
+    requires { SEGMENT_SECTORS ≤ D.size disk.old }
+    ensures { D.size disk.new ≡ D.size disk.old }
 {
     let start = Instant::now(rt)?;
     let frames = plain.fill_disk(disk, SEGMENT, SEGMENT_SECTORS)?;
@@ -82,12 +88,29 @@ fn plain_in_file<R: Clock, F: Write + Seek + OpenFile>(
     tally.add(rt, start, frames)
 }
 
-// Measures over disks in memory. After each round both disks crash, which empties their undo logs.
-fn in_memory<R: Clock>(rt: &R, alloc: Global, payload: &[u8]) -> Result<Times>
-    requires { length payload.now < 2 ^ 40 }
+fn round_on_disks<R: Clock, D: SectorDisk>(
+    rt: &R,
+    alloc: Global,
+    disk: &mut D,
+    plain_disk: &mut D,
+    frame: Frame<'_>,
+    times: &mut Times,
+) -> Result<()>
+    requires framed { SEGMENT_SECTORS ≤ D.size disk.old }
+    requires plain { SEGMENT_SECTORS ≤ D.size plain_disk.old }
+    ensures framed { D.size disk.new ≡ D.size disk.old }
+    ensures plain { D.size plain_disk.new ≡ D.size plain_disk.old }
 {
-    let plain = PlainFrames::new(alloc, payload)?;
+    let Frame { payload, plain } = frame;
     let most = SEGMENT_SECTORS;
+    framed(rt, alloc, disk, payload, most, &mut times.framed)?;
+    plain_on_disk(rt, plain_disk, plain, &mut times.plain)?;
+    plain_on_disk(rt, plain_disk, plain, &mut times.plain)?;
+    framed(rt, alloc, disk, payload, most, &mut times.framed)
+}
+
+// Measures over disks in memory. After each round both disks crash, which empties their undo logs.
+fn in_memory<R: Clock>(rt: &R, alloc: Global, frame: Frame<'_>) -> Result<Times> {
     let mut disk = MemDisk::new(alloc, SEGMENT_SECTORS)?;
     let mut plain_disk = MemDisk::new(alloc, SEGMENT_SECTORS)?;
     let mut times = Times::new(alloc);
@@ -95,12 +118,47 @@ fn in_memory<R: Clock>(rt: &R, alloc: Global, payload: &[u8]) -> Result<Times>
         if round == 1 {
             times = Times::new(alloc);
         }
-        framed(rt, alloc, &mut disk, payload, most, &mut times.framed)?;
-        plain_on_disk(rt, &mut plain_disk, &plain, &mut times.plain)?;
-        plain_on_disk(rt, &mut plain_disk, &plain, &mut times.plain)?;
-        framed(rt, alloc, &mut disk, payload, most, &mut times.framed)?;
+        round_on_disks(rt, alloc, &mut disk, &mut plain_disk, frame, &mut times)?;
         disk = disk.crash(Crash::Keep);
         plain_disk = plain_disk.crash(Crash::Keep);
+    }
+    Ok(times)
+}
+
+fn round_in_files<R: Clock, D: SectorDisk, F: Write + Seek + OpenFile>(
+    rt: &R,
+    alloc: Global,
+    disk: &mut D,
+    file: &mut F,
+    frame: Frame<'_>,
+    times: &mut Times,
+) -> Result<()>
+    requires { SEGMENT_SECTORS ≤ D.size disk.old }
+    ensures { D.size disk.new ≡ D.size disk.old }
+{
+    let Frame { payload, plain } = frame;
+    let most = FILE_FRAMES_MAX;
+    framed(rt, alloc, disk, payload, most, &mut times.framed)?;
+    plain_in_file(rt, file, plain, &mut times.plain)?;
+    plain_in_file(rt, file, plain, &mut times.plain)?;
+    framed(rt, alloc, disk, payload, most, &mut times.framed)
+}
+
+fn rounds_in_files<R: Clock, D: SectorDisk, F: Write + Seek + OpenFile>(
+    rt: &R,
+    alloc: Global,
+    disk: &mut D,
+    file: &mut F,
+    frame: Frame<'_>,
+) -> Result<Times>
+    requires { SEGMENT_SECTORS ≤ D.size disk.old }
+{
+    let mut times = Times::new(alloc);
+    for round in 0..ROUNDS {
+        if round == 1 {
+            times = Times::new(alloc);
+        }
+        round_in_files(rt, alloc, disk, file, frame, &mut times)?;
     }
     Ok(times)
 }
@@ -110,29 +168,15 @@ fn in_files<R: Clock + Files>(
     alloc: Global,
     path: &str,
     plain_path: &str,
-    payload: &[u8],
-) -> Result<Times>
-    requires { length payload.now < 2 ^ 40 }
-{
-    let plain = PlainFrames::new(alloc, payload)?;
-    let most = FILE_FRAMES_MAX;
-    let mut disk = FileDisk::open(rt, path, Some(SEGMENT_SECTORS))?;
+    frame: Frame<'_>,
+) -> Result<Times> {
     drop(FileDisk::open(rt, plain_path, Some(SEGMENT_SECTORS))?);
+    let mut disk = FileDisk::open(rt, path, Some(SEGMENT_SECTORS))?;
     let mut file = OpenOptions::new()
         .read(true)
         .write(true)
         .open(rt, plain_path)?;
-    let mut times = Times::new(alloc);
-    for round in 0..ROUNDS {
-        if round == 1 {
-            times = Times::new(alloc);
-        }
-        framed(rt, alloc, &mut disk, payload, most, &mut times.framed)?;
-        plain_in_file(rt, &mut file, &plain, &mut times.plain)?;
-        plain_in_file(rt, &mut file, &plain, &mut times.plain)?;
-        framed(rt, alloc, &mut disk, payload, most, &mut times.framed)?;
-    }
-    Ok(times)
+    rounds_in_files(rt, alloc, &mut disk, &mut file, frame)
 }
 
 fn report<R: Print>(rt: &R, disk: &str, bytes: u64, times: Times) -> Result<()> {
@@ -155,6 +199,23 @@ fn report<R: Print>(rt: &R, disk: &str, bytes: u64, times: Times) -> Result<()> 
     Ok(())
 }
 
+fn measure_frame<R: Clock + Files + Print>(
+    rt: &R,
+    alloc: Global,
+    path: &str,
+    plain_path: &str,
+    frame: Frame<'_>,
+) -> Result<()> {
+    let bytes = frame.payload.len() as u64;
+    report(rt, "MemDisk", bytes, in_memory(rt, alloc, frame)?)?;
+    report(
+        rt,
+        "FileDisk",
+        bytes,
+        in_files(rt, alloc, path, plain_path, frame)?,
+    )
+}
+
 fn measure_payload<R: Clock + Files + Print>(
     rt: &R,
     alloc: Global,
@@ -165,23 +226,30 @@ fn measure_payload<R: Clock + Files + Print>(
     requires { bytes < 2 ^ 40 }
 {
     let payload = vec![in alloc; 7; bytes as usize]?;
-    report(rt, "MemDisk", bytes, in_memory(rt, alloc, &payload)?)?;
-    report(
-        rt,
-        "FileDisk",
-        bytes,
-        in_files(rt, alloc, path, plain_path, &payload)?,
-    )
+    let plain = PlainFrames::new(alloc, &payload)?;
+    let frame = Frame {
+        payload: &payload,
+        plain: &plain,
+    };
+    measure_frame(rt, alloc, path, plain_path, frame)
 }
 
 /// Measures payloads of 100 bytes, of 4,096 and of the largest size, over disks in memory and in two files, which it
 /// creates and removes.
 pub fn measure<R: Clock + Files + Print + Alloc<A = Global>>(rt: &R, path: &str) -> Result<()> {
-    let alloc = rt.alloc();
-    let plain_path = format!(in alloc; "{path}.plain")?;
-    measure_payload(rt, alloc, path, &plain_path, 100)?;
-    measure_payload(rt, alloc, path, &plain_path, 4_096)?;
-    measure_payload(rt, alloc, path, &plain_path, LARGEST_PAYLOAD_BYTES)?;
+    let plain_path = format!(in rt.alloc(); "{path}.plain")?;
+    measure_files(rt, rt.alloc(), path, &plain_path)
+}
+
+fn measure_files<R: Clock + Files + Print>(
+    rt: &R,
+    alloc: Global,
+    path: &str,
+    plain_path: &str,
+) -> Result<()> {
+    measure_payload(rt, alloc, path, plain_path, 100)?;
+    measure_payload(rt, alloc, path, plain_path, 4_096)?;
+    measure_payload(rt, alloc, path, plain_path, LARGEST_PAYLOAD_BYTES)?;
     fs::remove_file(rt, path)?;
     fs::remove_file(rt, plain_path)?;
     Ok(())

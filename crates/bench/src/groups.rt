@@ -152,7 +152,7 @@ pub fn measure<R: Clock + Print + Alloc<A = Global>>(rt: &R) -> Result<()> {
     let alloc = rt.alloc();
     let base = measure_rates(rt, alloc, 1, 8)?;
     report(rt, 1, 8, base, base)?;
-    for (groups, members) in [(64, 8), (4_096, 8), (1, 2), (1, 16), (1, 64)] {
+    for &(groups, members) in &[(64, 8), (4_096, 8), (1, 2), (1, 16), (1, 64)] {
         let rates = measure_rates(rt, alloc, groups, members)?;
         report(rt, groups, members, rates, base)?;
     }

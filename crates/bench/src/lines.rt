@@ -108,54 +108,40 @@ fn report<R: Print>(rt: &R, what: &str, bytes: usize, rates: Rates) -> Result<()
     Ok(())
 }
 
-fn report_reading<R: Clock + Print>(rt: &R, alloc: Global, what: &str, line: &[u8]) -> Result<()> {
-    report(rt, what, line.len(), reading(rt, alloc, line)?)
+fn report_reading<R: Clock + Print>(
+    rt: &R,
+    alloc: Global,
+    what: &str,
+    line: Result<Vec<u8>>,
+) -> Result<()> {
+    let line = line?;
+    report(rt, what, line.len(), reading(rt, alloc, &line)?)
 }
 
 fn report_printing<R: Clock + Print>(
     rt: &R,
     alloc: Global,
     what: &str,
-    reply: &Reply,
+    reply: Result<Reply>,
 ) -> Result<()> {
-    let (bytes, rates) = printing(rt, alloc, reply)?;
+    let reply = reply?;
+    let (bytes, rates) = printing(rt, alloc, &reply)?;
     report(rt, what, bytes, rates)
-}
-
-fn measure_commit<R: Clock + Print>(rt: &R, alloc: Global) -> Result<()> {
-    report_reading(rt, alloc, "COMMIT of 64, 1 MiB", &samples::commit(alloc)?)
-}
-
-fn measure_sync<R: Clock + Print>(rt: &R, alloc: Global) -> Result<()> {
-    let line = samples::sync(alloc)?;
-    report_reading(rt, alloc, "SYNC of 64, 4,096 bytes each", &line)
-}
-
-fn measure_fetch<R: Clock + Print>(rt: &R, alloc: Global) -> Result<()> {
-    let line = samples::fetch(alloc)?;
-    report_reading(rt, alloc, "FETCH of 64, long names", &line)
-}
-
-fn measure_beat<R: Clock + Print>(rt: &R, alloc: Global) -> Result<()> {
-    report_reading(rt, alloc, "BEAT", &samples::beat(alloc)?)
-}
-
-fn measure_fetched<R: Clock + Print>(rt: &R, alloc: Global) -> Result<()> {
-    report_printing(rt, alloc, "FETCHED of 64", &samples::fetched(alloc)?)
-}
-
-fn measure_synced<R: Clock + Print>(rt: &R, alloc: Global) -> Result<()> {
-    report_printing(rt, alloc, "SYNCED, 4,096 bytes", &samples::synced(alloc)?)
 }
 
 /// Measures each line.
 pub fn measure<R: Clock + Print + Alloc<A = Global>>(rt: &R) -> Result<()> {
     let alloc = rt.alloc();
-    measure_commit(rt, alloc)?;
-    measure_sync(rt, alloc)?;
-    measure_fetch(rt, alloc)?;
-    measure_beat(rt, alloc)?;
-    measure_fetched(rt, alloc)?;
-    measure_synced(rt, alloc)?;
-    report_printing(rt, alloc, "OK", &Reply::Done)
+    report_reading(rt, alloc, "COMMIT of 64, 1 MiB", samples::commit(alloc))?;
+    report_reading(
+        rt,
+        alloc,
+        "SYNC of 64, 4,096 bytes each",
+        samples::sync(alloc),
+    )?;
+    report_reading(rt, alloc, "FETCH of 64, long names", samples::fetch(alloc))?;
+    report_reading(rt, alloc, "BEAT", samples::beat(alloc))?;
+    report_printing(rt, alloc, "FETCHED of 64", samples::fetched(alloc))?;
+    report_printing(rt, alloc, "SYNCED, 4,096 bytes", samples::synced(alloc))?;
+    report_printing(rt, alloc, "OK", Ok(Reply::Done))
 }

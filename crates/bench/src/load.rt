@@ -83,6 +83,16 @@ fn print_rate<R: Print>(rt: &R, what: &str, median: &Median, plain: &Median) -> 
     Ok(())
 }
 
+fn print_times<R: Print>(rt: &R, times: Times) -> Result<()> {
+    let Times { plain, log, store } = times;
+    let plain = plain.median();
+    let log = log.median();
+    let store = store.median();
+    print_rate(rt, "plain read", &plain, &plain)?;
+    print_rate(rt, "log", &log, &plain)?;
+    print_rate(rt, "store", &store, &plain)
+}
+
 fn print_appends<R: Print>(rt: &R, appends: Appends) -> Result<()> {
     let Appends { rolling, staying } = appends;
     let rolling = rolling.median().nanoseconds();
@@ -115,11 +125,7 @@ fn measure_log<R: Clock + Files + Print>(
     let disk = FileDisk::open(rt, path, Some(sectors_of(segments)))?;
     let frames = filled(rt, alloc, disk, batch, &mut appends)?;
     println!(rt; "{segments} segments, {frames} frames of {commits} commits")?;
-    let Times { plain, log, store } = timed(rt, alloc, path, segments)?;
-    let plain = plain.median();
-    print_rate(rt, "plain read", &plain, &plain)?;
-    print_rate(rt, "log", &log.median(), &plain)?;
-    print_rate(rt, "store", &store.median(), &plain)?;
+    print_times(rt, timed(rt, alloc, path, segments)?)?;
     print_appends(rt, appends)
 }
 
@@ -127,8 +133,8 @@ fn measure_log<R: Clock + Files + Print>(
 /// creates and removes.
 pub fn measure<R: Clock + Files + Print + Alloc<A = Global>>(rt: &R, path: &str) -> Result<()> {
     let alloc = rt.alloc();
-    for segments in [8, SEGMENTS_MOST] {
-        for commits in COMMITS {
+    for &segments in &[8, SEGMENTS_MOST] {
+        for &commits in &COMMITS {
             measure_log(rt, alloc, path, segments, &batch_of(alloc, commits)?)?;
         }
     }

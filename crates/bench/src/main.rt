@@ -17,6 +17,7 @@ mod tally;
 mod values;
 
 use anyhow::{Context, Result};
+use clap::{ArgMatches, Command, Error};
 use command_line::{Benchmark, chosen, command};
 use std::alloc::Global;
 use std::env;
@@ -24,24 +25,42 @@ use std::process::ExitCode;
 use std::rt::{Clock, Files};
 
 fn main(rt: HostRuntime) -> Result<ExitCode> {
-    let alloc = rt.alloc();
-    let words: Vec<String> = env::args(&rt)?.collect(alloc)?;
-    let mut command = command(alloc)?;
+    let words: Vec<String> = env::args(&rt)?.collect(rt.alloc())?;
+    run_words(&rt, words.as_slice())
+}
+
+fn run_words<R: Clock + Files + Print + Eprint + Alloc<A = Global>>(
+    rt: &R,
+    words: &[String],
+) -> Result<ExitCode> {
+    let mut command = command(rt.alloc())?;
     if words.len() < 2 {
-        print!(rt; "{}", command.render_help()?)?;
-        return Ok(ExitCode::SUCCESS);
+        return print_help(rt, &mut command);
     }
-    match command.try_get_matches_from(words.as_slice()) {
-        Ok(matches) => {
-            let benchmark = chosen(&matches).context("no benchmark was named")?;
-            run(&rt, benchmark)?;
-            Ok(ExitCode::SUCCESS)
-        }
-        Err(error) => {
-            error.print(&rt)?;
-            Ok(ExitCode::from(u8::try_from(error.exit_code()).unwrap_or(1)))
-        }
+    match command.try_get_matches_from(words) {
+        Ok(matches) => run_chosen(rt, &matches),
+        Err(error) => report(rt, &error),
     }
+}
+
+fn print_help<R: Print>(rt: &R, command: &mut Command<'_>) -> Result<ExitCode> {
+    print!(rt; "{}", command.render_help()?)?;
+    Ok(ExitCode::SUCCESS)
+}
+
+// Prints why the words are refused, or the help that they ask for.
+fn report<R: Print + Eprint>(rt: &R, error: &Error) -> Result<ExitCode> {
+    error.print(rt)?;
+    Ok(ExitCode::from(u8::try_from(error.exit_code()).unwrap_or(1)))
+}
+
+fn run_chosen<R: Clock + Files + Print + Alloc<A = Global>>(
+    rt: &R,
+    matches: &ArgMatches<'_>,
+) -> Result<ExitCode> {
+    let benchmark = chosen(matches).context("no benchmark was named")?;
+    run(rt, benchmark)?;
+    Ok(ExitCode::SUCCESS)
 }
 
 fn run<R: Clock + Files + Print + Alloc<A = Global>>(

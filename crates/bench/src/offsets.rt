@@ -10,12 +10,22 @@ use std::alloc::Global;
 pub const METADATA_BYTES: usize = 16;
 
 /// Returns the entry of a stored offset.
-pub fn stored_entry(alloc: Global, topic: &str, number: u32, stored: u64) -> Result<Entry> {
+pub fn stored_entry(
+    alloc: Global,
+    topic: &str,
+    number: u32,
+    stored: u64,
+    metadata_bytes: usize,
+) -> Result<Entry> {
+    let partition = partition(number)?;
+    let offset = offset(stored)?;
+    let topic = name(alloc, topic)?;
+    let metadata = metadata(alloc, 0, metadata_bytes)?;
     Ok(Entry {
-        topic: name(alloc, topic)?,
-        partition: partition(number)?,
-        offset: offset(stored)?,
-        metadata: metadata(alloc, 0, METADATA_BYTES)?,
+        topic,
+        partition,
+        offset,
+        metadata,
     })
 }
 
@@ -34,11 +44,15 @@ pub fn commit_entry(
     stored: u64,
     metadata_bytes: usize,
 ) -> Result<CommitEntry> {
+    let partition = partition(0)?;
+    let offset = offset(stored)?;
+    let topic = name(alloc, topic)?;
+    let metadata = vec![in alloc; 0; metadata_bytes]?;
     Ok(CommitEntry {
-        topic: name(alloc, topic)?,
-        partition: partition(0)?,
-        offset: offset(stored)?,
-        metadata: Listed::from_vec(vec![in alloc; 0; metadata_bytes]?),
+        topic,
+        partition,
+        offset,
+        metadata: Listed::from_vec(metadata),
     })
 }
 

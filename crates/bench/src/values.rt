@@ -1,6 +1,6 @@
 //! Names, ids, numbers and bytes for commands, requests and replies.
 use anyhow::{Context, Result, bail};
-use cg_names::{GroupId, MemberId, Name};
+use cg_names::{ClientId, GroupId, MemberId, Name};
 use cg_record::{Assignment, Metadata, Offset, Partition, RebalanceTimeout};
 use std::alloc::Global;
 
@@ -22,6 +22,12 @@ pub fn group_id(alloc: Global, number: u64) -> Result<GroupId> {
 /// Returns the id of the member with this number; the members of each group have the same numbers.
 pub fn member_id(alloc: Global, number: u32) -> Result<MemberId> {
     let text = format!(in alloc; "client-{number}-00000000-0000-4000-8000-{number:012}")?;
+    name(alloc, &text)
+}
+
+/// Returns the id of the client with this number.
+pub fn client_id(alloc: Global, number: u64) -> Result<ClientId> {
+    let text = format!(in alloc; "client-{number}")?;
     name(alloc, &text)
 }
 

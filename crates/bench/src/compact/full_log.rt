@@ -1,10 +1,8 @@
 //! A log of 150 full segments, and what is opened on it.
 use crate::desk::store::opened;
-use crate::machine::now;
-use crate::offsets::committed;
-use crate::values::{group_id, metadata, name, offset, partition};
+use crate::offsets::{committed, stored_entry};
+use crate::values::group_id;
 use anyhow::{Result, bail};
-use cg_desk::Desk;
 use cg_disk::{FileDisk, SectorDisk};
 use cg_fold::Durable;
 use cg_record::{Command, Entry};
@@ -37,22 +35,19 @@ const PARTITIONS: u32 = 64;
 /// Bytes of metadata of an offset: with these, four commits of 64 partitions leave less than a sector of a frame.
 const METADATA_BYTES: usize = 4_073;
 
-// Makes the commit with this number: all partitions of the next group.
-fn commit(alloc: Global, share: Share, number: u64) -> Result<Command> {
+// Makes the offsets of all partitions of a group.
+fn entries(alloc: Global, stored: u64) -> Result<Vec<Entry>> {
     let mut entries = Vec::new(alloc);
     for index in 0..PARTITIONS {
-        entries.push(Entry {
-            topic: name(alloc, "t")?,
-            partition: partition(index)?,
-            offset: offset(number)?,
-            metadata: metadata(alloc, 0, METADATA_BYTES)?,
-        })?;
+        entries.push(stored_entry(alloc, "t", index, stored, METADATA_BYTES)?)?;
     }
-    committed(
-        alloc,
-        group_id(alloc, number.checked_rem(share.groups).unwrap_or(0))?,
-        entries,
-    )
+    Ok(entries)
+}
+
+// Makes the commit with this number: all partitions of the next group.
+fn commit(alloc: Global, share: Share, number: u64) -> Result<Command> {
+    let group = group_id(alloc, number.checked_rem(share.groups).unwrap_or(0))?;
+    committed(alloc, group, entries(alloc, number)?)
 }
 
 /// Makes the batch with this number, which fills a frame.
@@ -102,36 +97,14 @@ pub struct Opened<D: SectorDisk> {
     pub durable: Durable,
 }
 
-/// Opens the store in the file.
-pub fn open<R: Files>(rt: &R, alloc: Global, path: &str) -> Result<Opened<FileDisk<R::File>>> {
-    match Store::open(alloc, FileDisk::open(rt, path, None)?) {
+/// Opens the store on a disk.
+pub fn open<D: SectorDisk + Drop>(alloc: Global, disk: D) -> Result<Opened<D>> {
+    match Store::open(alloc, disk) {
         Ok((store, number, durable)) => Ok(Opened {
             store,
             number,
             durable,
         }),
         Err((fault, _)) => Err(fault.into()),
-    }
-}
-
-/// Opens the store in the file, and drops the state that it found.
-pub fn open_store<R: Files>(rt: &R, alloc: Global, path: &str) -> Result<Store<FileDisk<R::File>>> {
-    let Opened {
-        store,
-        number: _number,
-        durable: _durable,
-    } = open(rt, alloc, path)?;
-    Ok(store)
-}
-
-/// Makes a desk that serves what a store found.
-pub fn serve(alloc: Global, number: u64, durable: Durable) -> Result<Desk> {
-    let mut desk = Desk::loading(alloc)?;
-    match desk.loaded(number, durable, now()) {
-        Ok(()) => Ok(desk),
-        Err((refused, _)) => {
-            let _ = desk.close();
-            Err(refused.into())
-        }
     }
 }

@@ -1,7 +1,8 @@
 //! One compaction alone, so that the peak memory of the process is that of the run.
 use crate::compact::DISK_SECTORS;
-use crate::compact::full_log::{Opened, TENTH, fill, open, serve};
+use crate::compact::full_log::{Opened, TENTH, fill, open};
 use crate::compact::turns::Turns;
+use crate::desk::scene::serve;
 use anyhow::Result;
 use cg_disk::{FileDisk, SectorDisk};
 use cg_fold::Durable;
@@ -49,12 +50,12 @@ fn serve_once<R: Print>(rt: &R, alloc: Global, number: u64, durable: Durable) ->
     Ok(())
 }
 
-fn state<R: Files + Print + Alloc<A = Global>>(rt: &R, path: &str) -> Result<()> {
+fn state<R: Print + Alloc<A = Global>, D: SectorDisk + Drop>(rt: &R, disk: D) -> Result<()> {
     let Opened {
         store: _store,
         number,
         durable,
-    } = open(rt, rt.alloc(), path)?;
+    } = open(rt.alloc(), disk)?;
     serve_once(rt, rt.alloc(), number, durable)
 }
 
@@ -73,19 +74,29 @@ fn compact_beside<R: Clock, D: SectorDisk>(
     outcome
 }
 
-fn report_free<R: Print, D: SectorDisk>(rt: &R, store: &Store<D>) -> Result<()> {
+// Does so, and reports how much room that leaves.
+fn compact_store<R: Clock + Print, D: SectorDisk>(
+    rt: &R,
+    alloc: Global,
+    number: u64,
+    durable: Durable,
+    store: &mut Store<D>,
+) -> Result<()> {
+    compact_beside(rt, alloc, number, durable, store)?;
     println!(rt; "{} segments are free", store.free_count())?;
     Ok(())
 }
 
-fn compact<R: Clock + Files + Print + Alloc<A = Global>>(rt: &R, path: &str) -> Result<()> {
+fn compact<R: Clock + Print + Alloc<A = Global>, D: SectorDisk + Drop>(
+    rt: &R,
+    disk: D,
+) -> Result<()> {
     let Opened {
         mut store,
         number,
         durable,
-    } = open(rt, rt.alloc(), path)?;
-    compact_beside(rt, rt.alloc(), number, durable, &mut store)?;
-    report_free(rt, &store)
+    } = open(rt.alloc(), disk)?;
+    compact_store(rt, rt.alloc(), number, durable, &mut store)
 }
 
 /// Runs a part over the file.
@@ -99,8 +110,8 @@ pub fn run<R: Clock + Files + Print + Alloc<A = Global>>(
             drop(FileDisk::open(rt, path, Some(DISK_SECTORS))?);
             fill(rt, rt.alloc(), path, TENTH)
         }
-        CompactPart::State => state(rt, path),
-        CompactPart::Run => compact(rt, path),
+        CompactPart::State => state(rt, FileDisk::open(rt, path, None)?),
+        CompactPart::Run => compact(rt, FileDisk::open(rt, path, None)?),
         CompactPart::Remove => {
             fs::remove_file(rt, path)?;
             Ok(())

@@ -24,16 +24,40 @@ pub fn copy<R: Clock + Files>(
 ) -> Result<()> {
     let mut from = OpenOptions::new().read(true).open(rt, path)?;
     let mut to = OpenOptions::new().write(true).open(rt, plain_path)?;
+    copy_files(rt, alloc, &mut from, &mut to, read, written, tally)
+}
+
+fn copy_files<R: Clock, F: Read + Write + OpenFile>(
+    rt: &R,
+    alloc: Global,
+    from: &mut F,
+    to: &mut F,
+    read: u64,
+    written: u64,
+    tally: &mut Tally,
+) -> Result<()> {
     let mut piece = vec![in alloc; 0; PIECE_BYTES]?;
     let gate = vec![in alloc; 0; SECTOR_BYTES]?;
     let start = Instant::now(rt)?;
+    copy_pieces(from, to, read, written, &mut piece, &gate)?;
+    tally.add(rt, start, read)
+}
+
+fn copy_pieces<F: Read + Write + OpenFile>(
+    from: &mut F,
+    to: &mut F,
+    read: u64,
+    written: u64,
+    piece: &mut [u8],
+    gate: &[u8],
+) -> Result<()> {
     for _ in 0..read {
-        from.read_exact(&mut piece)?;
+        from.read_exact(piece)?;
     }
     for _ in 0..written {
-        put(&mut to, &piece, &gate)?;
+        put(to, piece, gate)?;
     }
-    tally.add(rt, start, read)
+    Ok(())
 }
 
 // Writes a segment, and then a gate, each with a sync.

@@ -1,13 +1,15 @@
 //! Commits with a compaction step after each batch, and without one.
-use crate::compact::full_log::{FRAMES, Opened, TENTH, append, batch, fill, open, serve};
+use crate::compact::full_log::{FRAMES, Opened, TENTH, append, batch, fill, open};
 use crate::compact::steps::Steps;
 use crate::desk::batch::commit_batch;
-use crate::desk::scene::add_commits;
+use crate::desk::commits::timed;
+use crate::desk::scene::{add_commits, serve};
 use crate::tally::Tally;
 use anyhow::{Result, bail};
 use cg_desk::Desk;
-use cg_disk::SectorDisk;
+use cg_disk::{FileDisk, SectorDisk};
 use cg_fold::Durable;
+use cg_group::Request;
 use cg_store::Store;
 use std::alloc::Global;
 use std::collections::VecDeque;
@@ -29,22 +31,6 @@ pub struct Turns {
     pub steps: Steps,
 }
 
-// Makes the requests of a batch, commits them, and returns the nanoseconds from the first request to the last reply.
-fn timed_batch<R: Clock, D: SectorDisk>(
-    rt: &R,
-    alloc: Global,
-    desk: &mut Desk,
-    store: &mut Store<D>,
-    commits: usize,
-    tally: &mut Tally,
-) -> Result<()> {
-    let mut requests = VecDeque::new(alloc);
-    add_commits(alloc, &mut requests, commits)?;
-    let start = Instant::now(rt)?;
-    commit_batch(alloc, desk, store, &mut requests)?;
-    tally.add(rt, start, commits as u64)
-}
-
 impl Turns {
     pub fn new(alloc: Global) -> Turns {
         Turns {
@@ -62,14 +48,13 @@ impl Turns {
         alloc: Global,
         desk: &mut Desk,
         store: &mut Store<D>,
-        commits: usize,
+        requests: &mut VecDeque<Request>,
     ) -> Result<bool> {
-        let mut requests = VecDeque::new(alloc);
-        add_commits(alloc, &mut requests, commits)?;
+        let commits = requests.len() as u64;
         let start = Instant::now(rt)?;
-        commit_batch(alloc, desk, store, &mut requests)?;
+        commit_batch(alloc, desk, store, requests)?;
         let is_over = self.steps.take(rt, store)?;
-        self.beside.add(rt, start, commits as u64)?;
+        self.beside.add(rt, start, commits)?;
         Ok(is_over)
     }
 
@@ -82,8 +67,10 @@ impl Turns {
         store: &mut Store<D>,
         commits: usize,
     ) -> Result<()> {
+        let mut requests = VecDeque::new(alloc);
         for _ in 0..u64::MAX {
-            if self.turn(rt, alloc, desk, store, commits)? {
+            add_commits(alloc, &mut requests, commits)?;
+            if self.turn(rt, alloc, desk, store, &mut requests)? {
                 return Ok(());
             }
         }
@@ -98,8 +85,10 @@ impl Turns {
         store: &mut Store<D>,
         commits: usize,
     ) -> Result<()> {
+        let mut requests = VecDeque::new(alloc);
         for _ in 0..BATCHES {
-            timed_batch(rt, alloc, desk, store, commits, &mut self.without)?;
+            add_commits(alloc, &mut requests, commits)?;
+            timed(rt, alloc, desk, store, &mut requests, &mut self.without)?;
         }
         Ok(())
     }
@@ -141,13 +130,37 @@ impl Turns {
         commits: usize,
     ) -> Result<()> {
         fill(rt, alloc, path, TENTH)?;
+        let disk = FileDisk::open(rt, path, None)?;
+        self.run_on(rt, alloc, disk, commits)
+    }
+
+    // Opens the store on a disk and runs once over it.
+    fn run_on<R: Clock, D: SectorDisk + Drop>(
+        &mut self,
+        rt: &R,
+        alloc: Global,
+        disk: D,
+        commits: usize,
+    ) -> Result<()> {
         let Opened {
             mut store,
             number,
             durable,
-        } = open(rt, alloc, path)?;
-        self.serve(rt, alloc, number, durable, &mut store, commits)?;
-        self.append_full(rt, alloc, &mut store)
+        } = open(alloc, disk)?;
+        self.run_over(rt, alloc, number, durable, &mut store, commits)
+    }
+
+    fn run_over<R: Clock, D: SectorDisk>(
+        &mut self,
+        rt: &R,
+        alloc: Global,
+        number: u64,
+        durable: Durable,
+        store: &mut Store<D>,
+        commits: usize,
+    ) -> Result<()> {
+        self.serve(rt, alloc, number, durable, store, commits)?;
+        self.append_full(rt, alloc, store)
     }
 
     // Runs once with a desk that serves what a store found.

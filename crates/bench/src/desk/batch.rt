@@ -7,13 +7,13 @@ ghost use Rattle.cg_store.specs.Store.{front_of};
 use crate::desk::scene::{commits, desk};
 use crate::desk::store::appended;
 use crate::machine::now;
-use anyhow::{Context, Result, ensure};
+use anyhow::{Context, Error, Result, ensure};
 use cg_desk::{Desk, Outgoing, ReplyToken};
 use cg_disk::SectorDisk;
 use cg_group::{Request, Ticket};
 use cg_names::Code;
 use cg_store::{Batch, Receipt, Store};
-use std::alloc::Global;
+use std::alloc::{AllocError, Global};
 use std::collections::VecDeque;
 use uuid::Uuid;
 
@@ -25,18 +25,22 @@ pub struct BatchSize {
     ghost in_frame: { bytes ≤ LARGEST_PAYLOAD_BYTES },
 }
 
+fn all_held(out: &[Outgoing]) -> Result<()> {
+    ensure!(out.is_empty(), "the reply to a commit is not held");
+    Ok(())
+}
+
+fn refusal(refused: AllocError, token: ReplyToken) -> Error {
+    let _ = token.refuse(Code::CoordinatorNotAvailable);
+    refused.into()
+}
+
 // Sends a request whose ticket has this number, which distinguishes it from the others.
 fn ask(desk: &mut Desk, number: u64, request: Request) -> Result<()> {
     let token = ReplyToken::new(Ticket { session: 1, number });
     match desk.request(token, request, now(), Uuid::from_u128(0)) {
-        Ok(out) => {
-            ensure!(out.is_empty(), "the reply to a commit is not held");
-            Ok(())
-        }
-        Err((refused, token)) => {
-            let _ = token.refuse(Code::CoordinatorNotAvailable);
-            Err(refused.into())
-        }
+        Ok(out) => all_held(&out),
+        Err((refused, token)) => Err(refusal(refused, token)),
     }
 }
 
@@ -48,6 +52,12 @@ pub fn ask_all(desk: &mut Desk, first: u64, requests: &mut VecDeque<Request>) ->
         number = number.wrapping_add(1);
     }
     Ok(())
+}
+
+/// Sends `count` commits, with numbers from `first` on. Their replies are held.
+pub fn ask_commits(alloc: Global, desk: &mut Desk, first: u64, count: usize) -> Result<()> {
+    let mut requests = commits(alloc, count)?;
+    ask_all(desk, first, &mut requests)
 }
 
 /// Takes the next batch of a desk.
@@ -83,7 +93,7 @@ pub fn commit_batch<D: SectorDisk>(
 }
 
 fn first_batch(alloc: Global, desk: &mut Desk, most: usize) -> Result<Batch> {
-    ask_all(desk, 0, &mut commits(alloc, most)?)?;
+    ask_commits(alloc, desk, 0, most)?;
     taken(desk)
 }
 

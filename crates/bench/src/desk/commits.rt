@@ -15,7 +15,7 @@ use cg_desk::Desk;
 use cg_disk::{Crash, FileDisk, MemDisk, SectorDisk};
 use cg_frame::Segment;
 use cg_gate::{FIRST_SEGMENT_SECTOR, SEGMENT_SECTORS};
-use cg_group::Request;
+use cg_group::{Groups, Request};
 use cg_store::Store;
 use std::alloc::Global;
 use std::collections::VecDeque;
@@ -57,8 +57,8 @@ impl Times {
     }
 }
 
-// Times one batch, from its first request until its replies have left. The requests are made before.
-fn timed<R: Clock, D: SectorDisk>(
+/// Times one batch, from its first request until its replies have left. The requests are made before.
+pub fn timed<R: Clock, D: SectorDisk>(
     rt: &R,
     alloc: Global,
     desk: &mut Desk,
@@ -122,6 +122,50 @@ fn through<R: Clock, D: SectorDisk + Drop>(
     Ok(disk)
 }
 
+// Steps the machine by the requests of one batch, and then calls the disk.
+fn batch_apart<R: Clock, D: SectorDisk>(
+    rt: &R,
+    groups: &mut Groups,
+    disk: &mut D,
+    requests: &mut VecDeque<Request>,
+    number: u64,
+    plain: &PlainFrames,
+    times: &mut Times,
+) -> Result<()>
+    requires { DISK_SECTORS ≤ D.size disk.old }
+    ensures { D.size disk.new ≡ D.size disk.old }
+{
+    let commits = requests.len() as u64;
+    let start = Instant::now(rt)?;
+    step_all(groups, requests)?;
+    times.machine.add(rt, start, commits)?;
+    let start = Instant::now(rt)?;
+    let fits = plain.put(disk, SEGMENT, number)?;
+    times.plain.add(rt, start, commits)?;
+    ensure!(fits, "the disk alone has no room for as many frames");
+    Ok(())
+}
+
+fn batches_apart<R: Clock, D: SectorDisk>(
+    rt: &R,
+    alloc: Global,
+    groups: &mut Groups,
+    disk: &mut D,
+    batches: Batches,
+    plain: &PlainFrames,
+    times: &mut Times,
+) -> Result<()>
+    requires { DISK_SECTORS ≤ D.size disk.old }
+    ensures { D.size disk.new ≡ D.size disk.old }
+{
+    let mut requests = VecDeque::new(alloc);
+    for number in 0..batches.count {
+        add_commits(alloc, &mut requests, batches.size.commits)?;
+        batch_apart(rt, groups, disk, &mut requests, number, plain, times)?;
+    }
+    Ok(())
+}
+
 // Steps the machine without a desk, and after each batch calls the disk alone, so that both follow a sync as they do in
 // a desk.
 fn apart<R: Clock, D: SectorDisk>(
@@ -136,19 +180,7 @@ fn apart<R: Clock, D: SectorDisk>(
     ensures { D.size disk.new ≡ D.size disk.old }
 {
     let mut groups = groups(alloc)?;
-    let mut requests = VecDeque::new(alloc);
-    let commits = batches.size.commits;
-    for number in 0..batches.count {
-        add_commits(alloc, &mut requests, commits)?;
-        let start = Instant::now(rt)?;
-        step_all(&mut groups, &mut requests)?;
-        times.machine.add(rt, start, commits as u64)?;
-        let start = Instant::now(rt)?;
-        let fits = plain.put(disk, SEGMENT, number)?;
-        times.plain.add(rt, start, commits as u64)?;
-        ensure!(fits, "the disk alone has no room for as many frames");
-    }
-    Ok(())
+    batches_apart(rt, alloc, &mut groups, disk, batches, plain, times)
 }
 
 fn round<R: Clock, D: SectorDisk + Drop>(
@@ -240,22 +272,27 @@ fn report<R: Print>(rt: &R, disk: &str, batches: Batches, times: Times) -> Resul
     report_added(rt, "all three", added, count, plain)
 }
 
-fn measure_size<R: Clock + Files + Print>(
+// Makes the frame of a batch without its commits.
+fn plain_frames(alloc: Global, size: BatchSize) -> Result<PlainFrames> {
+    let payload = vec![in alloc; 7; size.bytes as usize]?;
+    let plain = PlainFrames::new(alloc, &payload)?;
+    Ok(plain)
+}
+
+fn measure_batches<R: Clock + Files + Print>(
     rt: &R,
     alloc: Global,
     path: &str,
-    most: usize,
+    size: BatchSize,
+    plain: &PlainFrames,
 ) -> Result<()> {
-    let size = batch_size(alloc, most)?;
-    let payload = vec![in alloc; 7; size.bytes as usize]?;
-    let plain = PlainFrames::new(alloc, &payload)?;
     let count = plain.room();
     let batches = Batches { size, count };
     report(
         rt,
         "MemDisk",
         batches,
-        in_memory(rt, alloc, batches, &plain)?,
+        in_memory(rt, alloc, batches, plain)?,
     )?;
     let count = count.min(FILE_FRAMES_MAX);
     let batches = Batches { size, count };
@@ -263,8 +300,19 @@ fn measure_size<R: Clock + Files + Print>(
         rt,
         "FileDisk",
         batches,
-        in_file(rt, alloc, path, batches, &plain)?,
+        in_file(rt, alloc, path, batches, plain)?,
     )
+}
+
+fn measure_size<R: Clock + Files + Print>(
+    rt: &R,
+    alloc: Global,
+    path: &str,
+    most: usize,
+) -> Result<()> {
+    let size = batch_size(alloc, most)?;
+    let plain = plain_frames(alloc, size)?;
+    measure_batches(rt, alloc, path, size, &plain)
 }
 
 /// Measures batches of as many commits as fit a frame, and of 256, 16 and 1, over a disk in memory and in a file, which
@@ -272,7 +320,7 @@ fn measure_size<R: Clock + Files + Print>(
 /// has.
 pub fn measure<R: Clock + Files + Print + Alloc<A = Global>>(rt: &R, path: &str) -> Result<()> {
     let alloc = rt.alloc();
-    for commits in [MORE_THAN_FIT, 256, 16, 1] {
+    for &commits in &[MORE_THAN_FIT, 256, 16, 1] {
         measure_size(rt, alloc, path, commits)?;
     }
     fs::remove_file(rt, path)?;

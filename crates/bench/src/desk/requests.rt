@@ -1,10 +1,12 @@
 //! Requests per second, by the number of held replies.
-use crate::desk::batch::ask_all;
+use crate::desk::batch::{ask_all, ask_commits};
 use crate::desk::scene::{commits, desk};
 use crate::tally::{RUNS, Tally, hundredths};
 use anyhow::Result;
 use cg_desk::Desk;
+use cg_group::Request;
 use std::alloc::Global;
+use std::collections::VecDeque;
 use std::rt::Clock;
 use std::time::Instant;
 
@@ -22,10 +24,20 @@ fn timed<R: Clock>(
     held: usize,
     tally: &mut Tally,
 ) -> Result<()> {
-    ask_all(desk, 0, &mut commits(alloc, held)?)?;
+    ask_commits(alloc, desk, 0, held)?;
     let mut requests = commits(alloc, REQUESTS)?;
+    timed_requests(rt, desk, held as u64, &mut requests, tally)
+}
+
+fn timed_requests<R: Clock>(
+    rt: &R,
+    desk: &mut Desk,
+    first: u64,
+    requests: &mut VecDeque<Request>,
+    tally: &mut Tally,
+) -> Result<()> {
     let start = Instant::now(rt)?;
-    ask_all(desk, held as u64, &mut requests)?;
+    ask_all(desk, first, requests)?;
     tally.add(rt, start, REQUESTS as u64)
 }
 
@@ -57,7 +69,7 @@ pub fn measure<R: Clock + Print + Alloc<A = Global>>(rt: &R) -> Result<()> {
     let alloc = rt.alloc();
     let base = rate(rt, alloc, FEW)?;
     report(rt, FEW, base, base)?;
-    for held in [300, 5_000, 20_000] {
+    for &held in &[300, 5_000, 20_000] {
         report(rt, held, rate(rt, alloc, held)?, base)?;
     }
     Ok(())

@@ -2,13 +2,15 @@
 ghost use Rattle.std.specs.Prelude.{◌≡◌, ◌+◌, IfOk, OnOk};
 ghost use Rattle.std.specs.VecDeque.{deque_len};
 
+use crate::fold::state::folded_state;
 use crate::machine::{now, revived, step, ticket};
 use crate::offsets::{METADATA_BYTES, commit_entry, commit_request, committed, stored_entry};
 use crate::values::group_id;
 use anyhow::{Result, ensure};
 use cg_desk::Desk;
 use cg_fold::Durable;
-use cg_group::{Groups, Request};
+use cg_group::{Effects, Groups, Request};
+use cg_record::Command;
 use std::alloc::Global;
 use std::collections::VecDeque;
 use uuid::Uuid;
@@ -16,14 +18,20 @@ use uuid::Uuid;
 /// Groups of the desk; successive commits go to successive groups.
 const GROUPS: u64 = 64;
 
-// Makes a state in which each group has an offset of the partition that is committed to later.
+// Makes the command that stores an offset, of the partition that is committed to later, of the group with this number.
+fn stored_commit(alloc: Global, number: u64) -> Result<Command> {
+    let mut entries = Vec::new(alloc);
+    entries.push(stored_entry(alloc, "topic", 0, 0, METADATA_BYTES)?)?;
+    committed(alloc, group_id(alloc, number)?, entries)
+}
+
+// Makes a state in which each group has such an offset.
 fn stored_groups(alloc: Global) -> Result<Durable> {
-    let mut durable = Durable::new(alloc);
+    let mut commands = Vec::new(alloc);
     for number in 0..GROUPS {
-        let mut entries = Vec::new(alloc);
-        entries.push(stored_entry(alloc, "topic", 0, 0)?)?;
-        durable.apply(&committed(alloc, group_id(alloc, number)?, entries)?)?;
+        commands.push(stored_commit(alloc, number)?)?;
     }
+    let durable = folded_state(alloc, &commands)?;
     Ok(durable)
 }
 
@@ -59,11 +67,15 @@ pub fn groups(alloc: Global) -> Result<Groups> {
     revived(alloc, stored_groups(alloc)?)
 }
 
+fn has_one_command(effects: &Effects) -> Result<()> {
+    ensure!(effects.commands.len() == 1, "a commit makes no command");
+    Ok(())
+}
+
 fn step_request(groups: &mut Groups, request: Request) -> Result<()> {
     let event = request.into_event(ticket(), Uuid::from_u128(0));
     let effects = step(groups, event, now())?;
-    ensure!(effects.commands.len() == 1, "a commit makes no command");
-    Ok(())
+    has_one_command(&effects)
 }
 
 /// Steps the machine by all requests, without a desk.
@@ -76,9 +88,13 @@ pub fn step_all(groups: &mut Groups, requests: &mut VecDeque<Request>) -> Result
 
 /// Makes a desk that serves the groups, and has no command.
 pub fn desk(alloc: Global) -> Result<Desk> {
-    let durable = stored_groups(alloc)?;
+    serve(alloc, 0, stored_groups(alloc)?)
+}
+
+/// Makes a desk that serves a state, that of `number` commands.
+pub fn serve(alloc: Global, number: u64, durable: Durable) -> Result<Desk> {
     let mut desk = Desk::loading(alloc)?;
-    match desk.loaded(0, durable, now()) {
+    match desk.loaded(number, durable, now()) {
         Ok(()) => Ok(desk),
         Err((refused, _)) => {
             let _ = desk.close();

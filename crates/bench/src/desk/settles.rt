@@ -1,12 +1,12 @@
 //! The settling of a batch, by the replies that leave and those that stay after them.
-use crate::desk::batch::{ask_all, settled, taken};
-use crate::desk::scene::{commits, desk};
+use crate::desk::batch::{ask_commits, settled, taken};
+use crate::desk::scene::desk;
 use crate::desk::store::{DISK_SECTORS, appended, opened};
 use crate::tally::{RUNS, Tally, hundredths};
 use anyhow::{Result, ensure};
 use cg_desk::Desk;
-use cg_disk::MemDisk;
-use cg_store::Store;
+use cg_disk::{MemDisk, SectorDisk};
+use cg_store::{Receipt, Store};
 use std::alloc::Global;
 use std::rt::Clock;
 use std::time::Instant;
@@ -21,20 +21,30 @@ struct Replies {
     staying: usize,
 }
 
-// Times the settling alone.
-fn timed<R: Clock>(
+fn timed<R: Clock, D: SectorDisk>(
     rt: &R,
     alloc: Global,
     desk: &mut Desk,
-    store: &mut Store<MemDisk>,
+    store: &mut Store<D>,
     replies: Replies,
     tally: &mut Tally,
 ) -> Result<()> {
     let Replies { leaving, staying } = replies;
-    ask_all(desk, 0, &mut commits(alloc, leaving)?)?;
+    ask_commits(alloc, desk, 0, leaving)?;
     let batch = taken(desk)?;
-    ask_all(desk, leaving as u64, &mut commits(alloc, staying)?)?;
+    ask_commits(alloc, desk, leaving as u64, staying)?;
     let receipt = appended(store, batch, leaving)?;
+    timed_settling(rt, desk, receipt, leaving, tally)
+}
+
+// Times the settling alone.
+fn timed_settling<R: Clock>(
+    rt: &R,
+    desk: &mut Desk,
+    receipt: Receipt,
+    leaving: usize,
+    tally: &mut Tally,
+) -> Result<()> {
     let start = Instant::now(rt)?;
     let out = settled(desk, receipt)?;
     tally.add(rt, start, leaving as u64)?;
@@ -44,14 +54,25 @@ fn timed<R: Clock>(
 
 // Runs once, with a new desk.
 fn run<R: Clock>(rt: &R, alloc: Global, replies: Replies, tally: &mut Tally) -> Result<()> {
-    let mut store = opened(alloc, MemDisk::new(alloc, DISK_SECTORS)?)?;
+    let disk = MemDisk::new(alloc, DISK_SECTORS)?;
+    run_on(rt, alloc, disk, replies, tally)
+}
+
+fn run_on<R: Clock, D: SectorDisk + Drop>(
+    rt: &R,
+    alloc: Global,
+    disk: D,
+    replies: Replies,
+    tally: &mut Tally,
+) -> Result<()> {
+    let mut store = opened(alloc, disk)?;
     run_over(rt, alloc, &mut store, replies, tally)
 }
 
-fn run_over<R: Clock>(
+fn run_over<R: Clock, D: SectorDisk>(
     rt: &R,
     alloc: Global,
-    store: &mut Store<MemDisk>,
+    store: &mut Store<D>,
     replies: Replies,
     tally: &mut Tally,
 ) -> Result<()> {
@@ -85,7 +106,7 @@ fn compare<R: Clock + Print>(rt: &R, alloc: Global, leaving: usize) -> Result<()
 /// Measures settling with 16, 256, 1,024 and 4,096 replies that leave, and as many that stay or 16 times as many.
 pub fn measure<R: Clock + Print + Alloc<A = Global>>(rt: &R) -> Result<()> {
     let alloc = rt.alloc();
-    for leaving in [16, 256, 1_024, 4_096] {
+    for &leaving in &[16, 256, 1_024, 4_096] {
         compare(rt, alloc, leaving)?;
     }
     Ok(())

@@ -15,6 +15,11 @@ pub const DISK_SECTORS: u64 = FIRST_SEGMENT_SECTOR + 8 * SEGMENT_SECTORS;
 pub fn opened<D: SectorDisk + Drop>(alloc: Global, disk: D) -> Result<Store<D>> {
     let mut disk = disk;
     format(alloc, &mut disk)?;
+    reopened(alloc, disk)
+}
+
+/// Opens the store on a disk, and drops the state that it found.
+pub fn reopened<D: SectorDisk + Drop>(alloc: Global, disk: D) -> Result<Store<D>> {
     match Store::open(alloc, disk) {
         Ok((store, _, _)) => Ok(store),
         Err((fault, _)) => Err(fault.into()),

@@ -1,8 +1,8 @@
 //! The commands of groups of 8 members that have committed 64 offsets.
 ghost use Rattle.std.specs.Prelude.{◌≡◌, ◌+◌, IfOk, OnOk, vec_len};
 
-use crate::offsets::{committed, stored_entry};
-use crate::values::{assignment, group_id, member_id, name, rebalance_timeout};
+use crate::offsets::{METADATA_BYTES, committed, stored_entry};
+use crate::values::{assignment, client_id, group_id, member_id, name, rebalance_timeout};
 use anyhow::{Context, Result, bail};
 use cg_names::GroupId;
 use cg_record::{
@@ -37,19 +37,28 @@ pub enum Order {
     Scattered,
 }
 
+fn subscription(alloc: Global) -> Result<Subscription> {
+    match Subscription::from_vec(vec![in alloc; 0; SUBSCRIPTION_BYTES]?) {
+        Ok(subscription) => Ok(subscription),
+        Err(_) => bail!("a subscription is too long"),
+    }
+}
+
 fn member(alloc: Global, number: u32) -> Result<Member> {
-    let client = format!(in alloc; "client-{number}")?;
-    let Ok(subscription) = Subscription::from_vec(vec![in alloc; 0; SUBSCRIPTION_BYTES]?) else {
-        bail!("a subscription is too long");
-    };
+    let session = SessionTimeout::new(10_000).context("a session timeout is out of range")?;
+    let rebalance = rebalance_timeout()?;
+    let id = member_id(alloc, number)?;
+    let client = client_id(alloc, u64::from(number))?;
+    let subscription = subscription(alloc)?;
+    let assignment = assignment(alloc, 0, ASSIGNMENT_BYTES)?;
     Ok(Member {
-        id: member_id(alloc, number)?,
+        id,
         instance: None,
-        client: name(alloc, &client)?,
-        session: SessionTimeout::new(10_000).context("a session timeout is out of range")?,
-        rebalance: rebalance_timeout()?,
+        client,
+        session,
+        rebalance,
         subscription,
-        assignment: assignment(alloc, 0, ASSIGNMENT_BYTES)?,
+        assignment,
     })
 }
 
@@ -79,7 +88,8 @@ fn entries(alloc: Global) -> Result<Vec<Entry>> {
     let mut entries = Vec::new(alloc);
     for number in 0..OFFSETS {
         let topic = format!(in alloc; "topic-{}", number / PARTITIONS)?;
-        entries.push(stored_entry(alloc, &topic, number % PARTITIONS, 1_000_000)?)?;
+        let partition = number % PARTITIONS;
+        entries.push(stored_entry(alloc, &topic, partition, 1_000_000, METADATA_BYTES)?)?;
     }
     Ok(entries)
 }

@@ -37,12 +37,17 @@ pub fn named(word: &str) -> Option<Part> {
 
 fn state(alloc: Global) -> Result<Durable> {
     let mut durable = Durable::new(alloc);
+    add_groups(alloc, &mut durable)?;
+    Ok(durable)
+}
+
+fn add_groups(alloc: Global, durable: &mut Durable) -> Result<()> {
     for number in 0..GROUPS_MAX as u64 {
         let mut commands = Vec::new(alloc);
         push_group(alloc, &mut commands, number)?;
-        apply_all(&mut durable, &commands)?;
+        apply_all(durable, &commands)?;
     }
-    Ok(durable)
+    Ok(())
 }
 
 fn snapshot(durable: &Durable) -> Result<()> {
@@ -51,32 +56,43 @@ fn snapshot(durable: &Durable) -> Result<()> {
     Ok(())
 }
 
-fn revive(alloc: Global, durable: Durable) -> Result<Groups> {
-    let groups = revived(alloc, durable)?;
+fn all_loaded(groups: &Groups) -> Result<()> {
     ensure!(groups.held() == GROUPS_MAX as u64, "a group is not loaded");
-    Ok(groups)
+    Ok(())
+}
+
+fn revive(alloc: Global, durable: Durable) -> Result<()> {
+    let groups = revived(alloc, durable)?;
+    all_loaded(&groups)
+}
+
+fn revive_and_step(alloc: Global, durable: Durable) -> Result<()> {
+    let mut groups = revived(alloc, durable)?;
+    step(alloc, &mut groups)
 }
 
 fn step(alloc: Global, groups: &mut Groups) -> Result<()> {
+    all_loaded(groups)?;
     let events = commit_events(alloc, GROUPS_MAX as u64)?;
     let done = count_done(groups, events)?;
     ensure!(done == GROUPS_MAX as u64, "a commit is refused");
     Ok(())
 }
 
+fn run_over(alloc: Global, part: Part, durable: Durable) -> Result<()> {
+    match part {
+        Part::State => Ok(()),
+        Part::Snapshot => snapshot(&durable),
+        Part::Revive => revive(alloc, durable),
+        Part::Step => revive_and_step(alloc, durable),
+    }
+}
+
 /// Runs a part, and prints the size of the state.
 pub fn run<R: Print + Alloc<A = Global>>(rt: &R, part: Part) -> Result<()> {
-    let alloc = rt.alloc();
-    let durable = state(alloc)?;
+    let durable = state(rt.alloc())?;
     let (records, offsets) = durable.counts();
-    match part {
-        Part::State => {}
-        Part::Snapshot => snapshot(&durable)?,
-        Part::Revive => {
-            let _groups = revive(alloc, durable)?;
-        }
-        Part::Step => step(alloc, &mut revive(alloc, durable)?)?,
-    }
+    run_over(rt.alloc(), part, durable)?;
     println!(rt; "{records} records, {offsets} offsets")?;
     Ok(())
 }

@@ -2,7 +2,7 @@
 ghost use Rattle.std.specs.Prelude.{◌≡◌, IfOk, vec_len};
 
 use crate::machine::{now, revived, step, ticket};
-use crate::values::{name, rebalance_timeout};
+use crate::values::{client_id, name, rebalance_timeout};
 use anyhow::{Result, bail};
 use cg_fold::Durable;
 use cg_group::{
@@ -57,25 +57,34 @@ pub struct Scene {
     followers: Vec<(GroupId, MemberId)>,
 }
 
-fn join_request(
-    alloc: Global,
-    group: GroupId,
-    member: Option<MemberId>,
-    client: &str,
-) -> Result<JoinRequest> {
+fn protocols(alloc: Global) -> Result<Protocols> {
     let protocol = Protocol {
         name: name(alloc, "range")?,
         subscription: Subscription::empty(alloc),
     };
+    let protocols = Protocols::only(alloc, protocol)?;
+    Ok(protocols)
+}
+
+fn join_request(
+    alloc: Global,
+    group: GroupId,
+    member: Option<MemberId>,
+    client: u64,
+) -> Result<JoinRequest> {
+    let rebalance = rebalance_timeout()?;
+    let protocols = protocols(alloc)?;
+    let client = client_id(alloc, client)?;
+    let kind = name(alloc, "consumer")?;
     Ok(JoinRequest {
         group: Some(group),
         member,
         instance: None,
-        client: name(alloc, client)?,
+        client,
         session_ms: 10_000,
-        rebalance: rebalance_timeout()?,
-        kind: name(alloc, "consumer")?,
-        protocols: Protocols::only(alloc, protocol)?,
+        rebalance,
+        kind,
+        protocols,
     })
 }
 
@@ -112,25 +121,34 @@ fn assignments(alloc: Global, joined: &Effects) -> Result<SyncEntries> {
 impl Scene {
     /// Makes `count` stable groups of `members` members each, at least two.
     pub fn new(alloc: Global, count: u64, members: u64) -> Result<Scene> {
-        let mut scene = Scene {
+        let mut scene = Scene::empty(alloc, members)?;
+        scene.add_stable_groups(count)?;
+        Ok(scene)
+    }
+
+    fn empty(alloc: Global, members: u64) -> Result<Scene> {
+        let groups = revived(alloc, Durable::new(alloc))?;
+        Ok(Scene {
             alloc,
-            groups: revived(alloc, Durable::new(alloc))?,
+            groups,
             members,
             drawn: 0,
             followers: Vec::new(alloc),
-        };
+        })
+    }
+
+    fn add_stable_groups(&mut self, count: u64) -> Result<()> {
         for number in 0..count {
-            let id = format!(in alloc; "group-{number:04}")?;
-            scene.add_stable_group(&id)?;
+            let id = format!(in self.alloc; "group-{number:04}")?;
+            self.add_stable_group(&id)?;
         }
-        Ok(scene)
+        Ok(())
     }
 
     fn join(&mut self, id: &str, member: Option<MemberId>, client: u64) -> Result<Effects> {
         self.drawn = self.drawn.wrapping_add(1);
         let group = name(self.alloc, id)?;
-        let client = format!(in self.alloc; "client-{client}")?;
-        let request = join_request(self.alloc, group, member, &client)?;
+        let request = join_request(self.alloc, group, member, client)?;
         let fresh = Uuid::from_u128(u128::from(self.drawn));
         step(
             &mut self.groups,
@@ -153,24 +171,32 @@ impl Scene {
     // Adds a group, made stable by its leader's SYNC.
     fn add_stable_group(&mut self, id: &str) -> Result<()> {
         let (leader, joined) = self.gather(id)?;
-        let follower = last_joined(&joined)?;
+        self.sync_alone(ticket(), id, leader)?;
+        self.add_follower(id, &joined)
+    }
+
+    // Adds the member that joined last.
+    fn add_follower(&mut self, id: &str, joined: &Effects) -> Result<()> {
         let group = name(self.alloc, id)?;
-        let sync = self.sync(ticket(), group, leader, SyncEntries::none(self.alloc));
-        step(&mut self.groups, sync, now())?;
-        self.followers.push((name(self.alloc, id)?, follower))?;
+        self.followers.push((group, last_joined(joined)?))?;
         Ok(())
     }
 
-    // Parks the SYNC of a follower on a session of its own. Returns the session.
-    fn park_sync(&mut self, id: &str, n: usize) -> Result<u64> {
+    // Steps the machine by the SYNC of a member, without an assignment.
+    fn sync_alone(&mut self, call: Ticket, id: &str, member: MemberId) -> Result<()> {
+        let group = name(self.alloc, id)?;
+        let sync = self.sync(call, group, member, SyncEntries::none(self.alloc));
+        step(&mut self.groups, sync, now())?;
+        Ok(())
+    }
+
+    // Parks the SYNC of a follower on a session of its own. Returns the closing of the session.
+    fn park_sync(&mut self, id: &str, n: usize) -> Result<Event> {
         let (_, joined) = self.gather(id)?;
-        let follower = last_joined(&joined)?;
         let session = WAITING_SESSION.saturating_add(n as u64);
         let call = Ticket { session, number: 0 };
-        let group = name(self.alloc, id)?;
-        let sync = self.sync(call, group, follower, SyncEntries::none(self.alloc));
-        step(&mut self.groups, sync, now())?;
-        Ok(session)
+        self.sync_alone(call, id, last_joined(&joined)?)?;
+        Ok(Event::Gone(session))
     }
 
     fn sync(
@@ -210,7 +236,7 @@ impl Scene {
                 SyncEntries::none(self.alloc),
             )),
             SharedEvent::Join => {
-                let request = join_request(self.alloc, group, Some(member), "client-1")?;
+                let request = join_request(self.alloc, group, Some(member), 1)?;
                 Ok(Event::Join(ticket(), request, Uuid::from_u128(0)))
             }
             SharedEvent::Gone => Ok(Event::Gone(IDLE_SESSION)),
@@ -241,20 +267,23 @@ impl Scene {
             .unwrap_or(0);
         let id = format!(in self.alloc; "group-{number:04}-once-{n}")?;
         match sort {
-            GroupEvent::Join => {
-                let request = join_request(self.alloc, name(self.alloc, &id)?, None, "client-0")?;
-                Ok(Event::Join(ticket(), request, Uuid::from_u128(0)))
-            }
-            GroupEvent::LeaderSync => {
-                let (leader, joined) = self.gather(&id)?;
-                let entries = assignments(self.alloc, &joined)?;
-                Ok(self.sync(ticket(), name(self.alloc, &id)?, leader, entries))
-            }
-            GroupEvent::Gone => {
-                let session = self.park_sync(&id, n)?;
-                Ok(Event::Gone(session))
-            }
+            GroupEvent::Join => self.first_join(&id),
+            GroupEvent::LeaderSync => self.leader_sync(&id),
+            GroupEvent::Gone => self.park_sync(&id, n),
         }
+    }
+
+    fn first_join(&self, id: &str) -> Result<Event> {
+        let group = name(self.alloc, id)?;
+        let request = join_request(self.alloc, group, None, 0)?;
+        Ok(Event::Join(ticket(), request, Uuid::from_u128(0)))
+    }
+
+    fn leader_sync(&mut self, id: &str) -> Result<Event> {
+        let group = name(self.alloc, id)?;
+        let (leader, joined) = self.gather(id)?;
+        let entries = assignments(self.alloc, &joined)?;
+        Ok(self.sync(ticket(), group, leader, entries))
     }
 
     /// Makes `count` events of a kind that needs its own groups. The ids of these groups are spread evenly among those

@@ -49,6 +49,21 @@ impl Appends {
         tally.add(rt, start, 1)?;
         Ok(true)
     }
+
+    // Appends a batch until there is no room. Returns the number of appended frames.
+    fn fill<R: Clock, D: SectorDisk>(
+        &mut self,
+        rt: &R,
+        log: &mut Log<D>,
+        batch: &Batch,
+    ) -> Result<u64> {
+        for frames in 0..FRAMES_MAX {
+            if !self.append(rt, log, batch)? {
+                return Ok(frames);
+            }
+        }
+        Ok(FRAMES_MAX)
+    }
 }
 
 /// Formats a disk and appends a batch to it until it is full. Returns the number of frames.
@@ -61,14 +76,8 @@ pub fn filled<R: Clock, D: SectorDisk + Drop>(
 ) -> Result<u64> {
     let mut disk = disk;
     format(alloc, &mut disk)?;
-    let mut log = match Log::open(alloc, disk) {
-        Ok(log) => log,
-        Err((fault, _)) => return Err(fault.into()),
-    };
-    for frames in 0..FRAMES_MAX {
-        if !appends.append(rt, &mut log, batch)? {
-            return Ok(frames);
-        }
+    match Log::open(alloc, disk) {
+        Ok(mut log) => appends.fill(rt, &mut log, batch),
+        Err((fault, _)) => Err(fault.into()),
     }
-    Ok(FRAMES_MAX)
 }

@@ -3,7 +3,7 @@ use crate::desk::batch::batch_of;
 use crate::load::fill::{Appends, filled};
 use crate::load::{MANY_COMMITS, SEGMENTS_MOST, sectors_of};
 use anyhow::Result;
-use cg_disk::FileDisk;
+use cg_disk::{FileDisk, SectorDisk};
 use cg_fold::Durable;
 use cg_store::Store;
 use std::alloc::Global;
@@ -43,8 +43,7 @@ fn fill<R: Clock + Files + Print + Alloc<A = Global>>(rt: &R, path: &str) -> Res
     Ok(())
 }
 
-fn open<R: Files + Print + Alloc<A = Global>>(rt: &R, path: &str) -> Result<()> {
-    let disk = FileDisk::open(rt, path, None)?;
+fn open<R: Print + Alloc<A = Global>, D: SectorDisk + Drop>(rt: &R, disk: D) -> Result<()> {
     match Store::open(rt.alloc(), disk) {
         Ok((_, number, durable)) => report(rt, number, &durable),
         Err((fault, _)) => Err(fault.into()),
@@ -65,7 +64,7 @@ pub fn run<R: Clock + Files + Print + Alloc<A = Global>>(
 ) -> Result<()> {
     match part {
         LoadPart::Fill => fill(rt, path),
-        LoadPart::Open => open(rt, path),
+        LoadPart::Open => open(rt, FileDisk::open(rt, path, None)?),
         LoadPart::Remove => {
             fs::remove_file(rt, path)?;
             Ok(())

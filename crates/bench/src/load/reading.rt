@@ -1,7 +1,7 @@
 //! The loads of one file, and a plain read of it.
 use crate::tally::Tally;
 use anyhow::Result;
-use cg_disk::FileDisk;
+use cg_disk::{FileDisk, SectorDisk};
 use cg_log::Log;
 use cg_store::Store;
 use std::alloc::Global;
@@ -23,11 +23,16 @@ pub fn read_plain<R: Clock + Files>(
 ) -> Result<()> {
     let mut file = OpenOptions::new().read(true).open(rt, path)?;
     let start = Instant::now(rt)?;
+    read_pieces(alloc, &mut file, segments)?;
+    tally.add(rt, start, bytes_of(segments))
+}
+
+fn read_pieces<F: Read>(alloc: Global, file: &mut F, segments: u64) -> Result<()> {
     let mut piece = vec![in alloc; 0; PIECE_BYTES]?;
     for _ in 0..segments {
         file.read_exact(&mut piece)?;
     }
-    tally.add(rt, start, bytes_of(segments))
+    Ok(())
 }
 
 /// Opens the log in the file.
@@ -39,6 +44,16 @@ pub fn load_log<R: Clock + Files>(
     tally: &mut Tally,
 ) -> Result<()> {
     let disk = FileDisk::open(rt, path, None)?;
+    open_log(rt, alloc, disk, segments, tally)
+}
+
+fn open_log<R: Clock, D: SectorDisk + Drop>(
+    rt: &R,
+    alloc: Global,
+    disk: D,
+    segments: u64,
+    tally: &mut Tally,
+) -> Result<()> {
     let start = Instant::now(rt)?;
     match Log::open(alloc, disk) {
         Ok(_) => tally.add(rt, start, bytes_of(segments)),
@@ -55,6 +70,16 @@ pub fn load_store<R: Clock + Files>(
     tally: &mut Tally,
 ) -> Result<()> {
     let disk = FileDisk::open(rt, path, None)?;
+    open_store(rt, alloc, disk, segments, tally)
+}
+
+fn open_store<R: Clock, D: SectorDisk + Drop>(
+    rt: &R,
+    alloc: Global,
+    disk: D,
+    segments: u64,
+    tally: &mut Tally,
+) -> Result<()> {
     let start = Instant::now(rt)?;
     match Store::open(alloc, disk) {
         Ok(_) => tally.add(rt, start, bytes_of(segments)),
