@@ -1,20 +1,36 @@
 #!/usr/bin/env bash
-# Runs one benchmark: proves and builds crates/bench, and runs a subcommand of it.
-# FILE is made on the disk to be measured, and removed (frames and compact make FILE.plain too).
+# Runs one benchmark: proves and builds crates/bench or crates/bench_load, and runs a subcommand of it.
+# FILE is made on the disk to be measured, and removed (frames and compact make FILE.plain too). At ADDR a server runs.
 set -eu
-usage="usage: bench/run.sh frames FILE | groups | fold | desk FILE | lines | load FILE | compact FILE"
+usage="usage: bench/run.sh frames FILE | groups | fold | desk FILE | lines | load FILE | compact FILE | engine FILE | server ADDR FILE"
 subcommand=${1:?$usage}
+program=bench
 case $subcommand in
 frames | desk | load | compact) file=$(realpath -m "${2:?$usage}") ;;
 groups | fold | lines) ;;
+engine)
+    program=bench_load
+    file=$(realpath -m "${2:?$usage}")
+    ;;
+server)
+    program=bench_load
+    address=${2:?$usage}
+    file=$(realpath -m "${3:?$usage}")
+    ;;
 *)
     echo "$usage" >&2
     exit 2
     ;;
 esac
 
-cd "$(dirname "$0")/../crates/bench"
+cd "$(dirname "$0")/../crates/$program"
 rt run >/dev/null
+
+# These have threads for every processor.
+case $subcommand in
+engine) exec out/bench_load engine "$file" ;;
+server) exec out/bench_load server "$address" "$file" ;;
+esac
 
 # Where a run waits for syncs it is bound to one processor, the last that this shell may run on: else a sync may wake it on another one,
 # with other caches, and runs differ by more than what is measured.
