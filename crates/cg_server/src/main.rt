@@ -21,6 +21,8 @@ mod session;
 mod stop;
 mod storage_thread;
 mod streams;
+#[cfg(test)]
+mod tests;
 mod ticker;
 mod worker;
 
