@@ -57,17 +57,24 @@ def _library(crate, jobs):
 
 
 def _program(crate, jobs, backends):
-    """Proves the program, and builds it over what the check kept."""
+    """Proves the program and builds it by LLVM, and then by the other compilers over what that kept."""
     stamp, stamped = crate.stamp(), f"{crate.folder}/out/{crate.name}.stamp"
     if rtlib.text_of(stamped) == stamp + rtlib.sum_of(f"{crate.folder}/out/{crate.name}"):
         return 0
-    status = crate.prove(["check", *_words(crate, jobs)])
+    status = _prove_and_compile(crate, _words(crate, jobs), f"out/{crate.name}")
     for backend in backends:
-        status = status or _compile(crate, _words(crate, 1), backend, f"out/{crate.name}{rt.BACKENDS[backend]}")
+        if backend != "llvm":
+            status = status or _compile(crate, _words(crate, 1), backend, f"out/{crate.name}{rt.BACKENDS[backend]}")
     if not status and stamp == crate.stamp():
         with open(stamped, "w", encoding="utf-8") as file:
             file.write(stamp + rtlib.sum_of(f"{crate.folder}/out/{crate.name}"))
     return status
+
+
+def _prove_and_compile(crate, words, made):
+    """Proves the crate, and compiles it by LLVM in the same run, and links it. Returns the exit status."""
+    status = crate.prove(["build", *words, *TOOLCHAIN, "--backend", "llvm", "-o", f"{made}.o"])
+    return status or crate.link(f"{made}.o", made)
 
 
 def _compile(crate, words, backend, made):
@@ -79,7 +86,7 @@ def _compile(crate, words, backend, made):
 def prove_tests(crate, jobs):
     """Proves, builds and runs the crate's tests over its kept work. Returns whether they passed."""
     words = _words(crate, jobs, tests=True)
-    if crate.prove(["check", *words]) or _compile(crate, words, "llvm", f"out/{crate.name}_tests"):
+    if _prove_and_compile(crate, words, f"out/{crate.name}_tests"):
         return False
     return rt.run(crate, True)
 
