@@ -1,4 +1,4 @@
--- Values that may go to another thread.
+-- An engine may be shared among threads.
 use denote.RattleType.{RattleType}
 use denote.Param.Send.{IsSend, IsSync, sendable, enum_send, struct_send, struct_sync, recorded_send, recorded_sync, view_send}
 use denote.Struct.Declared.{shape}

@@ -14,7 +14,7 @@ const FLUSH: Round = Round::Flush;
 
 const COMPACT: Step = Step::Once(Round::Compact);
 
-// No sync of a script that is gated comes after so many others.
+// More syncs than any script has: no sync is gated.
 const NEVER: u64 = u64::MAX;
 
 #[derive(Drop)]
