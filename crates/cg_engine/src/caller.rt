@@ -7,18 +7,14 @@ ghost use Rattle.cg_engine.specs.Worth.{worth};
 ghost use Rattle.cg_engine.specs.declared.bounds.TheConstants.{CALLS_MAX};
 
 use crate::answer::Answer;
-use crate::before_wait::BeforeWait;
-use crate::kind::CallKind;
+use crate::message::Message;
 use crate::noted::Noted;
 use crate::pass::SessionPass;
 use crate::units::{Part, Units};
 use cg_desk::Outgoing;
-use cg_group::Ticket;
 use crossbeam_channel::Receiver;
 use std::alloc::Global;
-use std::sync::Wait;
 use std::sync::ledger::Ledger;
-use std::thread;
 
 /// A pass without its part, which is away with the call.
 #[derive(Drop)]
@@ -27,7 +23,7 @@ pub struct Caller<L: Ledger> {
     pub calls: u64,
     pub opening: u64,
     pub units: Units<L>,
-    pub answers: Receiver<Answer<L>>,
+    pub messages: Receiver<Message<L>>,
     pub noted: Noted,
     ghost few: { count_of units ≤ calls },
     ghost counted: { calls < CALLS_MAX },
@@ -48,7 +44,7 @@ impl<L: Ledger> Caller<L> {
             calls,
             opening,
             units,
-            answers,
+            messages,
             noted,
         } = self;
         SessionPass {
@@ -57,13 +53,13 @@ impl<L: Ledger> Caller<L> {
             opening,
             units,
             part,
-            answers,
+            messages,
             noted,
         }
     }
 
-    // Ends a call with its answer.
-    fn answered(self, alloc: Global, answer: Answer<L>) -> (SessionPass<L>, Outgoing)
+    /// Ends a call with its answer.
+    pub fn answered(self, alloc: Global, answer: Answer<L>) -> (SessionPass<L>, Outgoing)
         ensures number { number_of result.0 ≡ self.number }
         ensures calls { calls_of result.0 ≡ self.calls + 1 }
         ensures units { units_of result.0 ≡ count_of self.units + worth answer.kind (reply_of result.1) (made_of result.1) }
@@ -75,7 +71,7 @@ impl<L: Ledger> Caller<L> {
             calls,
             opening: _,
             mut units,
-            answers,
+            messages,
             mut noted,
         } = self;
         let Answer {
@@ -92,68 +88,9 @@ impl<L: Ledger> Caller<L> {
             opening,
             units,
             part,
-            answers,
+            messages,
             noted,
         };
         (pass, outgoing)
     }
-
-    /// Waits for the answer to the call with this ticket. No other answer comes, since a pass has one call at a time.
-    pub fn wait<R: Wait, I: BeforeWait>(
-        self,
-        rt: &R,
-        alloc: Global,
-        ticket: Ticket,
-        kind: CallKind,
-        has_pending: bool,
-        before_wait: &mut I,
-    ) -> (SessionPass<L>, Outgoing)
-        ensures number { number_of result.0 ≡ self.number }
-        ensures calls { calls_of result.0 ≡ self.calls + 1 }
-        ensures units { units_of result.0 ≡ count_of self.units + worth kind (reply_of result.1) (made_of result.1) }
-        ensures ticket { ticket_of result.1 ≡ ticket }
-        ensures noted { IsNoted self.noted (ticket_of result.1) (reply_of result.1) (noted_of result.0) }
-    {
-        let answer = awaited(rt, &self.answers, ticket, kind, has_pending, before_wait);
-        self.answered(alloc, answer)
-    }
-}
-
-// Receives the next answer. If none is there yet, `before_wait` is called first.
-fn received<L: Ledger, R: Wait, I: BeforeWait>(
-    rt: &R,
-    answers: &Receiver<Answer<L>>,
-    has_pending: bool,
-    before_wait: &mut I,
-) -> Option<Answer<L>> {
-    match answers.try_recv(rt) {
-        Ok(answer) => Some(answer),
-        Err(_) => {
-            before_wait.before_wait(has_pending);
-            answers.recv(rt).ok()
-        }
-    }
-}
-
-// Receives the answer to a call of this kind with this ticket.
-fn awaited<L: Ledger, R: Wait, I: BeforeWait>(
-    rt: &R,
-    answers: &Receiver<Answer<L>>,
-    ticket: Ticket,
-    kind: CallKind,
-    has_pending: bool,
-    before_wait: &mut I,
-) -> Answer<L>
-    ensures ticket { ticket_of result.outgoing ≡ ticket }
-    ensures kind { result.kind ≡ kind }
-{
-    for _ in rt.forever() {
-        if let Some(answer) = received(rt, answers, has_pending, before_wait) {
-            if answer.outgoing.ticket() == ticket && answer.kind == kind {
-                return answer;
-            }
-        }
-        thread::yield_now();
-    }
-    unreachable!()
 }

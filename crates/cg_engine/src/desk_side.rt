@@ -9,7 +9,9 @@ use crate::booked::BookedReceipt;
 use crate::bounds::{PARTS, PARTS_FOR_PASS, PASSES_MAX};
 use crate::delivery::{Deliveries, Delivery};
 use crate::fault::{PassFault, RoundEnd, RoundFault, Skip};
+use crate::intake::Submission;
 use crate::kind::CallKind;
+use crate::message::Message;
 use crate::pass::SessionPass;
 use crate::recorder::{Begun, Recorder};
 use crate::session::{Session, Waiting};
@@ -21,7 +23,7 @@ use cg_names::{Code, Moment};
 use cg_record::Command;
 use cg_store::{Batch, StoreFault};
 use cg_trail::Trail;
-use crossbeam_channel::bounded;
+use crossbeam_channel::{Sender, bounded};
 use slab::Slab;
 use std::alloc::{AllocError, Global};
 use std::sync::Wait;
@@ -99,7 +101,7 @@ fn deliver<L: Ledger, R: Wait>(
         match session.answers.clone() {
             Ok(to) => deliveries.add(rt, Delivery { to, answer }),
             Err(_) => {
-                let _ = session.answers.send(rt, answer);
+                let _ = session.answers.send(rt, Message::Answer(answer));
             }
         }
     }
@@ -268,6 +270,40 @@ impl<L: Ledger> DeskSide<L> {
             }
             Err((_memory, token)) => Err((token, part)),
         }
+    }
+
+    /// Hands a submitted request to the desk. The answer goes to its session; if an allocation fails, it is -1.
+    pub fn serve<R: Wait>(
+        &mut self,
+        rt: &R,
+        submission: Submission<L>,
+        deliveries: &mut Deliveries<L>,
+    ) {
+        let Submission {
+            ticket,
+            part,
+            request,
+            now,
+            fresh,
+        } = submission;
+        let kind = CallKind::of(&request);
+        let token = ReplyToken::new(ticket);
+        if let Err((token, part)) = self.request(rt, token, part, request, now, fresh, deliveries) {
+            let answer = Answer {
+                kind,
+                outgoing: token.refuse(Code::UnknownServerError),
+                units: part.without_units(),
+                opening: self.opening,
+            };
+            if let Some(to) = self.sender_of(ticket.session) {
+                deliveries.add(rt, Delivery { to, answer });
+            }
+        }
+    }
+
+    /// Returns an end of the channel to a session; if an allocation fails, none.
+    pub fn sender_of(&self, session: u64) -> Option<Sender<Message<L>>> {
+        self.sessions.get(session as usize)?.answers.clone().ok()
     }
 
     /// Runs the time-dependent rules.

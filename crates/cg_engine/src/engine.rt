@@ -10,22 +10,26 @@ ghost use Rattle.cg_engine.specs.Noted.{IsNoted};
 ghost use Rattle.cg_engine.specs.Passes.{calls_after, calls_of, next_ticket, noted_of, number_of, opening_of, units_of};
 ghost use Rattle.cg_engine.specs.Worth.{kind_of, worth};
 
+use crate::answer::Answer;
 use crate::appended::snapshots;
 use crate::before_wait::{BeforeWait, NotifiesFlusher};
 use crate::bounds::{CALLS_MAX, PARTS};
 use crate::delivery::Deliveries;
 use crate::desk_side::{DeskSide, Taken};
 use crate::fault::{LoadFault, PassFault, RoundEnd, RoundFault, Skip};
+use crate::intake::{Intake, Submission, Submitted};
 use crate::kind::CallKind;
 use crate::loading::opened;
+use crate::message::Message;
 use crate::pass::SessionPass;
 use crate::store_side::{BlankBook, StoreSide};
 use crate::units::Part;
 use cg_desk::{Outgoing, ReplyToken};
 use cg_disk::SectorDisk;
-use cg_group::{Reply, Request};
+use cg_group::{Reply, Request, Ticket};
 use cg_names::{Code, Moment};
 use cg_store::{Batch, CompactFault};
+use crossbeam_channel::Receiver;
 use std::alloc::{AllocError, Global};
 use std::sync::ledger::{Blank, Ledger};
 use std::sync::{Condvar, Mutex, MutexGuard, Wait};
@@ -33,9 +37,20 @@ use std::thread;
 use std::time::{Clock, Duration};
 use uuid::Uuid;
 
-/// Looks at a desk lock that is taken, before a caller sleeps until it is free. The lock is held for about a microsecond at a
-/// time, and a sleep with its wake-up takes longer.
-const LOCK_LOOKS: u32 = 32;
+/// Requests that a caller hands to the desk without freeing its lock.
+const TURN_REQUESTS: u32 = 32;
+
+/// Turns after which another caller goes on, so that a call ends although others never cease.
+const TURNS_MAX: u32 = 32;
+
+/// What a turn left in the intake.
+#[derive(Clone, Copy, Debug, Drop, PartialEq, Eq)]
+enum Left {
+    /// Nothing: the task ends.
+    Nothing,
+    /// Maybe more requests.
+    Perhaps,
+}
 
 /// A desk and a store behind two locks, for any number of threads. No thread holds both locks. An engine loads one disk,
 /// once. It has no thread of its own: its callers flush, tick and compact.
@@ -45,6 +60,8 @@ pub struct Engine<D: SectorDisk, L: Ledger> {
     pub(crate) trail: bool,
     pub(crate) desk: Mutex<DeskSide<L>>,
     pub(crate) store: Mutex<StoreSide<D, L>>,
+    /// Requests that wait for the desk.
+    pub(crate) intake: Mutex<Intake<L>>,
     /// Notified where commands are pending.
     pub(crate) pending: Condvar,
 }
@@ -65,6 +82,7 @@ impl<D: SectorDisk + Drop, L: Ledger> Engine<D, L> {
             trail,
             desk: Mutex::new(side),
             store: Mutex::new(StoreSide::Empty(BlankBook { book })),
+            intake: Mutex::new(Intake::new(alloc)),
             pending: Condvar::new(),
         })
     }
@@ -182,48 +200,153 @@ impl<D: SectorDisk + Drop, L: Ledger> Engine<D, L> {
     {
         let ticket = pass.next_ticket();
         let kind = CallKind::of(&request);
-        let token = ReplyToken::new(ticket);
         if pass.calls() >= CALLS_MAX {
+            let token = ReplyToken::new(ticket);
             return (pass, token.refuse(Code::CoordinatorNotAvailable));
         }
         let (caller, part) = pass.begin();
-        match self.ask(rt, token, part, request, now, fresh) {
-            Ok(has_pending) => caller.wait(rt, self.alloc, ticket, kind, has_pending, before_wait),
-            Err((token, part)) => (caller.refused(part), token.refuse(Code::UnknownServerError)),
-        }
-    }
-
-    // Takes the desk lock for a call. While other callers have it, lets them run for a few looks before it sleeps.
-    fn lock_desk<R: Wait>(&self, rt: &R) -> MutexGuard<'_, DeskSide<L>> {
-        for _ in 0..LOCK_LOOKS {
-            if let Some(desk) = self.desk.try_lock() {
-                return desk;
+        let submission = Submission {
+            ticket,
+            part,
+            request,
+            now,
+            fresh,
+        };
+        match self.submit(rt, submission) {
+            Ok(has_pending) => {
+                let messages = &caller.messages;
+                let answer = self.awaited(rt, messages, ticket, kind, has_pending, before_wait);
+                caller.answered(self.alloc, answer)
             }
-            thread::yield_now();
+            Err(part) => {
+                let token = ReplyToken::new(ticket);
+                (caller.refused(part), token.refuse(Code::UnknownServerError))
+            }
         }
-        self.desk.lock(rt)
     }
 
-    // Hands a request to the desk, and sends the answers that it makes. Returns whether commands wait for a batch, and none
-    // is in flight.
-    fn ask<R: Wait>(
-        &self,
-        rt: &R,
-        token: ReplyToken,
-        part: Part<L>,
-        request: Request,
-        now: Moment,
-        fresh: Uuid,
-    ) -> Result<bool, (ReplyToken, Part<L>)>
-        ensures { IfErr result (λ refused. call_of refused.0 ≡ call_of token) }
-    {
+    // Submits a request, and hands the requests of the intake to the desk if no other thread does. Returns whether commands
+    // wait for a batch, and none is in flight. If an allocation fails, returns the part.
+    fn submit<R: Wait>(&self, rt: &R, submission: Submission<L>) -> Result<bool, Part<L>> {
+        let submitted = self.intake.lock(rt).add(submission);
+        match submitted {
+            Ok(Submitted::Serves) => Ok(self.serve(rt)),
+            Ok(Submitted::Waits) => Ok(false),
+            Err(submission) => Err(submission.part),
+        }
+    }
+
+    // Hands requests to the desk until none waits, or another caller is to go on. Returns whether commands wait for a batch,
+    // none is in flight, and no flusher was notified.
+    fn serve<R: Wait>(&self, rt: &R) -> bool {
+        for _ in rt.forever() {
+            for _ in 0..TURNS_MAX {
+                let (left, has_pending) = self.serve_turn(rt);
+                if left == Left::Nothing {
+                    return has_pending;
+                }
+                if has_pending {
+                    self.pending.notify_one();
+                }
+            }
+            if self.hand_over(rt) {
+                return false;
+            }
+        }
+        unreachable!()
+    }
+
+    // Hands some requests to the desk, and sends the answers that it makes.
+    fn serve_turn<R: Wait>(&self, rt: &R) -> (Left, bool) {
         let mut deliveries = Deliveries::new(self.alloc);
-        let mut desk = self.lock_desk(rt);
-        desk.request(rt, token, part, request, now, fresh, &mut deliveries)?;
+        let mut desk = self.desk.lock(rt);
+        let left = self.serve_some(rt, &mut desk, &mut deliveries);
         let has_pending = desk.has_pending();
         drop(desk);
         deliveries.send_all(rt);
-        Ok(has_pending)
+        (left, has_pending)
+    }
+
+    // Hands at most `TURN_REQUESTS` requests to the desk.
+    fn serve_some<R: Wait>(
+        &self,
+        rt: &R,
+        desk: &mut DeskSide<L>,
+        deliveries: &mut Deliveries<L>,
+    ) -> Left {
+        for _ in 0..TURN_REQUESTS {
+            let next = self.intake.lock(rt).next();
+            match next {
+                Some(submission) => desk.serve(rt, submission, deliveries),
+                None => return Left::Nothing,
+            }
+        }
+        Left::Perhaps
+    }
+
+    // Gives the task to hand requests to the desk to the caller whose request is the first. Returns `false` where there is
+    // none, or an allocation fails.
+    fn hand_over<R: Wait>(&self, rt: &R) -> bool {
+        let first = self.intake.lock(rt).first_session();
+        let Some(session) = first else {
+            return false;
+        };
+        let to = self.desk.lock(rt).sender_of(session);
+        match to {
+            Some(to) => to.send(rt, Message::Serve).is_ok(),
+            None => false,
+        }
+    }
+
+    // Receives the next message to a pass. If there is none yet, `before_wait` is called first.
+    fn received<R: Wait, I: BeforeWait>(
+        &self,
+        rt: &R,
+        messages: &Receiver<Message<L>>,
+        has_pending: bool,
+        before_wait: &mut I,
+    ) -> Option<Message<L>> {
+        match messages.try_recv(rt) {
+            Ok(message) => {
+                if has_pending {
+                    self.pending.notify_one();
+                }
+                Some(message)
+            }
+            Err(_) => {
+                before_wait.before_wait(has_pending);
+                messages.recv(rt).ok()
+            }
+        }
+    }
+
+    // Waits for the answer to the call of this kind with this ticket. No other answer comes, since a pass has one call at a
+    // time.
+    fn awaited<R: Wait, I: BeforeWait>(
+        &self,
+        rt: &R,
+        messages: &Receiver<Message<L>>,
+        ticket: Ticket,
+        kind: CallKind,
+        has_pending: bool,
+        before_wait: &mut I,
+    ) -> Answer<L>
+        ensures ticket { ticket_of result.outgoing ≡ ticket }
+        ensures kind { result.kind ≡ kind }
+    {
+        let mut has_pending = has_pending;
+        for _ in rt.forever() {
+            match self.received(rt, messages, has_pending, before_wait) {
+                Some(Message::Answer(answer)) => {
+                    if answer.outgoing.ticket() == ticket && answer.kind == kind {
+                        return answer;
+                    }
+                }
+                Some(Message::Serve) => has_pending = self.serve(rt),
+                None => thread::yield_now(),
+            }
+        }
+        unreachable!()
     }
 
     // Frees the desk lock, notifies a thread in `await_commands` if commands are pending, and sends the answers.

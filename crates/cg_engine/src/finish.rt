@@ -10,6 +10,7 @@ use crate::closed::Closed;
 use crate::desk_side::DeskSide;
 use crate::engine::Engine;
 use crate::fault::FinishFault;
+use crate::intake::Intake;
 use crate::pass::SessionPass;
 use crate::recorder::Recorder;
 use crate::store_side::StoreSide;
@@ -172,6 +173,7 @@ impl<D: SectorDisk + Drop, L: Ledger> Engine<D, L> {
             trail,
             desk,
             store,
+            intake: _,
             pending: _,
         } = self;
         let desk = desk.into_inner();
@@ -184,6 +186,7 @@ impl<D: SectorDisk + Drop, L: Ledger> Engine<D, L> {
                     trail,
                     desk: Mutex::new(desk),
                     store: Mutex::new(store),
+                    intake: Mutex::new(Intake::new(alloc)),
                     pending: Condvar::new(),
                 };
                 Err((fault, engine, passes))
@@ -203,6 +206,7 @@ impl<D: SectorDisk + Drop, L: Ledger> Engine<D, L> {
             trail: _,
             desk,
             store,
+            intake: _,
             pending: _,
         } = self;
         let Closed {
