@@ -1,6 +1,6 @@
 //! The commands of a snapshot, cut into payloads of frames.
-ghost use Rattle.std.specs.Prelude.{◌≡◌, ◌≤◌, ◌<◌, ◌∷◌, ◌++◌, [], None, true, false, length, IfOk, OnOk};
-ghost use Rattle.std.specs.Option.{MatchOption, option_to_list};
+ghost use Rattle.std.specs.Prelude.{◌≡◌, ◌≤◌, ◌<◌, ◌∷◌, ◌++◌, ◌≢◌, [], None, true, false, length, IfOk, OnOk};
+ghost use Rattle.std.specs.Option.{option_to_list};
 ghost use Rattle.cg_frame.specs.declared.segment.TheConstants.{LARGEST_PAYLOAD_BYTES};
 ghost use Rattle.cg_fold.specs.Snapshot.{snapshot_of};
 ghost use Rattle.cg_record.specs.Spelling.{spelling};
@@ -11,24 +11,37 @@ use cg_fold::{Durable, Snapshot};
 use cg_record::Command;
 use std::alloc::{AllocError, Global};
 use std::marker::Model;
-use std::mem;
 
-// Removes the next command: the one ahead, or the next of the snapshot.
-fn next_command(
-    ahead: &mut Option<Command>,
-    snapshot: &mut Snapshot,
-) -> Result<Option<Command>, AllocError>
-    ensures none { OnOk result (ahead.new ≡ None) }
-    ensures next { IfOk result (λ o. MatchOption o
-        ((option_to_list ahead.old ++ snapshot.old ≡ []) × (snapshot.new ≡ []))
-        (λ command. option_to_list ahead.old ++ snapshot.old ≡ command ∷ snapshot.new)) }
+// Takes the next command of the snapshot ahead, unless one is.
+fn look_ahead(ahead: &mut Option<Command>, snapshot: &mut Snapshot) -> Result<(), AllocError>
+    ensures order { OnOk result (option_to_list ahead.new ++ snapshot.new ≡ option_to_list ahead.old ++ snapshot.old) }
+    ensures none { OnOk result (ahead.new ≡ None → snapshot.new ≡ []) }
 {
-    match mem::replace(ahead, None) {
-        Some(command) => Ok(Some(command)),
-        None => {
-            let next = snapshot.next()?;
-            Ok(next)
+    if ahead.is_none() {
+        *ahead = snapshot.next()?;
+    }
+    Ok(())
+}
+
+// Appends the command ahead to the payload. Returns `false` if there is none, or it does not fit.
+fn put_ahead(
+    text: &mut Commands,
+    room: &mut Vec<u8>,
+    ahead: &Option<Command>,
+) -> Result<bool, AllocError>
+    ensures put { IfOk result (λ is. is ≡ true → text.new ≡ text.old ++ option_to_list ahead.now) }
+    ensures same { IfOk result (λ is. is ≡ false → text.new ≡ text.old) }
+    ensures fits { length (spelling text.old) ≤ LARGEST_PAYLOAD_BYTES → length (spelling text.new) ≤ LARGEST_PAYLOAD_BYTES }
+    ensures some { IfOk result (λ is. is ≡ true → ahead.now ≢ None) }
+    ensures full { IfOk result (λ is. is ≡ false → IsFull text.new (option_to_list ahead.now)) }
+    ensures holds_one { IfOk result (λ is. is ≡ false → text.new ≡ [] → ahead.now ≡ None) }
+{
+    match ahead {
+        Some(command) => {
+            let is_put = text.push_if_fits(room, command)?;
+            Ok(is_put)
         }
+        None => Ok(false),
     }
 }
 
@@ -45,16 +58,12 @@ fn move_one(
     ensures full { IfOk result (λ is. is ≡ false → IsFull text.new (option_to_list ahead.new ++ snapshot.new)) }
     ensures some { IfOk result (λ is. is ≡ false → text.new ≡ [] → option_to_list ahead.new ++ snapshot.new ≡ []) }
 {
-    match next_command(ahead, snapshot)? {
-        None => Ok(false),
-        Some(command) => {
-            let is_put = text.push_if_fits(room, &command)?;
-            if !is_put {
-                *ahead = Some(command);
-            }
-            Ok(is_put)
-        }
+    look_ahead(ahead, snapshot)?;
+    let is_put = put_ahead(text, room, ahead)?;
+    if is_put {
+        *ahead = None;
     }
+    Ok(is_put)
 }
 
 // Moves commands to the payload until the next does not fit, which is the one ahead then.
