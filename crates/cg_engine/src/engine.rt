@@ -1,56 +1,29 @@
 //! The engine: a desk and a store behind two locks.
 ghost use Rattle.std.specs.Prelude.{◌≡◌, ◌⊎◌, ◌+◌, ◌≤◌, ℕ, true, IfErr, MatchResult};
-ghost use Rattle.cg_desk.specs.Outgoings.{made_of, reply_of, ticket_of};
-ghost use Rattle.cg_desk.specs.Tokens.{call_of};
 ghost use Rattle.cg_disk.specs.Disk.{Stays, present};
 ghost use Rattle.cg_fold.specs.Durable.{State};
 ghost use Rattle.cg_store.specs.Carried.{Carries};
 ghost use Rattle.cg_engine.specs.Loads.{IsPassing, Tells, found};
-ghost use Rattle.cg_engine.specs.Noted.{IsNoted};
-ghost use Rattle.cg_engine.specs.Passes.{calls_after, calls_of, next_ticket, noted_of, number_of, opening_of, units_of};
-ghost use Rattle.cg_engine.specs.Worth.{kind_of, worth};
+ghost use Rattle.cg_engine.specs.Passes.{opening_of, units_of};
 
-use crate::answer::Answer;
 use crate::appended::snapshots;
-use crate::before_wait::{BeforeWait, NotifiesFlusher};
-use crate::bounds::{CALLS_MAX, PARTS};
+use crate::bounds::PARTS;
 use crate::delivery::Deliveries;
 use crate::desk_side::{DeskSide, Taken};
 use crate::fault::{LoadFault, PassFault, RoundEnd, RoundFault, Skip};
-use crate::intake::{Intake, Submission, Submitted};
-use crate::kind::CallKind;
+use crate::intake::Intake;
 use crate::loading::opened;
-use crate::message::Message;
 use crate::pass::SessionPass;
 use crate::store_side::{BlankBook, StoreSide};
 use crate::units::Part;
-use cg_desk::{Outgoing, ReplyToken};
 use cg_disk::SectorDisk;
-use cg_group::{Reply, Request, Ticket};
-use cg_names::{Code, Moment};
+use cg_names::Moment;
 use cg_store::{Batch, CompactFault};
-use crossbeam_channel::Receiver;
 use std::alloc::{AllocError, Global};
 use std::sync::ledger::{Blank, Ledger};
 use std::sync::{Condvar, Mutex, MutexGuard, Wait};
 use std::thread;
 use std::time::{Clock, Duration};
-use uuid::Uuid;
-
-/// Requests that a caller hands to the desk without freeing its lock.
-const TURN_REQUESTS: u32 = 32;
-
-/// Turns after which another caller goes on, so that a call ends although others never cease.
-const TURNS_MAX: u32 = 32;
-
-/// What a turn left in the intake.
-#[derive(Clone, Copy, Debug, Drop, PartialEq, Eq)]
-enum Left {
-    /// Nothing: the task ends.
-    Nothing,
-    /// Maybe more requests.
-    Perhaps,
-}
 
 /// A desk and a store behind two locks, for any number of threads. No thread holds both locks. An engine loads one disk,
 /// once. It has no thread of its own: its callers flush, tick and compact.
@@ -155,198 +128,6 @@ impl<D: SectorDisk + Drop, L: Ledger> Engine<D, L> {
         }
         *self.store.lock(rt) = StoreSide::Loaded(book.with_store(store, appended));
         Ok((number, records, offsets))
-    }
-
-    /// Calls the desk, and waits for the answer to this call. The units of the pass grow by what the answer is worth:
-    /// settled commands, of which no other answer has a unit. A pass that has made its last call is answered 15, which
-    /// is not counted as a call. Where an allocation fails the answer is -1.
-    pub fn call<R: Wait>(
-        &self,
-        rt: &R,
-        pass: SessionPass<L>,
-        request: Request,
-        now: Moment,
-        fresh: Uuid,
-    ) -> (SessionPass<L>, Outgoing)
-        ensures number { number_of result.0 ≡ number_of pass }
-        ensures ticket { ticket_of result.1 ≡ next_ticket pass }
-        ensures calls { calls_of result.0 ≡ calls_after (calls_of pass) }
-        ensures limit { calls_of pass ≡ CALLS_MAX → reply_of result.1 ≡ Reply.Refused Code.CoordinatorNotAvailable }
-        ensures noted { IsNoted (noted_of pass) (ticket_of result.1) (reply_of result.1) (noted_of result.0) }
-        ensures units { units_of result.0 ≡ units_of pass + worth (kind_of request) (reply_of result.1) (made_of result.1) }
-    {
-        let mut before_wait = NotifiesFlusher {
-            pending: &self.pending,
-        };
-        self.call_with(rt, pass, request, now, fresh, &mut before_wait)
-    }
-
-    /// Does what `call` does, but leaves to `before_wait` who flushes what is pending.
-    pub fn call_with<R: Wait, I: BeforeWait>(
-        &self,
-        rt: &R,
-        pass: SessionPass<L>,
-        request: Request,
-        now: Moment,
-        fresh: Uuid,
-        before_wait: &mut I,
-    ) -> (SessionPass<L>, Outgoing)
-        ensures number { number_of result.0 ≡ number_of pass }
-        ensures ticket { ticket_of result.1 ≡ next_ticket pass }
-        ensures calls { calls_of result.0 ≡ calls_after (calls_of pass) }
-        ensures limit { calls_of pass ≡ CALLS_MAX → reply_of result.1 ≡ Reply.Refused Code.CoordinatorNotAvailable }
-        ensures noted { IsNoted (noted_of pass) (ticket_of result.1) (reply_of result.1) (noted_of result.0) }
-        ensures units { units_of result.0 ≡ units_of pass + worth (kind_of request) (reply_of result.1) (made_of result.1) }
-    {
-        let ticket = pass.next_ticket();
-        let kind = CallKind::of(&request);
-        if pass.calls() >= CALLS_MAX {
-            let token = ReplyToken::new(ticket);
-            return (pass, token.refuse(Code::CoordinatorNotAvailable));
-        }
-        let (caller, part) = pass.begin();
-        let submission = Submission {
-            ticket,
-            part,
-            request,
-            now,
-            fresh,
-        };
-        match self.submit(rt, submission) {
-            Ok(has_pending) => {
-                let messages = &caller.messages;
-                let answer = self.awaited(rt, messages, ticket, kind, has_pending, before_wait);
-                caller.answered(self.alloc, answer)
-            }
-            Err(part) => {
-                let token = ReplyToken::new(ticket);
-                (caller.refused(part), token.refuse(Code::UnknownServerError))
-            }
-        }
-    }
-
-    // Submits a request, and hands the requests of the intake to the desk if no other thread does. Returns whether commands
-    // wait for a batch, and none is in flight. If an allocation fails, returns the part.
-    fn submit<R: Wait>(&self, rt: &R, submission: Submission<L>) -> Result<bool, Part<L>> {
-        let submitted = self.intake.lock(rt).add(submission);
-        match submitted {
-            Ok(Submitted::Serves) => Ok(self.serve(rt)),
-            Ok(Submitted::Waits) => Ok(false),
-            Err(submission) => Err(submission.part),
-        }
-    }
-
-    // Hands requests to the desk until none waits, or another caller is to go on. Returns whether commands wait for a batch,
-    // none is in flight, and no flusher was notified.
-    fn serve<R: Wait>(&self, rt: &R) -> bool {
-        for _ in rt.forever() {
-            for _ in 0..TURNS_MAX {
-                let (left, has_pending) = self.serve_turn(rt);
-                if left == Left::Nothing {
-                    return has_pending;
-                }
-                if has_pending {
-                    self.pending.notify_one();
-                }
-            }
-            if self.hand_over(rt) {
-                return false;
-            }
-        }
-        unreachable!()
-    }
-
-    // Hands some requests to the desk, and sends the answers that it makes.
-    fn serve_turn<R: Wait>(&self, rt: &R) -> (Left, bool) {
-        let mut deliveries = Deliveries::new(self.alloc);
-        let mut desk = self.desk.lock(rt);
-        let left = self.serve_some(rt, &mut desk, &mut deliveries);
-        let has_pending = desk.has_pending();
-        drop(desk);
-        deliveries.send_all(rt);
-        (left, has_pending)
-    }
-
-    // Hands at most `TURN_REQUESTS` requests to the desk.
-    fn serve_some<R: Wait>(
-        &self,
-        rt: &R,
-        desk: &mut DeskSide<L>,
-        deliveries: &mut Deliveries<L>,
-    ) -> Left {
-        for _ in 0..TURN_REQUESTS {
-            let next = self.intake.lock(rt).next();
-            match next {
-                Some(submission) => desk.serve(rt, submission, deliveries),
-                None => return Left::Nothing,
-            }
-        }
-        Left::Perhaps
-    }
-
-    // Gives the task to hand requests to the desk to the caller whose request is the first. Returns `false` where there is
-    // none, or an allocation fails.
-    fn hand_over<R: Wait>(&self, rt: &R) -> bool {
-        let first = self.intake.lock(rt).first_session();
-        let Some(session) = first else {
-            return false;
-        };
-        let to = self.desk.lock(rt).sender_of(session);
-        match to {
-            Some(to) => to.send(rt, Message::Serve).is_ok(),
-            None => false,
-        }
-    }
-
-    // Receives the next message to a pass. If there is none yet, `before_wait` is called first.
-    fn received<R: Wait, I: BeforeWait>(
-        &self,
-        rt: &R,
-        messages: &Receiver<Message<L>>,
-        has_pending: bool,
-        before_wait: &mut I,
-    ) -> Option<Message<L>> {
-        match messages.try_recv(rt) {
-            Ok(message) => {
-                if has_pending {
-                    self.pending.notify_one();
-                }
-                Some(message)
-            }
-            Err(_) => {
-                before_wait.before_wait(has_pending);
-                messages.recv(rt).ok()
-            }
-        }
-    }
-
-    // Waits for the answer to the call of this kind with this ticket. No other answer comes, since a pass has one call at a
-    // time.
-    fn awaited<R: Wait, I: BeforeWait>(
-        &self,
-        rt: &R,
-        messages: &Receiver<Message<L>>,
-        ticket: Ticket,
-        kind: CallKind,
-        has_pending: bool,
-        before_wait: &mut I,
-    ) -> Answer<L>
-        ensures ticket { ticket_of result.outgoing ≡ ticket }
-        ensures kind { result.kind ≡ kind }
-    {
-        let mut has_pending = has_pending;
-        for _ in rt.forever() {
-            match self.received(rt, messages, has_pending, before_wait) {
-                Some(Message::Answer(answer)) => {
-                    if answer.outgoing.ticket() == ticket && answer.kind == kind {
-                        return answer;
-                    }
-                }
-                Some(Message::Serve) => has_pending = self.serve(rt),
-                None => thread::yield_now(),
-            }
-        }
-        unreachable!()
     }
 
     // Frees the desk lock, notifies a thread in `await_commands` if commands are pending, and sends the answers.

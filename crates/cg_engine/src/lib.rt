@@ -8,6 +8,7 @@ mod appended;
 mod before_wait;
 mod booked;
 mod bounds;
+mod call;
 mod caller;
 mod closed;
 mod copies;
