@@ -32,6 +32,10 @@ const TURN_REQUESTS: u32 = 32;
 /// Turns after which another caller goes on, so that a call ends although others never cease.
 const TURNS_MAX: u32 = 32;
 
+/// Looks for the answer to a request that stores nothing, before its caller sleeps: a sleep with its wake-up takes longer than
+/// the desk takes for such a request.
+const READ_LOOKS: u32 = 16;
+
 /// What a turn left in the intake.
 #[derive(Clone, Copy, Debug, Drop, PartialEq, Eq)]
 enum Left {
@@ -183,22 +187,46 @@ impl<D: SectorDisk + Drop, L: Ledger> Engine<D, L> {
         }
     }
 
+    // Looks for the next message to a pass. The answer to a request that stores nothing mostly comes as soon as another caller
+    // has handed it to the desk, so for such a request it looks a few times, and lets other threads run in between.
+    fn looked_for<R: Wait>(
+        &self,
+        rt: &R,
+        messages: &Receiver<Message<L>>,
+        kind: CallKind,
+    ) -> Option<Message<L>> {
+        if let Ok(message) = messages.try_recv(rt) {
+            return Some(message);
+        }
+        if kind != CallKind::Read {
+            return None;
+        }
+        for _ in 0..READ_LOOKS {
+            thread::yield_now();
+            if let Ok(message) = messages.try_recv(rt) {
+                return Some(message);
+            }
+        }
+        None
+    }
+
     // Receives the next message to a pass. If there is none yet, `before_wait` is called first.
     fn received<R: Wait, I: BeforeWait>(
         &self,
         rt: &R,
         messages: &Receiver<Message<L>>,
+        kind: CallKind,
         has_pending: bool,
         before_wait: &mut I,
     ) -> Option<Message<L>> {
-        match messages.try_recv(rt) {
-            Ok(message) => {
+        match self.looked_for(rt, messages, kind) {
+            Some(message) => {
                 if has_pending {
                     self.pending.notify_one();
                 }
                 Some(message)
             }
-            Err(_) => {
+            None => {
                 before_wait.before_wait(has_pending);
                 messages.recv(rt).ok()
             }
@@ -221,7 +249,7 @@ impl<D: SectorDisk + Drop, L: Ledger> Engine<D, L> {
     {
         let mut has_pending = has_pending;
         for _ in rt.forever() {
-            match self.received(rt, messages, has_pending, before_wait) {
+            match self.received(rt, messages, kind, has_pending, before_wait) {
                 Some(Message::Answer(answer)) => {
                     if answer.outgoing.ticket() == ticket && answer.kind == kind {
                         return answer;
