@@ -13,7 +13,6 @@ use crate::desk_side::DeskSide;
 use crate::engine::Engine;
 use crate::intake::{Submission, Submitted};
 use crate::kind::CallKind;
-use crate::message::Message;
 use crate::pass::SessionPass;
 use crate::units::Part;
 use cg_desk::{Outgoing, ReplyToken};
@@ -29,7 +28,7 @@ use uuid::Uuid;
 /// Requests that a caller hands to the desk without freeing its lock.
 const TURN_REQUESTS: u32 = 32;
 
-/// Turns after which another caller goes on, so that a call ends although others never cease.
+/// Turns after which another caller may go on, so that a call ends although others never cease.
 const TURNS_MAX: u32 = 32;
 
 /// Looks for the answer to a request that stores nothing, before its caller sleeps: a sleep with its wake-up takes longer than
@@ -103,8 +102,8 @@ impl<D: SectorDisk + Drop, L: Ledger> Engine<D, L> {
         };
         match self.submit(rt, submission) {
             Ok(has_pending) => {
-                let messages = &caller.messages;
-                let answer = self.awaited(rt, messages, ticket, kind, has_pending, before_wait);
+                let answers = &caller.answers;
+                let answer = self.awaited(rt, answers, ticket, kind, has_pending, before_wait);
                 caller.answered(self.alloc, answer)
             }
             Err(part) => {
@@ -125,7 +124,7 @@ impl<D: SectorDisk + Drop, L: Ledger> Engine<D, L> {
         }
     }
 
-    // Hands requests to the desk until none waits, or another caller is to go on. Returns whether commands wait for a batch,
+    // Hands requests to the desk until none waits, or another thread has the task. Returns whether commands wait for a batch,
     // none is in flight, and no flusher was notified.
     fn serve<R: Wait>(&self, rt: &R) -> bool {
         for _ in rt.forever() {
@@ -138,11 +137,18 @@ impl<D: SectorDisk + Drop, L: Ledger> Engine<D, L> {
                     self.pending.notify_one();
                 }
             }
-            if self.hand_over(rt) {
+            if !self.keeps_task(rt) {
                 return false;
             }
         }
         unreachable!()
+    }
+
+    // Leaves the task to whoever submits a request now. Returns whether no thread did: then this one has it again.
+    fn keeps_task<R: Wait>(&self, rt: &R) -> bool {
+        self.intake.lock(rt).leave();
+        thread::yield_now();
+        self.intake.lock(rt).take_up()
     }
 
     // Hands some requests to the desk, and sends the answers that it makes.
@@ -173,62 +179,48 @@ impl<D: SectorDisk + Drop, L: Ledger> Engine<D, L> {
         Left::Perhaps
     }
 
-    // Gives the task to hand requests to the desk to the caller whose request is the first. Returns `false` where there is
-    // none, or an allocation fails.
-    fn hand_over<R: Wait>(&self, rt: &R) -> bool {
-        let first = self.intake.lock(rt).first_session();
-        let Some(session) = first else {
-            return false;
-        };
-        let to = self.desk.lock(rt).sender_of(session);
-        match to {
-            Some(to) => to.send(rt, Message::Serve).is_ok(),
-            None => false,
-        }
-    }
-
-    // Looks for the next message to a pass. The answer to a request that stores nothing mostly comes as soon as another caller
+    // Looks for the next answer to a pass. The answer to a request that stores nothing mostly comes as soon as another caller
     // has handed it to the desk, so for such a request it looks a few times, and lets other threads run in between.
     fn looked_for<R: Wait>(
         &self,
         rt: &R,
-        messages: &Receiver<Message<L>>,
+        answers: &Receiver<Answer<L>>,
         kind: CallKind,
-    ) -> Option<Message<L>> {
-        if let Ok(message) = messages.try_recv(rt) {
-            return Some(message);
+    ) -> Option<Answer<L>> {
+        if let Ok(answer) = answers.try_recv(rt) {
+            return Some(answer);
         }
         if kind != CallKind::Read {
             return None;
         }
         for _ in 0..READ_LOOKS {
             thread::yield_now();
-            if let Ok(message) = messages.try_recv(rt) {
-                return Some(message);
+            if let Ok(answer) = answers.try_recv(rt) {
+                return Some(answer);
             }
         }
         None
     }
 
-    // Receives the next message to a pass. If there is none yet, `before_wait` is called first.
+    // Receives the next answer to a pass. If there is none yet, `before_wait` is called first.
     fn received<R: Wait, I: BeforeWait>(
         &self,
         rt: &R,
-        messages: &Receiver<Message<L>>,
+        answers: &Receiver<Answer<L>>,
         kind: CallKind,
         has_pending: bool,
         before_wait: &mut I,
-    ) -> Option<Message<L>> {
-        match self.looked_for(rt, messages, kind) {
-            Some(message) => {
+    ) -> Option<Answer<L>> {
+        match self.looked_for(rt, answers, kind) {
+            Some(answer) => {
                 if has_pending {
                     self.pending.notify_one();
                 }
-                Some(message)
+                Some(answer)
             }
             None => {
                 before_wait.before_wait(has_pending);
-                messages.recv(rt).ok()
+                answers.recv(rt).ok()
             }
         }
     }
@@ -238,7 +230,7 @@ impl<D: SectorDisk + Drop, L: Ledger> Engine<D, L> {
     fn awaited<R: Wait, I: BeforeWait>(
         &self,
         rt: &R,
-        messages: &Receiver<Message<L>>,
+        answers: &Receiver<Answer<L>>,
         ticket: Ticket,
         kind: CallKind,
         has_pending: bool,
@@ -247,17 +239,13 @@ impl<D: SectorDisk + Drop, L: Ledger> Engine<D, L> {
         ensures ticket { ticket_of result.outgoing ≡ ticket }
         ensures kind { result.kind ≡ kind }
     {
-        let mut has_pending = has_pending;
         for _ in rt.forever() {
-            match self.received(rt, messages, kind, has_pending, before_wait) {
-                Some(Message::Answer(answer)) => {
-                    if answer.outgoing.ticket() == ticket && answer.kind == kind {
-                        return answer;
-                    }
+            if let Some(answer) = self.received(rt, answers, kind, has_pending, before_wait) {
+                if answer.outgoing.ticket() == ticket && answer.kind == kind {
+                    return answer;
                 }
-                Some(Message::Serve) => has_pending = self.serve(rt),
-                None => thread::yield_now(),
             }
+            thread::yield_now();
         }
         unreachable!()
     }

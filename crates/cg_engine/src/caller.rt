@@ -7,7 +7,6 @@ ghost use Rattle.cg_engine.specs.Worth.{worth};
 ghost use Rattle.cg_engine.specs.declared.bounds.TheConstants.{CALLS_MAX};
 
 use crate::answer::Answer;
-use crate::message::Message;
 use crate::noted::Noted;
 use crate::pass::SessionPass;
 use crate::units::{Part, Units};
@@ -23,7 +22,7 @@ pub struct Caller<L: Ledger> {
     pub calls: u64,
     pub opening: u64,
     pub units: Units<L>,
-    pub messages: Receiver<Message<L>>,
+    pub answers: Receiver<Answer<L>>,
     pub noted: Noted,
     ghost few: { count_of units ≤ calls },
     ghost counted: { calls < CALLS_MAX },
@@ -44,7 +43,7 @@ impl<L: Ledger> Caller<L> {
             calls,
             opening,
             units,
-            messages,
+            answers,
             noted,
         } = self;
         SessionPass {
@@ -53,7 +52,7 @@ impl<L: Ledger> Caller<L> {
             opening,
             units,
             part,
-            messages,
+            answers,
             noted,
         }
     }
@@ -71,7 +70,7 @@ impl<L: Ledger> Caller<L> {
             calls,
             opening: _,
             mut units,
-            messages,
+            answers,
             mut noted,
         } = self;
         let Answer {
@@ -88,7 +87,7 @@ impl<L: Ledger> Caller<L> {
             opening,
             units,
             part,
-            messages,
+            answers,
             noted,
         };
         (pass, outgoing)

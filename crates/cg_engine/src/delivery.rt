@@ -1,6 +1,5 @@
 //! Answers on their way to the passes that wait for them.
 use crate::answer::Answer;
-use crate::message::Message;
 use crossbeam_channel::Sender;
 use std::alloc::Global;
 use std::sync::Wait;
@@ -9,7 +8,7 @@ use std::sync::ledger::Ledger;
 /// An answer, and the channel to the pass that waits for it.
 #[derive(Drop)]
 pub struct Delivery<L: Ledger> {
-    pub to: Sender<Message<L>>,
+    pub to: Sender<Answer<L>>,
     pub answer: Answer<L>,
 }
 
@@ -17,7 +16,7 @@ impl<L: Ledger> Delivery<L> {
     fn send<R: Wait>(self, rt: &R) {
         let Delivery { to, answer } = self;
         // This fails only if the pass was dropped.
-        let _ = to.send(rt, Message::Answer(answer));
+        let _ = to.send(rt, answer);
     }
 }
 

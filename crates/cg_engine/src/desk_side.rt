@@ -11,7 +11,6 @@ use crate::delivery::{Deliveries, Delivery};
 use crate::fault::{PassFault, RoundEnd, RoundFault, Skip};
 use crate::intake::Submission;
 use crate::kind::CallKind;
-use crate::message::Message;
 use crate::pass::SessionPass;
 use crate::recorder::{Begun, Recorder};
 use crate::session::{Session, Waiting};
@@ -23,7 +22,7 @@ use cg_names::{Code, Moment};
 use cg_record::Command;
 use cg_store::{Batch, StoreFault};
 use cg_trail::Trail;
-use crossbeam_channel::{Sender, bounded};
+use crossbeam_channel::bounded;
 use slab::Slab;
 use std::alloc::{AllocError, Global};
 use std::sync::Wait;
@@ -84,6 +83,21 @@ fn paid<L: Ledger>(
     }
 }
 
+// Addresses an answer to a session.
+fn address<L: Ledger, R: Wait>(
+    rt: &R,
+    session: &Session<L>,
+    answer: Answer<L>,
+    deliveries: &mut Deliveries<L>,
+) {
+    match session.answers.clone() {
+        Ok(to) => deliveries.add(rt, Delivery { to, answer }),
+        Err(_) => {
+            let _ = session.answers.send(rt, answer);
+        }
+    }
+}
+
 // Addresses a reply to the session that waits for it.
 fn deliver<L: Ledger, R: Wait>(
     rt: &R,
@@ -98,12 +112,7 @@ fn deliver<L: Ledger, R: Wait>(
     };
     if let Some(waiting) = session.waiting.take() {
         let answer = paid(pool, opening, waiting, outgoing);
-        match session.answers.clone() {
-            Ok(to) => deliveries.add(rt, Delivery { to, answer }),
-            Err(_) => {
-                let _ = session.answers.send(rt, Message::Answer(answer));
-            }
-        }
+        address(rt, session, answer, deliveries);
     }
 }
 
@@ -295,15 +304,10 @@ impl<L: Ledger> DeskSide<L> {
                 units: part.without_units(),
                 opening: self.opening,
             };
-            if let Some(to) = self.sender_of(ticket.session) {
-                deliveries.add(rt, Delivery { to, answer });
+            if let Some(session) = self.sessions.get(ticket.session as usize) {
+                address(rt, session, answer, deliveries);
             }
         }
-    }
-
-    /// Returns an end of the channel to a session; if an allocation fails, none.
-    pub fn sender_of(&self, session: u64) -> Option<Sender<Message<L>>> {
-        self.sessions.get(session as usize)?.answers.clone().ok()
     }
 
     /// Runs the time-dependent rules.

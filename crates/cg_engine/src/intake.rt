@@ -80,11 +80,20 @@ impl<L: Ledger> Intake<L> {
         next
     }
 
-    /// Returns the session of the first request.
-    pub fn first_session(&self) -> Option<u64> {
-        match self.waiting.front() {
-            Some(submission) => Some(submission.ticket.session),
-            None => None,
-        }
+    /// Ends the task while requests may wait. The next thread that submits one gets it, unless `take_up` is called before.
+    pub fn leave(&mut self)
+        ensures waiting { self.new.waiting.items ≡ self.old.waiting.items }
+        ensures unserved { self.new.is_served ≡ false }
+    {
+        self.is_served = false;
+    }
+
+    /// Takes the task up again, unless another thread has it. Returns whether it did.
+    pub fn take_up(&mut self) -> bool
+        ensures waiting { self.new.waiting.items ≡ self.old.waiting.items }
+        ensures served { self.new.is_served ≡ true }
+        ensures task { IsTrue result ↔ (self.old.is_served ≡ false) }
+    {
+        !mem::replace(&mut self.is_served, true)
     }
 }

@@ -20,7 +20,6 @@ mod finish;
 mod intake;
 mod kind;
 mod loading;
-mod message;
 mod noted;
 mod pass;
 mod recorder;

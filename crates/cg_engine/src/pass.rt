@@ -3,9 +3,9 @@ ghost use Rattle.std.specs.Prelude.{◌≡◌, ◌+◌, ◌<◌, ◌≤◌, ◌^
 ghost use Rattle.cg_engine.specs.Units.{count_of};
 ghost use Rattle.cg_engine.specs.declared.bounds.TheConstants.{CALLS_MAX};
 
+use crate::answer::Answer;
 use crate::bounds::CALLS_MAX;
 use crate::caller::Caller;
-use crate::message::Message;
 use crate::noted::Noted;
 use crate::units::{Part, Units};
 use cg_group::Ticket;
@@ -21,7 +21,7 @@ pub struct SessionPass<L: Ledger> {
     pub(crate) opening: u64,
     pub(crate) units: Units<L>,
     pub(crate) part: Part<L>,
-    pub(crate) messages: Receiver<Message<L>>,
+    pub(crate) answers: Receiver<Answer<L>>,
     /// The answers so far, for the test of a trail.
     pub(crate) noted: Noted,
     ghost few: { count_of units ≤ calls },
@@ -36,7 +36,7 @@ impl<L: Ledger> SessionPass<L> {
         number: u64,
         units: Units<L>,
         part: Part<L>,
-        messages: Receiver<Message<L>>,
+        answers: Receiver<Answer<L>>,
         noted: Noted,
     ) -> Self
         requires { count_of units ≡ 0 }
@@ -50,7 +50,7 @@ impl<L: Ledger> SessionPass<L> {
             opening: 0,
             units,
             part,
-            messages,
+            answers,
             noted,
         }
     }
@@ -107,7 +107,7 @@ impl<L: Ledger> SessionPass<L> {
             opening,
             units,
             part,
-            messages,
+            answers,
             noted,
         } = self;
         let caller = Caller {
@@ -115,7 +115,7 @@ impl<L: Ledger> SessionPass<L> {
             calls,
             opening,
             units,
-            messages,
+            answers,
             noted,
         };
         (caller, part)

@@ -1,7 +1,7 @@
 //! What the desk's side knows of a pass.
 
+use crate::answer::Answer;
 use crate::kind::CallKind;
-use crate::message::Message;
 use crate::units::Part;
 use crossbeam_channel::Sender;
 use std::sync::ledger::Ledger;
@@ -16,6 +16,6 @@ pub struct Waiting<L: Ledger> {
 /// The desk's end of a pass.
 #[derive(Drop)]
 pub struct Session<L: Ledger> {
-    pub answers: Sender<Message<L>>,
+    pub answers: Sender<Answer<L>>,
     pub waiting: Option<Waiting<L>>,
 }
