@@ -3,9 +3,8 @@ use std::sync::Condvar;
 
 /// What a thread does before its call has to wait for an answer.
 pub trait BeforeWait {
-    /// Called before a call of the engine waits for its answer, and once more if it waits again after it handed requests of
-    /// others to the desk. With `has_pending`, commands wait for a batch and none is in flight: then it has to run a flush
-    /// round, or wake a thread that does.
+    /// Called before a call of the engine waits for its answer. With `has_pending`, commands wait for a batch and none is in
+    /// flight: then it has to run a flush round, or wake a thread that does.
     fn before_wait(&mut self, has_pending: bool);
 }
 

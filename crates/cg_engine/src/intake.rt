@@ -30,8 +30,9 @@ pub enum Submitted {
     Waits,
 }
 
-/// The requests that wait for the desk, in the order in which they came. While there are some, one thread has the task to
-/// hand them to the desk, its own among them, so that callers do not contend for the desk lock.
+/// The requests that wait for the desk, in the order in which they came. One thread at a time has the task to hand them to
+/// the desk, its own among them, so that callers do not contend for the desk lock. While some wait, no thread has it only
+/// after `leave`, until the next `add` or `take_up`.
 #[derive(Drop)]
 pub struct Intake<L: Ledger> {
     pub waiting: VecDeque<Submission<L>>,
