@@ -1,9 +1,11 @@
 -- The calls of a store keep what every crash image carries.
 use Rattle.std.proofs.Common.{◌≡◌, ◌≢◌, ℕ, ◌+◌, ◌≤◌, Bool, true, false, List, [], length, Option, Some, None, Result, Ok, Err, MatchResult, IfErr, OnOk, OnErr, IsErrOf, refl, sym, ◌∙◌, ap, subst, inl, inr, arith, rules}
-use Rattle.cg_disk.specs.Disk.{History, Image, IsImage, LeavesOnly, present}
+use Rattle.cg_disk.specs.Disk.{History, Image, IsImage, LeavesOnly, Stays, present}
+use Rattle.cg_disk.proofs.Moments.{Stays-content}
 use Rattle.cg_fold.specs.Durable.{State, after}
 use Rattle.cg_record.specs.declared.command.Command.{Command}
 use Rattle.cg_store.proofs.Standing.{StandsAt-unchanged}
+use Rattle.cg_store.proofs.Whole.{Carries-same}
 use Rattle.cg_log.specs.Room.{Room}
 use Rattle.cg_store.specs.Batches.{refusal_of}
 use Rattle.cg_store.specs.Carried.{AllCarry, Carries, CarriesBeforeOrAfter}
@@ -35,6 +37,12 @@ device-told : (failed : Bool) (room : Room) (front first : ℕ) (commands : List
 unfolding refusal_of
 device-told false room front first commands told = refl
 device-told true room front first commands told = cc
+
+-- what every crash image of a disk carries, its content carries, and did so before calls that change nothing
+pub found-before : (old new : History) (sectors n : ℕ) (state : State) → Stays old new → AllCarry new sectors n state → Carries (present old).content sectors n state
+found-before old new sectors n state stays all =
+    let now : Carries (present new).content sectors n state = all (present new).content (λ s safe. refl) in
+    Carries-same (present new).content (present old).content sectors n state (λ s. sym (Stays-content old new stays s)) now
 
 module _ {D : Type 0} {g : _} (honest : D → Bool) (history : D → History) where
   pub IsStored-unchanged : (old new : Store D g) (state : State) → IsUnchanged old new → IsStored honest history old state → IsStored honest history new state

@@ -32,7 +32,7 @@ AreAsMany appended number = ForSome appended (λ a. length (appended_in a) ≡ n
 abbrev pub Bears : Appended → TrailParts → List Command → Type 0
 Bears a t made = (t.loaded ≡ loaded_in a) × BeginsWith made (appended_in a)
 
--- the same, where the appended commands are noted
+-- the appended commands are noted, and the same holds of them; false where they are not noted
 abbrev pub BearsIfNoted : Option Appended → TrailParts → List Command → Type 0
 BearsIfNoted None t made = ⊥
 BearsIfNoted (Some a) t made = Bears a t made

@@ -49,9 +49,9 @@ IsTestedBy (On t) appended since passes unpaid = IsTested t appended since passe
 IsTestedBy Lost appended since passes unpaid = ⊥
 
 -- The trail is lawful. The answers of each pass are its replies. Some first commands of those that it makes were appended
--- since loading: every crash image of the disk carries this number and the state after them; if the disk failed, an image
--- may have the batch that failed as well. The number is `opening`, of the commands before them, and theirs. The units of the
--- passes and `unpaid` ones, of ticks, of calls without an answer and of a batch that is not settled, are as many as they are.
+-- since loading: every crash image of an honest disk carries this number and the state after them, or one further batch
+-- as well. The number is the sum of `opening` and of how many they are. The units of the passes and some others, `unpaid`,
+-- are as many as they are.
 pub record IsBorneOut {D L : Type 0} (honest : D → Bool) (history : D → History) (size : D → ℕ) (t : TrailParts) (passes : List (SessionPass L)) (disk : Option D) (front : ℕ) : Type 0 where
   pub lawful : IsLawful t
   pub answers : AreAllIn passes t

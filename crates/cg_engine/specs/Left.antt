@@ -10,8 +10,7 @@ use Rattle.cg_engine.specs.Appended.{Knows}
 use Rattle.cg_engine.specs.Stored.{AllCarryOr}
 use Rattle.cg_engine.specs.declared.appended.Appended.{Appended}
 
--- every crash image of an honest disk has this number of commands and this state; if the disk failed, or the batch that
--- failed as well
+-- every crash image of an honest disk has this number of commands and this state, or one further batch as well
 abbrev pub LeftIn : {D : Type 0} → (D → Bool) → (D → History) → (D → ℕ) → D → ℕ → State → Type 0
 LeftIn honest history size disk front state = honest disk ≡ true → (failing : List Command) × AllCarryOr (history disk) (size disk) front state failing
 

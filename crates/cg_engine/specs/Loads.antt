@@ -4,6 +4,7 @@ use Rattle.cg_disk.specs.Disk.{Image}
 use Rattle.cg_fold.specs.Durable.{State, counts_of}
 use Rattle.cg_log.specs.Faults.{HasBadFrame}
 use Rattle.cg_root.specs.Roots.{HasNoRoot, HasBadRoot}
+use Rattle.cg_store.specs.Carried.{Carries}
 use Rattle.cg_store.specs.Faults.{HasBadRecord}
 use Rattle.cg_engine.specs.declared.fault.LoadFault.{LoadFault}
 use Rattle.cg_engine.specs.declared.fault.LoadFault.TheVariants.{Memory, Device, NoRoot, BadRoot, BadFrame, BadRecord, Loaded}
@@ -11,6 +12,10 @@ use Rattle.cg_engine.specs.declared.fault.LoadFault.TheVariants.{Memory, Device,
 -- the numbers of commands, group records and offsets
 abbrev pub found : ℕ → State → ℕ × ℕ × ℕ
 found n state = (n, (counts_of state).0, (counts_of state).1)
+
+-- the content carries a state with these numbers
+abbrev pub IsFound : Image → ℕ → ℕ × ℕ × ℕ → Type 0
+IsFound content sectors numbers = (n : ℕ) × (state : State) × (Carries content sectors n state × (numbers ≡ found n state))
 
 -- what a fault says of the content of the disk
 abbrev pub Tells : Image → ℕ → LoadFault → Type 0

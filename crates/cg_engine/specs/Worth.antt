@@ -28,7 +28,8 @@ worth_of_write (reply.Described described) = 0
 worth_of_write (reply.Groups groups) = 0
 worth_of_write (reply.Refused code) = 0
 
--- an answer to a JOIN, a SYNC or a LEAVE that is no refusal is worth one command if its step made one
+-- an answer to a JOIN, a SYNC or a LEAVE that is no refusal is worth one command if it counts one: if the step of its own
+-- request made it and a command
 abbrev pub worth_of_membership : Reply → ℕ → ℕ
 worth_of_membership (reply.Joined joined) made = min made 1
 worth_of_membership (reply.Synced assignment) made = min made 1

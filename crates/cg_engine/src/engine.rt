@@ -1,9 +1,9 @@
 //! The engine: a desk and a store behind two locks.
-ghost use Rattle.std.specs.Prelude.{◌≡◌, ◌⊎◌, ◌+◌, ◌≤◌, ℕ, true, IfErr, MatchResult};
+ghost use Rattle.std.specs.Prelude.{◌≡◌, ◌⊎◌, ◌+◌, ◌≤◌, ℕ, true, IfErr, IfOk, MatchResult};
 ghost use Rattle.cg_disk.specs.Disk.{Stays, present};
 ghost use Rattle.cg_fold.specs.Durable.{State};
 ghost use Rattle.cg_store.specs.Carried.{Carries};
-ghost use Rattle.cg_engine.specs.Loads.{IsPassing, Tells, found};
+ghost use Rattle.cg_engine.specs.Loads.{IsFound, IsPassing, Tells, found};
 ghost use Rattle.cg_engine.specs.Passes.{opening_of, units_of};
 
 use crate::appended::snapshots;
@@ -102,6 +102,7 @@ impl<D: SectorDisk + Drop, L: Ledger> Engine<D, L> {
     ) -> Result<(u64, u64, u64), (LoadFault, D)>
         ensures carried { D.is_honest disk ≡ true → (n : ℕ) (state : State) → Carries (present (D.history disk)).content (D.size disk) n state
             → MatchResult result (λ numbers. numbers ≡ found n state) (λ refused. IsPassing refused.0 ⊎ (refused.0 ≡ LoadFault.Loaded)) }
+        ensures found { D.is_honest disk ≡ true → IfOk result (IsFound (present (D.history disk)).content (D.size disk)) }
         ensures tells { D.is_honest disk ≡ true → IfErr result (λ refused. Tells (present (D.history disk)).content (D.size disk) refused.0) }
         ensures stays { D.is_honest disk ≡ true → IfErr result (λ refused. Stays (D.history disk) (D.history refused.1)) }
         ensures loaded { IfErr result (λ refused. refused.0 ≡ LoadFault.Loaded → refused.1 ≡ disk) }

@@ -1,6 +1,6 @@
 //! The engine: a desk (`cg_desk`) and a store (`cg_store`) behind two locks, for any number of threads. An answer that
-//! acknowledges a write carries a unit of a ledger. Only an append makes units, one for each stored command, so there is no
-//! acknowledgement without its command.
+//! acknowledges a write carries a unit of a ledger. Only an append makes units, one for each stored command, so there are
+//! never more acknowledgements than stored commands.
 #![tactic(auto)]
 
 mod answer;
