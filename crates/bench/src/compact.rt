@@ -3,6 +3,7 @@
 mod full_log;
 pub mod once;
 mod plain_copy;
+mod rate;
 mod steps;
 mod turns;
 
@@ -188,20 +189,19 @@ fn report_turns<R: Print>(rt: &R, commits: usize, turns: Turns) -> Result<()> {
         appends,
         steps,
     } = turns;
-    let beside = beside.median();
-    let without = without.median();
     let append = appends.median();
-    println!(rt; "a step after each batch of {commits} commits")?;
+    let each = beside.milliseconds() / u64::from(ROUNDS - 1);
+    println!(rt; "beside batches of {commits} commits")?;
     println!(rt;
-        "  {} commits a second beside the compactor, {} without it",
-        beside.items_per_second(),
-        without.items_per_second()
+        "  {} commits a second beside the compactor, {} without it; a compaction took {each} ms",
+        beside.a_second(),
+        without.a_second()
     )?;
     print_ratio(
         rt,
         "the first by the second",
-        without.nanoseconds_per_item(),
-        beside.nanoseconds_per_item(),
+        beside.a_second(),
+        without.a_second(),
     )?;
     let longest = steps.longest();
     println!(rt;

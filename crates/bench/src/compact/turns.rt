@@ -1,8 +1,8 @@
-//! Commits with a compaction step after each batch, and without one.
+//! Commits beside a compaction, and without one.
 use crate::compact::full_log::{FRAMES, Opened, TENTH, append, batch, fill, open};
+use crate::compact::rate::Rate;
 use crate::compact::steps::Steps;
 use crate::desk::batch::commit_batch;
-use crate::desk::commits::timed;
 use crate::desk::scene::{add_commits, serve};
 use crate::tally::Tally;
 use anyhow::{Result, bail};
@@ -10,11 +10,11 @@ use cg_desk::Desk;
 use cg_disk::{FileDisk, SectorDisk};
 use cg_fold::Durable;
 use cg_group::Request;
-use cg_store::Store;
+use cg_store::{Phase, Store};
 use std::alloc::Global;
 use std::collections::VecDeque;
 use std::rt::{Clock, Files};
-use std::time::Instant;
+use std::time::{Duration, Instant};
 
 /// Commits of the batches that are compared.
 pub const COMMITS: [usize; 3] = [256, 1_024, 2_048];
@@ -22,40 +22,75 @@ pub const COMMITS: [usize; 3] = [256, 1_024, 2_048];
 /// Batches of a run without a compactor.
 const BATCHES: u32 = 40;
 
-/// Times of runs beside the compactor and without it, of appends of full frames, and of the steps.
+/// Rates of commits beside the compactor and without it, times of appends of full frames, and the steps.
 #[derive(Drop)]
 pub struct Turns {
-    pub beside: Tally,
-    pub without: Tally,
+    pub beside: Rate,
+    pub without: Rate,
     pub appends: Tally,
     pub steps: Steps,
+}
+
+// Returns for how long a step of this length is followed by commits alone: so the server's compactor goes about it.
+fn pause_after(step: Duration) -> Duration {
+    step.saturating_mul(3) / 2
+}
+
+// Commits a batch. Returns the time from its first request to its last reply.
+fn commit<R: Clock, D: SectorDisk>(
+    rt: &R,
+    alloc: Global,
+    desk: &mut Desk,
+    store: &mut Store<D>,
+    requests: &mut VecDeque<Request>,
+    commits: usize,
+) -> Result<Duration> {
+    add_commits(alloc, requests, commits)?;
+    let start = Instant::now(rt)?;
+    commit_batch(alloc, desk, store, requests)?;
+    Ok(start.elapsed(rt)?)
 }
 
 impl Turns {
     pub fn new(alloc: Global) -> Turns {
         Turns {
-            beside: Tally::new(alloc),
-            without: Tally::new(alloc),
+            beside: Rate::new(),
+            without: Rate::new(),
             appends: Tally::new(alloc),
             steps: Steps::new(),
         }
     }
 
-    // Commits a batch and takes a step. Returns whether the compaction is over.
-    fn turn<R: Clock, D: SectorDisk>(
+    // Takes a step. Returns how long it took.
+    fn step<R: Clock, D: SectorDisk>(&mut self, rt: &R, store: &mut Store<D>) -> Result<Duration> {
+        let start = Instant::now(rt)?;
+        self.steps.take(rt, store)?;
+        let time = start.elapsed(rt)?;
+        self.beside.add(0, time);
+        Ok(time)
+    }
+
+    // Commits batches for at least this long.
+    fn pause<R: Clock, D: SectorDisk>(
         &mut self,
         rt: &R,
         alloc: Global,
         desk: &mut Desk,
         store: &mut Store<D>,
         requests: &mut VecDeque<Request>,
-    ) -> Result<bool> {
-        let commits = requests.len() as u64;
-        let start = Instant::now(rt)?;
-        commit_batch(alloc, desk, store, requests)?;
-        let is_over = self.steps.take(rt, store)?;
-        self.beside.add(rt, start, commits)?;
-        Ok(is_over)
+        commits: usize,
+        pause: Duration,
+    ) -> Result<()> {
+        let mut left = pause;
+        for _ in 0..u64::MAX {
+            if left.is_zero() {
+                break;
+            }
+            let time = commit(rt, alloc, desk, store, requests, commits)?;
+            self.beside.add(commits as u64, time);
+            left = left.saturating_sub(time);
+        }
+        Ok(())
     }
 
     /// Commits batches beside the compactor until it is done.
@@ -69,8 +104,9 @@ impl Turns {
     ) -> Result<()> {
         let mut requests = VecDeque::new(alloc);
         for _ in 0..u64::MAX {
-            add_commits(alloc, &mut requests, commits)?;
-            if self.turn(rt, alloc, desk, store, &mut requests)? {
+            let pause = pause_after(self.step(rt, store)?);
+            self.pause(rt, alloc, desk, store, &mut requests, commits, pause)?;
+            if store.phase() == Phase::Idle {
                 return Ok(());
             }
         }
@@ -87,8 +123,8 @@ impl Turns {
     ) -> Result<()> {
         let mut requests = VecDeque::new(alloc);
         for _ in 0..BATCHES {
-            add_commits(alloc, &mut requests, commits)?;
-            timed(rt, alloc, desk, store, &mut requests, &mut self.without)?;
+            let time = commit(rt, alloc, desk, store, &mut requests, commits)?;
+            self.without.add(commits as u64, time);
         }
         Ok(())
     }
