@@ -2,14 +2,15 @@
 use crate::server::Server;
 use cg_disk::SectorDisk;
 use cg_engine::{RoundEnd, RoundFault};
+use std::io;
 use std::sync::Wait;
 use std::sync::ledger::Ledger;
-use std::time::{Clock, Duration};
+use std::time::{Clock, Duration, Instant};
 
 // What a round of a compaction asks for.
 #[derive(Clone, Copy, Debug, Drop, PartialEq, Eq)]
 enum After {
-    /// The next round at once: the compaction is under way.
+    /// The next round, soon: the compaction is under way.
     Again,
     /// A pause of one tick.
     Pause,
@@ -44,6 +45,31 @@ fn compact_once<D: SectorDisk + Drop, L: Ledger, R: Wait>(
     }
 }
 
+// Returns how long a round took that began then; no time if the clock cannot be read.
+fn time_since<R: Clock>(rt: &R, began: io::Result<Instant>) -> Duration {
+    match began {
+        Ok(began) => began.elapsed(rt).unwrap_or(Duration::ZERO),
+        Err(_) => Duration::ZERO,
+    }
+}
+
+// Returns for how long a round of this length leaves the store to commits: so a compaction has it at most two fifths of
+// the time.
+fn pause_after(round: Duration) -> Duration {
+    round.saturating_mul(3) / 2
+}
+
+// Leaves the store to commits before the next round, unless they wait for the compaction: the log is full.
+fn leave_to_commits<D: SectorDisk + Drop, L: Ledger, R: Wait + Clock>(
+    rt: &R,
+    server: &Server<'_, D, L>,
+    began: io::Result<Instant>,
+) {
+    if !server.is_full() {
+        server.compact.wait(rt, pause_after(time_since(rt, began)));
+    }
+}
+
 /// Compacts the log until the server is over, whenever too few segments are free or the log is full. The bell rings when
 /// the log becomes full: then the next compaction begins without a pause.
 pub fn compact_until_over<D: SectorDisk + Drop, L: Ledger, R: Wait + Clock>(
@@ -57,8 +83,9 @@ pub fn compact_until_over<D: SectorDisk + Drop, L: Ledger, R: Wait + Clock>(
         if server.is_over() {
             return;
         }
+        let began = Instant::now(rt);
         match compact_once(rt, server) {
-            After::Again => {}
+            After::Again => leave_to_commits(rt, server, began),
             After::Pause => {
                 server.compact.wait(rt, pause);
             }
