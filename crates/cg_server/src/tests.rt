@@ -1,4 +1,7 @@
 //! Words of the command line, and a server with its clients in one process, over sockets.
+ghost use Rattle.std.specs.Prelude.{◌≡◌, length, IfOk};
+ghost use Rattle.cg_disk.specs.Mem.{mem_size};
+
 use super::*;
 use cg_disk::{Gate, GateDisk, MemDisk, SectorDisk};
 use std::alloc::Global;
@@ -97,9 +100,39 @@ fn options(connections: u32) -> Options {
     }
 }
 
-fn formatted(alloc: Global) -> Result<MemDisk, Fail> {
+fn formatted(alloc: Global) -> Result<MemDisk, Fail>
+    ensures { IfOk result (λ disk. mem_size disk ≡ 16388) }
+{
     let mut disk = MemDisk::new(alloc, 4 + 2048 * 8)?;
     cg_store::format(alloc, &mut disk)?;
+    Ok(disk)
+}
+
+// The body of a frame with one command: the group g commits offset 42 of partition 0 of the topic t.
+const COMMIT: [u8; 39] = [
+    0, 0, 0, 0, 0, 0, 0, 1, // commands
+    0, 0, 0, 0, 0, 0, 0, 23, // bytes of the payload
+    1, 4, 1, b'g', 1, // version, kind, group, number of entries
+    1, b't', 0, 0, 0, 0, // topic, partition
+    0, 0, 0, 0, 0, 0, 0, 42, // offset
+    0, 0, 0, 0, // bytes of metadata
+];
+
+// Makes the sectors of an open gate and of that body.
+fn frame(alloc: Global) -> Result<Vec<u8>, Fail>
+    ensures { IfOk result (λ sectors. length sectors.items ≡ 1024) }
+{
+    let mut sectors = vec![in alloc; 0; 1024]?;
+    sectors[0] = 1;
+    sectors[512..551].copy_from_slice(&COMMIT);
+    Ok(sectors)
+}
+
+// Makes a disk whose log has that frame.
+fn with_a_commit(alloc: Global) -> Result<MemDisk, Fail> {
+    let mut disk = formatted(alloc)?;
+    disk.write(4, &frame(alloc)?)?;
+    disk.sync()?;
     Ok(disk)
 }
 
@@ -163,16 +196,16 @@ fn exchange_loaded<R: Alloc<A = Global> + Net>(
 fn a_commit_and_a_fetch_over_a_socket(rt: HostRuntime) -> Result<(), Fail> {
     let listener = TcpListener::bind(&rt, "127.0.0.1:0")?;
     let address = listener.local_addr()?;
-    let disk = formatted(rt.alloc())?;
-    let lines = "COMMIT g -1 - - t:0:42:x\nFETCH g t:0\n";
+    let disk = with_a_commit(rt.alloc())?;
+    let lines = "FETCH g t:0\nCOMMIT g -1 - - t:0:43:x\nFETCH g t:0\n";
     let ((status, written), said) = thread::join(
         &rt,
         || served(&rt, listener, disk, 1),
-        || exchange_loaded(&rt, address, lines, 2),
+        || exchange_loaded(&rt, address, lines, 3),
     );
-    assert_eq!(rt; said?.as_str(), "OK\nFETCHED t:0:42:x\n");
+    assert_eq!(rt; said?.as_str(), "FETCHED t:0:42:x\nOK\nFETCHED t:0:43:x\n");
     assert_eq!(rt; status, 0);
-    assert!(rt; written.ends_with(b"LOADED 0 0 0\nCLOSED 1\n"));
+    assert!(rt; written.ends_with(b"LOADED 1 0 1\nCLOSED 2\n"));
     Ok(())
 }
 
