@@ -7,6 +7,10 @@ use std::sync::Wait;
 use std::sync::ledger::Ledger;
 use std::time::{Clock, Duration, Instant};
 
+/// A round of at least this many microseconds is followed by a pause. Shorter ones read small frames, of which a log has up
+/// to a thousand a segment.
+const LONG_ROUND_US: u64 = 250;
+
 // What a round of a compaction asks for.
 #[derive(Clone, Copy, Debug, Drop, PartialEq, Eq)]
 enum After {
@@ -53,20 +57,24 @@ fn time_since<R: Clock>(rt: &R, began: io::Result<Instant>) -> Duration {
     }
 }
 
-// Returns for how long a round of this length leaves the store to commits: so a compaction has it at most two fifths of
-// the time.
+// Returns for how long a round of this length leaves the store to commits: with the pauses, long rounds have it at most
+// two fifths of the time.
 fn pause_after(round: Duration) -> Duration {
+    if round < Duration::from_micros(LONG_ROUND_US) {
+        return Duration::ZERO;
+    }
     round.saturating_mul(3) / 2
 }
 
-// Leaves the store to commits before the next round, unless they wait for the compaction: the log is full.
+// Leaves the store to commits after a long round, unless they wait for the compaction: the log is full.
 fn leave_to_commits<D: SectorDisk + Drop, L: Ledger, R: Wait + Clock>(
     rt: &R,
     server: &Server<'_, D, L>,
     began: io::Result<Instant>,
 ) {
-    if !server.is_full() {
-        server.compact.wait(rt, pause_after(time_since(rt, began)));
+    let pause = pause_after(time_since(rt, began));
+    if !pause.is_zero() && !server.is_full() {
+        server.compact.wait(rt, pause);
     }
 }
 
