@@ -54,7 +54,7 @@ abbrev pub replaced_by : Result Turn Code → List Group → Option Group
 replaced_by (Err code) groups = None
 replaced_by (Ok t) groups = find_group t.group.id groups
 
--- if the index has the group of the step for the session of the call, it has every call that is parked after the step
+-- if the index has the group of the step for the session of the request, it has every request that is parked after the step
 abbrev pub ParksKnown : ℕ → List Group → Ticket → Result Turn Code → Type 0
 ParksKnown now groups ticket o =
     (homes : ℕ → List ℕ → Bool) (after : List Group) (made : Effects) → ((x : List ℕ) → group_of o ≡ Some x → homes ticket.session x ≡ true)

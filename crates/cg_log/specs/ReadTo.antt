@@ -34,7 +34,7 @@ number_with root index number count = if nat_lt index (length root.base) then nu
 abbrev pub HasBadSegment : Image → Root → Type 0
 HasBadSegment image root = (segments : List Filled) → root_ids root ≡ ids_of segments → ¬ AreStored image segments
 
--- what comes after these frames: the closed gate after the last of all, one more frame, or damage in a segment of the root
+-- what comes after these frames: a closed gate after them, one more frame, or damage in a segment of the root
 abbrev pub FindsNext : Image → Root → ℕ → Frames → ℕ → SegmentReader → Result (Option ℕ) LogFault → Type 0
 FindsNext image root number read index reader (Ok None) =
     IsReadTo image root index (position_of reader) number read × IsClosed image (first_sector (id_at root index) + position_of reader)

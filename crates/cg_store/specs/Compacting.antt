@@ -96,7 +96,7 @@ Compacts honest history log has number left (is.Reading reading) = IsFolding has
 Compacts honest history log has number left (is.Writing writing) = (left ≡ []) × IsCut writing.cut has number × HasWritten honest history log has writing.cut writing.frames
 Compacts honest history log has number left (is.Ready cut) = (left ≡ []) × IsCut cut has number × HasWritten honest history log has cut []
 
--- one frame was read: More where one was left, and Done where none was
+-- More: one frame was read; Done: none was left
 abbrev pub IsFrameRead : Progress → Frames → Frames → Type 0
 IsFrameRead More old new = (frame : ℕ × List ℕ) × (old ≡ frame ∷ new)
 IsFrameRead Done old new = (old ≡ []) × (new ≡ [])

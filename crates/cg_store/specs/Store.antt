@@ -42,7 +42,7 @@ end_of store = log_model.end_of store.log
 abbrev pub phase_of : {D : Type 0} {g : _} → Store D g → Phase
 phase_of store = phase_in store.compaction
 
--- the compaction under way, if there is one
+-- the compaction; Idle if none is under way
 abbrev pub compaction_of : {D : Type 0} {g : _} → Store D g → Compaction
 compaction_of store = store.compaction
 
