@@ -79,7 +79,8 @@ fn leave_to_commits<D: SectorDisk + Drop, L: Ledger, R: Wait + Clock>(
 }
 
 /// Compacts the log until the server is over, whenever too few segments are free or the log is full. The bell rings when
-/// the log becomes full: then the next compaction begins without a pause.
+/// the log becomes full: then the next compaction begins without a pause. A long round leaves the store to commits for a
+/// while.
 pub fn compact_until_over<D: SectorDisk + Drop, L: Ledger, R: Wait + Clock>(
     rt: &R,
     server: &Server<'_, D, L>,

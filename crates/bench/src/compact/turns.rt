@@ -31,7 +31,8 @@ pub struct Turns {
     pub steps: Steps,
 }
 
-// Returns for how long a step of this length is followed by commits alone: so the server's compactor goes about it.
+// Returns for how long a step of this length is followed by commits alone. The server's compactor makes this pause after
+// long steps.
 fn pause_after(step: Duration) -> Duration {
     step.saturating_mul(3) / 2
 }
