@@ -1,5 +1,5 @@
 //! The names of groups, members, instances, clients, topics and protocols.
-ghost use Rattle.std.specs.Prelude.{◌≡◌, ℕ, List, IfOk, IfErr, Some, length};
+ghost use Rattle.std.specs.Prelude.{◌≡◌, ℕ, List, IfOk, IfErr, Some, length, string_bytes};
 ghost use Rattle.std.specs.List.{list_all};
 ghost use Rattle.cg_names.specs.Grammar.{IsName, fault_of, told, is_name_byte, is_dash};
 
@@ -20,15 +20,16 @@ pub const MEMBER_ID_BYTES_MAX: usize = 137;
 /// another. Contracts see the bytes.
 #[derive(Drop)]
 pub struct Name<const MAX: usize, const SORT: u8> {
-    bytes: Vec<u8>,
+    // Texts are compared many bytes at a time, and slices of bytes are not.
+    text: String,
 }
 
 impl<const MAX: usize, const SORT: u8> Model for Name<MAX, SORT> {
     ghost Value = { List ℕ };
 
-    ghost view = { λ n. n.bytes.items };
+    ghost view = { λ n. string_bytes n.text };
 
-    ghost invariant = { λ n. IsName MAX n.bytes.items };
+    ghost invariant = { λ n. IsName MAX (string_bytes n.text) };
 }
 
 /// The id of a consumer group.
@@ -102,8 +103,19 @@ impl<const MAX: usize, const SORT: u8> Name<MAX, SORT> {
         if let Some(fault) = Self::fault(bytes) {
             return Err(fault);
         }
-        let bytes = Vec::from_slice(alloc, bytes).map_err(|_| NameFault::Memory)?;
-        Ok(Name { bytes })
+        let name = Self::from_lawful(alloc, bytes).map_err(|_| NameFault::Memory)?;
+        Ok(name)
+    }
+
+    /// Copies bytes that are a name of this type. The contract leaves an allocation failure as the only error.
+    #[tactic(auto, using(crate::proofs::Names::text_from_name))]
+    pub fn from_lawful(alloc: Global, bytes: &[u8]) -> Result<Self, AllocError>
+        requires { IsName MAX bytes.now }
+        ensures { IfOk result (λ name. name ≡ bytes.now) }
+    {
+        let text = str::from_utf8(bytes).unwrap();
+        let text = String::from_str(alloc, text)?;
+        Ok(Name { text })
     }
 
     /// Checks the text and copies it.
@@ -119,23 +131,22 @@ impl<const MAX: usize, const SORT: u8> Name<MAX, SORT> {
         ensures value { result.now ≡ self.now }
         ensures name { IsName MAX self.now }
     {
-        self.bytes.as_slice()
+        self.text.as_bytes()
     }
 
-    /// Returns the name as a string. Costs a check for UTF-8, linear in the bytes.
-    #[tactic(auto, using(crate::proofs::Names::text_from_name))]
+    /// Returns the name as a string.
     pub fn as_str(&self) -> &str
         ensures value { result.now ≡ self.now }
         ensures name { IsName MAX self.now }
     {
-        str::from_utf8(self.as_bytes()).unwrap()
+        self.text.as_str()
     }
 
     /// Returns the number of bytes.
     pub fn len(&self) -> usize
         ensures { result ≡ length self.now }
     {
-        self.bytes.len()
+        self.as_bytes().len()
     }
 }
 
@@ -143,8 +154,8 @@ impl<const MAX: usize, const SORT: u8> Clone for Name<MAX, SORT> {
     ghost is_clone = { λ name copy. copy ≡ name };
 
     fn clone(&self) -> Result<Self, AllocError> {
-        let bytes = self.bytes.clone()?;
-        Ok(Name { bytes })
+        let text = self.text.clone()?;
+        Ok(Name { text })
     }
 }
 

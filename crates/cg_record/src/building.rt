@@ -9,7 +9,6 @@ ghost use Rattle.cg_record.specs.Reading.{Builds, entry_at, entries_at, committe
 use crate::command::Command;
 use crate::commit::{Kept, Key, count_at, is_taken, kept_at, key_at};
 use crate::committed::Committed;
-use crate::copies::name_of;
 use crate::entries::Entries;
 use crate::entry::Entry;
 use crate::fault::RecordFault;
@@ -21,7 +20,7 @@ use crate::grouping::{assigned_at, deleted_at, emptied_at, replaced_at};
 use crate::metadata::Metadata;
 use crate::offset::Offset;
 use crate::partition::Partition;
-use cg_names::NAME_BYTES_MAX;
+use cg_names::{NAME_BYTES_MAX, Name};
 use std::alloc::{AllocError, Global};
 
 // The preconditions make both `unwrap` calls safe.
@@ -37,7 +36,7 @@ fn entry_of(
 {
     let partition = Partition::new(key.partition).unwrap();
     let offset = Offset::new(kept.offset).unwrap();
-    let topic = name_of(alloc, key.topic)?;
+    let topic = Name::from_lawful(alloc, key.topic)?;
     let metadata = Metadata::from_bytes_in(alloc, room, kept.metadata)?;
     Ok(Entry {
         topic,
@@ -101,7 +100,7 @@ fn committed_at<'a>(
 {
     let (group, rest) = name_at::<NAME_BYTES_MAX>(bytes)?;
     let (count, rest) = count_at(rest)?;
-    let group = name_of(alloc, group)?;
+    let group = Name::from_lawful(alloc, group)?;
     let (entries, rest) = entries_at(alloc, room, version, count, rest)?;
     let entries = Entries::from_lawful(entries);
     Ok((Committed { group, entries }, rest))

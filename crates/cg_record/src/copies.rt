@@ -12,17 +12,6 @@ use crate::profile::Fields;
 use cg_names::{InstanceId, MEMBER_ID_BYTES_MAX, NAME_BYTES_MAX, Name};
 use std::alloc::{AllocError, Global};
 
-/// Copies a decoded name. The contract leaves an allocation failure as the only error.
-pub fn name_of<const MAX: usize, const SORT: u8>(
-    alloc: Global,
-    name: &[u8],
-) -> Result<Name<MAX, SORT>, AllocError>
-    requires { IsName MAX name.now }
-    ensures { IfOk result (λ copy. copy ≡ name.now) }
-{
-    Name::from_bytes(alloc, name).map_err(|_| AllocError)
-}
-
 fn instance_of(alloc: Global, instance: Option<&[u8]>) -> Result<Option<InstanceId>, AllocError>
     requires { IfSome (option_copied instance) (IsName NAME_BYTES_MAX) }
     ensures { IfOk result (λ copy. copy ≡ option_copied instance.entry) }
@@ -30,7 +19,7 @@ fn instance_of(alloc: Global, instance: Option<&[u8]>) -> Result<Option<Instance
     match instance {
         None => Ok(None),
         Some(name) => {
-            let copy = name_of(alloc, name)?;
+            let copy = Name::from_lawful(alloc, name)?;
             Ok(Some(copy))
         }
     }
@@ -50,9 +39,9 @@ pub fn member_of(
 {
     let session = SessionTimeout::new(fields.session).unwrap();
     let rebalance = RebalanceTimeout::new(fields.rebalance).unwrap();
-    let id = name_of(alloc, id)?;
+    let id = Name::from_lawful(alloc, id)?;
     let instance = instance_of(alloc, instance)?;
-    let client = name_of(alloc, fields.client)?;
+    let client = Name::from_lawful(alloc, fields.client)?;
     let subscription = Opaque::from_bytes(alloc, fields.subscription)?;
     let assignment = Opaque::from_bytes(alloc, fields.assignment)?;
     Ok(Member {

@@ -8,7 +8,7 @@ ghost use Rattle.cg_record.specs.Members.{member_at};
 ghost use Rattle.cg_record.specs.Reading.{Builds, members_at, listed_at, roster_at, assigned_at, emptied_at, replaced_at, deleted_at};
 
 use crate::assigned::Assigned;
-use crate::copies::{member_of, name_of};
+use crate::copies::member_of;
 use crate::deleted::Deleted;
 use crate::emptied::Emptied;
 use crate::fault::RecordFault;
@@ -20,7 +20,7 @@ use crate::member::Member;
 use crate::profile::profile_at;
 use crate::replaced::{Replaced, StaticMember};
 use crate::roster::{Roster, is_led_by};
-use cg_names::{InstanceId, MEMBER_ID_BYTES_MAX, NAME_BYTES_MAX};
+use cg_names::{InstanceId, MEMBER_ID_BYTES_MAX, NAME_BYTES_MAX, Name};
 use std::alloc::Global;
 
 // Returns whether both instances are given, and are equal.
@@ -110,8 +110,8 @@ fn roster_at(alloc: Global, version: Version, bytes: &[u8]) -> Result<(Roster, &
     if !is_led_by(leader, members.as_slice()) {
         return Err(RecordFault::BadName);
     }
-    let protocol = name_of(alloc, protocol)?;
-    let leader = name_of(alloc, leader)?;
+    let protocol = Name::from_lawful(alloc, protocol)?;
+    let leader = Name::from_lawful(alloc, leader)?;
     Ok((Roster::from_lawful(protocol, leader, members), rest))
 }
 
@@ -129,8 +129,8 @@ pub fn assigned_at(
     let (kind, rest) = name_at::<NAME_BYTES_MAX>(rest)?;
     let (roster, rest) = roster_at(alloc, version, rest)?;
     let generation = CompletedGeneration::new(generation).unwrap();
-    let group = name_of(alloc, group)?;
-    let kind = name_of(alloc, kind)?;
+    let group = Name::from_lawful(alloc, group)?;
+    let kind = Name::from_lawful(alloc, kind)?;
     Ok((
         Assigned {
             group,
@@ -155,8 +155,8 @@ pub fn emptied_at(
     let (generation, rest) = generation_at(rest)?;
     let (kind, rest) = name_at::<NAME_BYTES_MAX>(rest)?;
     let generation = CompletedGeneration::new(generation).unwrap();
-    let group = name_of(alloc, group)?;
-    let kind = name_of(alloc, kind)?;
+    let group = Name::from_lawful(alloc, group)?;
+    let kind = Name::from_lawful(alloc, kind)?;
     Ok((
         Emptied {
             group,
@@ -177,7 +177,7 @@ pub fn deleted_at(
     ensures { Builds (λ x. (x.0, x.1.now)) result (deleted_at version bytes.now) }
 {
     let (group, rest) = name_at::<NAME_BYTES_MAX>(bytes)?;
-    let group = name_of(alloc, group)?;
+    let group = Name::from_lawful(alloc, group)?;
     Ok((Deleted { group }, rest))
 }
 
@@ -194,7 +194,7 @@ pub fn replaced_at(
     let (id, rest) = name_at::<MEMBER_ID_BYTES_MAX>(rest)?;
     let (instance, rest) = name_at::<NAME_BYTES_MAX>(rest)?;
     let (fields, rest) = profile_at(version, rest)?;
-    let group = name_of(alloc, group)?;
+    let group = Name::from_lawful(alloc, group)?;
     let member = member_of(alloc, id, Some(instance), fields)?;
     let member = StaticMember::from_lawful(member);
     Ok((Replaced { group, member }, rest))

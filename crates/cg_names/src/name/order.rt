@@ -17,7 +17,7 @@ impl<const MAX: usize, const SORT: u8> PartialEq for Name<MAX, SORT> {
     ghost laws = { partial_equiv_from_equiv nat_list_eq_equiv };
 
     fn eq(&self, other: &Self) -> bool {
-        self.as_bytes() == other.as_bytes()
+        self.as_str() == other.as_str()
     }
 }
 
@@ -45,7 +45,7 @@ impl<const MAX: usize, const SORT: u8> Ord for Name<MAX, SORT> {
     ghost matches_eq = { texts_ties };
 
     fn cmp(&self, other: &Self) -> Ordering {
-        self.as_bytes().cmp(other.as_bytes())
+        self.as_str().cmp(other.as_str())
     }
 }
 
