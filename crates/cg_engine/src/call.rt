@@ -31,9 +31,9 @@ const TURN_REQUESTS: u32 = 32;
 /// Turns after which another caller may go on, so that a call ends although others never cease.
 const TURNS_MAX: u32 = 32;
 
-/// Looks for the answer to a request that stores nothing, before its caller sleeps: a sleep with its wake-up takes longer than
-/// the desk takes for such a request.
-const READ_LOOKS: u32 = 16;
+/// Looks for an answer before its caller sleeps. A sleep takes more of the processors than a few looks do, and its wake-up is
+/// work of the flusher, for which the next batch waits.
+const LOOKS: u32 = 16;
 
 /// What a turn left in the intake.
 #[derive(Clone, Copy, Debug, Drop, PartialEq, Eq)]
@@ -179,9 +179,20 @@ impl<D: SectorDisk + Drop, L: Ledger> Engine<D, L> {
         Left::Perhaps
     }
 
-    // Looks for the next answer to a pass. The answer to a request that stores nothing mostly comes as soon as another caller
-    // has handed it to the desk, so for such a request it looks a few times, and lets other threads run in between.
-    fn looked_for<R: Wait>(
+    // Looks for the next answer to a pass a few times, and lets other threads run before each.
+    fn looked_for<R: Wait>(&self, rt: &R, answers: &Receiver<Answer<L>>) -> Option<Answer<L>> {
+        for _ in 0..LOOKS {
+            thread::yield_now();
+            if let Ok(answer) = answers.try_recv(rt) {
+                return Some(answer);
+            }
+        }
+        None
+    }
+
+    // Looks for the next answer to a pass before `before_wait` is called. The answer to a request that stores nothing mostly
+    // comes as soon as another caller has handed it to the desk; that to any other waits for a batch.
+    fn found_at_once<R: Wait>(
         &self,
         rt: &R,
         answers: &Receiver<Answer<L>>,
@@ -190,16 +201,11 @@ impl<D: SectorDisk + Drop, L: Ledger> Engine<D, L> {
         if let Ok(answer) = answers.try_recv(rt) {
             return Some(answer);
         }
-        if kind != CallKind::Read {
-            return None;
+        if kind == CallKind::Read {
+            self.looked_for(rt, answers)
+        } else {
+            None
         }
-        for _ in 0..READ_LOOKS {
-            thread::yield_now();
-            if let Ok(answer) = answers.try_recv(rt) {
-                return Some(answer);
-            }
-        }
-        None
     }
 
     // Receives the next answer to a pass. If there is none yet, `before_wait` is called first.
@@ -211,17 +217,16 @@ impl<D: SectorDisk + Drop, L: Ledger> Engine<D, L> {
         has_pending: bool,
         before_wait: &mut I,
     ) -> Option<Answer<L>> {
-        match self.looked_for(rt, answers, kind) {
-            Some(answer) => {
-                if has_pending {
-                    self.pending.notify_one();
-                }
-                Some(answer)
+        if let Some(answer) = self.found_at_once(rt, answers, kind) {
+            if has_pending {
+                self.pending.notify_one();
             }
-            None => {
-                before_wait.before_wait(has_pending);
-                answers.recv(rt).ok()
-            }
+            return Some(answer);
+        }
+        before_wait.before_wait(has_pending);
+        match self.looked_for(rt, answers) {
+            Some(answer) => Some(answer),
+            None => answers.recv(rt).ok(),
         }
     }
 
