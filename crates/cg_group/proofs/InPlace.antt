@@ -1,25 +1,29 @@
 -- The outcome of a request that changes a member in place, or is refused.
-use Rattle.std.proofs.Common.{◌≡◌, ℕ, true, false, List, map, Option, Some, None, Result, Ok, Err, OnErr, ok_or, refl, sym, ap, ◌∙◌}
+use Rattle.std.proofs.Common.{◌≡◌, ℕ, true, false, List, map, Option, Some, None, is_some, Result, Ok, Err, OnErr, ok_or, refl, sym, ap, ◌∙◌}
 use Rattle.cg_names.specs.declared.code.Code.{Code}
-use Rattle.cg_names.specs.declared.code.Code.TheVariants.{InvalidGroupId, OffsetMetadataTooLarge, UnknownMemberId}
+use Rattle.cg_names.specs.declared.code.Code.TheVariants.{InvalidGroupId, InvalidSessionTimeout, OffsetMetadataTooLarge, UnknownMemberId}
 use Rattle.cg_record.specs.declared.entry.Entry.{Entry}
 use Rattle.cg_request.specs.declared.commit_entry.CommitEntry.{CommitEntry}
 use Rattle.cg_member.specs.declared.effects.Effects.{Effects}
 use Rattle.cg_member.specs.declared.group.Group.{Group}
 use Rattle.cg_request.specs.declared.request.BeatRequest.{BeatRequest}
 use Rattle.cg_request.specs.declared.request.CommitRequest.{CommitRequest}
+use Rattle.cg_request.specs.declared.request.JoinRequest.{JoinRequest}
 use Rattle.cg_request.specs.declared.request.SyncRequest.{SyncRequest}
 use Rattle.cg_member.specs.declared.reply.Reply.{Reply}
 use Rattle.cg_member.specs.declared.reply.Reply.TheVariants as reply
 use Rattle.cg_request.specs.declared.ticket.Ticket.{Ticket}
 use Rattle.cg_member.specs.declared.turn.Turn.{Turn}
+use Rattle.cg_turn.specs.Admission.{join_held}
 use Rattle.cg_turn.specs.Beating.{beat_held, beat_reply, beat_taken}
 use Rattle.cg_request.specs.Commits.{is_too_large, kept_entry}
 use Rattle.cg_turn.specs.Committing.{commit_by, commit_effects, commit_held, committed, committer, hearing_committer, keeping_entries}
-use Rattle.cg_group.specs.InPlace.{IsBeatIn, IsCurrent, IsNamed, IsSyncIn}
-use Rattle.cg_group.specs.Machine.{beat, commit, commit_in, concluded, named_group, reply_alone, sync}
+use Rattle.cg_group.specs.InPlace.{IsBeatIn, IsCurrent, IsJoinIn, IsNamed, IsSyncIn}
+use Rattle.cg_group.specs.Machine.{beat, commit, commit_in, concluded, join, join_in, named_group, reply_alone, sync}
 use Rattle.cg_held.specs.Held.{at_moment, find_group, outcome, with_group}
+use Rattle.cg_member.specs.Joining.{is_session_refused, join_current}
 use Rattle.cg_member.specs.Membership.{hearing}
+use Rattle.cg_member.specs.Rebalance.{joined_reply}
 use Rattle.cg_member.specs.Refusing.{◌>>=◌, refused_if}
 use Rattle.cg_member.specs.Syncing.{sync_current, sync_held}
 use Rattle.cg_held.proofs.InOrder.{found_named}
@@ -68,6 +72,42 @@ sync_in_place now r ticket groups after own id bytes e at put made =
     ap (concluded (at_moment now groups) ticket) (ap (λ o. o >>= λ g. sync_held now r ticket g) (named_is r.group groups own g at.named) ∙ current.taken now ticket)
     ∙ ap (λ gs. outcome (at_moment now gs) (reply_alone ticket (reply.Synced current.member.assignment))) (sym (put g at.named.found))
     ∙ ap (λ b. outcome (at_moment now after) (reply_alone ticket (reply.Synced b))) current.assignment
+    ∙ ap (outcome (at_moment now after)) (sym made)
+
+-- a JOIN without a group, and one whose session timeout is outside its limits
+pub join_unnamed : (now : ℕ) (r : JoinRequest) (fresh : List ℕ) (ticket : Ticket) (groups : List Group) → is_some r.group ≡ false → join now r fresh ticket groups ≡ Err InvalidGroupId
+unfolding join
+join_unnamed now r fresh ticket groups h = go r.group h
+  where
+    go : (o : Option (List ℕ)) → is_some o ≡ false → (ok_or o InvalidGroupId >>= λ id. refused_if (is_session_refused r) InvalidSessionTimeout >>= λ _. join_in now r fresh ticket groups id (find_group id groups)) ≡ Err InvalidGroupId
+    go None h = refl
+    go (Some id) h = cc
+
+join_given : (now : ℕ) (r : JoinRequest) (fresh : List ℕ) (ticket : Ticket) (groups : List Group) (o : Option (List ℕ)) → is_some o ≡ true → is_session_refused r ≡ true
+    → (ok_or o InvalidGroupId >>= λ id. refused_if (is_session_refused r) InvalidSessionTimeout >>= λ _. join_in now r fresh ticket groups id (find_group id groups)) ≡ Err InvalidSessionTimeout
+join_given now r fresh ticket groups None h refused = cc
+join_given now r fresh ticket groups (Some id) h refused = ap (λ b. refused_if b InvalidSessionTimeout >>= λ _. join_in now r fresh ticket groups id (find_group id groups)) refused
+
+pub join_untimely : (now : ℕ) (r : JoinRequest) (fresh : List ℕ) (ticket : Ticket) (groups : List Group) → is_some r.group ≡ true → is_session_refused r ≡ true → join now r fresh ticket groups ≡ Err InvalidSessionTimeout
+unfolding join
+join_untimely now r fresh ticket groups given refused = join_given now r fresh ticket groups r.group given refused
+
+-- a JOIN in a loaded group is that of the group
+pub join_here : (now : ℕ) (r : JoinRequest) (fresh : List ℕ) (ticket : Ticket) (groups : List Group) (own : List ℕ) (g : Group) → IsNamed r.group groups own g → is_session_refused r ≡ false → join now r fresh ticket groups ≡ join_held now r fresh ticket r.member g
+unfolding join
+join_here now r fresh ticket groups own g at lawful =
+    ap (λ o. ok_or o InvalidGroupId >>= λ id. refused_if (is_session_refused r) InvalidSessionTimeout >>= λ _. join_in now r fresh ticket groups id (find_group id groups)) at.named
+    ∙ ap (λ b. refused_if b InvalidSessionTimeout >>= λ _. join_in now r fresh ticket groups own (find_group own groups)) lawful
+    ∙ ap (join_in now r fresh ticket groups own) at.found
+
+pub join_in_place : (now : ℕ) (r : JoinRequest) (fresh : List ℕ) (ticket : Ticket) (groups after : List Group) (own id : List ℕ) (answer : Reply) (e : Effects) → IsJoinIn r groups own id answer
+    → ((g : Group) → find_group own groups ≡ Some g → after ≡ with_group (hearing now id g) groups) → e ≡ reply_alone ticket answer → concluded (at_moment now groups) ticket (join now r fresh ticket groups) ≡ outcome (at_moment now after) e
+unfolding concluded join_current
+join_in_place now r fresh ticket groups after own id answer e at put made =
+    let g : Group = at.group in
+    ap (concluded (at_moment now groups) ticket) (join_here now r fresh ticket groups own g at.named at.session ∙ at.taken now fresh ticket)
+    ∙ ap (λ gs. outcome (at_moment now gs) (reply_alone ticket (joined_reply g at.member))) (sym (put g at.named.found))
+    ∙ ap (λ a. outcome (at_moment now after) (reply_alone ticket a)) (sym at.answered)
     ∙ ap (outcome (at_moment now after)) (sym made)
 
 -- the outcome of a COMMIT in a loaded group is that of the group

@@ -320,6 +320,13 @@ module _ (homes : ℕ → List ℕ → Bool) where
   known-met s (event.Gone session) own h = known-everywhere (gone_in s.last session) (λ g k. stays g.id (gone_in s.last session g) (framed-gone_in s.last session g) (known-gone_in (at g.id) s.last session g k)) s h
   known-met s event.Tick own h = known-everywhere (ticked s.last) (λ g k. stays g.id (ticked s.last g) (framed-ticked s.last g) (known-ticked (at g.id) s.last g k)) s h
 
+-- a group in which a call is parked
+pub known-parked_join : (sessions : ℕ → Bool) (now : ℕ) (r : JoinRequest) (id : List ℕ) (ticket : Ticket) (g : Group) → sessions ticket.session ≡ true → Known sessions g → Known sessions (waiting now id (Join ticket) (turn_of (updating r id g))).group
+known-parked_join sessions now r id ticket g own h = known-waiting sessions now id (Join ticket) (turn_of (updating r id g)) own (known-updating sessions r id g h)
+
+pub known-parked_sync : (sessions : ℕ → Bool) (now : ℕ) (id : List ℕ) (ticket : Ticket) (g : Group) → sessions ticket.session ≡ true → Known sessions g → Known sessions (waiting now id (Sync ticket) (turn_of (hearing now id g))).group
+known-parked_sync sessions now id ticket g own h = known-waiting sessions now id (Sync ticket) (turn_of (hearing now id g)) own (known-hearing sessions now id g h)
+
 -- with more sessions in the index, what was known stays known
 module _ (sessions more : ℕ → Bool) (kept : (q : ℕ) → sessions q ≡ true → more q ≡ true) where
   more_waits : (w : Waits) → is_known sessions w ≡ true → is_known more w ≡ true

@@ -26,3 +26,4 @@ pub mod Dated
 pub mod Asked
 pub mod TightIndex
 pub mod Committers
+pub mod Displacing

@@ -1,19 +1,30 @@
--- Requests that only mark a member as heard: they change the member in place. Others replace their group.
-use Rattle.std.specs.Prelude.{◌≡◌, ℕ, Bool, true, List, Option, Some, None, Result, Ok, Err}
+-- Requests that change one member alone: they change it in place. Others replace their group.
+use Rattle.std.specs.Prelude.{◌≡◌, ◌⊎◌, ℕ, Bool, true, false, List, [], Option, Some, None, option_map, Result, Ok, Err}
+use Rattle.std.specs.Option.{option_to_list}
 use Rattle.cg_names.specs.declared.code.Code.{Code}
+use Rattle.cg_names.specs.declared.code.Code.TheVariants.{RebalanceInProgress}
+use Rattle.cg_member.specs.declared.calls.Calls.TheVariants.{Any}
 use Rattle.cg_member.specs.declared.group.Group.{Group}
 use Rattle.cg_member.specs.declared.member.Member.{Member}
+use Rattle.cg_member.specs.declared.member.Waits.TheVariants.{Join, Sync}
 use Rattle.cg_member.specs.declared.reply.Reply.{Reply}
+use Rattle.cg_member.specs.declared.reply.Reply.TheVariants.{Refused}
 use Rattle.cg_request.specs.declared.request.BeatRequest.{BeatRequest}
+use Rattle.cg_request.specs.declared.request.JoinRequest.{JoinRequest}
 use Rattle.cg_request.specs.declared.request.SyncRequest.{SyncRequest}
 use Rattle.cg_request.specs.declared.ticket.Ticket.{Ticket}
 use Rattle.cg_member.specs.declared.turn.Turn.{Turn}
+use Rattle.cg_turn.specs.Admission.{join_held}
 use Rattle.cg_turn.specs.Beating.{beat_held, beat_reply, beat_taken}
 use Rattle.cg_group.specs.Machine.{concluded}
 use Rattle.cg_held.specs.Held.{at_moment, find_group, outcome, with_group}
-use Rattle.cg_held.specs.Sessions.{AreKnown}
+use Rattle.cg_held.specs.Sessions.{AreKnown, Known, is_parked}
 use Rattle.cg_member.specs.declared.effects.Effects.{Effects}
+use Rattle.cg_member.specs.Joining.{is_session_refused, join_current, updating, waiting}
+use Rattle.cg_member.specs.Membership.{find_member, hearing}
+use Rattle.cg_member.specs.Rebalance.{joined_reply, turn_of}
 use Rattle.cg_member.specs.Syncing.{sync_current, sync_held}
+use Rattle.cg_member.specs.Waiting.{called}
 
 -- the request names this group, and it is loaded
 pub record IsNamed (given : Option (List ℕ)) (groups : List Group) (own : List ℕ) (group : Group) : Type 0 where
@@ -38,6 +49,48 @@ pub record IsSyncIn (r : SyncRequest) (groups : List Group) (own id bytes : List
   pub group : Group
   pub named : IsNamed r.group groups own group
   pub current : IsCurrent r group id bytes
+
+-- the JOIN changes nothing and gets its reply at once, from this member, in the group with this id
+pub record IsJoinIn (r : JoinRequest) (groups : List Group) (own id : List ℕ) (answer : Reply) : Type 0 where
+  pub group : Group
+  pub member : Member
+  pub named : IsNamed r.group groups own group
+  pub session : is_session_refused r ≡ false
+  pub taken : (now : ℕ) (fresh : List ℕ) (ticket : Ticket) → join_held now r fresh ticket r.member group ≡ Ok (join_current now id ticket member group)
+  pub answered : answer ≡ joined_reply group member
+
+-- the JOIN is parked, from this member, in the group with this id: a rebalance goes on for which others have to join
+pub record IsJoinParked (r : JoinRequest) (groups : List Group) (own id : List ℕ) (older : Option Ticket) : Type 0 where
+  pub group : Group
+  pub member : Member
+  pub named : IsNamed r.group groups own group
+  pub session : is_session_refused r ≡ false
+  pub found : find_member id group.members ≡ Some member
+  pub taken : (now : ℕ) (fresh : List ℕ) (ticket : Ticket) → join_held now r fresh ticket r.member group ≡ Ok (waiting now id (Join ticket) (turn_of (updating r id group)))
+  pub called : older ≡ called Any member.waits
+
+-- the SYNC is parked, from this follower, in the group with this id
+pub record IsSyncParked (r : SyncRequest) (groups : List Group) (own id : List ℕ) (older : Option Ticket) : Type 0 where
+  pub group : Group
+  pub member : Member
+  pub named : IsNamed r.group groups own group
+  pub found : find_member id group.members ≡ Some member
+  pub taken : (now : ℕ) (ticket : Ticket) → sync_held now r ticket group ≡ Ok (waiting now id (Sync ticket) (turn_of (hearing now id group)))
+  pub called : older ≡ called Any member.waits
+
+-- a request that is parked has no reply; the older call of its member gets 27
+abbrev pub displacing : Option Ticket → Effects
+displacing older = record { commands = []; replies = option_to_list (option_map (λ t. (t, Refused RebalanceInProgress)) older) }
+
+-- the call came on this session
+abbrev pub is_of : Option Ticket → ℕ → Type 0
+is_of call session = option_map (λ (t : Ticket). t.session) call ≡ Some session
+
+-- after the change this call is parked in the group, in the place of the older one
+pub record Parks (ticket : Ticket) (older : Option Ticket) (g after : Group) : Type 0 where
+  pub asked : is_parked ticket.session (Some after) ≡ true
+  pub stays : (session : ℕ) → is_parked session (Some g) ≡ true → (is_parked session (Some after) ≡ true) ⊎ is_of older session
+  pub known : (sessions : ℕ → Bool) → sessions ticket.session ≡ true → Known sessions g → Known sessions after
 
 -- the group whose step this is; a refusal is no step
 abbrev pub group_of : Result Turn Code → Option (List ℕ)

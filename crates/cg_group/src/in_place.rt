@@ -39,8 +39,8 @@ pub fn reply_alone(alloc: Global, ticket: Ticket, reply: Reply) -> Effects
     }
 }
 
-// Marks the member as heard in the group with this id, and builds the reply.
-fn hear_in(
+/// Marks the member as heard in the group with this id, and builds the reply.
+pub fn hear_in(
     now: Moment,
     held: &mut Held,
     own: &GroupId,

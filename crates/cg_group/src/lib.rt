@@ -6,10 +6,13 @@
 mod concluding;
 mod groups;
 mod in_place;
+mod joining;
 mod laws;
 mod meeting;
 mod naming;
 mod parking;
+mod parking_in_place;
+mod rejoining;
 
 pub use groups::Groups;
 pub use laws::{

@@ -10,7 +10,8 @@ ghost use Rattle.cg_group.specs.Machine.{concluded, commit, deleting, deleted, d
 ghost use Rattle.cg_held.specs.Held.{at_moment, everywhere, find_group, outcome, standing};
 
 use crate::in_place::{commit_in, meet_beat, reply_alone};
-use crate::parking::{meet_join, meet_leave, meet_sync};
+use crate::joining::meet_join;
+use crate::parking::{meet_leave, meet_sync};
 use cg_fold::Offsets;
 use cg_held::changes::{Changes, swap_all};
 use cg_held::describing::{description, listings};

@@ -1,8 +1,8 @@
-//! The requests that may park a call, or that may complete a rebalance: JOIN, SYNC and LEAVE.
+//! The requests that may park a call, or that may complete a rebalance: SYNC and LEAVE, and what JOIN has in common with
+//! them.
 ghost use Rattle.std.specs.Prelude.{◌≡◌, ◌⊎◌, ℕ, List, Some, true, false, is_ok, is_some, IfOk, OnErr, OnOk};
-ghost use Rattle.cg_member.specs.Joining.{is_session_refused};
 ghost use Rattle.cg_group.specs.InPlace.{ParksKnown, group_of};
-ghost use Rattle.cg_group.specs.Machine.{concluded, join, leave, sync};
+ghost use Rattle.cg_group.specs.Machine.{concluded, leave, sync};
 ghost use Rattle.cg_held.specs.Held.{at_moment, outcome};
 ghost use Rattle.cg_held.specs.Sessions.{AreKnown, IsFilled, IsLetGo, IsTight, is_home, is_parked};
 ghost use Rattle.cg_member.specs.Waiting.{is_waiting};
@@ -15,78 +15,20 @@ ghost use Rattle.std.specs.Ordering.{nat_cmp};
 use crate::concluding::{Concluded, conclude};
 use crate::in_place::{sync_in, syncing};
 use crate::naming::named;
+use crate::parking_in_place::{ParkedSync, park_in, parking_sync};
 use cg_held::held::Held;
 use cg_held::sessions::{Homes, note};
 use cg_held::settling::{settle, settle_request};
-use cg_member::checked::CheckedJoin;
 use cg_member::effects::Effects;
 use cg_member::group::Group;
 use cg_member::member::Member;
 use cg_member::turn::Turn;
 use cg_names::{Code, GroupId, Moment};
-use cg_request::request::{JoinRequest, LeaveRequest, SyncRequest};
+use cg_request::request::{LeaveRequest, SyncRequest};
 use cg_request::ticket::Ticket;
-use cg_turn::admission::{join_held, join_unheld, unheld_refusal};
 use cg_turn::leaving::leave_held;
 use cg_turn::syncing::sync_held;
 use std::alloc::{AllocError, Global};
-use uuid::Uuid;
-
-// Returns the step of a JOIN, or its error code. Only a JOIN that is not refused needs an allocation.
-#[tactic(auto, unfolding(crate::specs::Machine::join))]
-fn join(
-    alloc: Global,
-    now: Moment,
-    r: JoinRequest,
-    fresh: Uuid,
-    ticket: Ticket,
-    groups: &Held,
-) -> Result<Result<Turn, Code>, AllocError>
-    ensures ok { IfOk result (λ o. o ≡ join now r fresh ticket groups.now) }
-    ensures taken { OnErr result (is_ok (join now r fresh ticket groups.now) ≡ true) }
-{
-    if r.group.is_none() {
-        return Ok(Err(Code::InvalidGroupId));
-    }
-    let Some(r) = CheckedJoin::new(r) else {
-        return Ok(Err(Code::InvalidSessionTimeout));
-    };
-    let taken = join_checked(alloc, now, r, fresh, ticket, groups)?;
-    Ok(taken)
-}
-
-// Returns the step of a JOIN whose session timeout is within its limits, or its error code.
-#[tactic(auto, unfolding(crate::specs::Machine::join))]
-fn join_checked(
-    alloc: Global,
-    now: Moment,
-    r: CheckedJoin,
-    fresh: Uuid,
-    ticket: Ticket,
-    groups: &Held,
-) -> Result<Result<Turn, Code>, AllocError>
-    requires { is_session_refused r ≡ false }
-    ensures ok { IfOk result (λ o. o ≡ join now r fresh ticket groups.now) }
-    ensures taken { OnErr result (is_ok (join now r fresh ticket groups.now) ≡ true) }
-{
-    let Some(id) = &r.request.group else {
-        return Ok(Err(Code::InvalidGroupId));
-    };
-    match groups.find(id) {
-        None => {
-            if let Some(code) = unheld_refusal(&r.request, groups.len()) {
-                return Ok(Err(code));
-            }
-            let id = id.clone()?;
-            let taken = join_unheld(alloc, now, r, fresh, ticket, groups.len(), id)?;
-            Ok(taken)
-        }
-        Some(group) => {
-            let taken = join_held(alloc, now, r, fresh, ticket, group)?;
-            Ok(taken)
-        }
-    }
-}
 
 // Returns the step of a SYNC, or its error code. Only a SYNC that is not refused needs an allocation.
 #[tactic(auto, unfolding(crate::specs::Machine::sync))]
@@ -215,8 +157,8 @@ fn settle_named(
     }
 }
 
-// Replaces the group by that of a step that may park the call, or replies with the error code.
-fn park(
+/// Replaces the group by that of a step that may park the call, or replies with the error code.
+pub fn park(
     now: Moment,
     held: &mut Held,
     homes: &mut Homes,
@@ -246,30 +188,7 @@ fn park(
     }
 }
 
-/// Processes a JOIN. Copies the group. Only a JOIN that is not refused needs an allocation.
-pub fn meet_join(
-    now: Moment,
-    held: &mut Held,
-    homes: &mut Homes,
-    ticket: Ticket,
-    r: JoinRequest,
-    fresh: Uuid,
-) -> Result<Effects, AllocError>
-    requires known { AreKnown (is_home homes.old) held.old }
-    requires tight { IsTight homes.old held.old }
-    ensures known { AreKnown (is_home homes.new) held.new }
-    ensures tight { IsTight homes.new held.new }
-    ensures ok { IfOk result
-        (λ e. concluded (at_moment now held.old) ticket (join now r fresh ticket held.old) ≡ outcome (at_moment now held.new) e) }
-    ensures err { OnErr result (held.new ≡ held.old) }
-    ensures taken { OnErr result (is_ok (join now r fresh ticket held.old) ≡ true) }
-{
-    let concluding = join(held.allocator(), now, r, fresh, ticket, held)?;
-    let effects = park(now, held, homes, ticket, concluding)?;
-    Ok(effects)
-}
-
-// Processes a SYNC that may be parked. Copies the group.
+// Processes a SYNC that may give the assignments. Copies the group.
 fn meet_sync_apart(
     now: Moment,
     held: &mut Held,
@@ -291,7 +210,37 @@ fn meet_sync_apart(
     Ok(effects)
 }
 
-/// Processes a SYNC. In a stable group the member is changed in place, without a copy of the group.
+// Processes a SYNC outside a stable group. If it is only parked, its member is changed in place.
+fn meet_sync_again(
+    now: Moment,
+    held: &mut Held,
+    homes: &mut Homes,
+    ticket: Ticket,
+    r: &SyncRequest,
+) -> Result<Effects, AllocError>
+    requires known { AreKnown (is_home homes.old) held.old }
+    requires tight { IsTight homes.old held.old }
+    ensures known { AreKnown (is_home homes.new) held.new }
+    ensures tight { IsTight homes.new held.new }
+    ensures ok { IfOk result
+        (λ e. concluded (at_moment now held.old) ticket (sync now r.now ticket held.old) ≡ outcome (at_moment now held.new) e) }
+    ensures err { OnErr result (held.new ≡ held.old) }
+    ensures taken { OnErr result (is_ok (sync now r.now ticket held.old) ≡ true) }
+{
+    match parking_sync(r, held) {
+        Some((own, id, older)) => {
+            let altering = ParkedSync { now, id, ticket };
+            let effects = park_in(held, homes, ticket, own, altering, older)?;
+            Ok(effects)
+        }
+        None => {
+            let effects = meet_sync_apart(now, held, homes, ticket, r)?;
+            Ok(effects)
+        }
+    }
+}
+
+/// Processes a SYNC. Copies the group only if the leader gives the assignments.
 pub fn meet_sync(
     now: Moment,
     held: &mut Held,
@@ -311,7 +260,7 @@ pub fn meet_sync(
     match syncing(r, held)? {
         Some((own, id, assignment)) => Ok(sync_in(now, held, ticket, own, id, assignment)),
         None => {
-            let effects = meet_sync_apart(now, held, homes, ticket, r)?;
+            let effects = meet_sync_again(now, held, homes, ticket, r)?;
             Ok(effects)
         }
     }

@@ -9,6 +9,7 @@ use Rattle.std.specs.Map.{lookup, remove_entry, set_value, values_of}
 use Rattle.std.specs.Ordering.{nat_cmp, match_ordering}
 use Rattle.std.specs.declared.cmp.Ordering.TheVariants.{Less, Equal, Greater}
 use Rattle.cg_member.specs.declared.group.Group.{Group}
+use Rattle.cg_held.specs.Changes.{KeepsId}
 use Rattle.cg_held.specs.Held.{IsHeld, StandUnderIds, InOrder, find_group, with_group, without_group}
 use Rattle.cg_request.specs.Names.{is_same}
 use Rattle.cg_member.specs.Membership.{hearing}
@@ -101,21 +102,21 @@ replaced g es h o held = go (find_group g.id (values_of es)) refl held
     go None e t = cc
     go (Some k) e t = values-set_value g.id g k es h o e (found_named g.id (values_of es) k e)
 
-id-hearing : (now : ℕ) (id : List ℕ) (g : Group) → (hearing now id g).id ≡ g.id
+pub id-hearing : (now : ℕ) (id : List ℕ) (g : Group) → (hearing now id g).id ≡ g.id
 unfolding hearing
 id-hearing now id g = refl
 
--- a member of a loaded group is heard
-module _ (x : List ℕ) (now : ℕ) (id : List ℕ) (es after : Entries) (h : StandUnderIds es) (o : InOrder (values_of es))
-    (some : (g : Group) → lookup (is_at (slice_cmp nat_cmp x)) es ≡ Some g → after ≡ set_value (is_at (slice_cmp nat_cmp x)) es (hearing now id g)) where
-  set_there : (g : Group) → find_group x (values_of es) ≡ Some g → after ≡ set_value (is_at (slice_cmp nat_cmp x)) es (hearing now id g)
+-- a loaded group is changed in its place
+module _ (x : List ℕ) (change : Group → Group) (keeps : KeepsId change) (es after : Entries) (h : StandUnderIds es) (o : InOrder (values_of es))
+    (some : (g : Group) → lookup (is_at (slice_cmp nat_cmp x)) es ≡ Some g → after ≡ set_value (is_at (slice_cmp nat_cmp x)) es (change g)) where
+  set_there : (g : Group) → find_group x (values_of es) ≡ Some g → after ≡ set_value (is_at (slice_cmp nat_cmp x)) es (change g)
   set_there g e = some g (lookup-own x es h ∙ e)
 
-  pub heard_there : (g : Group) → find_group x (values_of es) ≡ Some g → values_of after ≡ with_group (hearing now id g) (values_of es)
-  heard_there g e = ap values_of (set_there g e) ∙ values-set_value x (hearing now id g) g es h o e (sym (id-hearing now id g))
+  pub altered_there : (g : Group) → find_group x (values_of es) ≡ Some g → values_of after ≡ with_group (change g) (values_of es)
+  altered_there g e = ap values_of (set_there g e) ∙ values-set_value x (change g) g es h o e (sym (keeps g))
 
-  pub heard_whole : (lookup (is_at (slice_cmp nat_cmp x)) es ≡ None → after ≡ es) → StandUnderIds after × InOrder (values_of after)
-  heard_whole none = go (find_group x (values_of es)) refl
+  pub altered_whole : (lookup (is_at (slice_cmp nat_cmp x)) es ≡ None → after ≡ es) → StandUnderIds after × InOrder (values_of after)
+  altered_whole none = go (find_group x (values_of es)) refl
     where
       go : (found : Option Group) → find_group x (values_of es) ≡ found → StandUnderIds after × InOrder (values_of after)
       go None e =
@@ -124,6 +125,6 @@ module _ (x : List ℕ) (now : ℕ) (id : List ℕ) (es after : Entries) (h : St
       go (Some g) e =
           let S : Entries → Type 0 = λ es. StandUnderIds es in
           let O : List Group → Type 0 = λ gs. InOrder gs in (
-            subst S (sym (set_there g e)) (stand-set_value x (hearing now id g) es h (sym (id-hearing now id g ∙ found_named x (values_of es) g e))),
-            subst O (sym (heard_there g e)) (ascending-with_group (hearing now id g) (values_of es) o),
+            subst S (sym (set_there g e)) (stand-set_value x (change g) es h (sym (keeps g ∙ found_named x (values_of es) g e))),
+            subst O (sym (altered_there g e)) (ascending-with_group (change g) (values_of es) o),
           )

@@ -1,5 +1,5 @@
 -- The index of deadlines beside the groups: it changes as they do.
-use Rattle.std.proofs.Common.{◌≡◌, ℕ, ◌<◌, ◌≤◌, Bool, true, false, ◌||◌, cond, List, [], ◌∷◌, find, is_some, map as each, Some, refl, sym, ap, ◌∙◌, subst, arith}
+use Rattle.std.proofs.Common.{◌≡◌, ℕ, ◌<◌, ◌≤◌, Bool, true, false, ◌||◌, cond, List, [], ◌∷◌, find, is_some, map as each, Option, Some, None, refl, sym, ap, ◌∙◌, subst, arith}
 use Rattle.std.specs.Prelude.{if◌then◌else◌, nat_le}
 use Rattle.std.specs.List.{filter}
 use Rattle.std.proofs.lemmas.Bool.{false≢true, leb-false, or_parts}
@@ -16,11 +16,12 @@ use Rattle.cg_member.specs.Membership.{hearing}
 use Rattle.cg_member.specs.Rebalance.{turn_of}
 use Rattle.cg_member.specs.Ticking.{ticked}
 use Rattle.cg_turn.specs.Touching.{next_deadline}
-use Rattle.cg_held.specs.Changes.{is_one_of}
+use Rattle.cg_held.specs.Changes.{KeepsId, is_one_of}
 use Rattle.cg_held.specs.Held.{InOrder, find_group, with_group, without_group}
 use Rattle.cg_held.specs.Kept.{Each}
 use Rattle.cg_held.specs.Timed.{AreTimed}
 use Rattle.cg_request.specs.Names.{is_same}
+use Rattle.cg_held.proofs.Finding.{find-own}
 use Rattle.cg_held.proofs.InOrder.{before_found, found_named, less_greater, same_order, with_group-found}
 use Rattle.cg_held.proofs.KeptLists.{same_names, same_self}
 use Rattle.cg_held.proofs.Quiet.{deadline-heard, deadline-since, ticked_before}
@@ -117,6 +118,40 @@ pub timed-renewed : (since deadline : ℕ) (id : List ℕ) (g : Group) (es : Ind
 timed-renewed since deadline id g es gs o found d h =
     let P : List Group → Type 0 = λ ks. AreTimed since (insert_entry (slice_cmp nat_cmp) es id deadline) ks in
     subst P (with_group-found id gs g o found) (timed-put since deadline id g es gs (sym (found_named id gs g found)) d h)
+
+-- a group that is changed in its place, and its entry
+module _ (since : ℕ) (own : List ℕ) (change : Group → Group) (keeps : KeepsId change) (es : Index) (gs after : List Group)
+    (altered : (g : Group) → find_group own gs ≡ Some g → after ≡ with_group (change g) gs) (absent : find_group own gs ≡ None → after ≡ gs) (h : AreTimed since es gs) where
+  there : (g : Group) → find_group own gs ≡ Some g → find_group own after ≡ Some (change g)
+  there g found =
+      let named : (change g).id ≡ own = keeps g ∙ found_named own gs g found in
+      ap (find_group own) (altered g found) ∙ ap (λ i. find_group i (with_group (change g) gs)) (sym named) ∙ find-own (change g) gs
+
+  pub timed-gone : find_group own after ≡ None → AreTimed since es after
+  timed-gone none = go (find_group own gs) refl
+    where
+      go : (o : Option Group) → find_group own gs ≡ o → AreTimed since es after
+      go None e = let P : List Group → Type 0 = λ hs. AreTimed since es hs in subst P (sym (absent e)) h
+      go (Some g) e = let no : Some (change g) ≡ None = sym (there g e) ∙ none in cc
+
+  pub was_found : (k : Group) → find_group own after ≡ Some k → is_some (find_group own gs) ≡ true
+  was_found k found = go (find_group own gs) refl
+    where
+      go : (o : Option Group) → find_group own gs ≡ o → is_some o ≡ true
+      go None e = let no : None ≡ Some k = sym (ap (find_group own) (absent e) ∙ e) ∙ found in cc
+      go (Some g) e = refl
+
+  pub timed-altered : (deadline : ℕ) (k : Group) → find_group own after ≡ Some k → deadline ≤ next_deadline since k → AreTimed since (insert_entry (slice_cmp nat_cmp) es own deadline) after
+  timed-altered deadline k found d = go (find_group own gs) refl
+    where
+      go : (o : Option Group) → find_group own gs ≡ o → AreTimed since (insert_entry (slice_cmp nat_cmp) es own deadline) after
+      go None e = let no : None ≡ Some k = sym (ap (find_group own) (absent e) ∙ e) ∙ found in cc
+      go (Some g) e =
+          let is : Some k ≡ Some (change g) = sym found ∙ there g e in
+          let same : k ≡ change g = cc in
+          let P : List Group → Type 0 = λ hs. AreTimed since (insert_entry (slice_cmp nat_cmp) es own deadline) hs in
+          let D : Group → Type 0 = λ y. deadline ≤ next_deadline since y in
+          subst P (sym (altered g e)) (timed-put since deadline own (change g) es gs (sym (keeps g ∙ found_named own gs g e)) (subst D same d) h)
 
 -- a tick changes no group that is not due
 

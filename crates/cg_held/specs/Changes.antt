@@ -22,6 +22,10 @@ AreHeld groups changes = Each (λ (c : Group). IsHeld groups c.id) changes
 abbrev pub KeepIds : (Group → Turn) → Type 0
 KeepIds turn = (g : Group) → (turn g).group.id ≡ g.id
 
+-- a change keeps the id of its group
+abbrev pub KeepsId : (Group → Group) → Type 0
+KeepsId change = (g : Group) → (change g).id ≡ g.id
+
 -- the id is one of these
 abbrev pub is_one_of : List (List ℕ) → List ℕ → Bool
 is_one_of ids id = list_any (is_same id) ids

@@ -3,7 +3,7 @@ ghost use Rattle.std.specs.Prelude.{◌≡◌, ℕ, ◌<◌, List, Some, None, [
 ghost use Rattle.std.specs.Map.Iter.{ShowsInOrder, deref};
 ghost use Rattle.std.specs.Option.{option_copied};
 ghost use Rattle.cg_member.specs.declared.group.Group.{Group};
-ghost use Rattle.cg_held.specs.Changes.{is_one_of};
+ghost use Rattle.cg_held.specs.Changes.{KeepsId, is_one_of};
 ghost use Rattle.cg_held.specs.Held.{IsHeld, InOrder, find_group, with_group, without_group};
 ghost use Rattle.cg_held.specs.Kept.{Ascending, Each};
 ghost use Rattle.cg_held.specs.Timed.{AreTimed};
@@ -12,6 +12,7 @@ ghost use Rattle.cg_member.specs.Rebalance.{turn_of};
 ghost use Rattle.cg_member.specs.Ticking.{ticked};
 ghost use Rattle.cg_member.specs.Waiting.{waiting_calls};
 
+use crate::altering::Altering;
 use crate::loaded::Loaded;
 use cg_member::group::Group;
 use cg_names::{GroupId, MemberId, Moment};
@@ -160,6 +161,19 @@ impl Held {
     {
         hear_in_index(&mut self.deadlines, self.since, now, group);
         self.loaded.hear(group, id, now);
+    }
+
+    /// Changes the group with this id, if it is loaded. Costs its look-ups and a pass over its members; no allocation.
+    pub fn alter<A: Altering + Drop>(&mut self, group: &GroupId, altering: A)
+        requires { KeepsId (A.alters altering) }
+        ensures { (g : Group) → find_group group.now self.old ≡ Some g → self.new ≡ with_group (A.alters altering g) self.old }
+    {
+        self.loaded.alter(group, altering);
+        let Some(altered) = self.loaded.find(group) else {
+            return;
+        };
+        let deadline = next_deadline(self.since, altered);
+        let _found = self.deadlines.reschedule(group, deadline);
     }
 
     /// Returns the ids of the groups that a tick at this moment may change, in their order. Costs a logarithm for each

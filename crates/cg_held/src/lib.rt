@@ -2,6 +2,7 @@
 //! durable state, and events that concern many groups.
 #![tactic(auto)]
 
+pub mod altering;
 pub mod changes;
 pub mod describing;
 pub mod due;

@@ -7,10 +7,12 @@ ghost use Rattle.std.specs.Map.Iter.{ShowsInOrder, deref};
 ghost use Rattle.std.specs.Option.{option_copied};
 ghost use Rattle.std.specs.Ordering.{nat_cmp};
 ghost use Rattle.cg_member.specs.declared.group.Group.{Group};
+ghost use Rattle.cg_held.specs.Changes.{KeepsId};
 ghost use Rattle.cg_held.specs.Held.{IsHeld, InOrder, find_group, with_group, without_group};
 ghost use Rattle.cg_member.specs.Membership.{hearing};
 ghost use Rattle.cg_member.specs.Waiting.{waiting_calls};
 
+use crate::altering::Altering;
 use cg_member::calls::Calls;
 use cg_member::group::Group;
 use cg_names::{GroupId, MemberId, Moment};
@@ -65,6 +67,19 @@ fn hear_among(groups: &mut BTreeMap<GroupId, Group>, own: &GroupId, id: &MemberI
 {
     if let Some(group) = groups.get_mut(own) {
         hear_in(now, id, group);
+    }
+}
+
+fn alter_among<A: Altering + Drop>(
+    groups: &mut BTreeMap<GroupId, Group>,
+    own: &GroupId,
+    altering: A,
+)
+    ensures some { (g : Group) → get (slice_cmp nat_cmp) groups.old own.now ≡ Some g → groups.new.entries ≡ set_value (is_at (slice_cmp nat_cmp own.now)) groups.old.entries (A.alters altering g) }
+    ensures none { get (slice_cmp nat_cmp) groups.old own.now ≡ None → groups.new.entries ≡ groups.old.entries }
+{
+    if let Some(group) = groups.get_mut(own) {
+        altering.alter(group);
     }
 }
 
@@ -154,5 +169,15 @@ impl Loaded {
         ensures in_order { InOrder self.old }
     {
         hear_among(&mut self.groups, group, id, now);
+    }
+
+    /// Changes the group with this id, if it is loaded. No allocation.
+    pub fn alter<A: Altering + Drop>(&mut self, group: &GroupId, altering: A)
+        requires { KeepsId (A.alters altering) }
+        ensures altered { (g : Group) → find_group group.now self.old ≡ Some g → self.new ≡ with_group (A.alters altering g) self.old }
+        ensures absent { find_group group.now self.old ≡ None → self.new ≡ self.old }
+        ensures in_order { InOrder self.old }
+    {
+        alter_among(&mut self.groups, group, altering);
     }
 }

@@ -1,15 +1,15 @@
 //! JOIN (JoinGroup request): its checks, in the order of the refusals.
-ghost use Rattle.std.specs.Prelude.{◌≡◌, ◌<◌, ℕ, List, Ok, Err, None, Some, true, false, is_ok, is_some, length, IfOk, OnErr, MatchOption, MatchResult};
+ghost use Rattle.std.specs.Prelude.{◌≡◌, ◌<◌, ℕ, List, Ok, Err, None, Some, true, false, is_ok, is_some, length, IfOk, OnErr, MatchOption, MatchResult, ⊤};
 ghost use Rattle.std.specs.Option.{option_copied};
 ghost use Rattle.std.specs.List.{list_any};
 ghost use Rattle.cg_record.specs.declared.roster.TheConstants.{MEMBERS_MAX};
 ghost use Rattle.cg_member.specs.Membership.{is_named, find_member, find_instance};
 ghost use Rattle.cg_member.specs.Vote.{is_common};
-ghost use Rattle.cg_member.specs.Joining.{is_inconsistent, join_known};
+ghost use Rattle.cg_member.specs.Joining.{is_inconsistent, join_current, join_known};
 ghost use Rattle.cg_turn.specs.Admission.{is_full, join_placed, join_held, join_unheld};
 
 use crate::bounds::GROUPS_MAX;
-use crate::joining::{join_known, join_new, new_group};
+use crate::joining::{is_current, join_known, join_new, new_group};
 use crate::replacing::join_replacing;
 use cg_member::checked::CheckedJoin;
 use cg_member::copies::copied_group;
@@ -113,9 +113,9 @@ fn join_stranger(
     Ok(Ok(turn))
 }
 
-// Returns the member that joins again, with the id that it gives.
+/// Returns the member that joins again, with the id that it gives. No allocation.
 #[tactic(auto, unfolding(crate::specs::Admission::join_held))]
-fn known_joiner<'a, 'b>(
+pub fn known_joiner<'a, 'b>(
     r: &'a JoinRequest,
     group: &'b Group,
 ) -> Result<(&'a MemberId, &'b Member), Code>
@@ -129,6 +129,28 @@ fn known_joiner<'a, 'b>(
         return Err(Code::InconsistentGroupProtocol);
     }
     Ok(who)
+}
+
+/// Returns the member whose JOIN changes nothing and gets its reply at once, with the id that it gives. No allocation.
+#[tactic(auto, unfolding(cg_member::specs::Joining::join_known))]
+pub fn current_joiner<'a, 'b>(
+    r: &'a JoinRequest,
+    group: &'b Group,
+) -> Option<(&'a MemberId, &'b Member)>
+    ensures { MatchOption result ⊤
+        (λ who. (now : ℕ) (fresh : List ℕ) (ticket : Ticket) → join_held now r.now fresh ticket r.now.member group.now ≡ Ok (join_current now who.0.now ticket who.1.now group.now)) }
+{
+    let Some(_) = &r.member else {
+        return None;
+    };
+    let Ok((id, member)) = known_joiner(r, group) else {
+        return None;
+    };
+    if is_current(r, member, group) {
+        Some((id, member))
+    } else {
+        None
+    }
 }
 
 /// Returns the step of a JOIN in a loaded group, or its error code. Copies the group. Only a JOIN that is not refused

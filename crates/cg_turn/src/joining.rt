@@ -190,9 +190,9 @@ fn join_current(
     Ok(turn)
 }
 
-// Returns whether a known member's JOIN changes nothing, so that it gets the current generation at once.
+/// Returns whether a known member's JOIN changes nothing, so that it gets the current generation at once.
 #[tactic(auto, unfolding(cg_member::specs::Joining::is_current))]
-fn is_current(r: &JoinRequest, member: &Member, group: &Group) -> bool
+pub fn is_current(r: &JoinRequest, member: &Member, group: &Group) -> bool
     ensures { result ≡ is_current r.now member.now group.now group.now.phase }
 {
     match group.phase {

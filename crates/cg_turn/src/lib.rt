@@ -1,5 +1,6 @@
 //! The steps of one group: a JOIN, a LEAVE, a SYNC, a closed session or a tick returns the changed group with its replies
-//! and commands; of a BEAT and a COMMIT the checks and the command are here, and `cg_group` changes the member in place.
+//! and commands. Of a BEAT, a COMMIT, and a JOIN or SYNC that changes one member alone, the checks and the command are
+//! here, and `cg_group` changes the member in place.
 //! The functions implement the definitions in `specs/`, here and in `cg_member`.
 #![tactic(auto)]
 
@@ -9,6 +10,7 @@ pub mod bounds;
 pub mod committing;
 pub mod joining;
 pub mod leaving;
+pub mod parking;
 pub mod rebalance;
 pub mod replacing;
 pub mod syncing;

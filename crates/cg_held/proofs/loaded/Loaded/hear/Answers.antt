@@ -3,17 +3,17 @@ use Rattle.std.specs.Map.{values_of}
 use Rattle.cg_member.specs.declared.group.Group.{Group}
 use Rattle.cg_held.specs.Held.{find_group, with_group}
 use Rattle.cg_member.specs.Membership.{hearing}
-use Rattle.cg_held.proofs.Mapped.{heard_there, heard_whole, lookup-own}
+use Rattle.cg_held.proofs.Mapped.{altered_there, altered_whole, id-hearing, lookup-own}
 use Rattle.cg_held.proofs.loaded.Loaded.hear.Goals as goal
 
 pub invariant_of-self : goal.invariant_of-self
 invariant_of-self c =
-    heard_whole c.args.group.now c.args.now c.args.id.now c.self.inside.groups.entries c.hear_among.new.groups.entries c.self.invariant.0 c.self.invariant.1 c.hear_among.ensures.some c.hear_among.ensures.none
+    altered_whole c.args.group.now (hearing c.args.now c.args.id.now) (id-hearing c.args.now c.args.id.now) c.self.inside.groups.entries c.hear_among.new.groups.entries c.self.invariant.0 c.self.invariant.1 c.hear_among.ensures.some c.hear_among.ensures.none
 
 pub returns-clause-heard : goal.returns-clause-heard
 returns-clause-heard c =
     λ g found.
-    heard_there c.args.group.now c.args.now c.args.id.now c.self.inside.groups.entries c.hear_among.new.groups.entries c.self.invariant.0 c.self.invariant.1 c.hear_among.ensures.some g
+    altered_there c.args.group.now (hearing c.args.now c.args.id.now) (id-hearing c.args.now c.args.id.now) c.self.inside.groups.entries c.hear_among.new.groups.entries c.self.invariant.0 c.self.invariant.1 c.hear_among.ensures.some g
     (ap (find_group c.args.group.now) c.self.view_is ∙ found)
     ∙ ap (λ (gs : List Group). with_group (hearing c.args.now c.args.id.now g) gs) c.self.view_is
 

@@ -3,7 +3,7 @@ use Rattle.cg_names.specs.declared.code.Code.{Code}
 use Rattle.cg_member.specs.declared.turn.Turn.{Turn}
 use Rattle.cg_group.specs.InPlace.{ParksKnown}
 use Rattle.cg_group.proofs.KnownSessions.{parks-join}
-use Rattle.cg_group.proofs.parking.meet_join.Goals as goal
+use Rattle.cg_group.proofs.joining.meet_join_apart.Goals as goal
 
 pub park-requires-clause-parks : goal.park-requires-clause-parks
 park-requires-clause-parks c =

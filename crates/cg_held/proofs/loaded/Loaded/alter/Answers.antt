@@ -1,0 +1,22 @@
+use Rattle.std.proofs.Common.{List, ap, ◌∙◌}
+use Rattle.std.specs.Map.{values_of}
+use Rattle.cg_member.specs.declared.group.Group.{Group}
+use Rattle.cg_held.specs.Held.{find_group, with_group}
+use Rattle.cg_held.proofs.Mapped.{altered_there, altered_whole, lookup-own}
+use Rattle.cg_held.proofs.loaded.Loaded.alter.Goals as goal
+
+pub invariant_of-self : goal.invariant_of-self
+invariant_of-self g c =
+    altered_whole c.args.group.now (g.A.Altering.alters c.args.altering) c.requires c.self.inside.groups.entries c.alter_among.new.groups.entries c.self.invariant.0 c.self.invariant.1 c.alter_among.ensures.some c.alter_among.ensures.none
+
+pub returns-clause-altered : goal.returns-clause-altered
+returns-clause-altered g c =
+    λ k found.
+    altered_there c.args.group.now (g.A.Altering.alters c.args.altering) c.requires c.self.inside.groups.entries c.alter_among.new.groups.entries c.self.invariant.0 c.self.invariant.1 c.alter_among.ensures.some k
+    (ap (find_group c.args.group.now) c.self.view_is ∙ found)
+    ∙ ap (λ (gs : List Group). with_group (g.A.Altering.alters c.args.altering k) gs) c.self.view_is
+
+pub returns-clause-absent : goal.returns-clause-absent
+returns-clause-absent g c =
+    λ none.
+    ap values_of (c.alter_among.ensures.none (lookup-own c.args.group.now c.self.inside.groups.entries c.self.invariant.0 ∙ ap (find_group c.args.group.now) c.self.view_is ∙ none)) ∙ c.self.view_is

@@ -1,0 +1,83 @@
+//! Requests that park a call of their member and change nothing else: no rebalance begins or ends with them.
+ghost use Rattle.std.specs.Prelude.{◌≡◌, ◌&&◌, ℕ, List, Some, Ok, not, IfSome, MatchOption, ⊤};
+ghost use Rattle.std.specs.List.{list_any};
+ghost use Rattle.cg_member.specs.Joining.{updating, waiting};
+ghost use Rattle.cg_member.specs.Membership.{find_member, has_id, hearing};
+ghost use Rattle.cg_member.specs.Rebalance.{turn_of};
+ghost use Rattle.cg_member.specs.Syncing.{sync_held};
+ghost use Rattle.cg_member.specs.Waiting.{is_waiting};
+ghost use Rattle.cg_member.specs.declared.calls.Calls.TheVariants.{Joins};
+ghost use Rattle.cg_member.specs.declared.member.Waits.TheVariants.{Join, Sync};
+ghost use Rattle.cg_request.specs.declared.ticket.Ticket.{Ticket};
+ghost use Rattle.cg_turn.specs.Admission.{join_held};
+
+use crate::admission::known_joiner;
+use crate::rebalance::leads;
+use cg_member::calls::{Calls, is_waiting};
+use cg_member::fencing::checked_member;
+use cg_member::group::{Group, Phase};
+use cg_member::member::Member;
+use cg_names::MemberId;
+use cg_request::request::{JoinRequest, SyncRequest};
+
+/// Returns the member whose SYNC is parked, with the id that it gives: a follower, before the SYNC of its leader. No
+/// allocation.
+#[tactic(auto, unfolding(cg_member::specs::Syncing::sync_held, cg_member::specs::Syncing::sync_taken, cg_member::specs::Syncing::sync_waits))]
+pub fn parking_syncer<'a, 'b>(
+    r: &'a SyncRequest,
+    group: &'b Group,
+) -> Option<(&'a MemberId, &'b Member)>
+    ensures parked { MatchOption result ⊤
+        (λ who. (now : ℕ) (ticket : Ticket) → sync_held now r.now ticket group.now ≡ Ok (waiting now who.0.now (Sync ticket) (turn_of (hearing now who.0.now group.now)))) }
+    ensures found { IfSome result (λ who. find_member who.0.now group.now.members ≡ Some who.1.now) }
+{
+    match group.phase {
+        Phase::Completing => {}
+        _ => return None,
+    }
+    let Ok((id, member)) = checked_member(&r.instance, &r.member, &group.members) else {
+        return None;
+    };
+    if i64::from(r.generation) != i64::from(group.generation.get()) {
+        return None;
+    }
+    if leads(group, member) {
+        return None;
+    }
+    Some((id, member))
+}
+
+// Returns whether another member than this one has not joined yet.
+fn waits_for_others(id: &MemberId, members: &[Member]) -> bool
+    ensures { result ≡ list_any (λ m. not (has_id id.now m) && not (is_waiting Joins m)) members.now }
+{
+    members
+        .iter()
+        .any(|m| m.id != *id && !is_waiting(Calls::Joins, m))
+}
+
+/// Returns the known member whose JOIN is parked, with the id that it gives: in a rebalance for which another member has
+/// not joined yet. No allocation.
+pub fn parking_joiner<'a, 'b>(
+    r: &'a JoinRequest,
+    group: &'b Group,
+) -> Option<(&'a MemberId, &'b Member)>
+    ensures parked { MatchOption result ⊤
+        (λ who. (now : ℕ) (fresh : List ℕ) (ticket : Ticket) → join_held now r.now fresh ticket r.now.member group.now ≡ Ok (waiting now who.0.now (Join ticket) (turn_of (updating r.now who.0.now group.now)))) }
+    ensures found { IfSome result (λ who. find_member who.0.now group.now.members ≡ Some who.1.now) }
+{
+    match group.phase {
+        Phase::Preparing => {}
+        _ => return None,
+    }
+    let Some(_given) = &r.member else {
+        return None;
+    };
+    let Ok((id, member)) = known_joiner(r, group) else {
+        return None;
+    };
+    if !waits_for_others(id, group.members.as_slice()) {
+        return None;
+    }
+    Some((id, member))
+}
