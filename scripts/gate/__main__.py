@@ -28,6 +28,7 @@ from proofs import prove, prove_tests, run_program
 from prose import findings
 
 EDITS_A_TASK = 32
+LINES_LOADED_A_LINE_PROVED = 10_000
 DEAREST = 20
 BEGUN = time.time()
 
@@ -87,8 +88,15 @@ def outcomes(crate):
 
 
 def edit_tasks(crate, edits, after):
-    parts = [edits[at : at + EDITS_A_TASK] for at in range(0, len(edits), EDITS_A_TASK)]
-    return [Task(f"{crate.name} edits {at + 1}", ["edits", crate.name, *part], after) for at, part in enumerate(parts)]
+    """Returns the tasks that try these edits. A check loads the crate and all that it uses, so that many lines an edit are what a task
+    costs; they count less than the lines of a proof, for which others wait."""
+    number = -(-len(edits) // EDITS_A_TASK)
+    parts = [edits[at::number] for at in range(number)]
+    loaded = sum(it.count(rb"\n") for it in [*crate.below(), crate])
+    return [
+        Task(f"{crate.name} edits {at + 1}", ["edits", crate.name, *part], after, len(part) * loaded // LINES_LOADED_A_LINE_PROVED)
+        for at, part in enumerate(parts)
+    ]
 
 
 def run_tasks(tasks, on_done=lambda name: None):
