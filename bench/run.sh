@@ -74,6 +74,12 @@ fold)
         env time -f "peak of $part: %M KiB" out/bench fold "$part"
     done
     ;;
+groups)
+    out/bench groups
+    # The machine alone, with small and with large subscriptions and assignments.
+    out/bench groups small
+    out/bench groups large
+    ;;
 *)
     out/bench "$subcommand"
     ;;

@@ -2,6 +2,7 @@
 use crate::compact::once::{self as compact_once, CompactPart};
 use crate::desk::DeskPart;
 use crate::fold::part::{NAMES, Part, named};
+use crate::groups::{Sizes, memory};
 use crate::load::once::{self, LoadPart};
 use clap::{Arg, ArgMatches, Command};
 use std::alloc::{AllocError, Global};
@@ -13,6 +14,8 @@ pub enum Benchmark<'a> {
     Frames(&'a str),
     /// Events of the group machine.
     Groups,
+    /// The memory of the group machine.
+    GroupsMemory(Sizes),
     /// The durable state: each part in turn, for growing numbers of groups.
     Fold,
     /// One part of the durable state, run once.
@@ -34,6 +37,7 @@ pub enum Benchmark<'a> {
 /// Benchmark with parts that run alone.
 #[derive(Clone, Copy)]
 enum Parts {
+    Groups,
     Fold,
     Load,
     Compact,
@@ -42,6 +46,7 @@ enum Parts {
 impl Parts {
     fn names(self) -> &'static [&'static str] {
         match self {
+            Parts::Groups => memory::NAMES.as_slice(),
             Parts::Fold => NAMES.as_slice(),
             Parts::Load => once::NAMES.as_slice(),
             Parts::Compact => compact_once::NAMES.as_slice(),
@@ -71,7 +76,7 @@ static BEFORE_DESK: [Leaf; 3] = [
         name: "groups",
         about: "Events of the group machine per second",
         has_file: false,
-        parts: None,
+        parts: Some(Parts::Groups),
     },
     Leaf {
         name: "fold",
@@ -198,6 +203,13 @@ fn desk_part<'a>(matches: &ArgMatches<'a>) -> Option<DeskPart<'a>> {
     }
 }
 
+fn groups_of<'a>(matches: &ArgMatches<'_>) -> Benchmark<'a> {
+    match matches.get_str("PART").and_then(memory::named) {
+        None => Benchmark::Groups,
+        Some(sizes) => Benchmark::GroupsMemory(sizes),
+    }
+}
+
 fn fold_part(matches: &ArgMatches<'_>) -> Option<Part> {
     named(matches.get_str("PART")?)
 }
@@ -222,7 +234,7 @@ fn compact_of<'a>(matches: &ArgMatches<'a>) -> Option<Benchmark<'a>> {
 pub fn chosen<'a>(matches: &ArgMatches<'a>) -> Option<Benchmark<'a>> {
     match matches.subcommand()? {
         ("frames", frames) => frames.get_str("FILE").map(Benchmark::Frames),
-        ("groups", _) => Some(Benchmark::Groups),
+        ("groups", groups) => Some(groups_of(groups)),
         ("fold", fold) => match fold_part(fold) {
             None => Some(Benchmark::Fold),
             Some(part) => Some(Benchmark::FoldPart(part)),

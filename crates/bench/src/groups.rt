@@ -1,9 +1,11 @@
 //! Events of the group machine per second, for few groups and many, and for few members and many.
+pub mod memory;
 mod scene;
 
 use crate::tally::{RUNS, Tally, print_row};
 use anyhow::Result;
 use cg_group::GROUPS_MAX;
+pub use scene::Sizes;
 use scene::{GroupEvent, Scene, SharedEvent};
 use std::alloc::Global;
 use std::rt::Clock;
@@ -78,53 +80,80 @@ fn rate_once<R: Clock>(
     Ok(tally.median().items_per_second())
 }
 
-/// Events of each kind per second.
+/// Events per second of each kind that leaves the groups as they are.
 #[derive(Clone, Copy)]
-struct Rates {
+struct SharedRates {
     beat: u64,
     sync: u64,
     join: u64,
-    new_group: u64,
-    leader_sync: u64,
-    session_closed: u64,
+    commit: u64,
     idle_session_closed: u64,
     tick: u64,
 }
 
-// Measures the events of each kind. The groups are those of the scene, or others like them.
-fn rates_over<R: Clock>(
-    rt: &R,
-    alloc: Global,
-    scene: &mut Scene,
-    groups: u64,
-    members: u64,
-) -> Result<Rates> {
-    Ok(Rates {
+/// Events per second of each kind that needs its own group.
+#[derive(Clone, Copy)]
+struct GroupRates {
+    new_group: u64,
+    leader_sync: u64,
+    session_closed: u64,
+}
+
+fn shared_rates<R: Clock>(rt: &R, alloc: Global, scene: &mut Scene) -> Result<SharedRates> {
+    Ok(SharedRates {
         beat: rate(rt, alloc, scene, SharedEvent::Beat, EVENTS)?,
         sync: rate(rt, alloc, scene, SharedEvent::Sync, EVENTS)?,
         join: rate(rt, alloc, scene, SharedEvent::Join, EVENTS)?,
-        new_group: rate_once(rt, alloc, GroupEvent::Join, groups, members)?,
-        leader_sync: rate_once(rt, alloc, GroupEvent::LeaderSync, groups, members)?,
-        session_closed: rate_once(rt, alloc, GroupEvent::Gone, groups, members)?,
+        commit: rate(rt, alloc, scene, SharedEvent::Commit, EVENTS)?,
         idle_session_closed: rate(rt, alloc, scene, SharedEvent::Gone, EVENTS_EVERYWHERE)?,
         tick: rate(rt, alloc, scene, SharedEvent::Tick, EVENTS_EVERYWHERE)?,
     })
 }
 
-fn measure_rates<R: Clock>(rt: &R, alloc: Global, groups: u64, members: u64) -> Result<Rates> {
+fn measure_shared<R: Clock>(
+    rt: &R,
+    alloc: Global,
+    groups: u64,
+    members: u64,
+) -> Result<SharedRates> {
     let mut scene = Scene::new(alloc, groups, members)?;
-    rates_over(rt, alloc, &mut scene, groups, members)
+    shared_rates(rt, alloc, &mut scene)
+}
+
+fn measure_once<R: Clock>(rt: &R, alloc: Global, groups: u64, members: u64) -> Result<GroupRates> {
+    Ok(GroupRates {
+        new_group: rate_once(rt, alloc, GroupEvent::Join, groups, members)?,
+        leader_sync: rate_once(rt, alloc, GroupEvent::LeaderSync, groups, members)?,
+        session_closed: rate_once(rt, alloc, GroupEvent::Gone, groups, members)?,
+    })
 }
 
 fn report_rate<R: Print>(rt: &R, sort: &str, rate: u64, base: u64) -> Result<()> {
     print_row(rt, sort, rate, "a second", base)
 }
 
-fn report<R: Print>(rt: &R, groups: u64, members: u64, rates: Rates, base: Rates) -> Result<()> {
+fn report_shared<R: Print>(
+    rt: &R,
+    groups: u64,
+    members: u64,
+    rates: SharedRates,
+    base: SharedRates,
+) -> Result<()> {
     println!(rt; "groups {groups}, members {members} (in hundredths of one group of 8)")?;
     report_rate(rt, "BEAT", rates.beat, base.beat)?;
     report_rate(rt, "SYNC", rates.sync, base.sync)?;
     report_rate(rt, "JOIN", rates.join, base.join)?;
+    report_rate(rt, "COMMIT", rates.commit, base.commit)?;
+    report_rate(
+        rt,
+        "Gone, idle",
+        rates.idle_session_closed,
+        base.idle_session_closed,
+    )?;
+    report_rate(rt, "Tick", rates.tick, base.tick)
+}
+
+fn report_once<R: Print>(rt: &R, rates: GroupRates, base: GroupRates) -> Result<()> {
     report_rate(
         rt,
         "JOIN that makes a group",
@@ -137,24 +166,33 @@ fn report<R: Print>(rt: &R, groups: u64, members: u64, rates: Rates, base: Rates
         "Gone, a call waits",
         rates.session_closed,
         base.session_closed,
-    )?;
-    report_rate(
-        rt,
-        "Gone, idle",
-        rates.idle_session_closed,
-        base.idle_session_closed,
-    )?;
-    report_rate(rt, "Tick", rates.tick, base.tick)
+    )
 }
 
-/// Measures one group of 8 members, then 64 and 4,096 of them, and then one group of 2, 16 and 64 members.
+// Measures groups like these, and reports them beside the base.
+fn measure_size<R: Clock + Print>(
+    rt: &R,
+    alloc: Global,
+    (groups, members): (u64, u64),
+    base: (SharedRates, GroupRates),
+) -> Result<()> {
+    let shared = measure_shared(rt, alloc, groups, members)?;
+    report_shared(rt, groups, members, shared, base.0)?;
+    let once = measure_once(rt, alloc, groups, members)?;
+    report_once(rt, once, base.1)
+}
+
+/// Measures one group of 8 members, then 64 and 4,096 of them, one group of 2, 16 and 64 members, and at last 4,096 groups
+/// of 64, of which only the events that leave the groups as they are.
 pub fn measure<R: Clock + Print + Alloc<A = Global>>(rt: &R) -> Result<()> {
     let alloc = rt.alloc();
-    let base = measure_rates(rt, alloc, 1, 8)?;
-    report(rt, 1, 8, base, base)?;
-    for &(groups, members) in &[(64, 8), (4_096, 8), (1, 2), (1, 16), (1, 64)] {
-        let rates = measure_rates(rt, alloc, groups, members)?;
-        report(rt, groups, members, rates, base)?;
+    let shared = measure_shared(rt, alloc, 1, 8)?;
+    report_shared(rt, 1, 8, shared, shared)?;
+    let once = measure_once(rt, alloc, 1, 8)?;
+    report_once(rt, once, once)?;
+    for &size in &[(64, 8), (4_096, 8), (1, 2), (1, 16), (1, 64)] {
+        measure_size(rt, alloc, size, (shared, once))?;
     }
-    Ok(())
+    let many = measure_shared(rt, alloc, 4_096, 64)?;
+    report_shared(rt, 4_096, 64, many, shared)
 }

@@ -70,6 +70,9 @@ fn run<R: Clock + Files + Print + Alloc<A = Global>>(
     match benchmark {
         Benchmark::Frames(file) => frames::measure(rt, file).context("measuring frames"),
         Benchmark::Groups => groups::measure(rt).context("measuring the group machine"),
+        Benchmark::GroupsMemory(sizes) => groups::memory::measure(rt, sizes).context(
+            "measuring memory",
+        ),
         Benchmark::Fold => fold::measure(rt).context("measuring the durable state"),
         Benchmark::FoldPart(part) => fold::part::run(rt, part).context("running a part"),
         Benchmark::Desk(part) => desk::measure(rt, part).context("measuring the desk"),

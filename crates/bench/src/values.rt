@@ -1,7 +1,7 @@
 //! Names, ids, numbers and bytes for commands, requests and replies.
 use anyhow::{Context, Result, bail};
 use cg_names::{ClientId, GroupId, MemberId, Name};
-use cg_record::{Assignment, Metadata, Offset, Partition, RebalanceTimeout};
+use cg_record::{Assignment, Metadata, Offset, Partition, RebalanceTimeout, Subscription};
 use std::alloc::Global;
 
 /// Parses a name.
@@ -56,5 +56,13 @@ pub fn assignment(alloc: Global, byte: u8, count: usize) -> Result<Assignment> {
     match Assignment::from_vec(vec![in alloc; byte; count]?) {
         Ok(assignment) => Ok(assignment),
         Err(_) => bail!("an assignment is too long"),
+    }
+}
+
+/// Returns a subscription of `count` equal bytes.
+pub fn subscription(alloc: Global, byte: u8, count: usize) -> Result<Subscription> {
+    match Subscription::from_vec(vec![in alloc; byte; count]?) {
+        Ok(subscription) => Ok(subscription),
+        Err(_) => bail!("a subscription is too long"),
     }
 }

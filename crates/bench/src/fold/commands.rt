@@ -2,12 +2,12 @@
 ghost use Rattle.std.specs.Prelude.{◌≡◌, ◌+◌, IfOk, OnOk, vec_len};
 
 use crate::offsets::{METADATA_BYTES, committed, stored_entry};
-use crate::values::{assignment, client_id, group_id, member_id, name, rebalance_timeout};
+use crate::values::{
+    assignment, client_id, group_id, member_id, name, rebalance_timeout, subscription,
+};
 use anyhow::{Context, Result, bail};
 use cg_names::GroupId;
-use cg_record::{
-    Assigned, Command, CompletedGeneration, Entry, Member, Roster, SessionTimeout, Subscription,
-};
+use cg_record::{Assigned, Command, CompletedGeneration, Entry, Member, Roster, SessionTimeout};
 use std::alloc::Global;
 
 /// Members of a group.
@@ -37,19 +37,12 @@ pub enum Order {
     Scattered,
 }
 
-fn subscription(alloc: Global) -> Result<Subscription> {
-    match Subscription::from_vec(vec![in alloc; 0; SUBSCRIPTION_BYTES]?) {
-        Ok(subscription) => Ok(subscription),
-        Err(_) => bail!("a subscription is too long"),
-    }
-}
-
 fn member(alloc: Global, number: u32) -> Result<Member> {
     let session = SessionTimeout::new(10_000).context("a session timeout is out of range")?;
     let rebalance = rebalance_timeout()?;
     let id = member_id(alloc, number)?;
     let client = client_id(alloc, u64::from(number))?;
-    let subscription = subscription(alloc)?;
+    let subscription = subscription(alloc, 0, SUBSCRIPTION_BYTES)?;
     let assignment = assignment(alloc, 0, ASSIGNMENT_BYTES)?;
     Ok(Member {
         id,

@@ -2,15 +2,15 @@
 ghost use Rattle.std.specs.Prelude.{◌≡◌, IfOk, vec_len};
 
 use crate::machine::{now, revived, step, ticket};
-use crate::values::{client_id, name, rebalance_timeout};
-use anyhow::{Result, bail};
+use crate::offsets::{commit_entry, commit_request};
+use crate::values::{assignment, client_id, name, rebalance_timeout, subscription};
+use anyhow::{Context, Result, bail};
 use cg_fold::Durable;
 use cg_group::{
-    BeatRequest, Effects, Event, Groups, JoinRequest, Protocol, Protocols, Reply, SyncEntries,
-    SyncEntry, SyncRequest, Ticket,
+    BeatRequest, CommitRequest, Commits, Effects, Event, Groups, JoinRequest, Protocol, Protocols,
+    Reply, SyncEntries, SyncEntry, SyncRequest, Ticket,
 };
 use cg_names::{GroupId, MemberId};
-use cg_record::{Assignment, Subscription};
 use std::alloc::Global;
 use uuid::Uuid;
 
@@ -23,6 +23,12 @@ const IDLE_SESSION: u64 = 2;
 /// First of the sessions with a parked request.
 const WAITING_SESSION: u64 = 3;
 
+/// Nothing in a subscription, and few bytes in an assignment.
+const SMALL: Sizes = Sizes {
+    subscription: 0,
+    assignment: 11,
+};
+
 /// Kind of event that leaves the groups stable, so that many can share a group.
 #[derive(Clone, Copy)]
 pub enum SharedEvent {
@@ -30,6 +36,8 @@ pub enum SharedEvent {
     Sync,
     /// A JOIN with the same list of protocols as before.
     Join,
+    /// A COMMIT of one offset.
+    Commit,
     /// A session without a parked request is closed.
     Gone,
     /// A Tick at which nothing is due.
@@ -47,20 +55,28 @@ pub enum GroupEvent {
     Gone,
 }
 
+/// Bytes of what a client hands in for each member.
+#[derive(Clone, Copy)]
+pub struct Sizes {
+    pub subscription: usize,
+    pub assignment: usize,
+}
+
 /// Loaded groups, with a follower of each.
 #[derive(Drop)]
 pub struct Scene {
     alloc: Global,
     groups: Groups,
     members: u64,
+    sizes: Sizes,
     drawn: u64,
     followers: Vec<(GroupId, MemberId)>,
 }
 
-fn protocols(alloc: Global) -> Result<Protocols> {
+fn protocols(alloc: Global, sizes: Sizes) -> Result<Protocols> {
     let protocol = Protocol {
         name: name(alloc, "range")?,
-        subscription: Subscription::empty(alloc),
+        subscription: subscription(alloc, 0, sizes.subscription)?,
     };
     let protocols = Protocols::only(alloc, protocol)?;
     Ok(protocols)
@@ -71,9 +87,10 @@ fn join_request(
     group: GroupId,
     member: Option<MemberId>,
     client: u64,
+    sizes: Sizes,
 ) -> Result<JoinRequest> {
     let rebalance = rebalance_timeout()?;
-    let protocols = protocols(alloc)?;
+    let protocols = protocols(alloc, sizes)?;
     let client = client_id(alloc, client)?;
     let kind = name(alloc, "consumer")?;
     Ok(JoinRequest {
@@ -100,14 +117,14 @@ fn last_joined(effects: &Effects) -> Result<MemberId> {
 }
 
 // Makes an assignment for each member in the leader's reply.
-fn assignments(alloc: Global, joined: &Effects) -> Result<SyncEntries> {
+fn assignments(alloc: Global, joined: &Effects, sizes: Sizes) -> Result<SyncEntries> {
     let mut entries = Vec::new(alloc);
     for (_, reply) in joined.replies.as_slice() {
         if let Reply::Joined(joined) = reply {
             for member in joined.members.as_slice() {
                 entries.push(SyncEntry {
                     member: member.id.clone()?,
-                    assignment: Assignment::from_bytes(alloc, b"partition 0")?,
+                    assignment: assignment(alloc, 0, sizes.assignment)?,
                 })?;
             }
         }
@@ -121,17 +138,19 @@ fn assignments(alloc: Global, joined: &Effects) -> Result<SyncEntries> {
 impl Scene {
     /// Makes `count` stable groups of `members` members each, at least two.
     pub fn new(alloc: Global, count: u64, members: u64) -> Result<Scene> {
-        let mut scene = Scene::empty(alloc, members)?;
+        let mut scene = Scene::empty(alloc, members, SMALL)?;
         scene.add_stable_groups(count)?;
         Ok(scene)
     }
 
-    fn empty(alloc: Global, members: u64) -> Result<Scene> {
+    /// Makes a scene without groups. Those that are added have `members` members each, at least two.
+    pub fn empty(alloc: Global, members: u64, sizes: Sizes) -> Result<Scene> {
         let groups = revived(alloc, Durable::new(alloc))?;
         Ok(Scene {
             alloc,
             groups,
             members,
+            sizes,
             drawn: 0,
             followers: Vec::new(alloc),
         })
@@ -148,7 +167,7 @@ impl Scene {
     fn join(&mut self, id: &str, member: Option<MemberId>, client: u64) -> Result<Effects> {
         self.drawn = self.drawn.wrapping_add(1);
         let group = name(self.alloc, id)?;
-        let request = join_request(self.alloc, group, member, client)?;
+        let request = join_request(self.alloc, group, member, client, self.sizes)?;
         let fresh = Uuid::from_u128(u128::from(self.drawn));
         step(
             &mut self.groups,
@@ -218,6 +237,12 @@ impl Scene {
         )
     }
 
+    fn commit(&self, group: GroupId, member: MemberId) -> Result<Event> {
+        let entry = commit_entry(self.alloc, "topic-0", 1_000_000, 0)?;
+        let request = commit_request(self.alloc, group, GENERATION, Some(member), entry)?;
+        Ok(Event::Commit(ticket(), request))
+    }
+
     fn event(&self, sort: SharedEvent, group: GroupId, member: MemberId) -> Result<Event> {
         match sort {
             SharedEvent::Beat => Ok(Event::Beat(
@@ -236,9 +261,10 @@ impl Scene {
                 SyncEntries::none(self.alloc),
             )),
             SharedEvent::Join => {
-                let request = join_request(self.alloc, group, Some(member), 1)?;
+                let request = join_request(self.alloc, group, Some(member), 1, self.sizes)?;
                 Ok(Event::Join(ticket(), request, Uuid::from_u128(0)))
             }
+            SharedEvent::Commit => self.commit(group, member),
             SharedEvent::Gone => Ok(Event::Gone(IDLE_SESSION)),
             SharedEvent::Tick => Ok(Event::Tick),
         }
@@ -275,15 +301,53 @@ impl Scene {
 
     fn first_join(&self, id: &str) -> Result<Event> {
         let group = name(self.alloc, id)?;
-        let request = join_request(self.alloc, group, None, 0)?;
+        let request = join_request(self.alloc, group, None, 0, self.sizes)?;
         Ok(Event::Join(ticket(), request, Uuid::from_u128(0)))
     }
 
     fn leader_sync(&mut self, id: &str) -> Result<Event> {
         let group = name(self.alloc, id)?;
         let (leader, joined) = self.gather(id)?;
-        let entries = assignments(self.alloc, &joined)?;
+        let entries = assignments(self.alloc, &joined, self.sizes)?;
         Ok(self.sync(ticket(), group, leader, entries))
+    }
+
+    /// Adds a stable group with an assignment for each member, and commits these offsets to it.
+    pub fn add_assigned_group(&mut self, id: &str, entries: Commits) -> Result<()> {
+        let sync = self.leader_sync(id)?;
+        step(&mut self.groups, sync, now())?;
+        let commit = self.first_commit(id, entries)?;
+        step(&mut self.groups, commit, now())?;
+        Ok(())
+    }
+
+    // Makes the COMMIT of the first member of the group.
+    fn first_commit(&self, id: &str, entries: Commits) -> Result<Event> {
+        let group = name(self.alloc, id)?;
+        let member = self.first_member(&group)?;
+        Ok(Event::Commit(
+            ticket(),
+            CommitRequest {
+                group: Some(group),
+                generation: GENERATION,
+                member: Some(member),
+                instance: None,
+                entries,
+            },
+        ))
+    }
+
+    fn first_member(&self, id: &GroupId) -> Result<MemberId> {
+        let loaded = self.groups.iter().find(|group| group.id == *id);
+        let member = loaded.and_then(|group| group.members.as_slice().first());
+        let member = member.context("a group has no member")?;
+        let id = member.id.clone()?;
+        Ok(id)
+    }
+
+    /// Returns the loaded groups.
+    pub fn groups(&self) -> &Groups {
+        &self.groups
     }
 
     /// Makes `count` events of a kind that needs its own groups. The ids of these groups are spread evenly among those
