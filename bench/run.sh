@@ -76,7 +76,7 @@ fold)
     ;;
 groups)
     out/bench groups
-    # The machine alone, with small and with large subscriptions and assignments.
+    # The memory of the machine, with small and with large subscriptions and assignments; each in a process of its own.
     out/bench groups small
     out/bench groups large
     ;;

@@ -28,7 +28,9 @@ from proofs import prove, prove_tests, run_program
 from prose import findings
 
 EDITS_A_TASK = 32
-LINES_LOADED_A_LINE_PROVED = 10_000
+LOADED_LINES_PER_PROVED_LINE = 10_000
+# So few edits of a program are tried over a proof of their modules, which costs less than one of the whole program.
+FEW_EDITS = 4
 DEAREST = 20
 BEGUN = time.time()
 
@@ -56,6 +58,7 @@ def task(words):
         nonlocal all_refused
         all_refused = all_refused and refused
         print(line, flush=True)
+        os.makedirs(f"{crate.folder}/out", exist_ok=True)
         with open(f"{crate.folder}/out/edits", "a", encoding="utf-8") as file:
             file.write(f"{key_of(crate.stamp(), edit)} {'refused' if refused else 'not-refused'} {os.path.relpath(edit, crate.folder)}\n")
 
@@ -88,13 +91,13 @@ def outcomes(crate):
 
 
 def edit_tasks(crate, edits, after):
-    """Returns the tasks that try these edits. A check loads the crate and all that it uses, so that many lines an edit are what a task
-    costs; they count less than the lines of a proof, for which others wait."""
+    """Returns the tasks that try these edits. Each check loads the crate and all that it uses, so a task counts those lines once for each
+    edit, but far less than lines to prove: other tasks wait for a proof."""
     number = -(-len(edits) // EDITS_A_TASK)
     parts = [edits[at::number] for at in range(number)]
     loaded = sum(it.count(rb"\n") for it in [*crate.below(), crate])
     return [
-        Task(f"{crate.name} edits {at + 1}", ["edits", crate.name, *part], after, len(part) * loaded // LINES_LOADED_A_LINE_PROVED)
+        Task(f"{crate.name} edits {at + 1}", ["edits", crate.name, *part], after, len(part) * loaded // LOADED_LINES_PER_PROVED_LINE)
         for at, part in enumerate(parts)
     ]
 
@@ -176,11 +179,13 @@ def check(names):
 def mutants(names):
     chosen, needed = chosen_of(crates_of(os.getcwd()), names)
     _held = rtlib.lock(needed)
-    proofs = proofs_of(needed)
+    apart = [it for it in needed if it.is_program and len(edits_of(it)) <= FEW_EDITS]
+    proofs = proofs_of([it for it in needed if it not in apart])
     tasks = [*proofs.values()]
     for crate in chosen:
         known = outcomes(crate)
-        tasks += edit_tasks(crate, [it for it in edits_of(crate) if not known.get(it)], [proofs[crate.name]])
+        after = [proofs[it.name] for it in crate.below()] if crate in apart else [proofs[crate.name]]
+        tasks += edit_tasks(crate, [it for it in edits_of(crate) if not known.get(it)], after)
     run_tasks(tasks)
     refused = not_refused = 0
     for crate in chosen:

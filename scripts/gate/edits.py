@@ -66,10 +66,10 @@ def try_edit(crate, edit, kept):
         reason = _is_refused_by_module(crate, texts, kept)
         if reason:
             return True, f"{crate.name}/{os.path.basename(edit)}: refused: {reason}"
-    refused, said = rt.must_fail(crate, edit, ["--jobs", "1"], kept)
-    if refused or " NOT REFUSED" not in said and "could not be used" not in said:
-        return refused, said.removeprefix("must-fail ")
-    return rt.must_fail(crate, edit, ["--jobs", "1"])
+    outcome, said = rt.must_fail(crate, edit, ["--jobs", "1"], kept)
+    if outcome in (rt.MISSED, rt.UNSURE):
+        outcome, said = rt.must_fail(crate, edit, ["--jobs", "1"])
+    return outcome in (rt.REFUSED, rt.AT_LIMIT), said.removeprefix("must-fail ")
 
 
 @dataclass
@@ -192,11 +192,26 @@ def _one_a_function(edits):
     return list({(it.path, it.place): it for it in reversed(edits)}.values())[::-1]
 
 
+def _has_proved_modules(crate, edits, kept):
+    """Proves the modules that the edits change, as they are, where the crate has not been proved. Returns whether that succeeds."""
+    modules = sorted({_module_of(path) for edit in edits for path in rt.read_edit(edit, crate.folder)[0] or ()})
+    flags = ["--jobs", "1", *[word for it in modules for word in ("--only", it)]]
+    counts = re.search(r"^only=(\d+) proved=(\d+)$", rt.checked(crate, {}, flags, kept).stdout, re.M)
+    return bool(counts) and counts[1] == counts[2]
+
+
 def try_edits(crate, edits, report):
     """Tries the edits over one copy of the kept work, and reports each as (edit, refused, line)."""
     with tempfile.TemporaryDirectory(prefix="gate-edits-") as room:
         kept = f"{room}/kept"
-        shutil.copytree(f"{crate.folder}/{KEPT}", kept)
+        if os.path.isdir(f"{crate.folder}/{KEPT}"):
+            shutil.copytree(f"{crate.folder}/{KEPT}", kept)
+        else:
+            os.mkdir(kept)
+            if not _has_proved_modules(crate, edits, kept):
+                for edit in edits:
+                    report(edit, False, f"{crate.name}/{os.path.basename(edit)}: NOT TRIED: its module is not proved")
+                return
         of_bodies = [it for it in (_body_edit(crate, edit) for edit in edits) if it]
         left = list(edits)
         while len(round_ := _one_a_function([it for it in of_bodies if it.edit in left])) > 1:

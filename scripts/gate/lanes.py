@@ -9,7 +9,7 @@ from dataclasses import dataclass, field
 
 @dataclass
 class Task:
-    """One process of the gate: what it does, the tasks that have to end well before it, and how long it is, in source lines."""
+    """One process of the gate: what it does, the tasks that have to end well before it, and how much work it is, in lines to prove."""
 
     name: str
     words: list

@@ -141,7 +141,7 @@ fn arguments<'a>(alloc: Global, leaf: &Leaf) -> Result<Vec<Arg<'a>>, AllocError>
     if let Some(parts) = leaf.parts {
         let part = Arg::new(alloc, "PART")
             .value_parser(parts.names())
-            .help("One part, run once, for its peak of memory");
+            .help("One part, run once, for its memory");
         arguments.push(part)?;
     }
     Ok(arguments)

@@ -80,7 +80,7 @@ fn rate_once<R: Clock>(
     Ok(tally.median().items_per_second())
 }
 
-/// Events per second of each kind that leaves the groups as they are.
+/// Events per second of each kind that leaves the groups stable.
 #[derive(Clone, Copy)]
 struct SharedRates {
     beat: u64,
@@ -182,8 +182,8 @@ fn measure_size<R: Clock + Print>(
     report_once(rt, once, base.1)
 }
 
-/// Measures one group of 8 members, then 64 and 4,096 of them, one group of 2, 16 and 64 members, and at last 4,096 groups
-/// of 64, of which only the events that leave the groups as they are.
+/// Measures one group of 8 members, then 64 and 4,096 of them, one group of 2, 16 and 64 members, and last 4,096 groups of
+/// 64, for which only events that leave a group stable are measured.
 pub fn measure<R: Clock + Print + Alloc<A = Global>>(rt: &R) -> Result<()> {
     let alloc = rt.alloc();
     let shared = measure_shared(rt, alloc, 1, 8)?;

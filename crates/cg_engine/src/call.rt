@@ -13,6 +13,7 @@ use crate::desk_side::DeskSide;
 use crate::engine::Engine;
 use crate::intake::{Submission, Submitted};
 use crate::kind::CallKind;
+use crate::looking::{found_before_wait, looked_for};
 use crate::pass::SessionPass;
 use crate::units::Part;
 use cg_desk::{Outgoing, ReplyToken};
@@ -30,10 +31,6 @@ const TURN_REQUESTS: u32 = 32;
 
 /// Turns after which another caller may go on, so that a call ends although others never cease.
 const TURNS_MAX: u32 = 32;
-
-/// Looks for an answer before its caller sleeps. A sleep takes more of the processors than a few looks do, and its wake-up is
-/// work of the flusher, for which the next batch waits.
-const LOOKS: u32 = 16;
 
 /// What a turn left in the intake.
 #[derive(Clone, Copy, Debug, Drop, PartialEq, Eq)]
@@ -179,35 +176,6 @@ impl<D: SectorDisk + Drop, L: Ledger> Engine<D, L> {
         Left::Perhaps
     }
 
-    // Looks for the next answer to a pass a few times, and lets other threads run before each.
-    fn looked_for<R: Wait>(&self, rt: &R, answers: &Receiver<Answer<L>>) -> Option<Answer<L>> {
-        for _ in 0..LOOKS {
-            thread::yield_now();
-            if let Ok(answer) = answers.try_recv(rt) {
-                return Some(answer);
-            }
-        }
-        None
-    }
-
-    // Looks for the next answer to a pass before `before_wait` is called. The answer to a request that stores nothing mostly
-    // comes as soon as another caller has handed it to the desk; that to any other waits for a batch.
-    fn found_at_once<R: Wait>(
-        &self,
-        rt: &R,
-        answers: &Receiver<Answer<L>>,
-        kind: CallKind,
-    ) -> Option<Answer<L>> {
-        if let Ok(answer) = answers.try_recv(rt) {
-            return Some(answer);
-        }
-        if kind == CallKind::Read {
-            self.looked_for(rt, answers)
-        } else {
-            None
-        }
-    }
-
     // Receives the next answer to a pass. If there is none yet, `before_wait` is called first.
     fn received<R: Wait, I: BeforeWait>(
         &self,
@@ -217,14 +185,14 @@ impl<D: SectorDisk + Drop, L: Ledger> Engine<D, L> {
         has_pending: bool,
         before_wait: &mut I,
     ) -> Option<Answer<L>> {
-        if let Some(answer) = self.found_at_once(rt, answers, kind) {
+        if let Some(answer) = found_before_wait(rt, answers, kind) {
             if has_pending {
                 self.pending.notify_one();
             }
             return Some(answer);
         }
         before_wait.before_wait(has_pending);
-        match self.looked_for(rt, answers) {
+        match looked_for(rt, answers) {
             Some(answer) => Some(answer),
             None => answers.recv(rt).ok(),
         }

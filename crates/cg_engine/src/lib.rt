@@ -20,6 +20,7 @@ mod finish;
 mod intake;
 mod kind;
 mod loading;
+mod looking;
 mod noted;
 mod pass;
 mod recorder;

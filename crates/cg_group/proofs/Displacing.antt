@@ -14,10 +14,10 @@ use Rattle.cg_member.specs.declared.member.Waits.TheVariants.{Nothing, Join, Syn
 use Rattle.cg_request.specs.declared.request.JoinRequest.{JoinRequest}
 use Rattle.cg_request.specs.declared.request.SyncRequest.{SyncRequest}
 use Rattle.cg_request.specs.declared.ticket.Ticket.{Ticket}
-use Rattle.cg_group.specs.InPlace.{IsJoinParked, IsSyncParked, Parks, displacing, is_of}
+use Rattle.cg_group.specs.InPlace.{IsJoinParked, IsSyncParked, Parks, parking_effects, CameOn}
 use Rattle.cg_group.specs.Machine.{concluded, join, sync}
 use Rattle.cg_held.specs.declared.sessions.Home.{Home}
-use Rattle.cg_held.specs.Changes.{KeepsId}
+use Rattle.cg_held.specs.Changes.{ChangeKeepsId}
 use Rattle.cg_held.specs.Held.{at_moment, find_group, outcome, with_group}
 use Rattle.cg_held.specs.Sessions.{AreKnown, IsFilled, IsLetGo, IsTight, Known, is_home, is_parked}
 use Rattle.cg_held.proofs.Finding.{find-own}
@@ -93,7 +93,7 @@ any-same p id change keeps (x ∷ xs) =
     ]
 
 -- the session of a parked call
-of_session : (q : ℕ) (w : Waits) → is_some (called (OfSession q) w) ≡ true → is_of (called Any w) q
+of_session : (q : ℕ) (w : Waits) → is_some (called (OfSession q) w) ≡ true → CameOn (called Any w) q
 of_session q Nothing e = absurd (false≢true e)
 of_session q (Join t) e =
     (elim (t.session == q) as (λ b. (t.session == q) ≡ b → is_some (if b then Some t else None) ≡ true → Some t.session ≡ Some q) [
@@ -128,12 +128,12 @@ module _ (now : ℕ) (id : List ℕ) (w : Waits) (ticket : Ticket) (asks : is_so
   pub asked-parked : list_any (is_waiting (OfSession ticket.session)) parked ≡ true
   asked-parked = any-changed (is_waiting (OfSession ticket.session)) id (waits_with now w) (λ x. asks) (with_member id first ms) (first m) found_again
 
-  pub stays-parked : (q : ℕ) → list_any (is_waiting (OfSession q)) ms ≡ true → (list_any (is_waiting (OfSession q)) parked ≡ true) ⊎ is_of older q
+  pub stays-parked : (q : ℕ) → list_any (is_waiting (OfSession q)) ms ≡ true → (list_any (is_waiting (OfSession q)) parked ≡ true) ⊎ CameOn older q
   stays-parked q h =
-      elim (any-or (is_waiting (OfSession q)) id (waits_with now w) (with_member id first ms) (first m) found_again (any-same (is_waiting (OfSession q)) id first (λ x. ap (λ v. is_some (called (OfSession q) v)) (calm x)) ms ∙ h)) as (λ _. (list_any (is_waiting (OfSession q)) parked ≡ true) ⊎ is_of older q) [
+      elim (any-or (is_waiting (OfSession q)) id (waits_with now w) (with_member id first ms) (first m) found_again (any-same (is_waiting (OfSession q)) id first (λ x. ap (λ v. is_some (called (OfSession q) v)) (calm x)) ms ∙ h)) as (λ _. (list_any (is_waiting (OfSession q)) parked ≡ true) ⊎ CameOn older q) [
         | inl a ↦ inl a
         | inr b ↦
-            let O : Option Ticket → Type 0 = λ o. is_of o q in
+            let O : Option Ticket → Type 0 = λ o. CameOn o q in
             inr (subst O (sym was) (of_session q m.waits (ap (λ v. is_some (called (OfSession q) v)) (sym (calm m)) ∙ b)))
       ]
 
@@ -157,32 +157,32 @@ parks_sync now id ticket older g m found was = record {
 
 -- the outcome of a JOIN that is parked
 pub join_displacing : (now : ℕ) (r : JoinRequest) (fresh : List ℕ) (ticket : Ticket) (groups after : List Group) (own id : List ℕ) (older : Option Ticket) (e : Effects) → IsJoinParked r groups own id older
-    → ((g : Group) → find_group own groups ≡ Some g → after ≡ with_group (waiting now id (Join ticket) (turn_of (updating r id g))).group groups) → e ≡ displacing older → concluded (at_moment now groups) ticket (join now r fresh ticket groups) ≡ outcome (at_moment now after) e
+    → ((g : Group) → find_group own groups ≡ Some g → after ≡ with_group (waiting now id (Join ticket) (turn_of (updating r id g))).group groups) → e ≡ parking_effects older → concluded (at_moment now groups) ticket (join now r fresh ticket groups) ≡ outcome (at_moment now after) e
 unfolding concluded waiting updating
 join_displacing now r fresh ticket groups after own id older e at put made =
     let g : Group = at.group in
     let changed : find_member id (updating r id g).members ≡ Some (updated r at.member) = find-with_member id (updated r) (λ x. refl) g.members at.member at.found in
     ap (concluded (at_moment now groups) ticket) (join_here now r fresh ticket groups own g at.named at.session ∙ at.taken now fresh ticket)
     ∙ ap (λ o. outcome (at_moment now (with_group (waiting now id (Join ticket) (turn_of (updating r id g))).group groups)) (record { commands = []; replies = displaced o })) changed
-    ∙ ap (λ gs. outcome (at_moment now gs) (displacing (called Any at.member.waits))) (sym (put g at.named.found))
-    ∙ ap (λ o. outcome (at_moment now after) (displacing o)) (sym at.called)
+    ∙ ap (λ gs. outcome (at_moment now gs) (parking_effects (called Any at.member.waits))) (sym (put g at.named.found))
+    ∙ ap (λ o. outcome (at_moment now after) (parking_effects o)) (sym at.called)
     ∙ ap (outcome (at_moment now after)) (sym made)
 
 -- the outcome of a SYNC that is parked
 pub sync_displacing : (now : ℕ) (r : SyncRequest) (ticket : Ticket) (groups after : List Group) (own id : List ℕ) (older : Option Ticket) (e : Effects) → IsSyncParked r groups own id older
-    → ((g : Group) → find_group own groups ≡ Some g → after ≡ with_group (waiting now id (Sync ticket) (turn_of (hearing now id g))).group groups) → e ≡ displacing older → concluded (at_moment now groups) ticket (sync now r ticket groups) ≡ outcome (at_moment now after) e
+    → ((g : Group) → find_group own groups ≡ Some g → after ≡ with_group (waiting now id (Sync ticket) (turn_of (hearing now id g))).group groups) → e ≡ parking_effects older → concluded (at_moment now groups) ticket (sync now r ticket groups) ≡ outcome (at_moment now after) e
 unfolding concluded sync waiting hearing
 sync_displacing now r ticket groups after own id older e at put made =
     let g : Group = at.group in
     let changed : find_member id (hearing now id g).members ≡ Some (heard now at.member) = find-with_member id (heard now) (λ x. refl) g.members at.member at.found in
     ap (concluded (at_moment now groups) ticket) (ap (λ o. o >>= λ g. sync_held now r ticket g) (named_is r.group groups own g at.named) ∙ at.taken now ticket)
     ∙ ap (λ o. outcome (at_moment now (with_group (waiting now id (Sync ticket) (turn_of (hearing now id g))).group groups)) (record { commands = []; replies = displaced o })) changed
-    ∙ ap (λ gs. outcome (at_moment now gs) (displacing (called Any at.member.waits))) (sym (put g at.named.found))
-    ∙ ap (λ o. outcome (at_moment now after) (displacing o)) (sym at.called)
+    ∙ ap (λ gs. outcome (at_moment now gs) (parking_effects (called Any at.member.waits))) (sym (put g at.named.found))
+    ∙ ap (λ o. outcome (at_moment now after) (parking_effects o)) (sym at.called)
     ∙ ap (outcome (at_moment now after)) (sym made)
 
 -- the session index, where a call is parked in place
-module _ (own : List ℕ) (change : Group → Group) (keeps : KeepsId change) (gs after : List Group) (altered : (g : Group) → find_group own gs ≡ Some g → after ≡ with_group (change g) gs)
+module _ (own : List ℕ) (change : Group → Group) (keeps : ChangeKeepsId change) (gs after : List Group) (altered : (g : Group) → find_group own gs ≡ Some g → after ≡ with_group (change g) gs)
     (ticket : Ticket) (older : Option Ticket) (parks : (g : Group) → find_group own gs ≡ Some g → Parks ticket older g (change g)) (loaded : is_some (find_group own gs) ≡ true) where
   with_loaded : (P : Type 0) → ((g : Group) → find_group own gs ≡ Some g → P) → P
   with_loaded P k = go (find_group own gs) refl loaded
@@ -208,7 +208,7 @@ module _ (own : List ℕ) (change : Group → Group) (keeps : KeepsId change) (g
       → ((q : ℕ) → IsFilled (get nat_cmp noted q) → IsFilled (get nat_cmp final q))
       → ((q : ℕ) (x : List ℕ) → is_home noted q x ≡ true → (is_home homes q x ≡ true) ⊎ ((ticket.session ≡ q) × (Some own ≡ Some x)))
       → ((q : ℕ) → IsFilled (get nat_cmp homes q) → IsFilled (get nat_cmp noted q))
-      → ((q : ℕ) → is_of older q → IsLetGo final after own q)
+      → ((q : ℕ) → CameOn older q → IsLetGo final after own q)
       → IsTight homes gs → IsTight final after
   tight-displaced homes noted final fewer filled new also gone tight =
       with_loaded (IsTight final after)

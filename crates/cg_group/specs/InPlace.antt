@@ -51,15 +51,15 @@ pub record IsSyncIn (r : SyncRequest) (groups : List Group) (own id bytes : List
   pub current : IsCurrent r group id bytes
 
 -- the JOIN changes nothing and gets its reply at once, from this member, in the group with this id
-pub record IsJoinIn (r : JoinRequest) (groups : List Group) (own id : List ℕ) (answer : Reply) : Type 0 where
+pub record IsJoinIn (r : JoinRequest) (groups : List Group) (own id : List ℕ) (reply : Reply) : Type 0 where
   pub group : Group
   pub member : Member
   pub named : IsNamed r.group groups own group
   pub session : is_session_refused r ≡ false
   pub taken : (now : ℕ) (fresh : List ℕ) (ticket : Ticket) → join_held now r fresh ticket r.member group ≡ Ok (join_current now id ticket member group)
-  pub answered : answer ≡ joined_reply group member
+  pub answered : reply ≡ joined_reply group member
 
--- the JOIN is parked, from this member, in the group with this id: a rebalance goes on for which others have to join
+-- the JOIN of this member, in the group with this id, is only parked, in place of its older call: others have still to join
 pub record IsJoinParked (r : JoinRequest) (groups : List Group) (own id : List ℕ) (older : Option Ticket) : Type 0 where
   pub group : Group
   pub member : Member
@@ -69,7 +69,7 @@ pub record IsJoinParked (r : JoinRequest) (groups : List Group) (own id : List �
   pub taken : (now : ℕ) (fresh : List ℕ) (ticket : Ticket) → join_held now r fresh ticket r.member group ≡ Ok (waiting now id (Join ticket) (turn_of (updating r id group)))
   pub called : older ≡ called Any member.waits
 
--- the SYNC is parked, from this follower, in the group with this id
+-- the SYNC of this follower, in the group with this id, is only parked, in place of its older call
 pub record IsSyncParked (r : SyncRequest) (groups : List Group) (own id : List ℕ) (older : Option Ticket) : Type 0 where
   pub group : Group
   pub member : Member
@@ -78,18 +78,18 @@ pub record IsSyncParked (r : SyncRequest) (groups : List Group) (own id : List �
   pub taken : (now : ℕ) (ticket : Ticket) → sync_held now r ticket group ≡ Ok (waiting now id (Sync ticket) (turn_of (hearing now id group)))
   pub called : older ≡ called Any member.waits
 
--- a request that is parked has no reply; the older call of its member gets 27
-abbrev pub displacing : Option Ticket → Effects
-displacing older = record { commands = []; replies = option_to_list (option_map (λ t. (t, Refused RebalanceInProgress)) older) }
+-- the effects of parking a call: no reply to it yet, and 27 to the older call of its member
+abbrev pub parking_effects : Option Ticket → Effects
+parking_effects older = record { commands = []; replies = option_to_list (option_map (λ t. (t, Refused RebalanceInProgress)) older) }
 
--- the call came on this session
-abbrev pub is_of : Option Ticket → ℕ → Type 0
-is_of call session = option_map (λ (t : Ticket). t.session) call ≡ Some session
+-- there is a call, and it came on this session
+abbrev pub CameOn : Option Ticket → ℕ → Type 0
+CameOn call session = option_map (λ (t : Ticket). t.session) call ≡ Some session
 
--- after the change this call is parked in the group, in the place of the older one
+-- the change parks a call of the ticket's session; only the older call's session may lose its parked call; no other gets one
 pub record Parks (ticket : Ticket) (older : Option Ticket) (g after : Group) : Type 0 where
   pub asked : is_parked ticket.session (Some after) ≡ true
-  pub stays : (session : ℕ) → is_parked session (Some g) ≡ true → (is_parked session (Some after) ≡ true) ⊎ is_of older session
+  pub stays : (session : ℕ) → is_parked session (Some g) ≡ true → (is_parked session (Some after) ≡ true) ⊎ CameOn older session
   pub known : (sessions : ℕ → Bool) → sessions ticket.session ≡ true → Known sessions g → Known sessions after
 
 -- the group whose step this is; a refusal is no step

@@ -1,5 +1,5 @@
-//! JOIN (JoinGroup request): what changes nothing or is only parked changes its member in place; other JOINs replace their
-//! group.
+//! JOIN (JoinGroup request): one that changes nothing or is only parked changes its member in place; any other that is not
+//! refused replaces its group.
 ghost use Rattle.std.specs.Prelude.{◌≡◌, true, false, is_ok, IfOk, OnErr};
 ghost use Rattle.cg_group.specs.Machine.{concluded, join};
 ghost use Rattle.cg_held.specs.Held.{at_moment, outcome};
@@ -56,7 +56,7 @@ fn join_checked(
     }
 }
 
-// Processes a JOIN that may begin or end a rebalance. Copies the group.
+// Processes a JOIN that cannot be handled in place. Copies the group, unless the JOIN is refused or makes the group.
 fn meet_join_apart(
     now: Moment,
     held: &mut Held,
@@ -80,8 +80,8 @@ fn meet_join_apart(
     Ok(effects)
 }
 
-// Processes a JOIN that changes something. If it is only parked, its member is changed in place.
-fn meet_join_again(
+// Processes any JOIN but one that changes nothing. If it is only parked, its member is changed in place.
+fn meet_join_not_current(
     now: Moment,
     held: &mut Held,
     homes: &mut Homes,
@@ -142,14 +142,14 @@ fn meet_join_checked(
     match rejoining(&r, held)? {
         Some((own, id, reply)) => Ok(rejoin_in(now, held, ticket, own, id, reply)),
         None => {
-            let effects = meet_join_again(now, held, homes, ticket, r, fresh)?;
+            let effects = meet_join_not_current(now, held, homes, ticket, r, fresh)?;
             Ok(effects)
         }
     }
 }
 
-/// Processes a JOIN. Copies the group only if a rebalance may begin or end. Only a JOIN that is not refused needs an
-/// allocation.
+/// Processes a JOIN. Copies the group, unless the JOIN is refused, changes nothing, or is that of a known member and is only
+/// parked. Only a JOIN that is not refused needs an allocation.
 #[tactic(auto, unfolding(crate::specs::Machine::join))]
 pub fn meet_join(
     now: Moment,

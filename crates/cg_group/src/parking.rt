@@ -1,5 +1,4 @@
-//! The requests that may park a call, or that may complete a rebalance: SYNC and LEAVE, and what JOIN has in common with
-//! them.
+//! SYNC and LEAVE, which may park a call or complete a rebalance, and `park`, which JOIN uses too.
 ghost use Rattle.std.specs.Prelude.{◌≡◌, ◌⊎◌, ℕ, List, Some, true, false, is_ok, is_some, IfOk, OnErr, OnOk};
 ghost use Rattle.cg_group.specs.InPlace.{ParksKnown, group_of};
 ghost use Rattle.cg_group.specs.Machine.{concluded, leave, sync};
@@ -188,7 +187,7 @@ pub fn park(
     }
 }
 
-// Processes a SYNC that may give the assignments. Copies the group.
+// Processes the SYNC of a leader, or one that is refused. Copies the group only for the leader's.
 fn meet_sync_apart(
     now: Moment,
     held: &mut Held,
@@ -210,8 +209,8 @@ fn meet_sync_apart(
     Ok(effects)
 }
 
-// Processes a SYNC outside a stable group. If it is only parked, its member is changed in place.
-fn meet_sync_again(
+// Processes a SYNC that does not get its assignment at once. If it is only parked, its member is changed in place.
+fn meet_sync_not_current(
     now: Moment,
     held: &mut Held,
     homes: &mut Homes,
@@ -260,7 +259,7 @@ pub fn meet_sync(
     match syncing(r, held)? {
         Some((own, id, assignment)) => Ok(sync_in(now, held, ticket, own, id, assignment)),
         None => {
-            let effects = meet_sync_again(now, held, homes, ticket, r)?;
+            let effects = meet_sync_not_current(now, held, homes, ticket, r)?;
             Ok(effects)
         }
     }

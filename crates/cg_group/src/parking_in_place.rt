@@ -1,10 +1,10 @@
-//! Requests that park a call of one member and change nothing else: no rebalance begins or ends with them. They change the
-//! member in place, and their group is not copied.
+//! Requests that are only parked: they change one member, and no rebalance begins or ends with them. The member is changed
+//! in place, so the group is not copied.
 ghost use Rattle.std.specs.Prelude.{◌≡◌, ◌⊎◌, ℕ, List, Some, true, false, is_some, IfOk, OnErr, OnOk, MatchOption, ⊤};
 ghost use Rattle.std.specs.BTreeMap.{get};
 ghost use Rattle.std.specs.Ordering.{nat_cmp};
-ghost use Rattle.cg_group.specs.InPlace.{IsJoinParked, IsSyncParked, Parks, displacing, is_of};
-ghost use Rattle.cg_held.specs.Changes.{KeepsId};
+ghost use Rattle.cg_group.specs.InPlace.{IsJoinParked, IsSyncParked, Parks, parking_effects, CameOn};
+ghost use Rattle.cg_held.specs.Changes.{ChangeKeepsId};
 ghost use Rattle.cg_held.specs.Held.{find_group, with_group};
 ghost use Rattle.cg_held.specs.Sessions.{AreKnown, IsFilled, IsLetGo, IsTight, is_home};
 ghost use Rattle.cg_member.specs.Joining.{is_session_refused};
@@ -28,7 +28,7 @@ use cg_request::ticket::Ticket;
 use cg_turn::parking::{parking_joiner, parking_syncer};
 use std::alloc::AllocError;
 
-/// The JOIN of a known member, to be parked.
+/// The change of a group by a JOIN that is only parked: its member is updated, and the call parked.
 #[derive(Drop)]
 pub struct ParkedJoin {
     pub now: Moment,
@@ -57,7 +57,7 @@ impl Altering for ParkedJoin {
     }
 }
 
-/// The SYNC of a follower, to be parked.
+/// The change of a group by a SYNC that is only parked: its member is heard, and the call parked.
 #[derive(Drop)]
 pub struct ParkedSync<'a> {
     pub now: Moment,
@@ -82,8 +82,8 @@ impl<'a> Altering for ParkedSync<'a> {
     }
 }
 
-/// Returns the group and the member of a JOIN that is parked, and the member's call that was parked until now; `None` for
-/// any other JOIN. No allocation.
+/// Returns the ids of the group and the member of a JOIN that is only parked, and the member's older parked call, if any.
+/// Returns `None` for any other JOIN. No allocation.
 pub fn parking_join<'a>(
     r: &'a CheckedJoin,
     groups: &Held,
@@ -98,8 +98,8 @@ pub fn parking_join<'a>(
     Some((own, id, Calls::Any.called(member.waits)))
 }
 
-/// Returns the group and the member of a SYNC that is parked, and the member's call that was parked until now; `None` for
-/// any other SYNC. No allocation.
+/// Returns the ids of the group and the member of a SYNC that is only parked, and the member's older parked call, if any.
+/// Returns `None` for any other SYNC. No allocation.
 pub fn parking_sync<'a>(
     r: &'a SyncRequest,
     groups: &Held,
@@ -116,7 +116,7 @@ pub fn parking_sync<'a>(
 // Updates the session index for the session of the older call, if there is one.
 fn settle_older(homes: &mut Homes, held: &Held, own: &GroupId, older: Option<Ticket>)
     ensures known { AreKnown (is_home homes.old) held.now → AreKnown (is_home homes.new) held.now }
-    ensures gone { (q : ℕ) → is_of older q → IsLetGo homes.new held.now own.now q }
+    ensures gone { (q : ℕ) → CameOn older q → IsLetGo homes.new held.now own.now q }
     ensures fewer { (q : ℕ) (x : List ℕ) → is_home homes.new q x ≡ true → is_home homes.old q x ≡ true }
     ensures filled { (q : ℕ) → IsFilled (get nat_cmp homes.old q) → IsFilled (get nat_cmp homes.new q) }
 {
@@ -125,9 +125,9 @@ fn settle_older(homes: &mut Homes, held: &Held, own: &GroupId, older: Option<Tic
     }
 }
 
-// Refuses the older call, if there is one, with 27.
-fn displacing(held: &Held, older: Option<Ticket>) -> Effects
-    ensures { result ≡ displacing older }
+// Builds the effects: 27 to the older call, if there is one, and no command.
+fn parking_effects(held: &Held, older: Option<Ticket>) -> Effects
+    ensures { result ≡ parking_effects older }
 {
     let alloc = held.allocator();
     let refused = Reply::Refused(Code::RebalanceInProgress);
@@ -140,8 +140,8 @@ fn displacing(held: &Held, older: Option<Ticket>) -> Effects
     }
 }
 
-/// Parks a call in the loaded group with this id by a change of its member, whose older call gets 27. Allocates for the
-/// session index alone.
+/// Parks a call in the loaded group with this id by changing its member in place; an older call of the member gets 27.
+/// Only the session index needs an allocation.
 pub fn park_in<A: Altering + Drop>(
     held: &mut Held,
     homes: &mut Homes,
@@ -153,17 +153,17 @@ pub fn park_in<A: Altering + Drop>(
     requires known { AreKnown (is_home homes.old) held.old }
     requires tight { IsTight homes.old held.old }
     requires loaded { is_some (find_group own.now held.old) ≡ true }
-    requires keeps { KeepsId (A.alters altering) }
+    requires keeps { ChangeKeepsId (A.alters altering) }
     requires parks { (g : Group) → find_group own.now held.old ≡ Some g → Parks ticket older g (A.alters altering g) }
     ensures known { AreKnown (is_home homes.new) held.new }
     ensures tight { IsTight homes.new held.new }
     ensures after { OnOk result ((g : Group) → find_group own.now held.old ≡ Some g → held.new ≡ with_group (A.alters altering g) held.old) }
-    ensures effects { IfOk result (λ e. e ≡ displacing older) }
+    ensures effects { IfOk result (λ e. e ≡ parking_effects older) }
     ensures err { OnErr result (held.new ≡ held.old) }
 {
     let id = own.clone()?;
     note(held.allocator(), homes, ticket.session, id)?;
     held.alter(own, altering);
     settle_older(homes, held, own, older);
-    Ok(displacing(held, older))
+    Ok(parking_effects(held, older))
 }

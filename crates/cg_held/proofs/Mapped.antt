@@ -9,7 +9,7 @@ use Rattle.std.specs.Map.{lookup, remove_entry, set_value, values_of}
 use Rattle.std.specs.Ordering.{nat_cmp, match_ordering}
 use Rattle.std.specs.declared.cmp.Ordering.TheVariants.{Less, Equal, Greater}
 use Rattle.cg_member.specs.declared.group.Group.{Group}
-use Rattle.cg_held.specs.Changes.{KeepsId}
+use Rattle.cg_held.specs.Changes.{ChangeKeepsId}
 use Rattle.cg_held.specs.Held.{IsHeld, StandUnderIds, InOrder, find_group, with_group, without_group}
 use Rattle.cg_request.specs.Names.{is_same}
 use Rattle.cg_member.specs.Membership.{hearing}
@@ -107,7 +107,7 @@ unfolding hearing
 id-hearing now id g = refl
 
 -- a loaded group is changed in its place
-module _ (x : List ℕ) (change : Group → Group) (keeps : KeepsId change) (es after : Entries) (h : StandUnderIds es) (o : InOrder (values_of es))
+module _ (x : List ℕ) (change : Group → Group) (keeps : ChangeKeepsId change) (es after : Entries) (h : StandUnderIds es) (o : InOrder (values_of es))
     (some : (g : Group) → lookup (is_at (slice_cmp nat_cmp x)) es ≡ Some g → after ≡ set_value (is_at (slice_cmp nat_cmp x)) es (change g)) where
   set_there : (g : Group) → find_group x (values_of es) ≡ Some g → after ≡ set_value (is_at (slice_cmp nat_cmp x)) es (change g)
   set_there g e = some g (lookup-own x es h ∙ e)

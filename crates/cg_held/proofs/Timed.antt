@@ -16,7 +16,7 @@ use Rattle.cg_member.specs.Membership.{hearing}
 use Rattle.cg_member.specs.Rebalance.{turn_of}
 use Rattle.cg_member.specs.Ticking.{ticked}
 use Rattle.cg_turn.specs.Touching.{next_deadline}
-use Rattle.cg_held.specs.Changes.{KeepsId, is_one_of}
+use Rattle.cg_held.specs.Changes.{ChangeKeepsId, is_one_of}
 use Rattle.cg_held.specs.Held.{InOrder, find_group, with_group, without_group}
 use Rattle.cg_held.specs.Kept.{Each}
 use Rattle.cg_held.specs.Timed.{AreTimed}
@@ -120,7 +120,7 @@ timed-renewed since deadline id g es gs o found d h =
     subst P (with_group-found id gs g o found) (timed-put since deadline id g es gs (sym (found_named id gs g found)) d h)
 
 -- a group that is changed in its place, and its entry
-module _ (since : ℕ) (own : List ℕ) (change : Group → Group) (keeps : KeepsId change) (es : Index) (gs after : List Group)
+module _ (since : ℕ) (own : List ℕ) (change : Group → Group) (keeps : ChangeKeepsId change) (es : Index) (gs after : List Group)
     (altered : (g : Group) → find_group own gs ≡ Some g → after ≡ with_group (change g) gs) (absent : find_group own gs ≡ None → after ≡ gs) (h : AreTimed since es gs) where
   there : (g : Group) → find_group own gs ≡ Some g → find_group own after ≡ Some (change g)
   there g found =

@@ -1,4 +1,4 @@
--- The changes of an event that concerns many groups.
+-- Changes of loaded groups: of one in place, and of many by one event.
 use Rattle.std.specs.Prelude.{◌≡◌, ℕ, Bool, List, [], ◌∷◌, if◌then◌else◌}
 use Rattle.std.specs.List.{list_any}
 use Rattle.cg_held.specs.declared.changes.Changes.{Changes}
@@ -23,8 +23,8 @@ abbrev pub KeepIds : (Group → Turn) → Type 0
 KeepIds turn = (g : Group) → (turn g).group.id ≡ g.id
 
 -- a change keeps the id of its group
-abbrev pub KeepsId : (Group → Group) → Type 0
-KeepsId change = (g : Group) → (change g).id ≡ g.id
+abbrev pub ChangeKeepsId : (Group → Group) → Type 0
+ChangeKeepsId change = (g : Group) → (change g).id ≡ g.id
 
 -- the id is one of these
 abbrev pub is_one_of : List (List ℕ) → List ℕ → Bool

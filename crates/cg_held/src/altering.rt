@@ -1,7 +1,7 @@
-//! A change of a loaded group in its place.
+//! A change of a loaded group, in place.
 use cg_member::group::Group;
 
-/// A change of a group.
+/// A change of one group, made in place.
 pub trait Altering {
     ghost use Rattle.std.specs.Prelude.{◌≡◌};
     ghost use Rattle.cg_member.specs.declared.group.Group.{Group};

@@ -3,7 +3,7 @@ ghost use Rattle.std.specs.Prelude.{◌≡◌, ℕ, ◌<◌, List, Some, None, [
 ghost use Rattle.std.specs.Map.Iter.{ShowsInOrder, deref};
 ghost use Rattle.std.specs.Option.{option_copied};
 ghost use Rattle.cg_member.specs.declared.group.Group.{Group};
-ghost use Rattle.cg_held.specs.Changes.{KeepsId, is_one_of};
+ghost use Rattle.cg_held.specs.Changes.{ChangeKeepsId, is_one_of};
 ghost use Rattle.cg_held.specs.Held.{IsHeld, InOrder, find_group, with_group, without_group};
 ghost use Rattle.cg_held.specs.Kept.{Ascending, Each};
 ghost use Rattle.cg_held.specs.Timed.{AreTimed};
@@ -163,9 +163,10 @@ impl Held {
         self.loaded.hear(group, id, now);
     }
 
-    /// Changes the group with this id, if it is loaded. Costs its look-ups and a pass over its members; no allocation.
+    /// Changes the group with this id in place, if it is loaded, and finds out its next moment for ticks. Costs three look-ups
+    /// and a pass over its members; no allocation.
     pub fn alter<A: Altering + Drop>(&mut self, group: &GroupId, altering: A)
-        requires { KeepsId (A.alters altering) }
+        requires { ChangeKeepsId (A.alters altering) }
         ensures { (g : Group) → find_group group.now self.old ≡ Some g → self.new ≡ with_group (A.alters altering g) self.old }
     {
         self.loaded.alter(group, altering);

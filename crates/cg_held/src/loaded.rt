@@ -7,7 +7,7 @@ ghost use Rattle.std.specs.Map.Iter.{ShowsInOrder, deref};
 ghost use Rattle.std.specs.Option.{option_copied};
 ghost use Rattle.std.specs.Ordering.{nat_cmp};
 ghost use Rattle.cg_member.specs.declared.group.Group.{Group};
-ghost use Rattle.cg_held.specs.Changes.{KeepsId};
+ghost use Rattle.cg_held.specs.Changes.{ChangeKeepsId};
 ghost use Rattle.cg_held.specs.Held.{IsHeld, InOrder, find_group, with_group, without_group};
 ghost use Rattle.cg_member.specs.Membership.{hearing};
 ghost use Rattle.cg_member.specs.Waiting.{waiting_calls};
@@ -173,7 +173,7 @@ impl Loaded {
 
     /// Changes the group with this id, if it is loaded. No allocation.
     pub fn alter<A: Altering + Drop>(&mut self, group: &GroupId, altering: A)
-        requires { KeepsId (A.alters altering) }
+        requires { ChangeKeepsId (A.alters altering) }
         ensures altered { (g : Group) → find_group group.now self.old ≡ Some g → self.new ≡ with_group (A.alters altering g) self.old }
         ensures absent { find_group group.now self.old ≡ None → self.new ≡ self.old }
         ensures in_order { InOrder self.old }

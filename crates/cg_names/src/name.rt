@@ -20,7 +20,7 @@ pub const MEMBER_ID_BYTES_MAX: usize = 137;
 /// another. Contracts see the bytes.
 #[derive(Drop)]
 pub struct Name<const MAX: usize, const SORT: u8> {
-    // Texts are compared many bytes at a time, and slices of bytes are not.
+    // Std compares texts many bytes at a time, and slices of bytes one at a time.
     text: String,
 }
 
@@ -107,12 +107,13 @@ impl<const MAX: usize, const SORT: u8> Name<MAX, SORT> {
         Ok(name)
     }
 
-    /// Copies bytes that are a name of this type. The contract leaves an allocation failure as the only error.
+    /// Copies bytes that are known to be a name of this type. Costs a check for UTF-8, linear in the bytes.
     #[tactic(auto, using(crate::proofs::Names::text_from_name))]
     pub fn from_lawful(alloc: Global, bytes: &[u8]) -> Result<Self, AllocError>
         requires { IsName MAX bytes.now }
         ensures { IfOk result (λ name. name ≡ bytes.now) }
     {
+        // The precondition makes the `unwrap` safe.
         let text = str::from_utf8(bytes).unwrap();
         let text = String::from_str(alloc, text)?;
         Ok(Name { text })

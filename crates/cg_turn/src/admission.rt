@@ -1,5 +1,5 @@
 //! JOIN (JoinGroup request): its checks, in the order of the refusals.
-ghost use Rattle.std.specs.Prelude.{◌≡◌, ◌<◌, ℕ, List, Ok, Err, None, Some, true, false, is_ok, is_some, length, IfOk, OnErr, MatchOption, MatchResult, ⊤};
+ghost use Rattle.std.specs.Prelude.{◌≡◌, ◌<◌, ℕ, List, Ok, Err, None, Some, true, false, is_ok, is_some, length, IfOk, IfSome, OnErr, MatchOption, MatchResult, ⊤};
 ghost use Rattle.std.specs.Option.{option_copied};
 ghost use Rattle.std.specs.List.{list_any};
 ghost use Rattle.cg_record.specs.declared.roster.TheConstants.{MEMBERS_MAX};
@@ -113,9 +113,9 @@ fn join_stranger(
     Ok(Ok(turn))
 }
 
-/// Returns the member that joins again, with the id that it gives. No allocation.
+// Returns the member that joins again, with the id that it gives.
 #[tactic(auto, unfolding(crate::specs::Admission::join_held))]
-pub fn known_joiner<'a, 'b>(
+fn known_joiner<'a, 'b>(
     r: &'a JoinRequest,
     group: &'b Group,
 ) -> Result<(&'a MemberId, &'b Member), Code>
@@ -131,7 +131,23 @@ pub fn known_joiner<'a, 'b>(
     Ok(who)
 }
 
-/// Returns the member whose JOIN changes nothing and gets its reply at once, with the id that it gives. No allocation.
+/// Returns the known member whose JOIN passes its checks, with the id that the JOIN gives; `None` for any other JOIN. No
+/// allocation.
+pub fn rejoiner<'a, 'b>(r: &'a JoinRequest, group: &'b Group) -> Option<(&'a MemberId, &'b Member)>
+    ensures known { MatchOption result ⊤
+        (λ who. (now : ℕ) (fresh : List ℕ) (ticket : Ticket) → join_held now r.now fresh ticket r.now.member group.now ≡ Ok (join_known now r.now who.0.now ticket who.1.now group.now)) }
+    ensures found { IfSome result (λ who. find_member who.0.now group.now.members ≡ Some who.1.now) }
+{
+    let Some(_) = &r.member else {
+        return None;
+    };
+    match known_joiner(r, group) {
+        Ok(who) => Some(who),
+        Err(_) => None,
+    }
+}
+
+/// Returns the member whose JOIN changes nothing and gets its reply at once, with the id that the JOIN gives. No allocation.
 #[tactic(auto, unfolding(cg_member::specs::Joining::join_known))]
 pub fn current_joiner<'a, 'b>(
     r: &'a JoinRequest,
@@ -140,10 +156,7 @@ pub fn current_joiner<'a, 'b>(
     ensures { MatchOption result ⊤
         (λ who. (now : ℕ) (fresh : List ℕ) (ticket : Ticket) → join_held now r.now fresh ticket r.now.member group.now ≡ Ok (join_current now who.0.now ticket who.1.now group.now)) }
 {
-    let Some(_) = &r.member else {
-        return None;
-    };
-    let Ok((id, member)) = known_joiner(r, group) else {
+    let Some((id, member)) = rejoiner(r, group) else {
         return None;
     };
     if is_current(r, member, group) {

@@ -172,6 +172,7 @@ fn join_again(
     rejoined(alloc, now, id, ticket, turn)
 }
 
+// The machine answers such a JOIN without a copy of the group (`current_joiner`); the contract of `join_held` has every JOIN.
 #[tactic(auto, unfolding(cg_member::specs::Joining::join_current, cg_member::specs::Membership::hearing))]
 fn join_current(
     alloc: Global,

@@ -1,4 +1,4 @@
-//! Requests that park a call of their member and change nothing else: no rebalance begins or ends with them.
+//! Requests that are only parked: they change one member, and no rebalance begins or ends with them.
 ghost use Rattle.std.specs.Prelude.{◌≡◌, ◌&&◌, ℕ, List, Some, Ok, not, IfSome, MatchOption, ⊤};
 ghost use Rattle.std.specs.List.{list_any};
 ghost use Rattle.cg_member.specs.Joining.{updating, waiting};
@@ -11,7 +11,7 @@ ghost use Rattle.cg_member.specs.declared.member.Waits.TheVariants.{Join, Sync};
 ghost use Rattle.cg_request.specs.declared.ticket.Ticket.{Ticket};
 ghost use Rattle.cg_turn.specs.Admission.{join_held};
 
-use crate::admission::known_joiner;
+use crate::admission::rejoiner;
 use crate::rebalance::leads;
 use cg_member::calls::{Calls, is_waiting};
 use cg_member::fencing::checked_member;
@@ -20,8 +20,8 @@ use cg_member::member::Member;
 use cg_names::MemberId;
 use cg_request::request::{JoinRequest, SyncRequest};
 
-/// Returns the member whose SYNC is parked, with the id that it gives: a follower, before the SYNC of its leader. No
-/// allocation.
+/// Returns the member whose SYNC is only parked, with the id that the SYNC gives: a follower, before the SYNC of its leader.
+/// No allocation.
 #[tactic(auto, unfolding(cg_member::specs::Syncing::sync_held, cg_member::specs::Syncing::sync_taken, cg_member::specs::Syncing::sync_waits))]
 pub fn parking_syncer<'a, 'b>(
     r: &'a SyncRequest,
@@ -47,7 +47,7 @@ pub fn parking_syncer<'a, 'b>(
     Some((id, member))
 }
 
-// Returns whether another member than this one has not joined yet.
+// Returns whether a member other than this one has not joined yet.
 fn waits_for_others(id: &MemberId, members: &[Member]) -> bool
     ensures { result ≡ list_any (λ m. not (has_id id.now m) && not (is_waiting Joins m)) members.now }
 {
@@ -56,8 +56,8 @@ fn waits_for_others(id: &MemberId, members: &[Member]) -> bool
         .any(|m| m.id != *id && !is_waiting(Calls::Joins, m))
 }
 
-/// Returns the known member whose JOIN is parked, with the id that it gives: in a rebalance for which another member has
-/// not joined yet. No allocation.
+/// Returns the known member whose JOIN is only parked, with the id that the JOIN gives: a rebalance is under way, and another
+/// member has not joined yet. No allocation.
 pub fn parking_joiner<'a, 'b>(
     r: &'a JoinRequest,
     group: &'b Group,
@@ -70,10 +70,7 @@ pub fn parking_joiner<'a, 'b>(
         Phase::Preparing => {}
         _ => return None,
     }
-    let Some(_given) = &r.member else {
-        return None;
-    };
-    let Ok((id, member)) = known_joiner(r, group) else {
+    let Some((id, member)) = rejoiner(r, group) else {
         return None;
     };
     if !waits_for_others(id, group.members.as_slice()) {

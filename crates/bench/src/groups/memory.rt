@@ -48,10 +48,13 @@ pub fn named(word: &str) -> Option<Sizes> {
     }
 }
 
-// Returns the bytes of memory that the process has, as Linux tells them.
+// Returns the resident memory of the process in bytes.
 fn resident<R: Files + Alloc<A = Global>>(rt: &R) -> Result<u64> {
     let text = fs::read_to_string(rt, "/proc/self/statm")?;
-    let pages = text.split(' ').nth(1).context("the memory is not told")?;
+    let pages = text
+        .split(' ')
+        .nth(1)
+        .context("no resident size in /proc/self/statm")?;
     let pages: u64 = pages.parse()?;
     Ok(pages.saturating_mul(PAGE_BYTES))
 }
@@ -129,8 +132,8 @@ fn report<R: Files + Print + Alloc<A = Global>>(rt: &R, before: u64, scene: &Sce
     Ok(())
 }
 
-/// Makes as many groups as a machine holds, of 64 members each that have committed 64 offsets, and reports the bytes of
-/// that state and the memory of the machine. Run once in a process: memory that was freed counts as the machine's.
+/// Makes as many groups as a machine holds, with 64 members and 64 offsets each, and reports the bytes of that state and the
+/// memory of the machine. Run it once in a process: freed memory may stay resident, and a second run would report too little.
 pub fn measure<R: Files + Print + Alloc<A = Global>>(rt: &R, sizes: Sizes) -> Result<()> {
     let alloc = rt.alloc();
     let before = resident(rt)?;

@@ -23,8 +23,8 @@ const IDLE_SESSION: u64 = 2;
 /// First of the sessions with a parked request.
 const WAITING_SESSION: u64 = 3;
 
-/// Nothing in a subscription, and few bytes in an assignment.
-const SMALL: Sizes = Sizes {
+/// Sizes where rates are measured: an empty subscription, and a short assignment.
+const RATE_SIZES: Sizes = Sizes {
     subscription: 0,
     assignment: 11,
 };
@@ -55,7 +55,7 @@ pub enum GroupEvent {
     Gone,
 }
 
-/// Bytes of what a client hands in for each member.
+/// Bytes of a member's subscription, and of its assignment.
 #[derive(Clone, Copy)]
 pub struct Sizes {
     pub subscription: usize,
@@ -138,7 +138,7 @@ fn assignments(alloc: Global, joined: &Effects, sizes: Sizes) -> Result<SyncEntr
 impl Scene {
     /// Makes `count` stable groups of `members` members each, at least two.
     pub fn new(alloc: Global, count: u64, members: u64) -> Result<Scene> {
-        let mut scene = Scene::empty(alloc, members, SMALL)?;
+        let mut scene = Scene::empty(alloc, members, RATE_SIZES)?;
         scene.add_stable_groups(count)?;
         Ok(scene)
     }

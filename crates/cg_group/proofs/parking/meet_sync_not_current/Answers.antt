@@ -2,7 +2,7 @@ use Rattle.std.proofs.Common.{rules}
 use Rattle.cg_group.specs.InPlace.{IsSyncParked}
 use Rattle.cg_group.proofs.InPlace.{on_err}
 use Rattle.cg_group.proofs.Displacing.{keeps_sync, parks_named_sync, sync_displacing, sync_taken}
-use Rattle.cg_group.proofs.parking.meet_sync_again.Goals as goal
+use Rattle.cg_group.proofs.parking.meet_sync_not_current.Goals as goal
 
 pub park_in-requires-clause-keeps : goal.park_in-requires-clause-keeps
 park_in-requires-clause-keeps c = λ g. keeps_sync _ _ _ g

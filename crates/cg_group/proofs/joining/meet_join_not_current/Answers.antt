@@ -2,7 +2,7 @@ use Rattle.std.proofs.Common.{rules, sym, subst, List, ℕ}
 use Rattle.cg_group.specs.InPlace.{IsJoinParked}
 use Rattle.cg_group.proofs.InPlace.{on_err}
 use Rattle.cg_group.proofs.Displacing.{join_displacing, join_taken, keeps_join, parks_named_join}
-use Rattle.cg_group.proofs.joining.meet_join_again.Goals as goal
+use Rattle.cg_group.proofs.joining.meet_join_not_current.Goals as goal
 
 pub returns-in_err-group-in-Some-clause-taken : goal.returns-in_err-group-in-Some-clause-taken
 returns-in_err-group-in-Some-clause-taken c =
