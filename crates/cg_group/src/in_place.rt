@@ -72,7 +72,7 @@ fn beating<'a>(
     }
 }
 
-/// Processes a BEAT. Two look-ups of the group, linear in its members, no allocation.
+/// Processes a BEAT. Two look-ups of the group, two of the member, no allocation.
 pub fn meet_beat(now: Moment, held: &mut Held, ticket: Ticket, r: &BeatRequest) -> Effects
     ensures met { concluded (at_moment now held.old) ticket (beat now r.now ticket held.old) ≡ outcome (at_moment now held.new) result }
     ensures parked { StayParked held.old held.new }

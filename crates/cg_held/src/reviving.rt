@@ -64,7 +64,8 @@ fn revived_members(alloc: Global, now: Moment, roster: &Roster) -> Result<Member
     ensures { IfOk result (λ ms. ms ≡ map (revived_member now roster.now.protocol) roster.now.members) }
 {
     let items = revived_items(alloc, now, roster.protocol(), roster.members())?;
-    Ok(Members::from_vec(items))
+    let members = Members::from_vec(alloc, items)?;
+    Ok(members)
 }
 
 // Returns a stable group, from its record.

@@ -3,4 +3,5 @@ pub mod Drawn
 pub mod Keeping
 pub mod Places
 pub mod Seats
+pub mod Tagging
 pub mod Votes

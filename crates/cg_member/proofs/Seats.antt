@@ -157,7 +157,7 @@ same_instances new ms =
 pub distinct-seating : (new : Member) (ms : List Member) → is_some (find_member new.id ms) ≡ false → AreDistinct ms → AreDistinct (seating new ms)
 distinct-seating new ms own h = (distinct_ids new ms h.0 h.1 (fresh_from_find new.id ms own), ap are_distinct (same_instances new ms) ∙ h.1)
 
-as_many : (new : Member) (ms : List Member) → length (seating new ms) ≡ length ms
+pub as_many : (new : Member) (ms : List Member) → length (seating new ms) ≡ length ms
 unfolding seating
 as_many new ms = length-map ms (seated new)
 

@@ -172,7 +172,7 @@ pub members-with_member : (id : List ℕ) (change : Member → Member) → ((m :
 members-with_member id change same own ms h =
     members-names (with_member id change ms) ms (map-with_member (λ m. m.id) id change same ms) (map-with_member (λ m. option_to_list m.instance) id change own ms) h
 
-few-filter : (stays : Member → Bool) (ms : List Member) → length (filter stays ms) ≤ length ms
+pub few-filter : (stays : Member → Bool) (ms : List Member) → length (filter stays ms) ≤ length ms
 few-filter stays [] = omega arith
 few-filter stays (m ∷ ms) =
     let rest : length (filter stays ms) ≤ length ms = few-filter stays ms in

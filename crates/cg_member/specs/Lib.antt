@@ -9,6 +9,7 @@ pub mod Vote
 pub mod Rebalance
 pub mod Joining
 pub mod Syncing
+pub mod Tags
 pub mod Replacing
 pub mod Few
 pub mod Assignments

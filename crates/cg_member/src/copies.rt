@@ -57,7 +57,8 @@ fn copied_members(alloc: Global, members: &Members) -> Result<Members, AllocErro
     ensures { IfOk result (λ copies. copies ≡ members.now) }
 {
     let items = copied_items(alloc, members.as_slice())?;
-    Ok(Members::from_vec(items))
+    let copies = Members::from_vec(alloc, items)?;
+    Ok(copies)
 }
 
 /// Copies the group with its members. Linear in the size of all protocols and assignments.

@@ -16,5 +16,6 @@ pub mod group;
 pub mod member;
 pub mod members;
 pub mod reply;
+mod tags;
 pub mod turn;
 pub mod vote;

@@ -12,40 +12,41 @@ ghost use Rattle.cg_member.specs.Joining.{updated, waits_with};
 ghost use Rattle.cg_member.specs.Assignments.{IsIndex};
 ghost use Rattle.cg_member.specs.Syncing.{assigned};
 ghost use Rattle.cg_request.specs.declared.request.SyncEntry.{SyncEntry};
+ghost use Rattle.cg_member.specs.Tags.{tags_of};
 ghost use Rattle.cg_member.specs.Ticking.{is_overdue, outstays};
 
 use crate::assignments::{Index, indexed, noted};
 use crate::calls::{Calls, is_waiting};
 use crate::checked::CheckedJoin;
 use crate::member::{Member, Waits};
+use crate::tags::{place_of, retag, tag_of, tagged};
 use cg_names::{InstanceId, MemberId, Moment};
 use cg_request::request::SyncEntry;
 use std::alloc::{AllocError, Global};
 use std::marker::Model;
 
 /// The members of a group in joining order: at most `MEMBERS_MAX`, with different ids and different instances.
-/// Contracts see the list. Look-ups are linear in the members.
+/// Contracts see the list. A look-up by id reads four bytes for each member and few ids; one by instance reads each
+/// member.
 #[derive(Debug, Drop)]
 pub struct Members {
     items: Vec<Member>,
+    // The tag of each member's id.
+    tags: Vec<u32>,
 }
 
 impl Model for Members {
     ghost use Rattle.std.specs.Prelude.{List};
+    ghost use Rattle.std.specs.Prelude.{◌≡◌};
     ghost use Rattle.cg_member.specs.Members.{AreMembers};
+    ghost use Rattle.cg_member.specs.Tags.{tags_of};
     ghost use Rattle.cg_member.specs.declared.member.Member.{Member};
 
     ghost Value = { List Member };
 
     ghost view = { λ m. m.items.items };
 
-    ghost invariant = { λ m. AreMembers m.items.items };
-}
-
-fn place_of(id: &MemberId, members: &[Member]) -> Option<usize>
-    ensures { result ≡ position (has_id id.now) members.now }
-{
-    members.iter().position(|m| m.id == *id)
+    ghost invariant = { λ m. AreMembers m.items.items × (m.tags.items ≡ tags_of m.items.items) };
 }
 
 fn seat_of(instance: &Option<InstanceId>, members: &[Member]) -> Option<usize>
@@ -119,28 +120,31 @@ fn take_over(member: &mut Member, join: CheckedJoin)
 }
 
 #[tactic(auto, using(crate::proofs::Places::placing))]
-fn hear_one(members: &mut Vec<Member>, id: &MemberId, now: Moment)
+fn hear_one(members: &mut Vec<Member>, tags: &[u32], id: &MemberId, now: Moment)
+    requires { tags.now ≡ tags_of members.old.items }
     ensures { members.new.items ≡ with_member id.now (heard now) members.old.items }
 {
-    if let Some(place) = place_of(id, members.as_slice()) {
+    if let Some(place) = place_of(id, tags, members.as_slice()) {
         members[place].heard = now;
     }
 }
 
 #[tactic(auto, using(crate::proofs::Places::placing))]
-fn wait_one(members: &mut Vec<Member>, id: &MemberId, waits: Waits, now: Moment)
+fn wait_one(members: &mut Vec<Member>, tags: &[u32], id: &MemberId, waits: Waits, now: Moment)
+    requires { tags.now ≡ tags_of members.old.items }
     ensures { members.new.items ≡ with_member id.now (waits_with now waits) members.old.items }
 {
-    if let Some(place) = place_of(id, members.as_slice()) {
+    if let Some(place) = place_of(id, tags, members.as_slice()) {
         begin_to_wait(&mut members[place], waits, now);
     }
 }
 
 #[tactic(auto, using(crate::proofs::Places::placing))]
-fn update_one(members: &mut Vec<Member>, id: &MemberId, join: CheckedJoin)
+fn update_one(members: &mut Vec<Member>, tags: &[u32], id: &MemberId, join: CheckedJoin)
+    requires { tags.now ≡ tags_of members.old.items }
     ensures { members.new.items ≡ with_member id.now (updated join) members.old.items }
 {
-    if let Some(place) = place_of(id, members.as_slice()) {
+    if let Some(place) = place_of(id, tags, members.as_slice()) {
         take_over(&mut members[place], join);
     }
 }
@@ -230,15 +234,17 @@ impl Members {
     {
         Members {
             items: Vec::new(alloc),
+            tags: Vec::new(alloc),
         }
     }
 
-    /// Wraps the members, without a copy.
-    pub fn from_vec(items: Vec<Member>) -> Self
+    /// Wraps the members, without a copy, and makes their tags.
+    pub fn from_vec(alloc: Global, items: Vec<Member>) -> Result<Self, AllocError>
         requires { AreMembers items.items }
-        ensures { result ≡ items.items }
+        ensures { IfOk result (λ members. members ≡ items.items) }
     {
-        Members { items }
+        let tags = tagged(alloc, items.as_slice())?;
+        Ok(Members { items, tags })
     }
 
     /// Returns the members in joining order.
@@ -256,13 +262,14 @@ impl Members {
         self.items.len()
     }
 
-    /// Returns the member with this id. Linear in the members.
+    /// Returns the member with this id. Reads four bytes for each member, and few ids.
     #[tactic(auto, unfolding(crate::specs::Membership::find_member))]
     pub fn find(&self, id: &MemberId) -> Option<&Member>
         ensures { option_copied result ≡ find_member id.now self.now }
     {
         let items = self.items.as_slice();
-        items.iter().find(|m| m.id == *id)
+        let place = place_of(id, self.tags.as_slice(), items)?;
+        Some(&items[place])
     }
 
     /// Returns the member with this instance, if an instance is given. Linear in the members.
@@ -291,7 +298,7 @@ impl Members {
     }
 
     /// Appends a member. If an allocation fails, the list is unchanged.
-    #[tactic(auto, using(crate::proofs::Together::after_push))]
+    #[tactic(auto, using(crate::proofs::Together::after_push, crate::proofs::Tagging::tags_after_push))]
     pub fn push(&mut self, member: Member) -> Result<(), AllocError>
         requires room { length self.old < MEMBERS_MAX }
         requires own_id { is_some (find_member member.id self.old) ≡ false }
@@ -299,46 +306,50 @@ impl Members {
         ensures ok { OnOk result (self.new ≡ self.old ++ member ∷ []) }
         ensures err { OnErr result (self.new ≡ self.old) }
     {
+        let tag = tag_of(&member.id);
+        self.tags.reserve(1)?;
         self.items.push(member)?;
+        self.tags.push_reserved(tag);
         Ok(())
     }
 
     /// Replaces the member that has this member's instance; the position in joining order stays (KIP-345).
-    #[tactic(auto, using(crate::proofs::Seats::after_seating))]
+    #[tactic(auto, using(crate::proofs::Seats::after_seating, crate::proofs::Tagging::seated_tags))]
     pub fn replace(&mut self, member: Member)
         requires own_id { is_some (find_member member.id self.old) ≡ false }
         ensures { self.new ≡ seating member self.old }
     {
         seat_one(&mut self.items, member);
+        retag(&mut self.tags, self.items.as_slice());
     }
 
     /// Sets the moment at which the member was last heard.
-    #[tactic(auto, using(crate::proofs::Together::after_hearing))]
+    #[tactic(auto, using(crate::proofs::Together::after_hearing, crate::proofs::Tagging::tags_after_hearing))]
     pub fn hear(&mut self, id: &MemberId, now: Moment)
         ensures { self.new ≡ with_member id.now (heard now) self.old }
     {
-        hear_one(&mut self.items, id, now);
+        hear_one(&mut self.items, self.tags.as_slice(), id, now);
     }
 
     /// Parks a call of the member. If an older one was parked, the member also counts as heard, as that call gets a
     /// reply.
-    #[tactic(auto, using(crate::proofs::Together::after_waiting))]
+    #[tactic(auto, using(crate::proofs::Together::after_waiting, crate::proofs::Tagging::tags_after_waiting))]
     pub fn wait(&mut self, id: &MemberId, waits: Waits, now: Moment)
         ensures { self.new ≡ with_member id.now (waits_with now waits) self.old }
     {
-        wait_one(&mut self.items, id, waits, now);
+        wait_one(&mut self.items, self.tags.as_slice(), id, waits, now);
     }
 
     /// Replaces the member's timeouts and protocols by those of the JOIN. Its client stays.
-    #[tactic(auto, using(crate::proofs::Together::after_update))]
+    #[tactic(auto, using(crate::proofs::Together::after_update, crate::proofs::Tagging::tags_after_update))]
     pub fn update(&mut self, id: &MemberId, join: CheckedJoin)
         ensures { self.new ≡ with_member id.now (updated join) self.old }
     {
-        update_one(&mut self.items, id, join);
+        update_one(&mut self.items, self.tags.as_slice(), id, join);
     }
 
     /// Clears these parked calls, and marks their members as heard now.
-    #[tactic(auto, unfolding(crate::specs::Waiting::after_answers), using(crate::proofs::Together::after_all_answers))]
+    #[tactic(auto, unfolding(crate::specs::Waiting::after_answers), using(crate::proofs::Together::after_all_answers, crate::proofs::Tagging::tags_after_answers))]
     pub fn answer(&mut self, which: Calls, now: Moment)
         ensures { self.new ≡ after_answers which now self.old }
     {
@@ -346,11 +357,12 @@ impl Members {
     }
 
     /// Removes the member with this id.
-    #[tactic(auto, using(crate::proofs::Together::after_removing))]
+    #[tactic(auto, using(crate::proofs::Together::after_removing, crate::proofs::Tagging::enough_tags))]
     pub fn remove(&mut self, id: &MemberId)
         ensures { self.new ≡ filter (λ m. not (has_id id.now m)) self.old }
     {
         keep_others(&mut self.items, id);
+        retag(&mut self.tags, self.items.as_slice());
     }
 
     /// Returns whether the session of a member has expired.
@@ -361,19 +373,21 @@ impl Members {
     }
 
     /// Removes the members whose session has expired.
-    #[tactic(auto, using(crate::proofs::Together::after_removing))]
+    #[tactic(auto, using(crate::proofs::Together::after_removing, crate::proofs::Tagging::enough_tags))]
     pub fn remove_overdue(&mut self, now: Moment)
         ensures { self.new ≡ filter (λ m. not (is_overdue now m)) self.old }
     {
         keep_timely(&mut self.items, now);
+        retag(&mut self.tags, self.items.as_slice());
     }
 
     /// Removes the dynamic members without a parked call, as the deadline of a rebalance does.
-    #[tactic(auto, using(crate::proofs::Together::after_removing))]
+    #[tactic(auto, using(crate::proofs::Together::after_removing, crate::proofs::Tagging::enough_tags))]
     pub fn remove_idle(&mut self)
         ensures { self.new ≡ filter outstays self.old }
     {
         keep_outstaying(&mut self.items);
+        retag(&mut self.tags, self.items.as_slice());
     }
 
     /// Returns whether a member has a parked call that is one of these.
@@ -392,11 +406,12 @@ impl Members {
 
     /// Sets the assignment of each member to that of its entry, or to no bytes. Indexes the entries once, so the cost
     /// is n log n.
-    #[tactic(auto, using(crate::proofs::Together::after_assigning))]
+    #[tactic(auto, using(crate::proofs::Together::after_assigning, crate::proofs::Tagging::tags_after_assigning))]
     pub fn assigned(self, alloc: Global, entries: &[SyncEntry]) -> Result<Self, AllocError>
         ensures { IfOk result (λ members. members ≡ map (assigned entries.now) self) }
     {
-        let items = assign_in(alloc, entries, self.items)?;
-        Ok(Members { items })
+        let Members { items, tags } = self;
+        let items = assign_in(alloc, entries, items)?;
+        Ok(Members { items, tags })
     }
 }
