@@ -157,7 +157,8 @@ impl Held {
 
     /// Sets the moment at which this member of this group was last heard. No allocation.
     pub fn hear(&mut self, group: &GroupId, id: &MemberId, now: Moment)
-        ensures { (g : Group) → find_group group.now self.old ≡ Some g → self.new ≡ with_group (hearing now id.now g) self.old }
+        ensures heard { (g : Group) → find_group group.now self.old ≡ Some g → self.new ≡ with_group (hearing now id.now g) self.old }
+        ensures absent { find_group group.now self.old ≡ None → self.new ≡ self.old }
     {
         hear_in_index(&mut self.deadlines, self.since, now, group);
         self.loaded.hear(group, id, now);
@@ -167,7 +168,8 @@ impl Held {
     /// and a pass over its members; no allocation.
     pub fn alter<A: Altering + Drop>(&mut self, group: &GroupId, altering: A)
         requires { ChangeKeepsId (A.alters altering) }
-        ensures { (g : Group) → find_group group.now self.old ≡ Some g → self.new ≡ with_group (A.alters altering g) self.old }
+        ensures altered { (g : Group) → find_group group.now self.old ≡ Some g → self.new ≡ with_group (A.alters altering g) self.old }
+        ensures absent { find_group group.now self.old ≡ None → self.new ≡ self.old }
     {
         self.loaded.alter(group, altering);
         let Some(altered) = self.loaded.find(group) else {

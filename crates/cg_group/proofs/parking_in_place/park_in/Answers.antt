@@ -10,7 +10,7 @@ returns-clause-known g c =
     let id_is : c.in_ok-id.id ≡ c.args.own.now = search rules in
     let H : List ℕ → Type 0 = λ i. is_home c.note.new.homes c.args.ticket.session i ≡ true in
     c.settle_older.ensures.known
-    (known-displaced c.args.own.now (g.A.Altering.alters c.args.altering) c.requires.keeps c.args.held.now c.alter.new.self c.alter.ensures c.args.ticket c.args.older c.requires.parks c.requires.loaded (is_home c.note.new.homes) (subst H id_is c.in_ok-note.ensures.here)
+    (known-displaced c.args.own.now (g.A.Altering.alters c.args.altering) c.requires.keeps c.args.held.now c.alter.new.self c.alter.ensures.altered c.args.ticket c.args.older c.requires.parks c.requires.loaded (is_home c.note.new.homes) (subst H id_is c.in_ok-note.ensures.here)
     (known-more (is_home c.args.homes.now) (is_home c.note.new.homes) c.note.ensures.kept c.args.held.now c.requires.known))
 
 pub returns-clause-tight : goal.returns-clause-tight
@@ -21,4 +21,4 @@ returns-clause-tight g c =
       | inl before ↦ inl before
       | inr n ↦ inr (n.0, ap Some (sym id_is ∙ sym n.1))
     ] in
-    tight-displaced c.args.own.now (g.A.Altering.alters c.args.altering) c.requires.keeps c.args.held.now c.alter.new.self c.alter.ensures c.args.ticket c.args.older c.requires.parks c.requires.loaded c.args.homes.now c.note.new.homes c.settle_older.new.homes c.settle_older.ensures.fewer c.settle_older.ensures.filled new c.note.ensures.filled c.settle_older.ensures.gone c.requires.tight
+    tight-displaced c.args.own.now (g.A.Altering.alters c.args.altering) c.requires.keeps c.args.held.now c.alter.new.self c.alter.ensures.altered c.args.ticket c.args.older c.requires.parks c.requires.loaded c.args.homes.now c.note.new.homes c.settle_older.new.homes c.settle_older.ensures.fewer c.settle_older.ensures.filled new c.note.ensures.filled c.settle_older.ensures.gone c.requires.tight
