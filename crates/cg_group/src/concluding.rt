@@ -9,8 +9,8 @@ use cg_held::held::Held;
 use cg_member::effects::Effects;
 use cg_member::group::Group;
 use cg_member::reply::Reply;
-use cg_member::turn::Turn;
-use cg_names::{Code, Moment};
+use cg_member::turn::{Outcome, Turn};
+use cg_names::Moment;
 use cg_request::ticket::Ticket;
 use std::alloc::{AllocError, Global};
 
@@ -29,7 +29,7 @@ pub fn conclude(
     now: Moment,
     held: &mut Held,
     ticket: Ticket,
-    concluding: Result<Turn, Code>,
+    concluding: Outcome,
 ) -> Result<Concluded, AllocError>
     ensures ok { IfOk result
         (λ c. concluded (at_moment now held.old) ticket concluding ≡ outcome (at_moment now held.new) c.effects) }

@@ -15,7 +15,7 @@ use cg_held::sessions::Homes;
 use cg_member::checked::CheckedJoin;
 use cg_member::effects::Effects;
 use cg_member::reply::Reply;
-use cg_member::turn::Turn;
+use cg_member::turn::Outcome;
 use cg_names::{Code, Moment};
 use cg_request::request::JoinRequest;
 use cg_request::ticket::Ticket;
@@ -32,7 +32,7 @@ fn join_checked(
     fresh: Uuid,
     ticket: Ticket,
     groups: &Held,
-) -> Result<Result<Turn, Code>, AllocError>
+) -> Result<Outcome, AllocError>
     requires { is_session_refused r ≡ false }
     ensures ok { IfOk result (λ o. o ≡ join now r fresh ticket groups.now) }
     ensures taken { OnErr result (is_ok (join now r fresh ticket groups.now) ≡ true) }

@@ -25,7 +25,6 @@ use cg_member::effects::Effects;
 use cg_member::fetching::fetched;
 use cg_member::few::Few;
 use cg_member::reply::Reply;
-use cg_member::turn::Turn;
 use cg_names::{Code, GroupId, Moment};
 use cg_record::{Command, Committed, Deleted, Entries};
 use cg_request::commits::Commits;

@@ -21,8 +21,8 @@ use cg_held::settling::{settle, settle_request};
 use cg_member::effects::Effects;
 use cg_member::group::Group;
 use cg_member::member::Member;
-use cg_member::turn::Turn;
-use cg_names::{Code, GroupId, Moment};
+use cg_member::turn::Outcome;
+use cg_names::{GroupId, Moment};
 use cg_request::request::{LeaveRequest, SyncRequest};
 use cg_request::ticket::Ticket;
 use cg_turn::leaving::leave_held;
@@ -37,7 +37,7 @@ fn sync(
     r: &SyncRequest,
     ticket: Ticket,
     groups: &Held,
-) -> Result<Result<Turn, Code>, AllocError>
+) -> Result<Outcome, AllocError>
     ensures ok { IfOk result (λ o. o ≡ sync now r.now ticket groups.now) }
     ensures taken { OnErr result (is_ok (sync now r.now ticket groups.now) ≡ true) }
 {
@@ -58,7 +58,7 @@ fn leave(
     r: &LeaveRequest,
     ticket: Ticket,
     groups: &Held,
-) -> Result<Result<Turn, Code>, AllocError>
+) -> Result<Outcome, AllocError>
     ensures ok { IfOk result (λ o. o ≡ leave now r.now ticket groups.now) }
     ensures taken { OnErr result (is_ok (leave now r.now ticket groups.now) ≡ true) }
 {
@@ -72,7 +72,7 @@ fn leave(
 }
 
 // Returns the id of the group whose step this is; a refusal is no step.
-fn group_of(concluding: &Result<Turn, Code>) -> Result<Option<GroupId>, AllocError>
+fn group_of(concluding: &Outcome) -> Result<Option<GroupId>, AllocError>
     ensures ok { IfOk result (λ id. id ≡ group_of concluding.now) }
     ensures taken { OnErr result (is_ok concluding.now ≡ true) }
 {
@@ -112,7 +112,7 @@ fn note_step(
     alloc: Global,
     homes: &mut Homes,
     session: u64,
-    concluding: &Result<Turn, Code>,
+    concluding: &Outcome,
 ) -> Result<Option<GroupId>, AllocError>
     ensures own { IfOk result (λ id. id ≡ group_of concluding.now) }
     ensures kept { (q : ℕ) (x : List ℕ) → is_home homes.old q x ≡ true → is_home homes.new q x ≡ true }
@@ -162,7 +162,7 @@ pub fn park(
     held: &mut Held,
     homes: &mut Homes,
     ticket: Ticket,
-    concluding: Result<Turn, Code>,
+    concluding: Outcome,
 ) -> Result<Effects, AllocError>
     requires known { AreKnown (is_home homes.old) held.old }
     requires parks { ParksKnown now held.old ticket concluding }

@@ -18,7 +18,7 @@ use cg_member::fencing::checked_member;
 use cg_member::group::Group;
 use cg_member::member::Member;
 use cg_member::members::Members;
-use cg_member::turn::Turn;
+use cg_member::turn::{Outcome, Turn};
 use cg_member::vote::is_common;
 use cg_names::{Code, GroupId, MemberId, Moment, ProtocolName};
 use cg_record::MEMBERS_MAX;
@@ -94,7 +94,7 @@ fn join_stranger(
     fresh: Uuid,
     ticket: Ticket,
     group: &Group,
-) -> Result<Result<Turn, Code>, AllocError>
+) -> Result<Outcome, AllocError>
     ensures ok { IfOk result (λ o. o ≡ join_held now r fresh ticket None group.now) }
     ensures err { OnErr result (is_ok (join_held now r fresh ticket None group.now) ≡ true) }
 {
@@ -175,7 +175,7 @@ pub fn join_held(
     fresh: Uuid,
     ticket: Ticket,
     group: &Group,
-) -> Result<Result<Turn, Code>, AllocError>
+) -> Result<Outcome, AllocError>
     ensures ok { IfOk result (λ o. o ≡ join_held now r fresh ticket r.member group.now) }
     ensures err { OnErr result (is_ok (join_held now r fresh ticket r.member group.now) ≡ true) }
 {
@@ -218,7 +218,7 @@ pub fn join_unheld(
     ticket: Ticket,
     loaded: usize,
     id: GroupId,
-) -> Result<Result<Turn, Code>, AllocError>
+) -> Result<Outcome, AllocError>
     ensures ok { IfOk result (λ o. o ≡ join_unheld now r fresh ticket loaded id) }
     ensures err { OnErr result (is_ok (join_unheld now r fresh ticket loaded id) ≡ true) }
 {

@@ -14,7 +14,7 @@ use cg_member::group::{Group, Phase};
 use cg_member::member::Member;
 use cg_member::members::Members;
 use cg_member::reply::Reply;
-use cg_member::turn::Turn;
+use cg_member::turn::{Outcome, Turn};
 use cg_names::{Code, InstanceId, MemberId, Moment};
 use cg_request::request::LeaveRequest;
 use cg_request::ticket::Ticket;
@@ -154,7 +154,7 @@ pub fn leave_held(
     r: &LeaveRequest,
     ticket: Ticket,
     group: &Group,
-) -> Result<Result<Turn, Code>, AllocError>
+) -> Result<Outcome, AllocError>
     ensures ok { IfOk result (λ o. o ≡ leave_held now r.now ticket group.now) }
     ensures err { OnErr result (is_ok (leave_held now r.now ticket group.now) ≡ true) }
 {

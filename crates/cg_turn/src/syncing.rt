@@ -13,7 +13,7 @@ use cg_member::few::Few;
 use cg_member::group::{Group, Phase};
 use cg_member::member::{Member, Waits};
 use cg_member::reply::Reply;
-use cg_member::turn::Turn;
+use cg_member::turn::{Outcome, Turn};
 use cg_names::{Code, MemberId, Moment, ProtocolName};
 use cg_record::{Assigned, Assignment, Command, CompletedGeneration, Member as KeptMember, Roster};
 use cg_request::request::{SyncEntry, SyncRequest};
@@ -270,7 +270,7 @@ pub fn sync_held(
     r: &SyncRequest,
     ticket: Ticket,
     group: &Group,
-) -> Result<Result<Turn, Code>, AllocError>
+) -> Result<Outcome, AllocError>
     ensures ok { IfOk result (λ o. o ≡ sync_held now r.now ticket group.now) }
     ensures err { OnErr result (is_ok (sync_held now r.now ticket group.now) ≡ true) }
 {
