@@ -72,13 +72,6 @@ in_members tags ms i t lt =
     let as_many : length tags ≡ length ms = ap length t ∙ as_many_tags ms in
     omega arith
 
-absent : (n k : ℕ) → k ≤ n → None ≡ cond (nat_lt n k) (Some n) None
-absent n k le = grind (arith, nat_tests)
-
--- where every member was passed, none has the id
-pub no_place : (id : List ℕ) (ms : List Member) → length ms ≤ position_or_len (has_id id) ms → None ≡ position (has_id id) ms
-no_place id ms le = absent (position_or_len (has_id id) ms) (length ms) le
-
 -- tags stay those of the ids where a change keeps the ids
 unmoved : (tags : List ℕ) (ms ns : List Member) → tags_of ns ≡ tags_of ms → tags ≡ tags_of ms → tags ≡ tags_of ns
 unmoved tags ms ns same t = t ∙ sym same
