@@ -17,7 +17,7 @@ use Rattle.cg_member.specs.Rebalance.{completed, is_ready, prepared, tried, turn
 use Rattle.cg_member.specs.Waiting.{is_waiting}
 
 -- another member than this one has not joined yet
-abbrev lags : List ℕ → Member → Bool
+abbrev pub lags : List ℕ → Member → Bool
 lags id m = not (has_id id m) && not (is_waiting Joins m)
 
 lags_by : (a b c : Bool) → (not a && not b) || c ≡ true → a ≡ true → c ≡ true
@@ -44,7 +44,7 @@ not_all_by true true c d h k = k h
 not_all_by false true c d h k = k h
 
 -- so not every member has joined
-lags-not_all : (id : List ℕ) (ms : List Member) → list_any (lags id) ms ≡ true → list_all (is_waiting Joins) ms ≡ false
+pub lags-not_all : (id : List ℕ) (ms : List Member) → list_any (lags id) ms ≡ true → list_all (is_waiting Joins) ms ≡ false
 lags-not_all id [] h = absurd (false≢true h)
 lags-not_all id (m ∷ ms) h = not_all_by (has_id id m) (is_waiting Joins m) (list_any (lags id) ms) (list_all (is_waiting Joins) ms) h (lags-not_all id ms)
 

@@ -1,3 +1,5 @@
+pub mod Departing
+pub mod Entering
 pub mod Leading
 pub mod Rostering
 pub mod Lagging

@@ -1,4 +1,5 @@
 pub mod Admission
 pub mod Beating
 pub mod Committing
+pub mod Entering
 pub mod Touching

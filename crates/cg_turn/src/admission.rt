@@ -5,7 +5,7 @@ ghost use Rattle.std.specs.List.{list_any};
 ghost use Rattle.cg_record.specs.declared.roster.TheConstants.{MEMBERS_MAX};
 ghost use Rattle.cg_member.specs.Membership.{is_named, find_member, find_instance};
 ghost use Rattle.cg_member.specs.Vote.{is_common};
-ghost use Rattle.cg_member.specs.Joining.{is_inconsistent, join_current, join_known};
+ghost use Rattle.cg_member.specs.Joining.{drawn, is_inconsistent, join_current, join_known, own_name};
 ghost use Rattle.cg_turn.specs.Admission.{is_full, join_placed, join_held, join_unheld};
 
 use crate::bounds::GROUPS_MAX;
@@ -85,8 +85,29 @@ fn join_placed(
     }
 }
 
-// The refusals come before the first allocation.
+/// Returns the error code of a JOIN by a new member in a loaded group, if it is refused. No allocation.
 #[tactic(auto, unfolding(crate::specs::Admission::join_held, crate::specs::Admission::join_drawn))]
+pub fn stranger_refusal(r: &JoinRequest, fresh: Uuid, group: &Group) -> Option<Code>
+    ensures refused { MatchOption result
+        ((now : ℕ) (ticket : Ticket) → join_held now r.now fresh ticket None group.now ≡ Ok (join_placed now r.now (drawn (own_name r.now) fresh) ticket group.now (find_instance r.now.instance group.now.members)))
+        (λ code. (now : ℕ) (ticket : Ticket) → join_held now r.now fresh ticket None group.now ≡ Err code) }
+    ensures room { result ≡ None → is_full (find_instance r.now.instance group.now.members) group.now.members ≡ false }
+    ensures own_id { result ≡ None → is_some (find_member (drawn (own_name r.now) fresh) group.now.members) ≡ false }
+{
+    let old = group.members.find_instance(&r.instance);
+    if is_full(old, &group.members) {
+        return Some(Code::GroupMaxSizeReached);
+    }
+    if is_inconsistent(r, group) {
+        return Some(Code::InconsistentGroupProtocol);
+    }
+    if is_drawn_held(r, fresh, &group.members) {
+        return Some(Code::CoordinatorNotAvailable);
+    }
+    None
+}
+
+// The refusals come before the first allocation.
 fn join_stranger(
     alloc: Global,
     now: Moment,
@@ -98,15 +119,8 @@ fn join_stranger(
     ensures ok { IfOk result (λ o. o ≡ join_held now r fresh ticket None group.now) }
     ensures err { OnErr result (is_ok (join_held now r fresh ticket None group.now) ≡ true) }
 {
-    let old = group.members.find_instance(&r.request.instance);
-    if is_full(old, &group.members) {
-        return Ok(Err(Code::GroupMaxSizeReached));
-    }
-    if is_inconsistent(&r.request, group) {
-        return Ok(Err(Code::InconsistentGroupProtocol));
-    }
-    if is_drawn_held(&r.request, fresh, &group.members) {
-        return Ok(Err(Code::CoordinatorNotAvailable));
+    if let Some(code) = stranger_refusal(&r.request, fresh, group) {
+        return Ok(Err(code));
     }
     let id = drawn(alloc, &r.request, fresh)?;
     let turn = join_placed(alloc, now, r, id, ticket, group)?;

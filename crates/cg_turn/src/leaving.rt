@@ -1,11 +1,14 @@
 //! LEAVE (LeaveGroup request), and closed sessions.
-ghost use Rattle.std.specs.Prelude.{◌≡◌, Ok, Err, Some, true, not, is_ok, IfOk, OnErr, MatchResult};
+ghost use Rattle.std.specs.Prelude.{◌≡◌, ◌⊎◌, ℕ, Bool, Ok, Err, Some, true, not, filter, is_ok, IfOk, OnErr, MatchOption, MatchResult, ⊤};
 ghost use Rattle.cg_member.specs.Leaving.{after_removal, left, leave_taken, may_be, leaver, leave_held, gone_in};
 ghost use Rattle.cg_turn.specs.Touching.{gone_touches};
 ghost use Rattle.cg_member.specs.Membership.{has_id, is_named, keeping, leader_among};
 ghost use Rattle.std.specs.List.{list_any};
+ghost use Rattle.cg_member.specs.declared.member.Member.{Member};
+ghost use Rattle.cg_request.specs.declared.ticket.Ticket.{Ticket};
 
-use crate::rebalance::{leads, prepared, tried, turn_of};
+use crate::parking::waits_for_others;
+use crate::rebalance::{is_preparing, leads, prepared, tried, turn_of};
 use cg_member::answers::{Refusing, answer_all, answer_one};
 use cg_member::calls::{Calls, is_waiting};
 use cg_member::copies::copied_group;
@@ -27,12 +30,19 @@ fn has_leader(group: &Group) -> bool
 }
 
 /// Clears the leader if it is not a member any more.
+pub fn check_leader(group: &mut Group)
+    ensures { group.new ≡ record group.old { leader = leader_among group.old.members group.old.leader } }
+{
+    if !has_leader(group) {
+        group.leader = None;
+    }
+}
+
+/// Returns the group, without a leader if that is not a member any more.
 pub fn checked_leader(mut group: Group) -> Group
     ensures { result ≡ record group { leader = leader_among group.members group.leader } }
 {
-    if !has_leader(&group) {
-        group.leader = None;
-    }
+    check_leader(&mut group);
     group
 }
 
@@ -165,6 +175,26 @@ pub fn leave_held(
             Ok(Ok(turn))
         }
     }
+}
+
+/// Returns the member that a LEAVE only removes: a rebalance is under way, and another member has not joined yet. `None` for
+/// any other LEAVE. No allocation.
+#[tactic(auto, unfolding(cg_member::specs::Leaving::leave_held))]
+pub fn departing<'a>(r: &LeaveRequest, group: &'a Group) -> Option<&'a Member>
+    ensures left { MatchOption result ⊤ (λ m. (now : ℕ) (ticket : Ticket) → leave_held now r.now ticket group.now ≡ Ok (left m.now.id ticket m.now group.now)) }
+    ensures others { MatchOption result ⊤ (λ m. (is_parked : Member → Bool) → list_any is_parked group.now.members ≡ true
+        → (list_any is_parked (filter (λ other. not (has_id m.now.id other)) group.now.members) ≡ true) ⊎ (is_parked m.now ≡ true)) }
+{
+    if !is_preparing(group.phase) {
+        return None;
+    }
+    let Ok(member) = leaver(r, &group.members) else {
+        return None;
+    };
+    if !waits_for_others(&member.id, group.members.as_slice()) {
+        return None;
+    }
+    Some(member)
 }
 
 /// Returns whether a call of the session is parked in the group. Linear in the members, no allocation.

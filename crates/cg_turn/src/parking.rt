@@ -1,7 +1,7 @@
-//! Requests that are only parked: they change one member, and no rebalance begins or ends with them.
-ghost use Rattle.std.specs.Prelude.{◌≡◌, ◌&&◌, ℕ, List, Some, Ok, not, IfSome, MatchOption, ⊤};
+//! Requests that are only parked: they change or add one member, and no rebalance begins or ends with them.
+ghost use Rattle.std.specs.Prelude.{◌≡◌, ◌&&◌, ℕ, List, Some, Ok, not, true, IfSome, MatchOption, ⊤};
 ghost use Rattle.std.specs.List.{list_any};
-ghost use Rattle.cg_member.specs.Joining.{updating, waiting};
+ghost use Rattle.cg_member.specs.Joining.{drawn, own_name, updating, waiting};
 ghost use Rattle.cg_member.specs.Membership.{find_member, has_id, hearing};
 ghost use Rattle.cg_member.specs.Rebalance.{turn_of};
 ghost use Rattle.cg_member.specs.Syncing.{sync_held};
@@ -10,15 +10,17 @@ ghost use Rattle.cg_member.specs.declared.calls.Calls.TheVariants.{Joins};
 ghost use Rattle.cg_member.specs.declared.member.Waits.TheVariants.{Join, Sync};
 ghost use Rattle.cg_request.specs.declared.ticket.Ticket.{Ticket};
 ghost use Rattle.cg_turn.specs.Admission.{join_held};
+ghost use Rattle.cg_turn.specs.Entering.{HasPlace, entered};
 
-use crate::admission::rejoiner;
-use crate::rebalance::leads;
+use crate::admission::{rejoiner, stranger_refusal};
+use crate::rebalance::{is_preparing, leads};
 use cg_member::calls::{Calls, is_waiting};
 use cg_member::fencing::checked_member;
 use cg_member::group::{Group, Phase};
 use cg_member::member::Member;
 use cg_names::MemberId;
 use cg_request::request::{JoinRequest, SyncRequest};
+use uuid::Uuid;
 
 /// Returns the member whose SYNC is only parked, with the id that the SYNC gives: a follower, before the SYNC of its leader.
 /// No allocation.
@@ -47,8 +49,8 @@ pub fn parking_syncer<'a, 'b>(
     Some((id, member))
 }
 
-// Returns whether a member other than this one has not joined yet.
-fn waits_for_others(id: &MemberId, members: &[Member]) -> bool
+/// Returns whether a member other than this one has not joined yet.
+pub fn waits_for_others(id: &MemberId, members: &[Member]) -> bool
     ensures { result ≡ list_any (λ m. not (has_id id.now m) && not (is_waiting Joins m)) members.now }
 {
     members
@@ -77,4 +79,19 @@ pub fn parking_joiner<'a, 'b>(
         return None;
     }
     Some((id, member))
+}
+
+/// Returns whether the JOIN is that of a new member and is only parked: a rebalance is under way, and another member has not
+/// joined yet. No allocation.
+pub fn is_entering(r: &JoinRequest, fresh: Uuid, group: &Group) -> bool
+    ensures parked { result ≡ true → (now : ℕ) (ticket : Ticket) → join_held now r.now fresh ticket r.now.member group.now ≡ Ok (turn_of (entered now r.now (drawn (own_name r.now) fresh) ticket group.now)) }
+    ensures place { result ≡ true → HasPlace (drawn (own_name r.now) fresh) r.now.instance group.now.members }
+{
+    if !is_preparing(group.phase) || group.members.all_wait(Calls::Joins) {
+        return false;
+    }
+    if r.member.is_some() || group.members.find_instance(&r.instance).is_some() {
+        return false;
+    }
+    stranger_refusal(r, fresh, group).is_none()
 }

@@ -15,7 +15,7 @@ use cg_member::member::{Member, Waits};
 use cg_member::reply::Reply;
 use cg_member::turn::{Outcome, Turn};
 use cg_names::{Code, MemberId, Moment, ProtocolName};
-use cg_record::{Assigned, Assignment, Command, CompletedGeneration, Member as KeptMember, Roster};
+use cg_record::{Assigned, Command, CompletedGeneration, Member as KeptMember, Roster};
 use cg_request::request::{SyncEntry, SyncRequest};
 use cg_request::ticket::Ticket;
 use std::alloc::{AllocError, Global};
