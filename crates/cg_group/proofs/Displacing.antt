@@ -93,7 +93,7 @@ any-same p id change keeps (x ∷ xs) =
     ]
 
 -- the session of a parked call
-of_session : (q : ℕ) (w : Waits) → is_some (called (OfSession q) w) ≡ true → CameOn (called Any w) q
+pub of_session : (q : ℕ) (w : Waits) → is_some (called (OfSession q) w) ≡ true → CameOn (called Any w) q
 of_session q Nothing e = absurd (false≢true e)
 of_session q (Join t) e =
     (elim (t.session == q) as (λ b. (t.session == q) ≡ b → is_some (if b then Some t else None) ≡ true → Some t.session ≡ Some q) [
@@ -109,7 +109,7 @@ of_session q (Sync t) e =
 same_session : (q : ℕ) → (q == q) ≡ true
 same_session q = (elim (q == q) as (λ b. (q == q) ≡ b → b ≡ true) [ true ↦ λ _. refl | false ↦ λ e. absurd (eqb-false q q e refl) ]) refl
 
-asked_join : (t : Ticket) → is_some (called (OfSession t.session) (Join t)) ≡ true
+pub asked_join : (t : Ticket) → is_some (called (OfSession t.session) (Join t)) ≡ true
 asked_join t = ap (λ b. is_some (if b then Some t else None)) (same_session t.session)
 
 asked_sync : (t : Ticket) → is_some (called (OfSession t.session) (Sync t)) ≡ true

@@ -26,4 +26,6 @@ pub mod Dated
 pub mod Asked
 pub mod TightIndex
 pub mod Committers
+pub mod Departures
 pub mod Displacing
+pub mod Newcomers

@@ -15,6 +15,16 @@ use Rattle.cg_held.specs.Sessions.{IsFilled, IsLetGo, IsTight, is_home, is_parke
 use Rattle.cg_held.proofs.InOrder.{found_named}
 use Rattle.cg_held.proofs.Tight.{tight_put, were_in}
 
+-- an index that got one session with a group got it with the group of this id
+pub noted_named : (homes0 homes1 : BTreeMap ℕ (BTreeMap (List ℕ) Home)) (session : ℕ) (id own : List ℕ) → id ≡ own
+    → ((q : ℕ) (x : List ℕ) → is_home homes1 q x ≡ true → (is_home homes0 q x ≡ true) ⊎ ((session ≡ q) × (x ≡ id)))
+    → (q : ℕ) (x : List ℕ) → is_home homes1 q x ≡ true → (is_home homes0 q x ≡ true) ⊎ ((session ≡ q) × (Some own ≡ Some x))
+noted_named homes0 homes1 session id own named fewer q x here =
+    elim (fewer q x here) as (λ _. (is_home homes0 q x ≡ true) ⊎ ((session ≡ q) × (Some own ≡ Some x))) [
+      | inl before ↦ inl before
+      | inr n ↦ inr (n.0, ap Some (sym named ∙ sym n.1))
+    ]
+
 module _ (homes0 homes1 final : BTreeMap ℕ (BTreeMap (List ℕ) Home)) (held0 held1 : List Group)
     (fewer : (q : ℕ) (x : List ℕ) → is_home final q x ≡ true → is_home homes1 q x ≡ true)
     (filled : (q : ℕ) → IsFilled (get nat_cmp homes1 q) → IsFilled (get nat_cmp final q)) where

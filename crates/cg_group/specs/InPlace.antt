@@ -1,30 +1,33 @@
--- Requests that change one member alone: they change it in place. Others replace their group.
-use Rattle.std.specs.Prelude.{◌≡◌, ◌⊎◌, ℕ, Bool, true, false, List, [], Option, Some, None, option_map, Result, Ok, Err}
+-- Requests that change or add one member alone: they change their group in place. Others replace it.
+use Rattle.std.specs.Prelude.{◌≡◌, ◌⊎◌, ℕ, Bool, true, false, not, List, [], ◌∷◌, ◌++◌, Option, Some, None, option_map, Result, Ok, Err}
 use Rattle.std.specs.Option.{option_to_list}
 use Rattle.cg_names.specs.declared.code.Code.{Code}
-use Rattle.cg_names.specs.declared.code.Code.TheVariants.{RebalanceInProgress}
-use Rattle.cg_member.specs.declared.calls.Calls.TheVariants.{Any}
+use Rattle.cg_names.specs.declared.code.Code.TheVariants.{RebalanceInProgress, UnknownMemberId}
+use Rattle.cg_member.specs.declared.calls.Calls.TheVariants.{Any, OfSession}
 use Rattle.cg_member.specs.declared.group.Group.{Group}
 use Rattle.cg_member.specs.declared.member.Member.{Member}
 use Rattle.cg_member.specs.declared.member.Waits.TheVariants.{Join, Sync}
 use Rattle.cg_member.specs.declared.reply.Reply.{Reply}
-use Rattle.cg_member.specs.declared.reply.Reply.TheVariants.{Refused}
+use Rattle.cg_member.specs.declared.reply.Reply.TheVariants.{Done, Refused}
 use Rattle.cg_request.specs.declared.request.BeatRequest.{BeatRequest}
 use Rattle.cg_request.specs.declared.request.JoinRequest.{JoinRequest}
+use Rattle.cg_request.specs.declared.request.LeaveRequest.{LeaveRequest}
 use Rattle.cg_request.specs.declared.request.SyncRequest.{SyncRequest}
 use Rattle.cg_request.specs.declared.ticket.Ticket.{Ticket}
 use Rattle.cg_member.specs.declared.turn.Turn.{Turn}
 use Rattle.cg_turn.specs.Admission.{join_held}
+use Rattle.cg_turn.specs.Entering.{HasPlace, entered}
 use Rattle.cg_turn.specs.Beating.{beat_held, beat_reply, beat_taken}
 use Rattle.cg_group.specs.Machine.{concluded}
 use Rattle.cg_held.specs.Held.{at_moment, find_group, outcome, with_group}
 use Rattle.cg_held.specs.Sessions.{AreKnown, Known, is_parked}
 use Rattle.cg_member.specs.declared.effects.Effects.{Effects}
-use Rattle.cg_member.specs.Joining.{is_session_refused, join_current, updating, waiting}
-use Rattle.cg_member.specs.Membership.{find_member, hearing}
+use Rattle.cg_member.specs.Joining.{drawn, is_session_refused, join_current, own_name, updating, waiting}
+use Rattle.cg_member.specs.Leaving.{leave_held, left}
+use Rattle.cg_member.specs.Membership.{find_member, has_id, hearing, keeping}
 use Rattle.cg_member.specs.Rebalance.{joined_reply, turn_of}
 use Rattle.cg_member.specs.Syncing.{sync_current, sync_held}
-use Rattle.cg_member.specs.Waiting.{called}
+use Rattle.cg_member.specs.Waiting.{called, is_waiting}
 
 -- the request names this group, and it is loaded
 pub record IsNamed (given : Option (List ℕ)) (groups : List Group) (own : List ℕ) (group : Group) : Type 0 where
@@ -69,6 +72,14 @@ pub record IsJoinParked (r : JoinRequest) (groups : List Group) (own id : List �
   pub taken : (now : ℕ) (fresh : List ℕ) (ticket : Ticket) → join_held now r fresh ticket r.member group ≡ Ok (waiting now id (Join ticket) (turn_of (updating r id group)))
   pub called : older ≡ called Any member.waits
 
+-- the JOIN of a new member, in the group with this id, is only parked: others have still to join
+pub record IsEntering (r : JoinRequest) (fresh : List ℕ) (groups : List Group) (own : List ℕ) : Type 0 where
+  pub group : Group
+  pub named : IsNamed r.group groups own group
+  pub session : is_session_refused r ≡ false
+  pub place : HasPlace (drawn (own_name r) fresh) r.instance group.members
+  pub taken : (now : ℕ) (ticket : Ticket) → join_held now r fresh ticket r.member group ≡ Ok (turn_of (entered now r (drawn (own_name r) fresh) ticket group))
+
 -- the SYNC of this follower, in the group with this id, is only parked, in place of its older call
 pub record IsSyncParked (r : SyncRequest) (groups : List Group) (own id : List ℕ) (older : Option Ticket) : Type 0 where
   pub group : Group
@@ -77,6 +88,21 @@ pub record IsSyncParked (r : SyncRequest) (groups : List Group) (own id : List �
   pub found : find_member id group.members ≡ Some member
   pub taken : (now : ℕ) (ticket : Ticket) → sync_held now r ticket group ≡ Ok (waiting now id (Sync ticket) (turn_of (hearing now id group)))
   pub called : older ≡ called Any member.waits
+
+-- the LEAVE of this member, in the group with this id, only removes it: others have still to join. Who has a parked call keeps
+-- it, or is the member
+pub record IsDeparture (r : LeaveRequest) (groups : List Group) (own id : List ℕ) (older : Option Ticket) : Type 0 where
+  pub group : Group
+  pub member : Member
+  pub named : IsNamed r.group groups own group
+  pub its : id ≡ member.id
+  pub taken : (now : ℕ) (ticket : Ticket) → leave_held now r ticket group ≡ Ok (left member.id ticket member group)
+  pub others : (session : ℕ) → is_parked session (Some group) ≡ true → (is_parked session (Some (keeping (λ other. not (has_id member.id other)) group)) ≡ true) ⊎ (is_waiting (OfSession session) member ≡ true)
+  pub called : older ≡ called Any member.waits
+
+-- the effects of such a LEAVE: 25 to the parked call of its member, and OK
+abbrev pub departing_effects : Ticket → Option Ticket → Effects
+departing_effects ticket older = record { commands = []; replies = option_to_list (option_map (λ t. (t, Refused UnknownMemberId)) older) ++ (ticket, Done) ∷ [] }
 
 -- the effects of parking a call: no reply to it yet, and 27 to the older call of its member
 abbrev pub parking_effects : Option Ticket → Effects

@@ -1,29 +1,26 @@
 //! Requests that only mark a member as heard. They change the member in place and do not copy its group.
 ghost use Rattle.std.specs.Prelude.{◌≡◌, ℕ, Bool, List, Some, Err, true, is_ok, IfOk, OnErr, MatchResult, MatchOption, ⊤};
 ghost use Rattle.cg_member.specs.declared.group.Group.{Group};
-ghost use Rattle.cg_group.specs.InPlace.{IsBeatIn, IsSyncIn};
+ghost use Rattle.cg_group.specs.InPlace.{IsBeatIn};
 ghost use Rattle.cg_turn.specs.Committing.{commit_by, hearing_committer};
-ghost use Rattle.cg_group.specs.Machine.{reply_alone, concluded, beat, sync};
+ghost use Rattle.cg_group.specs.Machine.{reply_alone, concluded, beat};
 ghost use Rattle.cg_held.specs.Held.{InOrder, at_moment, find_group, outcome, with_group};
 ghost use Rattle.std.specs.Option.{option_copied};
 ghost use Rattle.cg_member.specs.Membership.{hearing};
 ghost use Rattle.cg_member.specs.Offsets.{offsets_after};
-ghost use Rattle.cg_held.specs.Sessions.{AreKnown, StayParked};
-ghost use Rattle.cg_member.specs.Syncing.{sync_current, sync_held};
+ghost use Rattle.cg_held.specs.Sessions.{StayParked};
 
 use crate::naming::named;
 use cg_fold::Offsets;
 use cg_held::held::Held;
 use cg_member::effects::Effects;
-use cg_member::fencing::checked_member;
 use cg_member::few::Few;
-use cg_member::group::{Group, Phase};
-use cg_member::member::Member;
+use cg_member::group::Group;
 use cg_member::reply::Reply;
 use cg_names::{Code, GroupId, MemberId, Moment};
-use cg_record::{Assignment, Committed};
+use cg_record::Committed;
 use cg_request::commits::Commits;
-use cg_request::request::{BeatRequest, SyncRequest};
+use cg_request::request::BeatRequest;
 use cg_request::ticket::Ticket;
 use cg_turn::beating::{beat_reply, beating_member};
 use cg_turn::committing::kept;
@@ -81,66 +78,6 @@ pub fn meet_beat(now: Moment, held: &mut Held, ticket: Ticket, r: &BeatRequest) 
         Err(code) => reply_alone(held.allocator(), ticket, Reply::Refused(code)),
         Ok((own, id, reply)) => hear_in(now, held, own, id, ticket, reply),
     }
-}
-
-// Returns the member whose SYNC gets its reply at once, in a stable group.
-#[tactic(auto, unfolding(cg_member::specs::Syncing::sync_held, cg_member::specs::Syncing::sync_taken))]
-fn syncing_member<'a, 'b>(
-    r: &'a SyncRequest,
-    group: &'b Group,
-) -> Option<(&'a MemberId, &'b Member)>
-    ensures { MatchOption result ⊤
-        (λ p. (now : ℕ) (ticket : Ticket) → sync_held now r.now ticket group.now ≡ Ok (sync_current now p.0.now ticket p.1.now group.now)) }
-{
-    match group.phase {
-        Phase::Stable => {}
-        _ => return None,
-    }
-    let Ok((id, member)) = checked_member(&r.instance, &r.member, &group.members) else {
-        return None;
-    };
-    if i64::from(r.generation) != i64::from(group.generation.get()) {
-        return None;
-    }
-    Some((id, member))
-}
-
-/// Returns the group, the member and the assignment of a SYNC that gets its reply at once, or `None` for any other
-/// SYNC. Copies the assignment.
-pub fn syncing<'a>(
-    r: &'a SyncRequest,
-    groups: &Held,
-) -> Result<Option<(&'a GroupId, &'a MemberId, Assignment)>, AllocError>
-    ensures ok { IfOk result (λ o. MatchOption o ⊤ (λ p. IsSyncIn r.now groups.now p.0.now p.1.now p.2)) }
-    ensures taken { OnErr result ((now : ℕ) (ticket : Ticket) → is_ok (sync now r.now ticket groups.now) ≡ true) }
-{
-    let Ok((own, group)) = named(groups, &r.group) else {
-        return Ok(None);
-    };
-    match syncing_member(r, group) {
-        None => Ok(None),
-        Some((id, member)) => {
-            let assignment = member.assignment.clone()?;
-            Ok(Some((own, id, assignment)))
-        }
-    }
-}
-
-/// Processes a SYNC that gets its reply at once, without an allocation.
-pub fn sync_in(
-    now: Moment,
-    held: &mut Held,
-    ticket: Ticket,
-    own: &GroupId,
-    id: &MemberId,
-    assignment: Assignment,
-) -> Effects
-    ensures met { (r : SyncRequest) → IsSyncIn r held.old own.now id.now assignment
-        → concluded (at_moment now held.old) ticket (sync now r ticket held.old) ≡ outcome (at_moment now held.new) result }
-    ensures known { (r : SyncRequest) (homes : ℕ → List ℕ → Bool) → IsSyncIn r held.old own.now id.now assignment → AreKnown homes held.old → AreKnown homes held.new }
-    ensures parked { (r : SyncRequest) → IsSyncIn r held.old own.now id.now assignment → StayParked held.old held.new }
-{
-    hear_in(now, held, own, id, ticket, Reply::Synced(assignment))
 }
 
 // Marks the committing member as heard, if the commit is from a member.

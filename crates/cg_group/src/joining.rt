@@ -1,15 +1,16 @@
-//! JOIN (JoinGroup request): one that changes nothing or is only parked changes its member in place; any other that is not
-//! refused replaces its group.
+//! JOIN (JoinGroup request): one that changes nothing or is only parked changes its group in place; any other that is not
+//! refused replaces it.
 ghost use Rattle.std.specs.Prelude.{◌≡◌, true, false, is_ok, IfOk, OnErr};
 ghost use Rattle.cg_group.specs.Machine.{concluded, join};
 ghost use Rattle.cg_held.specs.Held.{at_moment, outcome};
 ghost use Rattle.cg_held.specs.Sessions.{AreKnown, IsTight, is_home};
 ghost use Rattle.cg_member.specs.Joining.{is_session_refused};
 
+use crate::entering::{enter_in, entering};
 use crate::in_place::reply_alone;
 use crate::parking::park;
-use crate::parking_in_place::{ParkedJoin, park_in, parking_join};
-use crate::rejoining::{rejoin_in, rejoining};
+use crate::parking_in_place::park_in;
+use crate::rejoining::{ParkedJoin, parking_join, rejoin_in, rejoining};
 use cg_held::held::Held;
 use cg_held::sessions::Homes;
 use cg_member::checked::CheckedJoin;
@@ -56,8 +57,8 @@ fn join_checked(
     }
 }
 
-// Processes a JOIN that cannot be handled in place. Copies the group, unless the JOIN is refused or makes the group.
-fn meet_join_apart(
+// Processes a JOIN that may change something. If it is only parked, its group is changed in place.
+fn meet_join_changing(
     now: Moment,
     held: &mut Held,
     homes: &mut Homes,
@@ -75,48 +76,26 @@ fn meet_join_apart(
     ensures err { OnErr result (held.new ≡ held.old) }
     ensures taken { OnErr result (is_ok (join now r fresh ticket held.old) ≡ true) }
 {
+    if let Some((own, id, older)) = parking_join(&r, held) {
+        let group = own.clone()?;
+        let member = id.clone()?;
+        let altering = ParkedJoin {
+            now,
+            id: member,
+            request: r,
+            ticket,
+        };
+        let effects = park_in(held, homes, ticket, &group, altering, older)?;
+        return Ok(effects);
+    }
+    if let Some(own) = entering(&r, fresh, held) {
+        let group = own.clone()?;
+        let effects = enter_in(now, held, homes, ticket, &group, r, fresh)?;
+        return Ok(effects);
+    }
     let concluding = join_checked(held.allocator(), now, r, fresh, ticket, held)?;
     let effects = park(now, held, homes, ticket, concluding)?;
     Ok(effects)
-}
-
-// Processes any JOIN but one that changes nothing. If it is only parked, its member is changed in place.
-fn meet_join_not_current(
-    now: Moment,
-    held: &mut Held,
-    homes: &mut Homes,
-    ticket: Ticket,
-    r: CheckedJoin,
-    fresh: Uuid,
-) -> Result<Effects, AllocError>
-    requires known { AreKnown (is_home homes.old) held.old }
-    requires tight { IsTight homes.old held.old }
-    requires lawful { is_session_refused r ≡ false }
-    ensures known { AreKnown (is_home homes.new) held.new }
-    ensures tight { IsTight homes.new held.new }
-    ensures ok { IfOk result
-        (λ e. concluded (at_moment now held.old) ticket (join now r fresh ticket held.old) ≡ outcome (at_moment now held.new) e) }
-    ensures err { OnErr result (held.new ≡ held.old) }
-    ensures taken { OnErr result (is_ok (join now r fresh ticket held.old) ≡ true) }
-{
-    match parking_join(&r, held) {
-        Some((own, id, older)) => {
-            let group = own.clone()?;
-            let member = id.clone()?;
-            let altering = ParkedJoin {
-                now,
-                id: member,
-                request: r,
-                ticket,
-            };
-            let effects = park_in(held, homes, ticket, &group, altering, older)?;
-            Ok(effects)
-        }
-        None => {
-            let effects = meet_join_apart(now, held, homes, ticket, r, fresh)?;
-            Ok(effects)
-        }
-    }
 }
 
 // Processes a JOIN whose session timeout is within its limits. If it changes nothing, its member is marked as heard in
@@ -142,14 +121,14 @@ fn meet_join_checked(
     match rejoining(&r, held)? {
         Some((own, id, reply)) => Ok(rejoin_in(now, held, ticket, own, id, reply)),
         None => {
-            let effects = meet_join_not_current(now, held, homes, ticket, r, fresh)?;
+            let effects = meet_join_changing(now, held, homes, ticket, r, fresh)?;
             Ok(effects)
         }
     }
 }
 
-/// Processes a JOIN. Copies the group, unless the JOIN is refused, changes nothing, or is that of a known member and is only
-/// parked. Only a JOIN that is not refused needs an allocation.
+/// Processes a JOIN. Copies the group, unless the JOIN is refused, changes nothing, or is only parked. Only a JOIN that is not
+/// refused needs an allocation.
 #[tactic(auto, unfolding(crate::specs::Machine::join))]
 pub fn meet_join(
     now: Moment,

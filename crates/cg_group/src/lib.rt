@@ -4,15 +4,18 @@
 #![tactic(auto)]
 
 mod concluding;
+mod entering;
 mod groups;
 mod in_place;
 mod joining;
 mod laws;
+mod leaving;
 mod meeting;
 mod naming;
 mod parking;
 mod parking_in_place;
 mod rejoining;
+mod syncing;
 
 pub use groups::Groups;
 pub use laws::{

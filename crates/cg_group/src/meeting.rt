@@ -11,7 +11,8 @@ ghost use Rattle.cg_held.specs.Held.{at_moment, everywhere, find_group, outcome,
 
 use crate::in_place::{commit_in, meet_beat, reply_alone};
 use crate::joining::meet_join;
-use crate::parking::{meet_leave, meet_sync};
+use crate::leaving::meet_leave;
+use crate::syncing::meet_sync;
 use cg_fold::Offsets;
 use cg_held::changes::{Changes, swap_all};
 use cg_held::describing::{description, listings};

@@ -1,7 +1,7 @@
-//! SYNC and LEAVE, which may park a call or complete a rebalance, and `park`, which JOIN uses too.
+//! A step that may park its request: its group replaces the old one, and the session index is kept.
 ghost use Rattle.std.specs.Prelude.{◌≡◌, ◌⊎◌, ℕ, List, Some, true, false, is_ok, is_some, IfOk, OnErr, OnOk};
 ghost use Rattle.cg_group.specs.InPlace.{ParksKnown, group_of};
-ghost use Rattle.cg_group.specs.Machine.{concluded, leave, sync};
+ghost use Rattle.cg_group.specs.Machine.{concluded};
 ghost use Rattle.cg_held.specs.Held.{at_moment, outcome};
 ghost use Rattle.cg_held.specs.Sessions.{AreKnown, IsFilled, IsLetGo, IsTight, is_home, is_parked};
 ghost use Rattle.cg_member.specs.Waiting.{is_waiting};
@@ -12,64 +12,16 @@ ghost use Rattle.std.specs.List.{list_any};
 ghost use Rattle.std.specs.Ordering.{nat_cmp};
 
 use crate::concluding::{Concluded, conclude};
-use crate::in_place::{sync_in, syncing};
-use crate::naming::named;
-use crate::parking_in_place::{ParkedSync, park_in, parking_sync};
 use cg_held::held::Held;
 use cg_held::sessions::{Homes, note};
-use cg_held::settling::{settle, settle_request};
+use cg_held::settling::settle_request;
 use cg_member::effects::Effects;
 use cg_member::group::Group;
 use cg_member::member::Member;
 use cg_member::turn::Outcome;
 use cg_names::{GroupId, Moment};
-use cg_request::request::{LeaveRequest, SyncRequest};
 use cg_request::ticket::Ticket;
-use cg_turn::leaving::leave_held;
-use cg_turn::syncing::sync_held;
 use std::alloc::{AllocError, Global};
-
-// Returns the step of a SYNC, or its error code. Only a SYNC that is not refused needs an allocation.
-#[tactic(auto, unfolding(crate::specs::Machine::sync))]
-fn sync(
-    alloc: Global,
-    now: Moment,
-    r: &SyncRequest,
-    ticket: Ticket,
-    groups: &Held,
-) -> Result<Outcome, AllocError>
-    ensures ok { IfOk result (λ o. o ≡ sync now r.now ticket groups.now) }
-    ensures taken { OnErr result (is_ok (sync now r.now ticket groups.now) ≡ true) }
-{
-    match named(groups, &r.group) {
-        Err(code) => Ok(Err(code)),
-        Ok((_, group)) => {
-            let taken = sync_held(alloc, now, r, ticket, group)?;
-            Ok(taken)
-        }
-    }
-}
-
-// Returns the step of a LEAVE, or its error code. Only a LEAVE that is not refused needs an allocation.
-#[tactic(auto, unfolding(crate::specs::Machine::leave))]
-fn leave(
-    alloc: Global,
-    now: Moment,
-    r: &LeaveRequest,
-    ticket: Ticket,
-    groups: &Held,
-) -> Result<Outcome, AllocError>
-    ensures ok { IfOk result (λ o. o ≡ leave now r.now ticket groups.now) }
-    ensures taken { OnErr result (is_ok (leave now r.now ticket groups.now) ≡ true) }
-{
-    match named(groups, &r.group) {
-        Err(code) => Ok(Err(code)),
-        Ok((_, group)) => {
-            let taken = leave_held(alloc, now, r, ticket, group)?;
-            Ok(taken)
-        }
-    }
-}
 
 // Returns the id of the group whose step this is; a refusal is no step.
 fn group_of(concluding: &Outcome) -> Result<Option<GroupId>, AllocError>
@@ -185,118 +137,4 @@ pub fn park(
             Err(wanting)
         }
     }
-}
-
-// Processes the SYNC of a leader, or one that is refused. Copies the group only for the leader's.
-fn meet_sync_apart(
-    now: Moment,
-    held: &mut Held,
-    homes: &mut Homes,
-    ticket: Ticket,
-    r: &SyncRequest,
-) -> Result<Effects, AllocError>
-    requires known { AreKnown (is_home homes.old) held.old }
-    requires tight { IsTight homes.old held.old }
-    ensures known { AreKnown (is_home homes.new) held.new }
-    ensures tight { IsTight homes.new held.new }
-    ensures ok { IfOk result
-        (λ e. concluded (at_moment now held.old) ticket (sync now r.now ticket held.old) ≡ outcome (at_moment now held.new) e) }
-    ensures err { OnErr result (held.new ≡ held.old) }
-    ensures taken { OnErr result (is_ok (sync now r.now ticket held.old) ≡ true) }
-{
-    let concluding = sync(held.allocator(), now, r, ticket, held)?;
-    let effects = park(now, held, homes, ticket, concluding)?;
-    Ok(effects)
-}
-
-// Processes a SYNC that does not get its assignment at once. If it is only parked, its member is changed in place.
-fn meet_sync_not_current(
-    now: Moment,
-    held: &mut Held,
-    homes: &mut Homes,
-    ticket: Ticket,
-    r: &SyncRequest,
-) -> Result<Effects, AllocError>
-    requires known { AreKnown (is_home homes.old) held.old }
-    requires tight { IsTight homes.old held.old }
-    ensures known { AreKnown (is_home homes.new) held.new }
-    ensures tight { IsTight homes.new held.new }
-    ensures ok { IfOk result
-        (λ e. concluded (at_moment now held.old) ticket (sync now r.now ticket held.old) ≡ outcome (at_moment now held.new) e) }
-    ensures err { OnErr result (held.new ≡ held.old) }
-    ensures taken { OnErr result (is_ok (sync now r.now ticket held.old) ≡ true) }
-{
-    match parking_sync(r, held) {
-        Some((own, id, older)) => {
-            let altering = ParkedSync { now, id, ticket };
-            let effects = park_in(held, homes, ticket, own, altering, older)?;
-            Ok(effects)
-        }
-        None => {
-            let effects = meet_sync_apart(now, held, homes, ticket, r)?;
-            Ok(effects)
-        }
-    }
-}
-
-/// Processes a SYNC. Copies the group only if the leader gives the assignments.
-pub fn meet_sync(
-    now: Moment,
-    held: &mut Held,
-    homes: &mut Homes,
-    ticket: Ticket,
-    r: &SyncRequest,
-) -> Result<Effects, AllocError>
-    requires known { AreKnown (is_home homes.old) held.old }
-    requires tight { IsTight homes.old held.old }
-    ensures known { AreKnown (is_home homes.new) held.new }
-    ensures tight { IsTight homes.new held.new }
-    ensures ok { IfOk result
-        (λ e. concluded (at_moment now held.old) ticket (sync now r.now ticket held.old) ≡ outcome (at_moment now held.new) e) }
-    ensures err { OnErr result (held.new ≡ held.old) }
-    ensures taken { OnErr result (is_ok (sync now r.now ticket held.old) ≡ true) }
-{
-    match syncing(r, held)? {
-        Some((own, id, assignment)) => Ok(sync_in(now, held, ticket, own, id, assignment)),
-        None => {
-            let effects = meet_sync_not_current(now, held, homes, ticket, r)?;
-            Ok(effects)
-        }
-    }
-}
-
-// Updates the session index after a step that parks no call: `replaced` is its group as it was.
-fn settle_replaced(homes: &mut Homes, held: &Held, replaced: &Option<Group>)
-    ensures known { AreKnown (is_home homes.old) held.now → AreKnown (is_home homes.new) held.now }
-    ensures gone { (g : Group) → replaced.now ≡ Some g → (q : ℕ) → is_parked q (Some g) ≡ true → IsLetGo homes.new held.now g.id q }
-    ensures fewer { (q : ℕ) (x : List ℕ) → is_home homes.new q x ≡ true → is_home homes.old q x ≡ true }
-    ensures filled { (q : ℕ) → IsFilled (get nat_cmp homes.old q) → IsFilled (get nat_cmp homes.new q) }
-{
-    if let Some(group) = replaced {
-        settle(homes, held, &group.id, group.members.as_slice());
-    }
-}
-
-/// Processes a LEAVE. Copies the group. Only a LEAVE that is not refused needs an allocation.
-pub fn meet_leave(
-    now: Moment,
-    held: &mut Held,
-    homes: &mut Homes,
-    ticket: Ticket,
-    r: &LeaveRequest,
-) -> Result<Effects, AllocError>
-    requires known { AreKnown (is_home homes.old) held.old }
-    requires tight { IsTight homes.old held.old }
-    ensures known { AreKnown (is_home homes.new) held.new }
-    ensures tight { IsTight homes.new held.new }
-    ensures ok { IfOk result
-        (λ e. concluded (at_moment now held.old) ticket (leave now r.now ticket held.old) ≡ outcome (at_moment now held.new) e) }
-    ensures err { OnErr result (held.new ≡ held.old) }
-    ensures taken { OnErr result (is_ok (leave now r.now ticket held.old) ≡ true) }
-{
-    let alloc = held.allocator();
-    let concluding = leave(alloc, now, r, ticket, held)?;
-    let Concluded { effects, replaced } = conclude(alloc, now, held, ticket, concluding)?;
-    settle_replaced(homes, held, &replaced);
-    Ok(effects)
 }

@@ -165,18 +165,25 @@ impl Held {
     }
 
     /// Changes the group with this id in place, if it is loaded, and finds out its next moment for ticks. Costs three look-ups
-    /// and a pass over its members; no allocation.
-    pub fn alter<A: Altering + Drop>(&mut self, group: &GroupId, altering: A)
-        requires { ChangeKeepsId (A.alters altering) }
-        ensures altered { (g : Group) → find_group group.now self.old ≡ Some g → self.new ≡ with_group (A.alters altering g) self.old }
+    /// and a pass over its members, beside the change. If an allocation fails, nothing changes.
+    pub fn alter<A: Altering + Drop>(
+        &mut self,
+        group: &GroupId,
+        altering: A,
+    ) -> Result<(), AllocError>
+        requires keeps { ChangeKeepsId (A.alters altering) }
+        requires suits { (g : Group) → find_group group.now self.old ≡ Some g → A.Suits altering g }
+        ensures altered { OnOk result ((g : Group) → find_group group.now self.old ≡ Some g → self.new ≡ with_group (A.alters altering g) self.old) }
         ensures absent { find_group group.now self.old ≡ None → self.new ≡ self.old }
+        ensures err { OnErr result (self.new ≡ self.old) }
     {
-        self.loaded.alter(group, altering);
+        self.loaded.alter(group, altering)?;
         let Some(altered) = self.loaded.find(group) else {
-            return;
+            return Ok(());
         };
         let deadline = next_deadline(self.since, altered);
         let _found = self.deadlines.reschedule(group, deadline);
+        Ok(())
     }
 
     /// Returns the ids of the groups that a tick at this moment may change, in their order. Costs a logarithm for each

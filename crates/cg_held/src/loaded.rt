@@ -70,16 +70,20 @@ fn hear_among(groups: &mut BTreeMap<GroupId, Group>, own: &GroupId, id: &MemberI
     }
 }
 
+#[tactic(auto, using(std::proofs::lemmas::Map::Steps::set_value_same))]
 fn alter_among<A: Altering + Drop>(
     groups: &mut BTreeMap<GroupId, Group>,
     own: &GroupId,
     altering: A,
-)
-    ensures some { (g : Group) → get (slice_cmp nat_cmp) groups.old own.now ≡ Some g → groups.new.entries ≡ set_value (is_at (slice_cmp nat_cmp own.now)) groups.old.entries (A.alters altering g) }
+) -> Result<(), AllocError>
+    requires { (g : Group) → get (slice_cmp nat_cmp) groups.old own.now ≡ Some g → A.Suits altering g }
+    ensures some { OnOk result ((g : Group) → get (slice_cmp nat_cmp) groups.old own.now ≡ Some g → groups.new.entries ≡ set_value (is_at (slice_cmp nat_cmp own.now)) groups.old.entries (A.alters altering g)) }
     ensures none { get (slice_cmp nat_cmp) groups.old own.now ≡ None → groups.new.entries ≡ groups.old.entries }
+    ensures err { OnErr result (groups.new.entries ≡ groups.old.entries) }
 {
-    if let Some(group) = groups.get_mut(own) {
-        altering.alter(group);
+    match groups.get_mut(own) {
+        None => Ok(()),
+        Some(group) => altering.alter(group),
     }
 }
 
@@ -171,13 +175,20 @@ impl Loaded {
         hear_among(&mut self.groups, group, id, now);
     }
 
-    /// Changes the group with this id, if it is loaded. No allocation.
-    pub fn alter<A: Altering + Drop>(&mut self, group: &GroupId, altering: A)
-        requires { ChangeKeepsId (A.alters altering) }
-        ensures altered { (g : Group) → find_group group.now self.old ≡ Some g → self.new ≡ with_group (A.alters altering g) self.old }
+    /// Changes the group with this id, if it is loaded. If an allocation fails, nothing changes.
+    pub fn alter<A: Altering + Drop>(
+        &mut self,
+        group: &GroupId,
+        altering: A,
+    ) -> Result<(), AllocError>
+        requires keeps { ChangeKeepsId (A.alters altering) }
+        requires suits { (g : Group) → find_group group.now self.old ≡ Some g → A.Suits altering g }
+        ensures altered { OnOk result ((g : Group) → find_group group.now self.old ≡ Some g → self.new ≡ with_group (A.alters altering g) self.old) }
         ensures absent { find_group group.now self.old ≡ None → self.new ≡ self.old }
+        ensures err { OnErr result (self.new ≡ self.old) }
         ensures in_order { InOrder self.old }
     {
-        alter_among(&mut self.groups, group, altering);
+        alter_among(&mut self.groups, group, altering)?;
+        Ok(())
     }
 }

@@ -4,7 +4,7 @@ use Rattle.cg_member.specs.declared.member.Member.{Member}
 use Rattle.cg_held.specs.Kept.{Each}
 use Rattle.cg_held.specs.Sessions.{IfParked, IsLetGo, is_parked}
 use Rattle.cg_held.proofs.Tight.{at_calls}
-use Rattle.cg_group.proofs.parking.settle_replaced.Goals as goal
+use Rattle.cg_group.proofs.leaving.settle_replaced.Goals as goal
 
 one_group : (g h : Group) → Some g ≡ Some h → g ≡ h
 one_group g h e = cc

@@ -1,7 +1,7 @@
 use Rattle.cg_group.proofs.InPlace.{sync_in_place}
 use Rattle.cg_group.proofs.KnownSessions.{known-heard}
 use Rattle.cg_held.proofs.Tight.{stay_heard}
-use Rattle.cg_group.proofs.in_place.sync_in.Goals as goal
+use Rattle.cg_group.proofs.syncing.sync_in.Goals as goal
 
 pub returns-clause-met : goal.returns-clause-met
 returns-clause-met c =

@@ -6,7 +6,7 @@ use Rattle.cg_member.specs.Refusing.{◌>>=◌}
 use Rattle.cg_member.specs.Syncing.{sync_held}
 use Rattle.cg_group.specs.Machine.{sync}
 use Rattle.cg_group.proofs.InPlace.{named_is, on_err}
-use Rattle.cg_group.proofs.in_place.syncing.Goals as goal
+use Rattle.cg_group.proofs.syncing.syncing.Goals as goal
 
 pub returns-in_err-assignment-in-Some-clause-taken : goal.returns-in_err-assignment-in-Some-clause-taken
 unfolding sync

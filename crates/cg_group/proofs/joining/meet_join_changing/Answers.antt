@@ -1,0 +1,55 @@
+use Rattle.std.proofs.Common.{sym, subst, List, ℕ, Result}
+use Rattle.cg_names.specs.declared.code.Code.{Code}
+use Rattle.cg_member.specs.declared.turn.Turn.{Turn}
+use Rattle.cg_group.specs.InPlace.{IsJoinParked, ParksKnown}
+use Rattle.cg_group.proofs.Displacing.{join_displacing, join_taken, keeps_join, parks_named_join}
+use Rattle.cg_group.proofs.InPlace.{on_err}
+use Rattle.cg_group.proofs.KnownSessions.{parks-join}
+use Rattle.cg_group.proofs.Newcomers.{entering_taken}
+use Rattle.cg_group.proofs.joining.meet_join_changing.Goals as goal
+
+-- a JOIN of a known member that is only parked
+
+pub returns-in_err-group-clause-taken : goal.returns-in_err-group-clause-taken
+returns-in_err-group-clause-taken c =
+    on_err _ _ (join_taken c.args.r c.args.held.now c.in-Some.own.now c.in-Some.id.now c.in-Some.older c.in-Some.ensures c.args.now c.args.fresh c.args.ticket)
+
+pub returns-in_err-member-clause-taken : goal.returns-in_err-member-clause-taken
+returns-in_err-member-clause-taken c =
+    on_err _ _ (join_taken c.args.r c.args.held.now c.in-Some.own.now c.in-Some.id.now c.in-Some.older c.in-Some.ensures c.args.now c.args.fresh c.args.ticket)
+
+pub park_in-requires-clause-keeps : goal.park_in-requires-clause-keeps
+park_in-requires-clause-keeps c = λ g. keeps_join _ _ _ _ g
+
+pub park_in-requires-clause-parks : goal.park_in-requires-clause-parks
+park_in-requires-clause-parks c =
+    let older = c.in-Some.older in
+    let A : List ℕ → Type 0 = λ i. IsJoinParked c.args.r c.args.held.now i c.in-Some.id.now older in
+    let B : List ℕ → Type 0 = λ i. IsJoinParked c.args.r c.args.held.now c.in_ok-group.group i older in
+    let at = subst B (sym c.in_ok-member.ensures.cases) (subst A (sym c.in_ok-group.ensures.cases) c.in-Some.ensures) in
+    λ g found. parks_named_join c.args.now c.args.r c.args.ticket c.args.held.now c.in_ok-group.group c.in_ok-member.member older at g found
+
+pub returns-in_err-effects-clause-taken : goal.returns-in_err-effects-clause-taken
+returns-in_err-effects-clause-taken c =
+    on_err _ _ (join_taken c.args.r c.args.held.now c.in-Some.own.now c.in-Some.id.now c.in-Some.older c.in-Some.ensures c.args.now c.args.fresh c.args.ticket)
+
+pub returns-in-Some-clause-ok : goal.returns-in-Some-clause-ok
+returns-in-Some-clause-ok c =
+    let older = c.in-Some.older in
+    let A : List ℕ → Type 0 = λ i. IsJoinParked c.args.r c.args.held.now i c.in-Some.id.now older in
+    let B : List ℕ → Type 0 = λ i. IsJoinParked c.args.r c.args.held.now c.in_ok-group.group i older in
+    let at = subst B (sym c.in_ok-member.ensures.cases) (subst A (sym c.in_ok-group.ensures.cases) c.in-Some.ensures) in
+    join_displacing c.args.now c.args.r c.args.fresh c.args.ticket c.args.held.now c.park_in.new.held c.in_ok-group.group c.in_ok-member.member older c.in_ok-effects.effects at c.in_ok-effects.ensures.after c.in_ok-effects.ensures.effects
+
+-- a JOIN of a new member that is only parked
+
+pub returns-in_err-group-2-clause-taken : goal.returns-in_err-group-2-clause-taken
+returns-in_err-group-2-clause-taken c =
+    on_err _ _ (entering_taken c.args.r c.args.fresh c.args.held.now c.in-Some-entering.own.now c.in-Some-entering.ensures c.args.now c.args.ticket)
+
+-- any other JOIN
+
+pub park-requires-clause-parks : goal.park-requires-clause-parks
+park-requires-clause-parks c =
+    let P : Result Turn Code → Type 0 = λ o. ParksKnown c.args.now c.args.held.now c.args.ticket o in
+    subst P (sym c.in_ok-concluding.ensures.ok) (parks-join c.args.now c.args.held.now c.args.ticket c.args.r c.args.fresh)
