@@ -97,6 +97,8 @@ struct GroupRates {
     new_group: u64,
     leader_sync: u64,
     session_closed: u64,
+    enter: u64,
+    leave: u64,
 }
 
 fn shared_rates<R: Clock>(rt: &R, alloc: Global, scene: &mut Scene) -> Result<SharedRates> {
@@ -125,6 +127,8 @@ fn measure_once<R: Clock>(rt: &R, alloc: Global, groups: u64, members: u64) -> R
         new_group: rate_once(rt, alloc, GroupEvent::Join, groups, members)?,
         leader_sync: rate_once(rt, alloc, GroupEvent::LeaderSync, groups, members)?,
         session_closed: rate_once(rt, alloc, GroupEvent::Gone, groups, members)?,
+        enter: rate_once(rt, alloc, GroupEvent::Enter, groups, members)?,
+        leave: rate_once(rt, alloc, GroupEvent::Leave, groups, members)?,
     })
 }
 
@@ -166,7 +170,9 @@ fn report_once<R: Print>(rt: &R, rates: GroupRates, base: GroupRates) -> Result<
         "Gone, a call waits",
         rates.session_closed,
         base.session_closed,
-    )
+    )?;
+    report_rate(rt, "JOIN in a rebalance", rates.enter, base.enter)?;
+    report_rate(rt, "LEAVE in a rebalance", rates.leave, base.leave)
 }
 
 // Measures groups like these, and reports them beside the base.

@@ -7,8 +7,8 @@ use crate::values::{assignment, client_id, name, rebalance_timeout, subscription
 use anyhow::{Context, Result, bail};
 use cg_fold::Durable;
 use cg_group::{
-    BeatRequest, CommitRequest, Commits, Effects, Event, Groups, JoinRequest, Protocol, Protocols,
-    Reply, SyncEntries, SyncEntry, SyncRequest, Ticket,
+    BeatRequest, CommitRequest, Commits, Effects, Event, Groups, JoinRequest, LeaveRequest,
+    Protocol, Protocols, Reply, SyncEntries, SyncEntry, SyncRequest, Ticket,
 };
 use cg_names::{GroupId, MemberId};
 use std::alloc::Global;
@@ -53,6 +53,10 @@ pub enum GroupEvent {
     LeaderSync,
     /// The session of a parked SYNC is closed.
     Gone,
+    /// A JOIN of a new member in a rebalance for which others have still to join.
+    Enter,
+    /// A LEAVE of a follower in such a rebalance.
+    Leave,
 }
 
 /// Bytes of a member's subscription, and of its assignment.
@@ -296,7 +300,37 @@ impl Scene {
             GroupEvent::Join => self.first_join(&id),
             GroupEvent::LeaderSync => self.leader_sync(&id),
             GroupEvent::Gone => self.park_sync(&id, n),
+            GroupEvent::Enter => self.enter(&id),
+            GroupEvent::Leave => self.leave(&id),
         }
+    }
+
+    // Makes a stable group whose leader joins again, so that a rebalance waits for all the others. Returns a follower.
+    fn begin_rebalance(&mut self, id: &str) -> Result<MemberId> {
+        let (leader, joined) = self.gather(id)?;
+        self.sync_alone(ticket(), id, leader.clone()?)?;
+        self.join(id, Some(leader), 0)?;
+        last_joined(&joined)
+    }
+
+    // Makes room in such a group, so that also a full one takes a new member.
+    fn enter(&mut self, id: &str) -> Result<Event> {
+        let leave = self.leave(id)?;
+        step(&mut self.groups, leave, now())?;
+        self.first_join(id)
+    }
+
+    fn leave(&mut self, id: &str) -> Result<Event> {
+        let follower = self.begin_rebalance(id)?;
+        let group = name(self.alloc, id)?;
+        Ok(Event::Leave(
+            ticket(),
+            LeaveRequest {
+                group: Some(group),
+                member: Some(follower),
+                instance: None,
+            },
+        ))
     }
 
     fn first_join(&self, id: &str) -> Result<Event> {
