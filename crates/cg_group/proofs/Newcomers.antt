@@ -1,5 +1,5 @@
 -- A new member whose JOIN is parked.
-use Rattle.std.proofs.Common.{◌≡◌, ℕ, Bool, true, List, [], ◌∷◌, inl, Some, None, refl, sym, ap, ◌∙◌, subst}
+use Rattle.std.proofs.Common.{◌≡◌, ℕ, Bool, true, List, [], ◌∷◌, inl, Some, None, sym, ap, ◌∙◌}
 use Rattle.std.specs.Prelude.{is_ok}
 use Rattle.std.specs.List.{list_any}
 use Rattle.std.proofs.lemmas.Bool.{or_left, or_right}
@@ -18,12 +18,9 @@ use Rattle.cg_held.specs.Sessions.{is_known}
 use Rattle.cg_held.proofs.Framed.{each-append}
 use Rattle.cg_member.specs.Joining.{drawn, new_member, own_name}
 use Rattle.cg_member.specs.Waiting.{is_waiting}
-use Rattle.cg_turn.specs.Entering.{HasPlace, entered}
+use Rattle.cg_turn.specs.Entering.{entered}
 use Rattle.cg_group.proofs.Displacing.{asked_join}
 use Rattle.cg_group.proofs.InPlace.{join_here}
-
-pub keeps_entered : (now : ℕ) (r : JoinRequest) (id : List ℕ) (ticket : Ticket) (g : Group) → (entered now r id ticket g).id ≡ g.id
-keeps_entered now r id ticket g = refl
 
 -- the call of the new member is parked, and those of the others stay
 pub parks_entered : (now : ℕ) (r : JoinRequest) (id : List ℕ) (ticket : Ticket) (g : Group) → Parks ticket None g (entered now r id ticket g)
@@ -40,15 +37,6 @@ parks_entered now r id ticket g =
 -- the JOIN is taken
 pub entering_taken : (r : JoinRequest) (fresh : List ℕ) (groups : List Group) (own : List ℕ) → IsEntering r fresh groups own → (now : ℕ) (ticket : Ticket) → is_ok (join now r fresh ticket groups) ≡ true
 entering_taken r fresh groups own at now ticket = ap is_ok (join_here now r fresh ticket groups own at.group at.named at.session ∙ at.taken now ticket)
-
--- the loaded group with its id is the one that the request names
-pub entering_place : (r : JoinRequest) (fresh : List ℕ) (groups : List Group) (own : List ℕ) → IsEntering r fresh groups own → (id : List ℕ) → id ≡ drawn (own_name r) fresh → (g : Group) → find_group own groups ≡ Some g → HasPlace id r.instance g.members
-entering_place r fresh groups own at id named g found =
-    let is : Some at.group ≡ Some g = sym at.named.found ∙ found in
-    let same : at.group ≡ g = cc in
-    let P : Group → Type 0 = λ k. HasPlace id r.instance k.members in
-    let Q : List ℕ → Type 0 = λ i. HasPlace i r.instance at.group.members in
-    subst P same (subst Q (sym named) at.place)
 
 -- the outcome of the JOIN
 pub join_entering : (now : ℕ) (r : JoinRequest) (fresh : List ℕ) (ticket : Ticket) (groups after : List Group) (own id : List ℕ) (e : Effects) → IsEntering r fresh groups own → id ≡ drawn (own_name r) fresh

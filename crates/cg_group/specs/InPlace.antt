@@ -1,4 +1,4 @@
--- Requests that change or add one member alone: they change their group in place. Others replace it.
+-- Requests that change, add or remove one member alone: they change their group in place. Others replace it.
 use Rattle.std.specs.Prelude.{◌≡◌, ◌⊎◌, ℕ, Bool, true, false, not, List, [], ◌∷◌, ◌++◌, Option, Some, None, option_map, Result, Ok, Err}
 use Rattle.std.specs.Option.{option_to_list}
 use Rattle.cg_names.specs.declared.code.Code.{Code}
@@ -89,8 +89,8 @@ pub record IsSyncParked (r : SyncRequest) (groups : List Group) (own id : List �
   pub taken : (now : ℕ) (ticket : Ticket) → sync_held now r ticket group ≡ Ok (waiting now id (Sync ticket) (turn_of (hearing now id group)))
   pub called : older ≡ called Any member.waits
 
--- the LEAVE of this member, in the group with this id, only removes it: others have still to join. Who has a parked call keeps
--- it, or is the member
+-- the LEAVE of this member, in the group with this id, only removes it: others have still to join. A session with a parked call
+-- in the group has one afterwards, or the member's call came on it
 pub record IsDeparture (r : LeaveRequest) (groups : List Group) (own id : List ℕ) (older : Option Ticket) : Type 0 where
   pub group : Group
   pub member : Member

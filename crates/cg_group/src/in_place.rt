@@ -1,5 +1,5 @@
 //! Requests that only mark a member as heard. They change the member in place and do not copy its group.
-ghost use Rattle.std.specs.Prelude.{◌≡◌, ℕ, Bool, List, Some, Err, true, is_ok, IfOk, OnErr, MatchResult, MatchOption, ⊤};
+ghost use Rattle.std.specs.Prelude.{◌≡◌, ℕ, Some, Err, true, is_ok, IfOk, OnErr, MatchResult};
 ghost use Rattle.cg_member.specs.declared.group.Group.{Group};
 ghost use Rattle.cg_group.specs.InPlace.{IsBeatIn};
 ghost use Rattle.cg_turn.specs.Committing.{commit_by, hearing_committer};

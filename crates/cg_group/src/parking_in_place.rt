@@ -1,6 +1,6 @@
 //! Requests that are only parked: they change or add one member, and no rebalance begins or ends with them. The group is
 //! changed in place, and not copied.
-ghost use Rattle.std.specs.Prelude.{◌≡◌, ◌⊎◌, ℕ, List, Some, true, false, is_some, IfOk, OnErr, OnOk};
+ghost use Rattle.std.specs.Prelude.{◌≡◌, ℕ, List, Some, true, is_some, IfOk, OnErr, OnOk};
 ghost use Rattle.std.specs.BTreeMap.{get};
 ghost use Rattle.std.specs.Ordering.{nat_cmp};
 ghost use Rattle.cg_group.specs.InPlace.{Parks, parking_effects, CameOn};

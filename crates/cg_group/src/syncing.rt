@@ -1,5 +1,5 @@
-//! SYNC (SyncGroup request): one that gets its assignment at once or is only parked changes its member in place; that of a leader
-//! replaces its group.
+//! SYNC (SyncGroup request): one that gets its assignment at once or is only parked changes its member in place; one that hands the
+//! assignments in replaces its group.
 ghost use Rattle.std.specs.Prelude.{◌≡◌, ℕ, Bool, List, true, is_ok, IfOk, OnErr, MatchOption, ⊤};
 ghost use Rattle.cg_group.specs.InPlace.{IsSyncIn, IsSyncParked};
 ghost use Rattle.cg_group.specs.Machine.{concluded, sync};
