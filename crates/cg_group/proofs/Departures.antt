@@ -41,26 +41,26 @@ pub departing_taken : (r : LeaveRequest) (groups : List Group) (own : List ℕ) 
     → (now : ℕ) (ticket : Ticket) → is_ok (leave now r ticket groups) ≡ true
 departing_taken r groups own g m named taken now ticket = ap is_ok (leave_here r groups own g named now ticket ∙ taken now ticket)
 
-module _ (r : LeaveRequest) (groups : List Group) (own id : List ℕ) (older : Option Ticket) (at : IsDeparture r groups own id older) where
+module _ (r : LeaveRequest) (groups : List Group) (own id : List ℕ) (parked_call : Option Ticket) (at : IsDeparture r groups own id parked_call) where
   pub departure_taken : (now : ℕ) (ticket : Ticket) → is_ok (leave now r ticket groups) ≡ true
   departure_taken now ticket = departing_taken r groups own at.group at.member at.named at.taken now ticket
 
-  pub departed : (now : ℕ) (ticket : Ticket) (after : List Group) (e : Effects) → ((g : Group) → find_group own groups ≡ Some g → after ≡ with_group (without id g) groups) → e ≡ departing_effects ticket older
+  pub departed : (now : ℕ) (ticket : Ticket) (after : List Group) (e : Effects) → ((g : Group) → find_group own groups ≡ Some g → after ≡ with_group (without id g) groups) → e ≡ departing_effects ticket parked_call
       → concluded (at_moment now groups) ticket (leave now r ticket groups) ≡ outcome (at_moment now after) e
   unfolding concluded left
   departed now ticket after e put made =
       let g : Group = at.group in
       ap (concluded (at_moment now groups) ticket) (leave_here r groups own g at.named now ticket ∙ at.taken now ticket)
       ∙ ap (λ o. outcome (at_moment now (with_group (without at.member.id g) groups)) (departing_effects ticket o)) (sym at.called)
-      ∙ ap (λ i. outcome (at_moment now (with_group (without i g) groups)) (departing_effects ticket older)) (sym at.its)
-      ∙ ap (λ gs. outcome (at_moment now gs) (departing_effects ticket older)) (sym (put g at.named.found))
+      ∙ ap (λ i. outcome (at_moment now (with_group (without i g) groups)) (departing_effects ticket parked_call)) (sym at.its)
+      ∙ ap (λ gs. outcome (at_moment now gs) (departing_effects ticket parked_call)) (sym (put g at.named.found))
       ∙ ap (outcome (at_moment now after)) (sym made)
 
   pub tight_departed : (homes final : BTreeMap ℕ (BTreeMap (List ℕ) Home)) (after : List Group)
       → ((q : ℕ) (x : List ℕ) → is_home final q x ≡ true → is_home homes q x ≡ true)
       → ((q : ℕ) → IsFilled (get nat_cmp homes q) → IsFilled (get nat_cmp final q))
       → ((g : Group) → find_group own groups ≡ Some g → after ≡ with_group (without id g) groups)
-      → ((q : ℕ) → CameOn older q → IsLetGo final after own q)
+      → ((q : ℕ) → CameOn parked_call q → IsLetGo final after own q)
       → IsTight homes groups → IsTight final after
   tight_departed homes final after fewer filled put gone tight =
       let g : Group = at.group in

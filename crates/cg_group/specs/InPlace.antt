@@ -91,18 +91,18 @@ pub record IsSyncParked (r : SyncRequest) (groups : List Group) (own id : List �
 
 -- the LEAVE of this member, in the group with this id, only removes it: others have still to join. A session with a parked call
 -- in the group has one afterwards, or the member's call came on it
-pub record IsDeparture (r : LeaveRequest) (groups : List Group) (own id : List ℕ) (older : Option Ticket) : Type 0 where
+pub record IsDeparture (r : LeaveRequest) (groups : List Group) (own id : List ℕ) (parked : Option Ticket) : Type 0 where
   pub group : Group
   pub member : Member
   pub named : IsNamed r.group groups own group
   pub its : id ≡ member.id
   pub taken : (now : ℕ) (ticket : Ticket) → leave_held now r ticket group ≡ Ok (left member.id ticket member group)
   pub others : (session : ℕ) → is_parked session (Some group) ≡ true → (is_parked session (Some (keeping (λ other. not (has_id member.id other)) group)) ≡ true) ⊎ (is_waiting (OfSession session) member ≡ true)
-  pub called : older ≡ called Any member.waits
+  pub called : parked ≡ called Any member.waits
 
 -- the effects of such a LEAVE: 25 to the parked call of its member, and OK
 abbrev pub departing_effects : Ticket → Option Ticket → Effects
-departing_effects ticket older = record { commands = []; replies = option_to_list (option_map (λ t. (t, Refused UnknownMemberId)) older) ++ (ticket, Done) ∷ [] }
+departing_effects ticket parked = record { commands = []; replies = option_to_list (option_map (λ t. (t, Refused UnknownMemberId)) parked) ++ (ticket, Done) ∷ [] }
 
 -- the effects of parking a call: no reply to it yet, and 27 to the older call of its member
 abbrev pub parking_effects : Option Ticket → Effects

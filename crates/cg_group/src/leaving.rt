@@ -26,7 +26,7 @@ use cg_member::turn::Outcome;
 use cg_names::{Code, GroupId, MemberId, Moment};
 use cg_request::request::LeaveRequest;
 use cg_request::ticket::Ticket;
-use cg_turn::leaving::{check_leader, departing, leave_held};
+use cg_turn::leaving::{departing, leave_held, remove_member};
 use std::alloc::{AllocError, Global};
 
 /// The change of a group by a LEAVE that only removes its member.
@@ -43,10 +43,8 @@ impl Altering for Removal {
 
     ghost alters = { λ p g. keeping (λ other. not (has_id p.id other)) g };
 
-    #[tactic(auto, unfolding(cg_member::specs::Membership::keeping))]
     fn alter(self, group: &mut Group) -> Result<(), AllocError> {
-        group.members.remove(&self.id);
-        check_leader(group);
+        remove_member(&self.id, group);
         Ok(())
     }
 }
@@ -76,13 +74,13 @@ fn departure<'a>(
 fn departing_effects(
     alloc: Global,
     ticket: Ticket,
-    older: Option<Ticket>,
+    parked: Option<Ticket>,
 ) -> Result<Effects, AllocError>
-    ensures { IfOk result (λ e. e ≡ departing_effects ticket older) }
+    ensures { IfOk result (λ e. e ≡ departing_effects ticket parked) }
 {
     let mut replies = Few::new(alloc);
-    if let Some(older) = older {
-        replies.push((older, Reply::Refused(Code::UnknownMemberId)))?;
+    if let Some(parked) = parked {
+        replies.push((parked, Reply::Refused(Code::UnknownMemberId)))?;
     }
     replies.push((ticket, Reply::Done))?;
     Ok(Effects {
@@ -143,10 +141,10 @@ pub fn meet_leave(
     ensures taken { OnErr result (is_ok (leave now r.now ticket held.old) ≡ true) }
 {
     let alloc = held.allocator();
-    if let Some((own, id, older)) = departure(r, held)? {
-        let effects = departing_effects(alloc, ticket, older)?;
+    if let Some((own, id, parked)) = departure(r, held)? {
+        let effects = departing_effects(alloc, ticket, parked)?;
         held.alter(own, Removal { id })?;
-        settle_older(homes, held, own, older);
+        settle_older(homes, held, own, parked);
         return Ok(effects);
     }
     let concluding = leave(alloc, now, r, ticket, held)?;

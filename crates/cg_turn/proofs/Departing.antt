@@ -2,7 +2,7 @@
 use Rattle.std.proofs.Common.{◌≡◌, ℕ, Bool, true, false, cond, not, ◌&&◌, ◌||◌, List, [], ◌∷◌, find, filter, inl, inr, Option, Some, None, Ok, ok_or, refl, sym, ap, ◌∙◌, subst}
 use Rattle.std.specs.Prelude.{◌⊎◌, if◌then◌else◌}
 use Rattle.std.specs.List.{list_all, list_any}
-use Rattle.std.proofs.lemmas.Bool.{and_parts, false≢true, or_left, or_parts, or_right}
+use Rattle.std.proofs.lemmas.Bool.{and_parts, false≢true, not-true, or_left, or_parts, or_right}
 use Rattle.std.proofs.lemmas.Cmp.{nat_list_eq_equiv}
 use Rattle.cg_names.specs.declared.code.Code.TheVariants.{FencedInstanceId, UnknownMemberId}
 use Rattle.cg_member.specs.declared.calls.Calls.TheVariants.{Joins}
@@ -37,17 +37,13 @@ none_removed i (x ∷ xs) none =
     let parts = or_parts (is_same i x.id) (list_any (is_same i) (ids xs)) none in
     ap (λ b. cond (not b) (x ∷ filter (λ y. not (has_id i y)) xs) (filter (λ y. not (has_id i y)) xs)) (nat_list_eq_equiv.symm x.id i ∙ parts.0) ∙ ap (λ ys. x ∷ ys) (none_removed i xs parts.1)
 
-false_from_not : (b : Bool) → not b ≡ true → b ≡ false
-false_from_not true e = sym e
-false_from_not false e = refl
-
 -- where a member was found, and its id is removed: a test that some member passed is passed by one of the others, or by it
 others_after : (w p : Member → Bool) (ms : List Member) (m : Member) → are_distinct (ids ms) ≡ true → find p ms ≡ Some m → list_any w ms ≡ true → (list_any w (filter (λ x. not (has_id m.id x)) ms) ≡ true) ⊎ (w m ≡ true)
 unfolding are_distinct
 others_after w p [] m d e h = cc
 others_after w p (x ∷ xs) m d e h =
     let parts = and_parts (not (list_any (is_same x.id) (ids xs))) (are_distinct (ids xs)) d in
-    let apart : list_any (is_same x.id) (ids xs) ≡ false = false_from_not (list_any (is_same x.id) (ids xs)) parts.0 in
+    let apart : list_any (is_same x.id) (ids xs) ≡ false = not-true (list_any (is_same x.id) (ids xs)) parts.0 in
     let kept : Member → List Member = λ y. filter (λ z. not (has_id y.id z)) xs in
     elim (p x) as (λ b. cond b (Some x) (find p xs) ≡ Some m → (list_any w (filter (λ z. not (has_id m.id z)) (x ∷ xs)) ≡ true) ⊎ (w m ≡ true)) [
       | true ↦ λ e.

@@ -38,12 +38,13 @@ pub fn check_leader(group: &mut Group)
     }
 }
 
-/// Returns the group, without a leader if that is not a member any more.
-pub fn checked_leader(mut group: Group) -> Group
-    ensures { result ≡ record group { leader = leader_among group.members group.leader } }
+/// Removes the member with this id. If it led, the group has no leader.
+#[tactic(auto, unfolding(cg_member::specs::Membership::keeping))]
+pub fn remove_member(id: &MemberId, group: &mut Group)
+    ensures { group.new ≡ keeping (λ other. not (has_id id.now other)) group.old }
 {
-    check_leader(&mut group);
-    group
+    group.members.remove(id);
+    check_leader(group);
 }
 
 /// Starts a rebalance if the members had joined, and completes it if all remaining members have joined.
@@ -58,13 +59,12 @@ pub fn after_removal(alloc: Global, now: Moment, turn: Turn) -> Result<Turn, All
     tried(alloc, now, turn)
 }
 
-#[tactic(auto, unfolding(cg_member::specs::Membership::keeping))]
 fn without(alloc: Global, id: &MemberId, group: &Group) -> Result<Group, AllocError>
     ensures { IfOk result (λ g. g ≡ keeping (λ other. not (has_id id.now other)) group.now) }
 {
     let mut own = copied_group(alloc, group)?;
-    own.members.remove(id);
-    Ok(checked_leader(own))
+    remove_member(id, &mut own);
+    Ok(own)
 }
 
 #[tactic(auto, unfolding(cg_member::specs::Leaving::left))]
@@ -182,8 +182,8 @@ pub fn leave_held(
 #[tactic(auto, unfolding(cg_member::specs::Leaving::leave_held))]
 pub fn departing<'a>(r: &LeaveRequest, group: &'a Group) -> Option<&'a Member>
     ensures left { MatchOption result ⊤ (λ m. (now : ℕ) (ticket : Ticket) → leave_held now r.now ticket group.now ≡ Ok (left m.now.id ticket m.now group.now)) }
-    ensures others { MatchOption result ⊤ (λ m. (is_parked : Member → Bool) → list_any is_parked group.now.members ≡ true
-        → (list_any is_parked (filter (λ other. not (has_id m.now.id other)) group.now.members) ≡ true) ⊎ (is_parked m.now ≡ true)) }
+    ensures others { MatchOption result ⊤ (λ m. (passes : Member → Bool) → list_any passes group.now.members ≡ true
+        → (list_any passes (filter (λ other. not (has_id m.now.id other)) group.now.members) ≡ true) ⊎ (passes m.now ≡ true)) }
 {
     if !is_preparing(group.phase) {
         return None;

@@ -3,7 +3,7 @@ ghost use Rattle.std.specs.Prelude.{◌≡◌, IfOk};
 ghost use Rattle.cg_member.specs.Ticking.{can_complete, expired, greatest_rebalance, is_due, ended, at_deadline, ticked};
 ghost use Rattle.cg_turn.specs.Touching.{earliest_expiry, expiry, next_deadline, rebalance_deadline, tick_touches};
 
-use crate::leaving::{after_removal, checked_leader};
+use crate::leaving::{after_removal, check_leader};
 use crate::rebalance::{completed, is_preparing, is_ready, tried, turn_of};
 use cg_member::calls::{Calls, is_waiting};
 use cg_member::copies::copied_group;
@@ -27,7 +27,7 @@ fn expired(alloc: Global, now: Moment, turn: Turn) -> Result<Turn, AllocError>
         commands,
     } = turn;
     group.members.remove_overdue(now);
-    let group = checked_leader(group);
+    check_leader(&mut group);
     after_removal(
         alloc,
         now,
@@ -96,7 +96,7 @@ fn at_deadline(alloc: Global, now: Moment, turn: Turn) -> Result<Turn, AllocErro
         commands,
     } = turn;
     group.members.remove_idle();
-    let group = checked_leader(group);
+    check_leader(&mut group);
     ended(
         alloc,
         now,

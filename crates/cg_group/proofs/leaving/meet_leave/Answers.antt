@@ -14,34 +14,34 @@ use Rattle.cg_group.proofs.leaving.meet_leave.Goals as goal
 
 pub returns-in_err-effects-clause-taken : goal.returns-in_err-effects-clause-taken
 returns-in_err-effects-clause-taken c =
-    let at : IsDeparture c.args.r.now c.args.held.now c.in-Some.own.now c.in-Some.id c.in-Some.older = search rules in
-    on_err _ _ (departure_taken c.args.r.now c.args.held.now c.in-Some.own.now c.in-Some.id c.in-Some.older at c.args.now c.args.ticket)
+    let at : IsDeparture c.args.r.now c.args.held.now c.in-Some.own.now c.in-Some.id c.in-Some.parked = search rules in
+    on_err _ _ (departure_taken c.args.r.now c.args.held.now c.in-Some.own.now c.in-Some.id c.in-Some.parked at c.args.now c.args.ticket)
 
 pub alter-requires-clause-keeps : goal.alter-requires-clause-keeps
 alter-requires-clause-keeps c = λ g. keeps_without c.in-Some.id g
 
 pub returns-in_err-alter-clause-taken : goal.returns-in_err-alter-clause-taken
 returns-in_err-alter-clause-taken c =
-    let at : IsDeparture c.args.r.now c.args.held.now c.in-Some.own.now c.in-Some.id c.in-Some.older = search rules in
-    on_err _ _ (departure_taken c.args.r.now c.args.held.now c.in-Some.own.now c.in-Some.id c.in-Some.older at c.args.now c.args.ticket)
+    let at : IsDeparture c.args.r.now c.args.held.now c.in-Some.own.now c.in-Some.id c.in-Some.parked = search rules in
+    on_err _ _ (departure_taken c.args.r.now c.args.held.now c.in-Some.own.now c.in-Some.id c.in-Some.parked at c.args.now c.args.ticket)
 
 pub returns-in-Some-clause-known : goal.returns-in-Some-clause-known
 unfolding met
 returns-in-Some-clause-known c =
-    let at : IsDeparture c.args.r.now c.args.held.now c.in-Some.own.now c.in-Some.id c.in-Some.older = search rules in
+    let at : IsDeparture c.args.r.now c.args.held.now c.in-Some.own.now c.in-Some.id c.in-Some.parked = search rules in
     c.settle_older.ensures.known
     (known-after (is_home c.args.homes.now) c.args.now c.args.held.now c.alter.new.self (event.Leave c.args.ticket c.args.r.now) c.in_ok-effects.effects tt
-    (departed c.args.r.now c.args.held.now c.in-Some.own.now c.in-Some.id c.in-Some.older at c.args.now c.args.ticket c.alter.new.self c.in_ok-effects.effects c.in_ok-alter.ensures.altered c.in_ok-effects.ensures) c.requires.known)
+    (departed c.args.r.now c.args.held.now c.in-Some.own.now c.in-Some.id c.in-Some.parked at c.args.now c.args.ticket c.alter.new.self c.in_ok-effects.effects c.in_ok-alter.ensures.altered c.in_ok-effects.ensures) c.requires.known)
 
 pub returns-in-Some-clause-tight : goal.returns-in-Some-clause-tight
 returns-in-Some-clause-tight c =
-    let at : IsDeparture c.args.r.now c.args.held.now c.in-Some.own.now c.in-Some.id c.in-Some.older = search rules in
-    tight_departed c.args.r.now c.args.held.now c.in-Some.own.now c.in-Some.id c.in-Some.older at c.args.homes.now c.settle_older.new.homes c.alter.new.self c.settle_older.ensures.fewer c.settle_older.ensures.filled c.in_ok-alter.ensures.altered c.settle_older.ensures.gone c.requires.tight
+    let at : IsDeparture c.args.r.now c.args.held.now c.in-Some.own.now c.in-Some.id c.in-Some.parked = search rules in
+    tight_departed c.args.r.now c.args.held.now c.in-Some.own.now c.in-Some.id c.in-Some.parked at c.args.homes.now c.settle_older.new.homes c.alter.new.self c.settle_older.ensures.fewer c.settle_older.ensures.filled c.in_ok-alter.ensures.altered c.settle_older.ensures.gone c.requires.tight
 
 pub returns-in-Some-clause-ok : goal.returns-in-Some-clause-ok
 returns-in-Some-clause-ok c =
-    let at : IsDeparture c.args.r.now c.args.held.now c.in-Some.own.now c.in-Some.id c.in-Some.older = search rules in
-    departed c.args.r.now c.args.held.now c.in-Some.own.now c.in-Some.id c.in-Some.older at c.args.now c.args.ticket c.alter.new.self c.in_ok-effects.effects c.in_ok-alter.ensures.altered c.in_ok-effects.ensures
+    let at : IsDeparture c.args.r.now c.args.held.now c.in-Some.own.now c.in-Some.id c.in-Some.parked = search rules in
+    departed c.args.r.now c.args.held.now c.in-Some.own.now c.in-Some.id c.in-Some.parked at c.args.now c.args.ticket c.alter.new.self c.in_ok-effects.effects c.in_ok-alter.ensures.altered c.in_ok-effects.ensures
 
 -- any other LEAVE
 
