@@ -1,5 +1,5 @@
 -- The progress of a run, step by step.
-use Rattle.std.proofs.Common.{take-append-drop, length-drop, ◌-◌, zero, suc, eqb, take, drop, ◌≡◌, ◌≤◌, ◌<◌, ℕ, ◌+◌, true, false, not, ◌&&◌, ◌==◌, List, [], ◌∷◌, ◌++◌, length, Option, None, Some, Result, Ok, Err, sym, ap, ◌∙◌, refl, append_assoc, append-nil, length-append, arith, subst, MatchResult, inl, inr, lit≤}
+use Rattle.std.proofs.Common.{take-append-drop, length-drop, ◌-◌, zero, suc, eqb, take, drop, ◌≡◌, ◌<◌, ℕ, ◌+◌, true, false, not, ◌&&◌, ◌==◌, List, [], ◌∷◌, ◌++◌, length, Option, None, Some, Result, Ok, Err, sym, ap, ◌∙◌, refl, append_assoc, append-nil, length-append, arith, subst, MatchResult, inl, inr, lit≤}
 use Rattle.std.proofs.lemmas.Bool.Decides.{nat_tests}
 use Rattle.std.proofs.Math.Seq.{take-length}
 use Rattle.memchr.specs.Find.{Passes, is_byte}
@@ -12,16 +12,17 @@ use Rattle.cg_member.specs.declared.reply.Reply.{Reply}
 use Rattle.cg_line.specs.declared.ending.RunEnd.TheVariants as ends
 use Rattle.cg_line.specs.declared.ending.RunFault.{RunFault}
 use Rattle.cg_line.specs.declared.ending.RunFault.TheVariants as faults
-use Rattle.cg_line.specs.declared.running.begun.Begun.{Begun}
-use Rattle.cg_line.specs.declared.running.begun.Begun.TheVariants.{Kept, Lost}
+use Rattle.cg_line.specs.declared.running.begun.BegunLine.{BegunLine}
+use Rattle.cg_line.specs.declared.running.begun.BegunLine.TheVariants.{Kept, Lost}
 use Rattle.cg_line.specs.declared.running.stop.Stop.TheVariants.{TooLong, Fault}
 use Rattle.cg_line.specs.declared.words.TheConstants.{LINE_BYTES_MAX}
-use Rattle.cg_line.specs.declared.running.serving.Refusal.{Refusal}
-use Rattle.cg_line.specs.declared.running.serving.Refusal.TheVariants as refused
+use Rattle.cg_line.specs.declared.running.asking.Asked.{Asked}
+use Rattle.cg_line.specs.declared.running.asking.Refusal.{Refusal}
+use Rattle.cg_line.specs.declared.running.asking.Refusal.TheVariants as refused
 use Rattle.cg_line.specs.Replies.{reply_line}
 use Rattle.cg_line.specs.Requests.{IsRequest, request_line}
-use Rattle.cg_line.specs.Lines.{Adds, IsBegun, begun_len}
-use Rattle.cg_line.specs.Running.{EndsAs, HasNoEnd, IsLine, IsServed, Ran, Served, Serves, Turns, answers_text, ended, line_feed, lines_text, malformed_line}
+use Rattle.cg_line.specs.Lines.{Ended, GoesOn, IsBegun, begun_len}
+use Rattle.cg_line.specs.Running.{EndsAs, HasNoEnd, IsLine, IsServed, IsTooLong, Ran, Served, Serves, Turns, answers_text, ended, line_feed, lines_text, malformed_line}
 use Rattle.cg_line.specs.Stream.{Answers, Done, Far, Stopped}
 
 -- Known bytes.
@@ -59,33 +60,21 @@ written_more bytes part rest n is =
 
 -- A line that has begun.
 
-pub begun_length : (begun : Begun) (line : List ℕ) → IsBegun begun line → begun_len begun ≡ length line
+pub begun_length : (begun : BegunLine) (line : List ℕ) → IsBegun begun line → begun_len begun ≡ length line
 begun_length (Kept bytes) line is = ap length is
 begun_length (Lost count) line is = is
 
-pub adds_is : (old new : Begun) (line part : List ℕ) → IsBegun old line → Adds old part new → IsBegun new (line ++ part)
-adds_is (Kept old) (Kept new) line part is adds = adds ∙ ap (λ l. l ++ part) is
-adds_is (Kept old) (Lost count) line part is adds = adds ∙ ap (λ l. length l + length part) is ∙ sym (length-append line part)
-adds_is (Lost old) (Kept new) line part is adds = absurd adds
-adds_is (Lost old) (Lost count) line part is adds = adds ∙ ap (λ n. n + length part) is ∙ sym (length-append line part)
-
-none-of-length : (line : List ℕ) → 0 ≡ length line → line ≡ []
-none-of-length [] is = refl
-none-of-length (b ∷ bs) is = absurd (omega arith)
-
-pub joined_length : (begun : Begun) (line part : List ℕ) → IsBegun begun line → begun_len begun + length part ≤ LINE_BYTES_MAX → length (line ++ part) ≤ LINE_BYTES_MAX
-joined_length begun line part is within = let e = begun_length begun line is in rw (length-append line part, ← e) within
-
-pub joined_long : (begun : Begun) (line part : List ℕ) → IsBegun begun line → LINE_BYTES_MAX < begun_len begun + length part → LINE_BYTES_MAX < length (line ++ part)
+pub joined_long : (begun : BegunLine) (line part : List ℕ) → IsBegun begun line → LINE_BYTES_MAX < begun_len begun + length part → LINE_BYTES_MAX < length (line ++ part)
 joined_long begun line part is long = let e = begun_length begun line is in rw (length-append line part, ← e) long
-
-pub begun_none : (begun : Begun) (line : List ℕ) → IsBegun begun [] → IsBegun begun line → line ≡ []
-begun_none (Kept bytes) line empty is = sym is ∙ empty
-begun_none (Lost count) line empty is = none-of-length line (sym empty ∙ is)
 
 pub no_end_append : (xs ys : List ℕ) → HasNoEnd xs → HasNoEnd ys → HasNoEnd (xs ++ ys)
 no_end_append xs ys p q =
     list_all-append (λ b. not (b == line_feed)) xs ys ∙ ap (λ t. t && list_all (λ b. not (b == line_feed)) ys) p ∙ q
+
+-- a line that is too long before its line feed, or before the end of the bytes
+pub line_too_long : (line bytes front behind : List ℕ) → bytes ≡ front ++ behind → HasNoEnd line → HasNoEnd front → LINE_BYTES_MAX < length (line ++ front) → IsTooLong (line ++ bytes)
+line_too_long line bytes front behind is no_end_line no_end long =
+    (line ++ front, behind, ap (λ l. line ++ l) is ∙ sym (append_assoc line front behind), no_end_append line front no_end_line no_end, long)
 
 pub no_end_all : (bytes : List ℕ) → ((k : ℕ) → k < length bytes → Passes (is_byte line_feed) bytes k → ⊥) → HasNoEnd bytes
 no_end_all [] nowhere = refl
@@ -133,7 +122,7 @@ answers_asked line request reply (Err refused.Memory) text lawful spelled is = (
 -- A run, step by step.
 
 module _ {S : Type 0} (gives : S → Request → Reply → S → Type 0) (read : List ℕ) (before between : S) (old mid : Option (List ℕ)) where
-  pub far_flushed : (new : Option (List ℕ)) (left : List ℕ) (begun : Begun) → Appends mid new [] → Far gives read before between old mid left begun
+  pub far_flushed : (new : Option (List ℕ)) (left : List ℕ) (begun : BegunLine) → Appends mid new [] → Far gives read before between old mid left begun
       → Far gives read before between old new left begun
   far_flushed new left begun flushed far = record {
     served = far.served;
@@ -145,7 +134,7 @@ module _ {S : Type 0} (gives : S → Request → Reply → S → Type 0) (read :
     begun_is = far.begun_is;
   }
 
-  pub far_read : (more : List ℕ) (begun : Begun) → Far gives read before between old mid [] begun → Far gives (read ++ more) before between old mid more begun
+  pub far_read : (more : List ℕ) (begun : BegunLine) → Far gives read before between old mid [] begun → Far gives (read ++ more) before between old mid more begun
   far_read more begun far = record {
     served = far.served;
     line = far.line;
@@ -158,21 +147,21 @@ module _ {S : Type 0} (gives : S → Request → Reply → S → Type 0) (read :
     begun_is = far.begun_is;
   }
 
-  pub far_added : (part : List ℕ) (begun begun' : Begun) → HasNoEnd part → Adds begun part begun' → begun_len begun + length part ≤ LINE_BYTES_MAX
-      → Far gives read before between old mid part begun → Far gives read before between old mid [] begun'
-  far_added part begun begun' no_end adds within far = record {
+  pub far_goes_on : (left : List ℕ) (begun begun' : BegunLine) (far : Far gives read before between old mid left begun) → GoesOn far.line left begun'
+      → Far gives read before between old mid [] begun'
+  far_goes_on left begun begun' far goes = record {
     served = far.served;
-    line = far.line ++ part;
-    read_is = far.read_is ∙ ap (λ l. lines_text far.served ++ l) (sym (append-nil (far.line ++ part)));
+    line = far.line ++ left;
+    read_is = far.read_is ∙ ap (λ l. lines_text far.served ++ l) (sym (append-nil (far.line ++ left)));
     serves = far.serves;
     written = far.written;
-    is_line = (no_end_append far.line part far.is_line.0 no_end, joined_length begun far.line part far.begun_is within);
-    begun_is = adds_is begun begun' far.line part far.begun_is adds;
+    is_line = goes.is_line;
+    begun_is = goes.begun_is;
   }
 
-  pub far_too_long : (front behind left : List ℕ) (begun : Begun) → left ≡ front ++ behind → HasNoEnd front → LINE_BYTES_MAX < begun_len begun + length front
-      → Far gives read before between old mid left begun → Stopped gives (Err TooLong) read before between old mid
-  far_too_long front behind left begun left_is no_end long far = record {
+  pub far_too_long : (left : List ℕ) (begun : BegunLine) (far : Far gives read before between old mid left begun) → IsTooLong (far.line ++ left)
+      → Stopped gives (Err TooLong) read before between old mid
+  far_too_long left begun far long = record {
     text = answers_text far.served;
     written = far.written;
     ran = record {
@@ -180,20 +169,11 @@ module _ {S : Type 0} (gives : S → Request → Reply → S → Type 0) (read :
       rest = far.line ++ left;
       read_is = far.read_is;
       serves = far.serves;
-      ends_so = (
-        refl,
-        (
-          far.line ++ front,
-          behind,
-          ap (λ l. far.line ++ l) left_is ∙ sym (append_assoc far.line front behind),
-          no_end_append far.line front far.is_line.0 no_end,
-          joined_long begun far.line front far.begun_is long,
-        ),
-      );
+      ends_so = (refl, long);
     };
   }
 
-  pub far_ends : (begun : Begun) (u : Unit {0}) → Far gives read before between old mid [] begun → Stopped gives (Ok u) read before between old mid
+  pub far_ends : (begun : BegunLine) (u : Unit {0}) → Far gives read before between old mid [] begun → Stopped gives (Ok u) read before between old mid
   far_ends begun u far = record {
     text = answers_text far.served;
     written = far.written;
@@ -206,7 +186,7 @@ module _ {S : Type 0} (gives : S → Request → Reply → S → Type 0) (read :
     };
   }
 
-  pub far_read_fault : (begun : Begun) → Far gives read before between old mid [] begun → Stopped gives (Err (Fault faults.Read)) read before between old mid
+  pub far_read_fault : (begun : BegunLine) → Far gives read before between old mid [] begun → Stopped gives (Err (Fault faults.Read)) read before between old mid
   far_read_fault begun far = record {
     text = answers_text far.served;
     written = far.written;
@@ -219,7 +199,7 @@ module _ {S : Type 0} (gives : S → Request → Reply → S → Type 0) (read :
     };
   }
 
-  pub far_write_fault : (left : List ℕ) (begun : Begun) → Far gives read before between old mid left begun → Stopped gives (Err (Fault faults.Write)) read before between old mid
+  pub far_write_fault : (left : List ℕ) (begun : BegunLine) → Far gives read before between old mid left begun → Stopped gives (Err (Fault faults.Write)) read before between old mid
   far_write_fault left begun far = record {
     text = answers_text far.served;
     written = far.written;
@@ -232,35 +212,35 @@ module _ {S : Type 0} (gives : S → Request → Reply → S → Type 0) (read :
     };
   }
 
-  module _ (front left : List ℕ) (begun : Begun) (far : Far gives read before between old mid (front ++ (line_feed ∷ left)) begun) (no_end : HasNoEnd front)
-      (within : begun_len begun + length front ≤ LINE_BYTES_MAX) (after : S) (new : Option (List ℕ)) (result : Result (Unit {0}) RunFault)
-      (done : Done gives (far.line ++ front) between after mid new result) where
+  module _ (left behind : List ℕ) (asked : Asked) (begun begun' : BegunLine) (far : Far gives read before between old mid left begun)
+      (is : Ended far.line left asked behind begun') (after : S) (new : Option (List ℕ)) (result : Result (Unit {0}) RunFault)
+      (done : Done gives (far.line ++ is.front) between after mid new result) where
     one : Served
-    one = record { line = far.line ++ front; call = done.call; answer = done.answer }
+    one = record { line = far.line ++ is.front; call = done.call; answer = done.answer }
 
     is_one : IsServed one
     unfolding one
-    is_one = ((no_end_append far.line front far.is_line.0 no_end, joined_length begun far.line front far.begun_is within), done.is_answer)
+    is_one = (is.is_line, done.is_answer)
 
     serves-one : Serves gives before (far.served ++ one ∷ []) after
     unfolding one
     serves-one = serves_more gives before between after far.served one far.serves is_one done.turns
 
-    read-one : (rest : List ℕ) → rest ≡ left → read ≡ lines_text (far.served ++ one ∷ []) ++ rest
+    read-one : read ≡ lines_text (far.served ++ one ∷ []) ++ behind
     unfolding one
-    read-one rest is =
+    read-one =
         far.read_is
-        ∙ ap (λ l. lines_text far.served ++ l) (sym (append_assoc far.line front (line_feed ∷ left)) ∙ sym (append_assoc (far.line ++ front) (line_feed ∷ []) left))
-        ∙ sym (append_assoc (lines_text far.served) (ended (far.line ++ front)) left)
-        ∙ ap (λ l. l ++ left) (sym (one_more (λ s. ended s.line) far.served one))
-        ∙ ap (λ l. lines_text (far.served ++ one ∷ []) ++ l) (sym is)
+        ∙ ap (λ l. lines_text far.served ++ (far.line ++ l)) is.bytes_are
+        ∙ ap (λ l. lines_text far.served ++ l) (sym (append_assoc far.line is.front (line_feed ∷ behind)) ∙ sym (append_assoc (far.line ++ is.front) (line_feed ∷ []) behind))
+        ∙ sym (append_assoc (lines_text far.served) (ended (far.line ++ is.front)) behind)
+        ∙ ap (λ l. l ++ behind) (sym (one_more (λ s. ended s.line) far.served one))
 
-    pub far_line : (u : Unit {0}) (begun' : Begun) → result ≡ Ok u → IsBegun begun' [] → Far gives read before after old new left begun'
+    pub far_line : (u : Unit {0}) → result ≡ Ok u → Far gives read before after old new behind begun'
     unfolding one
-    far_line u begun' ok begins = record {
+    far_line u ok = record {
       served = far.served ++ one ∷ [];
       line = [];
-      read_is = read-one left refl;
+      read_is = read-one;
       serves = serves-one;
       written =
           let whole : done.part ≡ ended done.answer = rw ok at done.whole in
@@ -268,7 +248,7 @@ module _ {S : Type 0} (gives : S → Request → Reply → S → Type 0) (read :
           subst P (ap (λ l. answers_text far.served ++ l) whole ∙ sym (one_more (λ s. ended s.answer) far.served one))
           (appends_then old mid new (answers_text far.served) done.part far.written done.written);
       is_line = (refl, omega arith);
-      begun_is = begins;
+      begun_is = is.begun_is;
     }
 
     pub far_line_fault : Stopped gives (Err (Fault faults.Write)) read before after old new
@@ -278,48 +258,14 @@ module _ {S : Type 0} (gives : S → Request → Reply → S → Type 0) (read :
       written = appends_then old mid new (answers_text far.served) done.part far.written done.written;
       ran = record {
         served = far.served ++ one ∷ [];
-        rest = left;
-        read_is = read-one left refl;
+        rest = behind;
+        read_is = read-one;
         serves = serves-one;
         ends_so = (far.served, one ∷ [], done.part, refl, lit≤ tt, refl);
       };
     }
 
--- a line that lies whole in what was read, with no line begun
-module _ {S : Type 0} (gives : S → Request → Reply → S → Type 0) (read : List ℕ) (before between : S) (old mid : Option (List ℕ)) (front left : List ℕ) (begun : Begun)
-    (far : Far gives read before between old mid (front ++ (line_feed ∷ left)) begun) (no_end : HasNoEnd front) (empty : IsBegun begun []) (short : length front ≤ LINE_BYTES_MAX)
-    (after : S) (new : Option (List ℕ)) (result : Result (Unit {0}) RunFault) (done : IsLine front → Done gives front between after mid new result) where
-  nothing : far.line ≡ []
-  nothing = begun_none begun far.line empty far.begun_is
-
-  fits : begun_len begun + length front ≤ LINE_BYTES_MAX
-  fits = let e = begun_length begun [] empty in omega (arith, e)
-
-  in_place : Done gives (far.line ++ front) between after mid new result
-  in_place = let P : List ℕ → Type 0 = λ l. Done gives (l ++ front) between after mid new result in subst P (sym nothing) (done (no_end, short))
-
-  pub far_place : (u : Unit {0}) → result ≡ Ok u → Far gives read before after old new left begun
-  far_place u ok = far_line gives read before between old mid front left begun far no_end fits after new result in_place u begun ok empty
-
-  pub far_place_fault : Stopped gives (Err (Fault faults.Write)) read before after old new
-  far_place_fault = far_line_fault gives read before between old mid front left begun far no_end fits after new result in_place
-
--- a line that was read in parts
-module _ {S : Type 0} (gives : S → Request → Reply → S → Type 0) (read : List ℕ) (before between : S) (old mid : Option (List ℕ)) (front left : List ℕ) (begun grown : Begun)
-    (far : Far gives read before between old mid (front ++ (line_feed ∷ left)) begun) (no_end : HasNoEnd front)
-    (adds : Adds begun front grown) (within : begun_len begun + length front ≤ LINE_BYTES_MAX)
-    (after : S) (new : Option (List ℕ)) (result : Result (Unit {0}) RunFault) (done : (line : List ℕ) → IsBegun grown line → IsLine line → Done gives line between after mid new result) where
-  in_parts : Done gives (far.line ++ front) between after mid new result
-  in_parts = done (far.line ++ front) (adds_is begun grown far.line front far.begun_is adds)
-      (no_end_append far.line front far.is_line.0 no_end, joined_length begun far.line front far.begun_is within)
-
-  pub far_parts : (u : Unit {0}) (begun' : Begun) → result ≡ Ok u → IsBegun begun' [] → Far gives read before after old new left begun'
-  far_parts u begun' ok begins = far_line gives read before between old mid front left begun far no_end within after new result in_parts u begun' ok begins
-
-  pub far_parts_fault : Stopped gives (Err (Fault faults.Write)) read before after old new
-  far_parts_fault = far_line_fault gives read before between old mid front left begun far no_end within after new result in_parts
-
-pub far_begins : {S : Type 0} (gives : S → Request → Reply → S → Type 0) (before : S) (old : Option (List ℕ)) (begun : Begun) → IsBegun begun []
+pub far_begins : {S : Type 0} (gives : S → Request → Reply → S → Type 0) (before : S) (old : Option (List ℕ)) (begun : BegunLine) → IsBegun begun []
     → Far gives [] before before old old [] begun
 far_begins gives before old begun begins = record {
   served = [];

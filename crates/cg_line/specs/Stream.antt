@@ -5,9 +5,9 @@ use Rattle.cg_request.specs.declared.asking.Request.{Request}
 use Rattle.cg_member.specs.declared.reply.Reply.{Reply}
 use Rattle.cg_line.specs.declared.ending.RunEnd.TheVariants.{End}
 use Rattle.cg_line.specs.declared.ending.RunFault.{RunFault}
-use Rattle.cg_line.specs.declared.running.begun.Begun.{Begun}
-use Rattle.cg_line.specs.declared.running.serving.Refusal.{Refusal}
-use Rattle.cg_line.specs.declared.running.serving.Refusal.TheVariants as refused
+use Rattle.cg_line.specs.declared.running.begun.BegunLine.{BegunLine}
+use Rattle.cg_line.specs.declared.running.asking.Refusal.{Refusal}
+use Rattle.cg_line.specs.declared.running.asking.Refusal.TheVariants as refused
 use Rattle.cg_line.specs.declared.running.stop.Stop.{Stop}
 use Rattle.cg_line.specs.declared.running.stop.Stop.TheVariants.{TooLong, Fault}
 use Rattle.cg_line.specs.Lines.{IsBegun}
@@ -41,7 +41,7 @@ pub record Done {S : Type 0} (gives : S → Request → Reply → S → Type 0) 
 
 -- of the bytes that were read, lines were served and answered, one more line has begun, and some bytes are still to be
 -- searched for line feeds
-pub record Far {S : Type 0} (gives : S → Request → Reply → S → Type 0) (read : List ℕ) (before after : S) (old new : Option (List ℕ)) (left : List ℕ) (begun : Begun) : Type 0 where
+pub record Far {S : Type 0} (gives : S → Request → Reply → S → Type 0) (read : List ℕ) (before after : S) (old new : Option (List ℕ)) (left : List ℕ) (begun : BegunLine) : Type 0 where
   pub served : List Served
   pub line : List ℕ
   pub read_is : read ≡ lines_text served ++ (line ++ left)
@@ -62,6 +62,6 @@ pub record Stopped {S : Type 0} (gives : S → Request → Reply → S → Type 
   pub ran : Ran gives (StopsAs result text) read before after
 
 -- the run goes on, or stopped
-abbrev pub Goes : {S : Type 0} (gives : S → Request → Reply → S → Type 0) → Result (Unit {0}) Stop → List ℕ → S → S → Option (List ℕ) → Option (List ℕ) → List ℕ → Begun → Type 0
+abbrev pub Goes : {S : Type 0} (gives : S → Request → Reply → S → Type 0) → Result (Unit {0}) Stop → List ℕ → S → S → Option (List ℕ) → Option (List ℕ) → List ℕ → BegunLine → Type 0
 Goes gives (Ok _) read before after old new left begun = Far gives read before after old new left begun
 Goes gives (Err stop) read before after old new left begun = Stopped gives (Err stop) read before after old new

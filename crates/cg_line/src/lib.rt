@@ -17,6 +17,6 @@ pub use backend::Backend;
 pub use ending::{RunEnd, RunFault};
 pub use line_fault::LineFault;
 pub use parsing::{bytes_in, is_opaque, parse};
-pub use printing::{print, print_into};
-pub use running::{READS_MAX, run};
+pub use printing::{print, print_into, put_reply};
+pub use running::{Asked, BegunLine, READS_MAX, Refusal, TooLong, run};
 pub use words::LINE_BYTES_MAX;

@@ -1,25 +1,25 @@
 //! Serving a stream of lines.
-ghost use Rattle.std.specs.Prelude.{◌≡◌, ◌∷◌, ◌++◌, ℕ, List, Option, Ok, [], IfErr, MatchOption, OnOk};
+ghost use Rattle.std.specs.Prelude.{◌≡◌, ℕ, List, Option, Ok, [], IfErr, OnOk};
 ghost use Rattle.std.specs.Io.KnownBytes.{Appends, Consumes, IsAtEnd};
-ghost use Rattle.cg_line.specs.Running.{EndsAs, HasNoEnd, Ran, ended, line_feed, malformed_line};
+ghost use Rattle.cg_line.specs.Running.{EndsAs, Ran, ended, malformed_line};
 ghost use Rattle.cg_line.specs.Stream.{Far, Goes, Stopped};
 
 use crate::backend::Backend;
 use crate::ending::{RunEnd, RunFault};
-use crate::words::LINE_BYTES_MAX;
-use memchr::memchr;
 use std::alloc::Global;
 use std::io::{Read, Write};
 
+mod asking;
 mod begun;
 mod reading;
 mod serving;
 mod stop;
 mod writing;
 
-use begun::Begun;
+pub use asking::{Asked, Refusal};
+pub use begun::{BegunLine, TooLong};
 use reading::read;
-use serving::{Refusal, serve_begun, serve_line};
+use serving::reply;
 use stop::Stop;
 use writing::{flush, put};
 
@@ -29,42 +29,10 @@ pub const READS_MAX: u64 = 4_294_967_296;
 /// Bytes that a read asks for.
 const BUFFER_BYTES: usize = 8_192;
 
-// Returns the bytes before the first line feed and those after it, or `None` without a line feed.
-fn cut(bytes: &[u8]) -> Option<(&[u8], &[u8])>
-    ensures { MatchOption result (HasNoEnd bytes.now)
-        (λ parts. (bytes.now ≡ parts.0.now ++ (line_feed ∷ parts.1.now)) × HasNoEnd parts.0.now) }
-{
-    let at = memchr(b'\n', bytes)?;
-    Some((&bytes[..at], &bytes[at + 1..]))
-}
-
-// Serves the line that ends with `front`. A line that lies whole in the buffer is parsed there, without a copy.
-fn end_line<W: Write, B: Backend>(
-    alloc: Global,
-    begun: &mut Begun,
-    front: &[u8],
-    text: &mut Vec<u8>,
-    writer: &mut W,
-    backend: &mut B,
-) -> Result<(), Stop>
-    ensures { (bytes left : List ℕ) → (before : B) → (old : Option (List ℕ)) → HasNoEnd front.now
-        → Far B.gives bytes before backend.old old (W.contents writer.old) (front.now ++ (line_feed ∷ left)) begun.old
-        → Goes B.gives result bytes before backend.new old (W.contents writer.new) left begun.new }
-{
-    if begun.is_empty() && front.len() <= LINE_BYTES_MAX {
-        serve_line(alloc, front, text, writer, backend)?;
-        return Ok(());
-    }
-    begun.add(front)?;
-    serve_begun(alloc, begun, text, writer, backend)?;
-    begun.clear(alloc);
-    Ok(())
-}
-
 // Serves the lines that end within `bytes`, and keeps the rest as the beginning of the next line.
 fn serve_bytes<W: Write, B: Backend>(
     alloc: Global,
-    begun: &mut Begun,
+    begun: &mut BegunLine,
     bytes: &[u8],
     text: &mut Vec<u8>,
     writer: &mut W,
@@ -75,11 +43,10 @@ fn serve_bytes<W: Write, B: Backend>(
         → Goes B.gives result all before backend.new old (W.contents writer.new) [] begun.new }
 {
     let mut rest = bytes;
-    while let Some((front, behind)) = cut(rest) {
-        end_line(alloc, begun, front, text, writer, backend)?;
+    while let Some((asked, behind)) = begun.next(alloc, rest)? {
+        reply(asked, text, writer, backend)?;
         rest = behind;
     }
-    begun.add(rest)?;
     Ok(())
 }
 
@@ -96,7 +63,7 @@ fn serve_stream<R: Read, W: Write, B: Backend>(
 {
     let mut room = vec![in alloc; 0; BUFFER_BYTES]?;
     let buffer = room.as_mut_slice();
-    let mut begun = Begun::new(alloc);
+    let mut begun = BegunLine::new(alloc);
     let mut text = Vec::new(alloc);
     for _ in 0..READS_MAX {
         flush(writer)?;

@@ -1,6 +1,6 @@
 //! Lines that are not requests, and streams that are read and written in pieces, with errors of the reader and the
 //! writer.
-use crate::{Backend, LineFault, RunEnd, RunFault, parse, print, run};
+use crate::{Asked, Backend, BegunLine, LineFault, RunEnd, RunFault, parse, print, put_reply, run};
 use cg_group::{Listed, Reply, Request};
 use cg_names::Code;
 use std::alloc::{AllocError, Global};
@@ -348,5 +348,48 @@ fn a_line_that_is_too_long_ends_the_stream(rt: HostRuntime) -> Result<(), Fail> 
         assert_eq!(rt; result, Ok(end), "at {length}");
         assert_eq!(rt; written.as_slice(), output.as_bytes(), "at {length}");
     }
+    Ok(())
+}
+
+// Takes bytes of a line. If the line ends, appends the reply or the refusal, and returns the bytes behind it.
+fn told<'a>(
+    alloc: Global,
+    begun: &mut BegunLine,
+    bytes: &'a [u8],
+    out: &mut Vec<u8>,
+) -> Result<Option<&'a [u8]>, AllocError> {
+    let Ok(Some((asked, behind))) = begun.next(alloc, bytes) else {
+        return Ok(None);
+    };
+    match asked {
+        Asked::Request(request) => {
+            let mut backend = Counting { alloc, asked: 0 };
+            put_reply(&backend.answer(request), out)?;
+        }
+        Asked::Refusal(refusal) => out.extend_from_slice(refusal.line())?,
+    }
+    Ok(Some(behind))
+}
+
+// One call a row: the bytes, and those behind the line if it ends.
+const PIECES: [(&str, Option<&str>); 4] = [
+    ("LI", None),
+    ("ST\nDESC", Some("DESC")),
+    ("DESC", None),
+    ("RIBE\n", Some("")),
+];
+
+#[test]
+fn two_lines_in_three_pieces(rt: HostRuntime) -> Result<(), Fail> {
+    let mut begun = BegunLine::new(rt.alloc());
+    let mut out = Vec::new(rt.alloc());
+    for (bytes, behind) in PIECES {
+        let left = told(rt.alloc(), &mut begun, bytes.as_bytes(), &mut out)?;
+        assert_eq!(rt; left, behind.map(|text| text.as_bytes()), "at {bytes:?}");
+    }
+    assert_eq!(rt;
+        out.as_slice(),
+        b"GROUPS\nERR 42 INVALID_REQUEST\n".as_slice()
+    );
     Ok(())
 }

@@ -1,5 +1,6 @@
 //! Single words of reply lines.
-ghost use Rattle.std.specs.Prelude.{◌≡◌, [], ◌∷◌, ◌++◌, OnOk, decimal};
+ghost use Rattle.std.specs.Prelude.{◌≡◌, [], ◌∷◌, ◌++◌, OnErr, OnOk, decimal};
+ghost use Rattle.std.specs.Io.{StartsWith};
 ghost use Rattle.hex.specs.Hex.{encode_lower};
 ghost use Rattle.cg_line.specs.Replies.{state_word};
 ghost use Rattle.cg_line.specs.Words.{bytes_word, name_word};
@@ -11,7 +12,8 @@ use std::alloc::AllocError;
 
 /// Appends a number in decimal.
 pub fn put_number(out: &mut Vec<u8>, number: u64) -> Result<(), AllocError>
-    ensures { OnOk result (out.new.items ≡ out.old.items ++ decimal number) }
+    ensures ok { OnOk result (out.new.items ≡ out.old.items ++ decimal number) }
+    ensures err { OnErr result (StartsWith out.new.items out.old.items) }
 {
     let mut buffer = Buffer::new();
     out.extend_from_slice(buffer.format(number).as_bytes())?;
@@ -23,7 +25,8 @@ pub fn put_name<const MAX: usize, const SORT: u8>(
     out: &mut Vec<u8>,
     name: &Option<Name<MAX, SORT>>,
 ) -> Result<(), AllocError>
-    ensures { OnOk result (out.new.items ≡ out.old.items ++ name_word name.now) }
+    ensures ok { OnOk result (out.new.items ≡ out.old.items ++ name_word name.now) }
+    ensures err { OnErr result (StartsWith out.new.items out.old.items) }
 {
     match name {
         None => out.push(b'-')?,
@@ -46,7 +49,8 @@ fn digits(byte: u8) -> [u8; 2]
 /// Appends bytes as `x` and two lower-case hexadecimal digits for each.
 #[tactic(auto, using(crate::proofs::Spaced::lower_each))]
 pub fn put_bytes(out: &mut Vec<u8>, bytes: &[u8]) -> Result<(), AllocError>
-    ensures { OnOk result (out.new.items ≡ out.old.items ++ bytes_word bytes.now) }
+    ensures ok { OnOk result (out.new.items ≡ out.old.items ++ bytes_word bytes.now) }
+    ensures err { OnErr result (StartsWith out.new.items out.old.items) }
 {
     out.push(b'x')?;
     for byte in bytes {

@@ -3,7 +3,7 @@ use Rattle.std.proofs.lemmas.List.{length-drop}
 use Rattle.std.proofs.Math.Seq.{take-length}
 use Rattle.std.proofs.Math.Numerals.{add-one}
 use Rattle.cg_line.proofs.Streams.{cut_at, no_end_all, no_end_take}
-use Rattle.cg_line.proofs.running.cut.Goals as goal
+use Rattle.cg_line.proofs.running.begun.cut.Goals as goal
 
 pub returns-in_err-at : goal.returns-in_err-at
 returns-in_err-at c = rw c.from_residual.ensures (no_end_all c.args.bytes.now (λ k below. c.in_err-at.ensures k zero-le below))
