@@ -4,10 +4,11 @@
 
 PROGRAM is a built cg_server. Clients send half a line and stay; never read their replies, or those before a COMMIT; send a line that is too long;
 close in mid-line; close while their request waits; and 1,000 connect and close. Beside each kind another client commits
-offsets and fetches them, each within ten seconds. At the end the threads of the closed connections have to be gone. The
+offsets and fetches them, each within ten seconds. At the end the sockets of the closed connections have to be gone. The
 whole run takes less than two minutes. The status is 0 if every commit was answered and none was lost.
 """
 import contextlib
+import os
 import socket
 import subprocess
 import sys
@@ -19,8 +20,8 @@ WHOLE_SECONDS = 120
 LINE_BYTES_MAX = 1_048_576
 CONNECTIONS = 1_000
 UNREAD_REQUESTS = 200
-# The main thread, the thread that accepts, the ticker and the compactor.
-THREADS_OF_ITS_OWN = 4
+# The listener.
+SOCKETS_OF_ITS_OWN = 1
 
 
 def start(program):
@@ -114,16 +115,20 @@ class Meanwhile(threading.Thread):
         return self.failed + self.is_alive()
 
 
-def threads_of(server):
-    with open(f"/proc/{server.pid}/status", encoding="utf-8") as file:
-        return next(int(line.split()[1]) for line in file if line.startswith("Threads:"))
+def sockets_of(server):
+    folder = f"/proc/{server.pid}/fd"
+    links = []
+    for name in os.listdir(folder):
+        with contextlib.suppress(FileNotFoundError):
+            links.append(os.readlink(f"{folder}/{name}"))
+    return sum(link.startswith("socket:") for link in links)
 
 
-def are_threads_gone(server, held):
-    """Waits until only the threads of the held connections are left: a request that waits ends with its group's rebalance."""
+def are_sockets_gone(server, held):
+    """Waits until only the sockets of the held connections are left: a request that waits ends with its group's rebalance."""
     until = time.time() + 2 * WAIT_SECONDS
     while time.time() < until:
-        if threads_of(server) <= THREADS_OF_ITS_OWN + held:
+        if sockets_of(server) <= SOCKETS_OF_ITS_OWN + held:
             return True
         time.sleep(0.1)
     return False
@@ -164,9 +169,9 @@ def main(words):
             if other.end():
                 failed += 1
                 print(f"beside {kind.__name__} another client was not answered")
-        if not are_threads_gone(server, len(held)):
+        if not are_sockets_gone(server, len(held)):
             failed += 1
-            print(f"{threads_of(server)} threads are left for {len(held)} connections")
+            print(f"{sockets_of(server)} sockets are left for {len(held)} connections")
     finally:
         watchdog.cancel()
         server.kill()

@@ -116,4 +116,4 @@ module _ (L : RattleType) (l : ledger.Ghosts L.Denot) where
   module _ (D : RattleType) (k : disk.Ghosts D.Denot) (s : IsSend D) where
     pub engine_shared : IsSync (Engine.the_row D L k l)
     engine_shared = recorded_sync (Engine.the_field D L k l).row _ _ (Engine.the_type D L k l).to_one (struct_sync (shape (Engine.the_type D L k l))
-        (global.the_field_sync, (search sendable, (mutex.the_sync _ (side-of desk), (mutex.the_sync _ (storeside.the_send D L k l s), (mutex.the_sync _ (intake.the_send L l), (search (sendable, one.crosses) depth 20, tt)))))))
+        (global.the_field_sync, (search sendable, (mutex.the_sync _ (side-of desk), (mutex.the_sync _ (storeside.the_send D L k l s), (mutex.the_sync _ (intake.the_send L l), (search (sendable, one.crosses) depth 20, (search (sendable, one.crosses) depth 20, tt))))))))

@@ -1,12 +1,11 @@
 //! Calls of the engine: a request on its way to the desk, and the wait for its answer.
-ghost use Rattle.std.specs.Prelude.{◌≡◌, ◌+◌};
+ghost use Rattle.std.specs.Prelude.{◌≡◌, ◌+◌, ◌<◌, IfErr, IfOk};
 ghost use Rattle.cg_desk.specs.Outgoings.{made_of, reply_of, ticket_of};
 ghost use Rattle.cg_engine.specs.Noted.{IsNoted};
-ghost use Rattle.cg_engine.specs.Passes.{calls_after, calls_of, next_ticket, noted_of, number_of, units_of};
+ghost use Rattle.cg_engine.specs.Passes.{IfWaits, MatchBegun, calls_after, calls_of, next_ticket, noted_of, number_of, pending_calls, pending_kind, pending_noted, pending_number, pending_ticket, pending_units, units_of};
 ghost use Rattle.cg_engine.specs.Worth.{kind_of, worth};
 
 use crate::answer::Answer;
-use crate::before_wait::{BeforeWait, NotifiesFlusher};
 use crate::bounds::CALLS_MAX;
 use crate::delivery::Deliveries;
 use crate::desk_side::DeskSide;
@@ -15,12 +14,12 @@ use crate::intake::{Submission, Submitted};
 use crate::kind::CallKind;
 use crate::looking::{found_before_wait, looked_for};
 use crate::pass::SessionPass;
+use crate::pending_call::{BegunCall, PendingCall};
 use crate::units::Part;
 use cg_desk::{Outgoing, ReplyToken};
 use cg_disk::SectorDisk;
-use cg_group::{Reply, Request, Ticket};
+use cg_group::{Reply, Request};
 use cg_names::{Code, Moment};
-use crossbeam_channel::Receiver;
 use std::sync::Wait;
 use std::sync::ledger::Ledger;
 use std::thread;
@@ -60,34 +59,35 @@ impl<D: SectorDisk + Drop, L: Ledger> Engine<D, L> {
         ensures noted { IsNoted (noted_of pass) (ticket_of result.1) (reply_of result.1) (noted_of result.0) }
         ensures units { units_of result.0 ≡ units_of pass + worth (kind_of request) (reply_of result.1) (made_of result.1) }
     {
-        let mut before_wait = NotifiesFlusher {
-            pending: &self.pending,
-        };
-        self.call_with(rt, pass, request, now, fresh, &mut before_wait)
+        match self.begin_call(rt, pass, request, now, fresh) {
+            BegunCall::Ended(pass, outgoing) => (pass, outgoing),
+            BegunCall::Waits(call) => self.end_call(rt, call),
+        }
     }
 
-    /// Does what `call` does, but leaves to `before_wait` who flushes what is pending.
-    pub fn call_with<R: Wait, I: BeforeWait>(
+    /// Begins a call, and does not wait for its answer: `end_call` or `try_end_call` ends it. Who began it has to see to it
+    /// that what is pending is stored (`PendingCall::has_pending`). A call that ends here was refused, as `call` refuses it.
+    pub fn begin_call<R: Wait>(
         &self,
         rt: &R,
         pass: SessionPass<L>,
         request: Request,
         now: Moment,
         fresh: Uuid,
-        before_wait: &mut I,
-    ) -> (SessionPass<L>, Outgoing)
-        ensures number { number_of result.0 ≡ number_of pass }
-        ensures ticket { ticket_of result.1 ≡ next_ticket pass }
-        ensures calls { calls_of result.0 ≡ calls_after (calls_of pass) }
-        ensures limit { calls_of pass ≡ CALLS_MAX → reply_of result.1 ≡ Reply.Refused Code.CoordinatorNotAvailable }
-        ensures noted { IsNoted (noted_of pass) (ticket_of result.1) (reply_of result.1) (noted_of result.0) }
-        ensures units { units_of result.0 ≡ units_of pass + worth (kind_of request) (reply_of result.1) (made_of result.1) }
+    ) -> BegunCall<L>
+        ensures number { MatchBegun result (λ ended outgoing. number_of ended ≡ number_of pass) (λ call. pending_number call ≡ number_of pass) }
+        ensures ticket { MatchBegun result (λ ended outgoing. ticket_of outgoing ≡ next_ticket pass) (λ call. pending_ticket call ≡ next_ticket pass) }
+        ensures calls { MatchBegun result (λ ended outgoing. calls_of ended ≡ calls_after (calls_of pass)) (λ call. pending_calls call ≡ calls_of pass) }
+        ensures limit { MatchBegun result (λ ended outgoing. calls_of pass ≡ CALLS_MAX → reply_of outgoing ≡ Reply.Refused Code.CoordinatorNotAvailable) (λ call. calls_of pass < CALLS_MAX) }
+        ensures noted { MatchBegun result (λ ended outgoing. IsNoted (noted_of pass) (ticket_of outgoing) (reply_of outgoing) (noted_of ended)) (λ call. pending_noted call ≡ noted_of pass) }
+        ensures units { MatchBegun result (λ ended outgoing. units_of ended ≡ units_of pass + worth (kind_of request) (reply_of outgoing) (made_of outgoing)) (λ call. pending_units call ≡ units_of pass) }
+        ensures kind { IfWaits result (λ call. pending_kind call ≡ kind_of request) }
     {
         let ticket = pass.next_ticket();
         let kind = CallKind::of(&request);
         if pass.calls() >= CALLS_MAX {
             let token = ReplyToken::new(ticket);
-            return (pass, token.refuse(Code::CoordinatorNotAvailable));
+            return BegunCall::Ended(pass, token.refuse(Code::CoordinatorNotAvailable));
         }
         let (caller, part) = pass.begin();
         let submission = Submission {
@@ -98,16 +98,57 @@ impl<D: SectorDisk + Drop, L: Ledger> Engine<D, L> {
             fresh,
         };
         match self.submit(rt, submission) {
-            Ok(has_pending) => {
-                let answers = &caller.answers;
-                let answer = self.awaited(rt, answers, ticket, kind, has_pending, before_wait);
-                caller.answered(self.alloc, answer)
-            }
+            Ok(has_pending) => BegunCall::Waits(PendingCall {
+                caller,
+                ticket,
+                kind,
+                has_pending,
+            }),
             Err(part) => {
                 let token = ReplyToken::new(ticket);
-                (caller.refused(part), token.refuse(Code::UnknownServerError))
+                BegunCall::Ended(caller.refused(part), token.refuse(Code::UnknownServerError))
             }
         }
+    }
+
+    /// Waits for the answer to a call, which ends it.
+    pub fn end_call<R: Wait>(&self, rt: &R, call: PendingCall<L>) -> (SessionPass<L>, Outgoing)
+        ensures number { number_of result.0 ≡ pending_number call }
+        ensures ticket { ticket_of result.1 ≡ pending_ticket call }
+        ensures calls { calls_of result.0 ≡ pending_calls call + 1 }
+        ensures noted { IsNoted (pending_noted call) (ticket_of result.1) (reply_of result.1) (noted_of result.0) }
+        ensures units { units_of result.0 ≡ pending_units call + worth (pending_kind call) (reply_of result.1) (made_of result.1) }
+    {
+        let answer = self.awaited(rt, &call);
+        let PendingCall { caller, .. } = call;
+        caller.answered(self.alloc, answer)
+    }
+
+    /// Ends a call if its answer has come, and does not wait for it. Otherwise returns the call.
+    pub fn try_end_call<R: Wait>(
+        &self,
+        rt: &R,
+        call: PendingCall<L>,
+    ) -> Result<(SessionPass<L>, Outgoing), PendingCall<L>>
+        ensures number { IfOk result (λ ended. number_of ended.0 ≡ pending_number call) }
+        ensures ticket { IfOk result (λ ended. ticket_of ended.1 ≡ pending_ticket call) }
+        ensures calls { IfOk result (λ ended. calls_of ended.0 ≡ pending_calls call + 1) }
+        ensures noted { IfOk result (λ ended. IsNoted (pending_noted call) (ticket_of ended.1) (reply_of ended.1) (noted_of ended.0)) }
+        ensures units { IfOk result (λ ended. units_of ended.0 ≡ pending_units call + worth (pending_kind call) (reply_of ended.1) (made_of ended.1)) }
+        ensures back { IfErr result (λ back. back ≡ call) }
+    {
+        match call.caller.answers.try_recv(rt) {
+            Ok(answer) if call.is_answered_by(&answer) => {
+                let PendingCall { caller, .. } = call;
+                Ok(caller.answered(self.alloc, answer))
+            }
+            _ => Err(call),
+        }
+    }
+
+    /// Notifies a thread in `await_commands`, which returns if commands are pending.
+    pub fn notify_flusher(&self) {
+        self.pending.notify_one();
     }
 
     // Submits a request, and hands the requests of the intake to the desk if no other thread does. Returns whether commands
@@ -155,7 +196,7 @@ impl<D: SectorDisk + Drop, L: Ledger> Engine<D, L> {
         let left = self.serve_some(rt, &mut desk, &mut deliveries);
         let has_pending = desk.has_pending();
         drop(desk);
-        deliveries.send_all(rt);
+        self.send_all(rt, deliveries);
         (left, has_pending)
     }
 
@@ -176,45 +217,30 @@ impl<D: SectorDisk + Drop, L: Ledger> Engine<D, L> {
         Left::Perhaps
     }
 
-    // Receives the next answer to a pass. If there is none yet, `before_wait` is called first.
-    fn received<R: Wait, I: BeforeWait>(
-        &self,
-        rt: &R,
-        answers: &Receiver<Answer<L>>,
-        kind: CallKind,
-        has_pending: bool,
-        before_wait: &mut I,
-    ) -> Option<Answer<L>> {
-        if let Some(answer) = found_before_wait(rt, answers, kind) {
-            if has_pending {
-                self.pending.notify_one();
-            }
-            return Some(answer);
+    // Receives the next answer to the pass of a call. Before it waits, it notifies the flusher if commands are pending.
+    fn received<R: Wait>(&self, rt: &R, call: &PendingCall<L>) -> Option<Answer<L>> {
+        let answers = &call.caller.answers;
+        let found = found_before_wait(rt, answers, call.kind);
+        if call.has_pending {
+            self.notify_flusher();
         }
-        before_wait.before_wait(has_pending);
+        if found.is_some() {
+            return found;
+        }
         match looked_for(rt, answers) {
             Some(answer) => Some(answer),
             None => answers.recv(rt).ok(),
         }
     }
 
-    // Waits for the answer to the call of this kind with this ticket. No other answer comes, since a pass has one call at a
-    // time.
-    fn awaited<R: Wait, I: BeforeWait>(
-        &self,
-        rt: &R,
-        answers: &Receiver<Answer<L>>,
-        ticket: Ticket,
-        kind: CallKind,
-        has_pending: bool,
-        before_wait: &mut I,
-    ) -> Answer<L>
-        ensures ticket { ticket_of result.outgoing ≡ ticket }
-        ensures kind { result.kind ≡ kind }
+    // Waits for the answer to a call.
+    fn awaited<R: Wait>(&self, rt: &R, call: &PendingCall<L>) -> Answer<L>
+        ensures ticket { ticket_of result.outgoing ≡ pending_ticket call.now }
+        ensures kind { result.kind ≡ pending_kind call.now }
     {
         for _ in rt.forever() {
-            if let Some(answer) = self.received(rt, answers, kind, has_pending, before_wait) {
-                if answer.outgoing.ticket() == ticket && answer.kind == kind {
+            if let Some(answer) = self.received(rt, call) {
+                if call.is_answered_by(&answer) {
                     return answer;
                 }
             }

@@ -1,4 +1,6 @@
 //! Answers on their way to the passes that wait for them.
+ghost use Rattle.std.specs.Prelude.{◌≢◌, ◌⊎◌, ◌↔◌, [], true, ◌≡◌, IsTrue};
+
 use crate::answer::Answer;
 use crossbeam_channel::Sender;
 use std::alloc::Global;
@@ -12,18 +14,17 @@ pub struct Delivery<L: Ledger> {
     pub answer: Answer<L>,
 }
 
-impl<L: Ledger> Delivery<L> {
-    fn send<R: Wait>(self, rt: &R) {
-        let Delivery { to, answer } = self;
-        // This fails only if the pass was dropped.
-        let _ = to.send(rt, answer);
-    }
+// Sends an answer. This fails only if the pass was dropped.
+fn send<L: Ledger, R: Wait>(rt: &R, to: &Sender<Answer<L>>, answer: Answer<L>) {
+    let _ = to.send(rt, answer);
 }
 
 /// Answers that are sent once the desk lock is free again, so that a thread that wakes up finds it free.
 #[derive(Drop)]
 pub struct Deliveries<L: Ledger> {
     list: Vec<Delivery<L>>,
+    // Whether an answer was sent already.
+    has_sent: bool,
 }
 
 impl<L: Ledger> Deliveries<L> {
@@ -31,23 +32,40 @@ impl<L: Ledger> Deliveries<L> {
     pub fn new(alloc: Global) -> Self {
         Deliveries {
             list: Vec::new(alloc),
+            has_sent: false,
         }
     }
 
     /// Adds an answer. If an allocation fails, the answer is sent at once.
-    pub fn add<R: Wait>(&mut self, rt: &R, delivery: Delivery<L>) {
+    pub fn add<R: Wait>(&mut self, rt: &R, delivery: Delivery<L>)
+        ensures { (self.new.has_sent ≡ true) ⊎ (self.new.list.items ≢ []) }
+    {
         let _ = self.list.reserve(1);
         if self.list.len() < self.list.capacity() {
             self.list.push_reserved(delivery);
         } else {
-            delivery.send(rt);
+            let Delivery { to, answer } = delivery;
+            self.send(rt, &to, answer);
         }
     }
 
-    /// Sends the answers, in their order.
-    pub fn send_all<R: Wait>(self, rt: &R) {
-        for delivery in self.list {
-            delivery.send(rt);
+    /// Sends an answer at once.
+    pub fn send<R: Wait>(&mut self, rt: &R, to: &Sender<Answer<L>>, answer: Answer<L>)
+        ensures { self.new.has_sent ≡ true }
+    {
+        self.has_sent = true;
+        send(rt, to, answer);
+    }
+
+    /// Sends the answers, in their order. Returns whether there were any, with those that were sent at once.
+    pub fn send_all<R: Wait>(self, rt: &R) -> bool
+        ensures { IsTrue result ↔ ((self.has_sent ≡ true) ⊎ (self.list.items ≢ [])) }
+    {
+        let Deliveries { list, has_sent } = self;
+        let sends = has_sent || !list.is_empty();
+        for Delivery { to, answer } in list {
+            send(rt, &to, answer);
         }
+        sends
     }
 }

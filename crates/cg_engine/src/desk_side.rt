@@ -92,9 +92,7 @@ fn address<L: Ledger, R: Wait>(
 ) {
     match session.answers.clone() {
         Ok(to) => deliveries.add(rt, Delivery { to, answer }),
-        Err(_) => {
-            let _ = session.answers.send(rt, answer);
-        }
+        Err(_) => deliveries.send(rt, &session.answers, answer),
     }
 }
 

@@ -20,6 +20,7 @@ use cg_disk::SectorDisk;
 use cg_names::Moment;
 use cg_store::{Batch, CompactFault};
 use std::alloc::{AllocError, Global};
+use std::sync::atomic::{AtomicU64, Ordering};
 use std::sync::ledger::{Blank, Ledger};
 use std::sync::{Condvar, Mutex, MutexGuard, Wait};
 use std::thread;
@@ -37,6 +38,8 @@ pub struct Engine<D: SectorDisk, L: Ledger> {
     pub(crate) intake: Mutex<Intake<L>>,
     /// Notified where commands are pending.
     pub(crate) pending: Condvar,
+    /// How many times answers were sent.
+    pub(crate) answered: AtomicU64,
 }
 
 impl<D: SectorDisk + Drop, L: Ledger> Engine<D, L> {
@@ -57,6 +60,7 @@ impl<D: SectorDisk + Drop, L: Ledger> Engine<D, L> {
             store: Mutex::new(StoreSide::Empty(BlankBook { book })),
             intake: Mutex::new(Intake::new(alloc)),
             pending: Condvar::new(),
+            answered: AtomicU64::new(0),
         })
     }
 
@@ -131,6 +135,18 @@ impl<D: SectorDisk + Drop, L: Ledger> Engine<D, L> {
         Ok((number, records, offsets))
     }
 
+    /// Returns how many times answers were sent: it changes at each step that sends one, before that step returns.
+    pub fn answered(&self) -> u64 {
+        self.answered.load(Ordering::SeqCst)
+    }
+
+    // Sends answers, and counts that it did.
+    pub(crate) fn send_all<R: Wait>(&self, rt: &R, deliveries: Deliveries<L>) {
+        if deliveries.send_all(rt) {
+            self.answered.fetch_add(1, Ordering::SeqCst);
+        }
+    }
+
     // Frees the desk lock, notifies a thread in `await_commands` if commands are pending, and sends the answers.
     fn unlock<R: Wait>(
         &self,
@@ -143,7 +159,7 @@ impl<D: SectorDisk + Drop, L: Ledger> Engine<D, L> {
         if has_pending {
             self.pending.notify_one();
         }
-        deliveries.send_all(rt);
+        self.send_all(rt, deliveries);
     }
 
     /// Runs the time-dependent rules.
@@ -182,7 +198,7 @@ impl<D: SectorDisk + Drop, L: Ledger> Engine<D, L> {
     fn take<R: Wait>(&self, rt: &R) -> Result<Taken<L>, RoundFault> {
         let mut deliveries = Deliveries::new(self.alloc);
         let taken = self.desk.lock(rt).take(rt, &mut deliveries);
-        deliveries.send_all(rt);
+        self.send_all(rt, deliveries);
         taken
     }
 
@@ -208,7 +224,7 @@ impl<D: SectorDisk + Drop, L: Ledger> Engine<D, L> {
     fn fail<R: Wait>(&self, rt: &R) {
         let mut deliveries = Deliveries::new(self.alloc);
         self.desk.lock(rt).fail(rt, &mut deliveries);
-        deliveries.send_all(rt);
+        self.send_all(rt, deliveries);
     }
 
     /// Does the next step of the compaction under way, or begins one if there is none: for a caller that looked at

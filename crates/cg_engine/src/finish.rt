@@ -175,6 +175,7 @@ impl<D: SectorDisk + Drop, L: Ledger> Engine<D, L> {
             store,
             intake: _,
             pending: _,
+            answered,
         } = self;
         let desk = desk.into_inner();
         let store = store.into_inner();
@@ -188,6 +189,7 @@ impl<D: SectorDisk + Drop, L: Ledger> Engine<D, L> {
                     store: Mutex::new(store),
                     intake: Mutex::new(Intake::new(alloc)),
                     pending: Condvar::new(),
+                    answered,
                 };
                 Err((fault, engine, passes))
             }
@@ -208,6 +210,7 @@ impl<D: SectorDisk + Drop, L: Ledger> Engine<D, L> {
             store,
             intake: _,
             pending: _,
+            answered: _,
         } = self;
         let Closed {
             front,

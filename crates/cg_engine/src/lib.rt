@@ -5,7 +5,6 @@
 
 mod answer;
 mod appended;
-mod before_wait;
 mod booked;
 mod bounds;
 mod call;
@@ -23,19 +22,20 @@ mod loading;
 mod looking;
 mod noted;
 mod pass;
+mod pending_call;
 mod recorder;
 mod session;
 mod store_calls;
 mod store_side;
 mod units;
 
-pub use before_wait::BeforeWait;
 pub use bounds::{CALLS_MAX, PARTS, PASSES_MAX};
 pub use closed::Closed;
 pub use engine::Engine;
 pub use fault::{FinishFault, LoadFault, PassFault, RoundEnd, RoundFault, Skip};
 pub use kind::CallKind;
 pub use pass::SessionPass;
+pub use pending_call::{BegunCall, PendingCall};
 
 #[cfg(test)]
 mod tests;

@@ -21,7 +21,7 @@ pub fn looked_for<L: Ledger, R: Wait>(rt: &R, answers: &Receiver<Answer<L>>) -> 
     None
 }
 
-/// Looks for the next answer to a pass before `before_wait` is called, several times for a read: that answer mostly comes
+/// Looks for the next answer to a pass before the flusher is notified, several times for a read: that answer mostly comes
 /// as soon as another caller has handed the request to the desk.
 pub fn found_before_wait<L: Ledger, R: Wait>(
     rt: &R,

@@ -351,7 +351,7 @@ fn a_line_that_is_too_long_ends_the_stream(rt: HostRuntime) -> Result<(), Fail> 
     Ok(())
 }
 
-// Takes bytes of a line. If the line ends, appends the reply or the refusal, and returns the bytes behind it.
+// Takes bytes of a line. If the line ends, appends the reply or the refusal, and returns the bytes after it.
 fn told<'a>(
     alloc: Global,
     begun: &mut BegunLine,

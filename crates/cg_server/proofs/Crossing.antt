@@ -14,7 +14,7 @@ use Rattle.cg_server.specs.contracts.server.Server as Server
 use Rattle.cg_server.proofs.bell.Bell.TheSendSync as bell
 use Rattle.cg_server.proofs.moments.Moments.TheSendSync as moments
 use Rattle.cg_server.proofs.options.Options.TheSendSync as options
-use Rattle.cg_server.proofs.streams.Streams.TheSendSync as streams
+use Rattle.cg_server.proofs.inbox.Inbox.TheSendSync as inbox
 
 module _ (n : NamedLft) (D : RattleType) (L : RattleType) (k : disk.Ghosts D.Denot) (l : ledger.Ghosts L.Denot) (s : IsSend D) where
   pub server_shared : IsSync (Server.the_row n D L k l)
@@ -27,7 +27,7 @@ module _ (n : NamedLft) (D : RattleType) (L : RattleType) (k : disk.Ghosts D.Den
         (
           moments.the_field_sync,
           (
-            streams.the_field_sync,
+            search (sendable, one.crosses, inbox.the_field_sync) depth 20,
             (
               bell.the_field_sync,
               (
@@ -42,7 +42,10 @@ module _ (n : NamedLft) (D : RattleType) (L : RattleType) (k : disk.Ghosts D.Den
                         search (sendable, one.crosses) depth 10,
                         (
                           search (sendable, one.crosses) depth 10,
-                          (search (sendable, one.crosses) depth 10, (search (sendable, one.crosses) depth 10, tt)),
+                          (
+                            search (sendable, one.crosses) depth 10,
+                            (search (sendable, one.crosses) depth 10, (search (sendable, one.crosses) depth 10, tt)),
+                          ),
                         ),
                       ),
                     ),

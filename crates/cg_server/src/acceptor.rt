@@ -1,14 +1,12 @@
 //! Accepting connections.
 use crate::server::Server;
 use crate::stop::Stop;
-use crate::worker::work;
 use cg_disk::SectorDisk;
 use std::io::{self, ErrorKind};
 use std::net::{TcpListener, TcpStream};
-use std::random::RandomSource;
 use std::sync::Wait;
 use std::sync::ledger::Ledger;
-use std::thread::{self, Scope, Threads};
+use std::thread;
 use std::time::{Clock, Duration};
 
 /// Pause after an accept for which the system had no file descriptor or no memory left, in milliseconds.
@@ -44,71 +42,51 @@ fn after_failure(error: &io::Error) -> AfterFailure {
     }
 }
 
-/// Accepts connections, one worker each, until the server closes or this many were accepted. `None`: without a limit.
-/// Returns once every worker has ended. A connection for which no thread can be started is closed. After an accept that
-/// failed the server closes.
-pub fn accept_all<
-    D: SectorDisk + Drop + Send,
-    L: Ledger + Send,
-    R: Threads + Wait + Clock + RandomSource + Sync,
->(
+// Hands a stream to one of the workers, in turn.
+fn hand_over<D: SectorDisk, L: Ledger, R: Wait>(
+    rt: &R,
+    server: &Server<'_, D, L>,
+    workers: usize,
+    turn: usize,
+    stream: TcpStream,
+) {
+    let Some(at) = turn.checked_rem(workers) else {
+        return;
+    };
+    if let Some(inbox) = server.inboxes.get(at) {
+        inbox.put(rt, stream);
+    }
+}
+
+/// Accepts connections, and hands them to this many workers in turn, until the server closes or as many were accepted as
+/// the options say. After an accept that failed the server closes.
+pub fn accept_all<D: SectorDisk + Drop, L: Ledger, R: Wait + Clock>(
     rt: &R,
     server: &Server<'_, D, L>,
     listener: &TcpListener,
-    limit: Option<u32>,
-) -> Result<(), Stop> {
-    thread::scope(thread::scope_env(), rt, |scope| {
-        accept_in(rt, server, scope, listener, limit)
-    })
-}
-
-// Accepts connections, and starts their workers in the scope.
-fn accept_in<
-    's,
-    'e: 's,
-    D: SectorDisk + Drop + Send,
-    L: Ledger + Send,
-    R: Threads + Wait + Clock + RandomSource + Sync,
->(
-    rt: &'e R,
-    server: &'e Server<'e, D, L>,
-    scope: &'s Scope<'s, &'e ()>,
-    listener: &TcpListener,
-    limit: Option<u32>,
+    workers: usize,
 ) -> Result<(), Stop> {
     let mut accepted = 0u32;
+    let mut turn = 0usize;
     for _ in rt.forever() {
-        if server.is_closing() || limit == Some(accepted) {
+        if server.is_closing() || server.options.connections == Some(accepted) {
             return Ok(());
         }
         match listener.accept() {
             Ok((stream, _)) => {
-                start_worker(rt, server, scope, stream);
+                hand_over(rt, server, workers, turn, stream);
+                turn = turn.wrapping_add(1);
                 accepted = accepted.saturating_add(1);
             }
             Err(error) => match after_failure(&error) {
                 AfterFailure::Again => {}
                 AfterFailure::Pause => thread::sleep(rt, Duration::from_millis(PAUSE_MS)),
                 AfterFailure::End => {
-                    server.refuse(rt);
+                    server.refuse();
                     return Err(Stop::Net);
                 }
             },
         }
     }
     unreachable!()
-}
-
-// Starts the worker of a stream.
-fn start_worker<
-    's,
-    'e: 's,
-    D: SectorDisk + Drop + Send,
-    L: Ledger + Send,
-    R: Threads + Wait + Clock + RandomSource + Sync,
->(rt: &'e R, server: &'e Server<'e, D, L>, scope: &'s Scope<'s, &'e ()>, stream: TcpStream) {
-    if server.is_closing() {
-        return;
-    }
-    let _ = scope.spawn(move || work(rt, server, stream));
 }

@@ -100,6 +100,7 @@ pub fn compact_until_over<D: SectorDisk + Drop, L: Ledger, R: Wait + Clock>(
             }
             After::Notify => {
                 server.wake_flusher(rt);
+                server.wake_callers();
                 server.compact.wait(rt, pause);
             }
         }

@@ -77,7 +77,9 @@ pub fn flush_until_over<D: SectorDisk + Drop, L: Ledger, R: Wait + Clock + Eprin
         if server.is_over() {
             return FlushEnd::Over;
         }
-        match next_after(server.engine.flush_round(rt)) {
+        let ended = server.engine.flush_round(rt);
+        server.wake_callers();
+        match next_after(ended) {
             After::Again => end_full(rt, server),
             After::Sleep => {
                 end_full(rt, server);

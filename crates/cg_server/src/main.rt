@@ -1,5 +1,5 @@
 //! Serves consumer groups on the loopback address (docs/PROTOCOL.md): a listener, an engine over a disk in a file or in
-//! memory, and one worker for each connection.
+//! memory, and a few workers that share the connections.
 #![tactic(auto)]
 
 mod acceptor;
@@ -8,22 +8,23 @@ mod bell;
 mod command;
 mod command_line;
 mod compactor;
+mod connection;
 mod crew;
 mod disks;
 mod flusher;
+mod inbox;
 mod moments;
 mod options;
-mod outbox;
 mod output;
 mod serve;
 mod server;
 mod session;
 mod stop;
 mod storage_thread;
-mod streams;
 #[cfg(test)]
 mod tests;
 mod ticker;
+mod unsent;
 mod worker;
 
 pub use command::command;

@@ -7,6 +7,7 @@ ghost use Rattle.cg_engine.specs.declared.bounds.TheConstants.{PARTS};
 ghost use Rattle.cg_server.specs.Ending.{Broke, Closes, Ends, Refuses, Reports, Serves, listening_text};
 
 use crate::crew::run_crew;
+use crate::inbox::Inbox;
 use crate::options::Options;
 use crate::output::{print_closed, print_listening, print_stop};
 use crate::server::Server;
@@ -21,8 +22,14 @@ use std::net::{Net, SocketAddr, TcpListener};
 use std::random::RandomSource;
 use std::sync::Wait;
 use std::sync::ledger::{Blank, Ledger};
-use std::thread::{Threads, join_mut};
+use std::thread::{Threads, available_parallelism, join_mut};
 use std::time::Clock;
+
+/// Fewest workers: while one stores a batch, another serves its connections.
+const WORKERS_MIN: usize = 2;
+
+/// Most workers.
+const WORKERS_MAX: usize = 8;
 
 /// Prints why the server ends early. Returns the exit status.
 pub fn refuse<W: Write>(writer: &mut W, stop: Stop) -> u8
@@ -49,6 +56,28 @@ fn print_address<W: Write>(
     };
     print_listening(alloc, writer, address)?;
     Ok(address)
+}
+
+// Returns how many workers serve the connections: half as many as there are processors, which batches and clients use too.
+fn worker_count<R: Threads>(rt: &R) -> usize {
+    match available_parallelism(rt) {
+        Ok(processors) => (processors.get() / 2).clamp(WORKERS_MIN, WORKERS_MAX),
+        Err(_) => WORKERS_MIN,
+    }
+}
+
+// Makes an inbox for each worker.
+fn inboxes<R: Threads + Net>(rt: &R, alloc: Global) -> Result<Vec<Inbox>, Stop> {
+    let mut inboxes = Vec::new(alloc);
+    for _ in 0..worker_count(rt) {
+        let Ok(inbox) = Inbox::new(rt, alloc) else {
+            return Err(Stop::Net);
+        };
+        if inboxes.push(inbox).is_err() {
+            return Err(Stop::Memory);
+        }
+    }
+    Ok(inboxes)
 }
 
 // Runs the threads of a server until it is over.
@@ -109,8 +138,9 @@ fn serve_connections<
     ensures { Serves true result (W.contents writer.old) (W.contents writer.new) }
 {
     let address = print_address(alloc, listener, writer)?;
+    let inboxes = inboxes(rt, alloc)?;
     let engine: Engine<D, L> = Engine::new(alloc, blank, false)?;
-    let server = Server::new(alloc, &engine, options, address);
+    let server = Server::new(alloc, &engine, options, address, inboxes);
     let ran = run_threads(rt, &server, listener, disk, writer);
     let passes = server.into_passes();
     let front = close(engine, passes);

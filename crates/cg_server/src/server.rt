@@ -1,8 +1,8 @@
 //! What the threads of a server share.
 use crate::bell::Bell;
+use crate::inbox::Inbox;
 use crate::moments::Moments;
 use crate::options::Options;
-use crate::streams::Streams;
 use cg_disk::SectorDisk;
 use cg_engine::{Engine, SessionPass};
 use std::alloc::Global;
@@ -26,7 +26,8 @@ pub struct Server<'a, D: SectorDisk, L: Ledger> {
     pub engine: &'a Engine<D, L>,
     pub options: Options,
     pub moments: Moments,
-    pub streams: Streams,
+    /// What is handed to each worker.
+    pub inboxes: Vec<Inbox>,
     /// Wakes the flusher while the log is full, an allocation failed or the disk failed.
     pub flush: Bell,
     /// Wakes the compactor.
@@ -35,12 +36,14 @@ pub struct Server<'a, D: SectorDisk, L: Ledger> {
     pub tick: Bell,
     /// The address that the server listens on.
     address: SocketAddr,
-    // Passes that no worker has.
+    // Passes that no connection has.
     passes: Mutex<Vec<SessionPass<L>>>,
     // Whether the thread that accepts connections runs.
     begun: AtomicBool,
-    // Whether connections are no longer accepted.
+    // Whether the server closes.
     closing: AtomicBool,
+    // Whether no stream is handed to a worker any more.
+    done: AtomicBool,
     // Whether the last worker has ended.
     over: AtomicBool,
     // Whether the log has no room for the next batch.
@@ -54,13 +57,14 @@ impl<'a, D: SectorDisk + Drop, L: Ledger> Server<'a, D, L> {
         engine: &'a Engine<D, L>,
         options: Options,
         address: SocketAddr,
+        inboxes: Vec<Inbox>,
     ) -> Self {
         Server {
             alloc,
             engine,
             options,
             moments: Moments::new(),
-            streams: Streams::new(alloc),
+            inboxes,
             flush: Bell::new(),
             compact: Bell::new(),
             tick: Bell::new(),
@@ -68,12 +72,13 @@ impl<'a, D: SectorDisk + Drop, L: Ledger> Server<'a, D, L> {
             passes: Mutex::new(Vec::new(alloc)),
             begun: AtomicBool::new(false),
             closing: AtomicBool::new(false),
+            done: AtomicBool::new(false),
             over: AtomicBool::new(false),
             full: AtomicBool::new(false),
         }
     }
 
-    /// Returns a pass that a worker gave back, or else a new one. Returns `None` if there is none to be had.
+    /// Returns a pass that a connection gave back, or else a new one. Returns `None` if there is none to be had.
     pub fn take_pass<R: Wait>(&self, rt: &R) -> Option<SessionPass<L>> {
         let idle = self.passes.lock(rt).pop();
         match idle {
@@ -82,7 +87,7 @@ impl<'a, D: SectorDisk + Drop, L: Ledger> Server<'a, D, L> {
         }
     }
 
-    /// Keeps a pass for the next worker.
+    /// Keeps a pass for the next connection.
     pub fn give_pass<R: Wait>(&self, rt: &R, pass: SessionPass<L>) {
         let _ = self.passes.lock(rt).push(pass);
     }
@@ -97,9 +102,34 @@ impl<'a, D: SectorDisk + Drop, L: Ledger> Server<'a, D, L> {
         self.begun.load(Ordering::SeqCst)
     }
 
-    /// Returns whether connections are no longer accepted.
+    /// Returns whether the server closes: the open connections end.
     pub fn is_closing(&self) -> bool {
         self.closing.load(Ordering::SeqCst)
+    }
+
+    /// Returns whether no stream is handed to a worker any more.
+    pub fn is_done(&self) -> bool {
+        self.done.load(Ordering::SeqCst)
+    }
+
+    /// Notes that no stream is handed to a worker any more. The workers end with their last connections.
+    pub fn finish_accepting(&self) {
+        self.done.store(true, Ordering::SeqCst);
+        self.wake_workers();
+    }
+
+    /// Wakes the workers that wait.
+    pub fn wake_workers(&self) {
+        for inbox in self.inboxes.as_slice() {
+            inbox.wake();
+        }
+    }
+
+    /// Wakes the workers that wait for answers.
+    pub fn wake_callers(&self) {
+        for inbox in self.inboxes.as_slice() {
+            inbox.wake_caller();
+        }
     }
 
     /// Returns whether the last worker has ended.
@@ -123,21 +153,21 @@ impl<'a, D: SectorDisk + Drop, L: Ledger> Server<'a, D, L> {
         self.full.store(false, Ordering::SeqCst);
     }
 
-    /// Accepts no more connections, and shuts down the open ones.
-    pub fn refuse<R: Wait>(&self, rt: &R) {
+    /// Accepts no more connections, and has the workers shut down the open ones.
+    pub fn refuse(&self) {
         self.closing.store(true, Ordering::SeqCst);
-        self.streams.shut_down(rt);
+        self.wake_workers();
     }
 
-    /// Accepts no more connections, and shuts down the open ones. Connects to the server once, so that the thread that
-    /// waits for a connection wakes up.
+    /// Accepts no more connections, and has the workers shut down the open ones. Connects to the server once, so that the
+    /// thread that waits for a connection wakes up.
     pub fn close<R: Wait + Clock + Net>(&self, rt: &R) {
-        self.refuse(rt);
+        self.refuse();
         for _ in 0..CONNECTS_MAX {
             if TcpStream::connect(rt, self.address).is_ok() {
                 return;
             }
-            // No descriptor is free until a worker has ended.
+            // No descriptor is free until a connection has ended.
             thread::sleep(rt, Duration::from_millis(CONNECT_PAUSE_MS));
         }
     }

@@ -1,51 +1,34 @@
-//! One session: the backend of a connection.
-ghost use Rattle.std.specs.Prelude.{◌≡◌};
-
-use crate::outbox::Outbox;
+//! The session of a connection: its pass, or the call that has it.
 use crate::server::Server;
 use cg_disk::SectorDisk;
-use cg_engine::{BeforeWait, SessionPass};
+use cg_engine::{BegunCall, PendingCall, SessionPass};
 use cg_group::{Reply, Request};
-use cg_line::Backend;
 use cg_names::Code;
+use std::mem;
 use std::random::RandomSource;
 use std::sync::Wait;
 use std::sync::ledger::Ledger;
 use std::time::Clock;
 use uuid::Uuid;
 
-/// The session of a connection. It makes one call at a time.
+/// The session of a connection. It has one call at a time.
 #[derive(Drop)]
-pub struct Session<'a, D: SectorDisk, L: Ledger, R> {
-    rt: &'a R,
-    server: &'a Server<'a, D, L>,
-    outbox: Outbox,
-    pass: Option<SessionPass<L>>,
+pub enum Session<L: Ledger> {
+    /// No call is under way.
+    Idle(SessionPass<L>),
+    /// A call waits for its answer.
+    Calling(PendingCall<L>),
+    /// The pass is with the code that changes the session.
+    Away,
 }
 
-// A session whose call has to wait.
+/// What the begin of a call gave.
 #[derive(Drop)]
-struct Waiting<'a, D: SectorDisk, L: Ledger, R> {
-    rt: &'a R,
-    server: &'a Server<'a, D, L>,
-    outbox: &'a Outbox,
-}
-
-impl<D: SectorDisk + Drop, L: Ledger, R: Wait> BeforeWait for Waiting<'_, D, L, R> {
-    // Stores what is pending in this thread, which saves two context switches. The flusher does it while the log is full,
-    // and where replies are to be written first, since a client that does not read them must not hold up a batch.
-    fn before_wait(&mut self, has_pending: bool) {
-        let is_wanted = has_pending && !self.server.is_full();
-        if is_wanted && self.outbox.is_empty() {
-            let _ = self.server.engine.flush_round(self.rt);
-            return;
-        }
-        if is_wanted {
-            self.server.engine.wake(self.rt);
-        }
-        // A write that fails fails again with the next reply.
-        let _ = self.outbox.send();
-    }
+pub struct Begun {
+    /// The reply, if it is there already.
+    pub reply: Option<Reply>,
+    /// Whether commands wait for a batch, none is in flight, and no thread was notified.
+    pub has_pending: bool,
 }
 
 // Returns the UUID for a request: a random one for a JOIN, from which a member id may be drawn. `None` if the system
@@ -57,56 +40,96 @@ fn fresh_for<R: RandomSource>(rt: &R, request: &Request) -> Option<Uuid> {
     }
 }
 
-impl<'a, D: SectorDisk + Drop, L: Ledger, R: Wait + Clock + RandomSource> Session<'a, D, L, R> {
-    /// Creates a session that has this pass.
-    pub fn new(
-        rt: &'a R,
-        server: &'a Server<'a, D, L>,
-        outbox: Outbox,
-        pass: SessionPass<L>,
-    ) -> Self {
-        Session {
-            rt,
-            server,
-            outbox,
-            pass: Some(pass),
-        }
-    }
-
-    /// Ends the session, and returns its pass.
-    pub fn into_pass(self) -> Option<SessionPass<L>> {
-        let Session { pass, .. } = self;
-        pass
-    }
-
-    // Calls the engine with this pass.
-    fn call(&mut self, pass: SessionPass<L>, request: Request, fresh: Uuid) -> Reply {
-        let moment = self.server.moments.now(self.rt);
-        let mut waiting = Waiting {
-            rt: self.rt,
-            server: self.server,
-            outbox: &self.outbox,
-        };
-        let (pass, outgoing) = self
-            .server
-            .engine
-            .call_with(self.rt, pass, request, moment, fresh, &mut waiting);
-        self.pass = Some(pass);
-        outgoing.into_reply()
+fn refused(code: Code) -> Begun {
+    Begun {
+        reply: Some(Reply::Refused(code)),
+        has_pending: false,
     }
 }
 
-impl<D: SectorDisk + Drop, L: Ledger, R: Wait + Clock + RandomSource> Backend
-    for Session<'_, D, L, R> {
-    ghost gives = { λ _ _ _ _. Unit {0} };
+impl<L: Ledger> Session<L> {
+    /// Returns whether a call waits for its answer.
+    pub fn is_calling(&self) -> bool {
+        matches!(self, Session::Calling(_))
+    }
 
-    fn answer(&mut self, request: Request) -> Reply {
-        let Some(fresh) = fresh_for(self.rt, &request) else {
-            return Reply::Refused(Code::UnknownServerError);
+    /// Calls the engine, and does not wait for the answer.
+    pub fn begin<D: SectorDisk + Drop, R: Wait + Clock + RandomSource>(
+        &mut self,
+        rt: &R,
+        server: &Server<'_, D, L>,
+        request: Request,
+    ) -> Begun {
+        let Some(fresh) = fresh_for(rt, &request) else {
+            return refused(Code::UnknownServerError);
         };
-        match self.pass.take() {
-            Some(pass) => self.call(pass, request, fresh),
-            None => Reply::Refused(Code::CoordinatorNotAvailable),
+        match mem::replace(self, Session::Away) {
+            Session::Idle(pass) => self.call(rt, server, pass, request, fresh),
+            other => {
+                *self = other;
+                refused(Code::CoordinatorNotAvailable)
+            }
+        }
+    }
+
+    // Calls the engine with this pass.
+    fn call<D: SectorDisk + Drop, R: Wait + Clock + RandomSource>(
+        &mut self,
+        rt: &R,
+        server: &Server<'_, D, L>,
+        pass: SessionPass<L>,
+        request: Request,
+        fresh: Uuid,
+    ) -> Begun {
+        let now = server.moments.now(rt);
+        match server.engine.begin_call(rt, pass, request, now, fresh) {
+            BegunCall::Ended(pass, outgoing) => {
+                *self = Session::Idle(pass);
+                Begun {
+                    reply: Some(outgoing.into_reply()),
+                    has_pending: false,
+                }
+            }
+            BegunCall::Waits(call) => {
+                let has_pending = call.has_pending();
+                *self = Session::Calling(call);
+                Begun {
+                    reply: self.reply(rt, server),
+                    has_pending,
+                }
+            }
+        }
+    }
+
+    /// Returns the reply to the call under way, if it is there. The call has ended then.
+    pub fn reply<D: SectorDisk + Drop, R: Wait>(
+        &mut self,
+        rt: &R,
+        server: &Server<'_, D, L>,
+    ) -> Option<Reply> {
+        match mem::replace(self, Session::Away) {
+            Session::Calling(call) => match server.engine.try_end_call(rt, call) {
+                Ok((pass, outgoing)) => {
+                    *self = Session::Idle(pass);
+                    Some(outgoing.into_reply())
+                }
+                Err(call) => {
+                    *self = Session::Calling(call);
+                    None
+                }
+            },
+            other => {
+                *self = other;
+                None
+            }
+        }
+    }
+
+    /// Ends the session, and returns its pass, unless a call has it.
+    pub fn into_pass(self) -> Option<SessionPass<L>> {
+        match self {
+            Session::Idle(pass) => Some(pass),
+            Session::Calling(_) | Session::Away => None,
         }
     }
 }

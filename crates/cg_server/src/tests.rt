@@ -209,6 +209,40 @@ fn a_commit_and_a_fetch_over_a_socket(rt: HostRuntime) -> Result<(), Fail> {
     Ok(())
 }
 
+// Sends lines in pieces once the log is loaded, with a pause after each. Returns the reply lines.
+fn exchange_in_pieces<R: Alloc<A = Global> + Clock + Net>(
+    rt: &R,
+    address: SocketAddr,
+    pieces: &[&str],
+    replies: u32,
+) -> io::Result<String> {
+    let mut reader = connect(rt, address)?;
+    wait_until_loaded(&mut reader, rt.alloc())?;
+    for piece in pieces {
+        exchange(&mut reader, rt.alloc(), piece, 0)?;
+        thread::sleep(rt, Duration::from_millis(PAUSE_MS));
+    }
+    exchange(&mut reader, rt.alloc(), "", replies)
+}
+
+#[test]
+fn lines_in_pieces_over_a_socket(rt: HostRuntime) -> Result<(), Fail> {
+    let listener = TcpListener::bind(&rt, "127.0.0.1:0")?;
+    let address = listener.local_addr()?;
+    let disk = with_a_commit(rt.alloc())?;
+    let pieces = ["FETCH g ", "t:0\nBEAT g 1", " m -\nLI", "ST\nLIST \n"];
+    let ((status, _written), said) = thread::join(
+        &rt,
+        || served(&rt, listener, disk, 1),
+        || exchange_in_pieces(&rt, address, pieces.as_slice(), 4),
+    );
+    let replies =
+        "FETCHED t:0:42:x\nERR 25 UNKNOWN_MEMBER_ID\nGROUPS g:-:Empty\nERR 42 INVALID_REQUEST\n";
+    assert_eq!(rt; said?.as_str(), replies);
+    assert_eq!(rt; status, 0);
+    Ok(())
+}
+
 // A sync that waits until the flag is up.
 struct Flag<'a, R: Clock> {
     rt: &'a R,

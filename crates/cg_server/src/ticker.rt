@@ -18,5 +18,6 @@ pub fn tick_until_over<D: SectorDisk + Drop, L: Ledger, R: Wait + Clock>(
         }
         // A tick that found no memory is made up for by the next one.
         let _ = server.engine.tick(rt, server.moments.now(rt));
+        server.wake_callers();
     }
 }

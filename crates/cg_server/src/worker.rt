@@ -1,69 +1,327 @@
-//! The worker of one connection.
-use crate::outbox::Outbox;
+//! A worker: a thread that serves many connections.
+use crate::connection::{Connection, Next};
+use crate::inbox::{Inbox, WOKEN, Watch};
 use crate::server::Server;
-use crate::session::Session;
-use crate::streams::{Entered, SharedStream};
 use cg_disk::SectorDisk;
-use cg_engine::SessionPass;
-use std::alloc::{AllocError, Global};
+use cg_engine::{RoundEnd, SessionPass};
+use mio::Registry;
+use mio::event::Event;
+use slab::Slab;
+use std::mem;
 use std::net::TcpStream;
 use std::random::RandomSource;
+use std::sync::Wait;
 use std::sync::ledger::Ledger;
-use std::sync::{Arc, Wait};
-use std::time::Clock;
+use std::time::{Clock, Duration};
 
-// Returns two owners of a new outbox.
-fn outboxes(alloc: Global, stream: &SharedStream) -> Result<(Outbox, Outbox), AllocError> {
-    let outbox = Outbox::new(alloc, Arc::try_clone(stream)?)?;
-    let shared = outbox.share()?;
-    Ok((outbox, shared))
-}
+/// Bytes of a read.
+const READ_BYTES: usize = 8_192;
 
-// Serves the lines of a stream until it ends. Returns the pass.
-fn serve_lines<'a, D: SectorDisk + Drop, L: Ledger, R: Wait + Clock + RandomSource>(
+/// Longest wait while an allocation has failed, in milliseconds.
+const RETRY_MS: u64 = 10;
+
+/// The connections of one thread.
+#[derive(Drop)]
+struct Worker<'a, D: SectorDisk, L: Ledger, R> {
     rt: &'a R,
     server: &'a Server<'a, D, L>,
-    stream: &SharedStream,
-    pass: SessionPass<L>,
-) -> Option<SessionPass<L>> {
-    // Without it a reply may wait for the client's next packet.
-    let _ = stream.set_nodelay(true);
-    let Ok((mut writer, outbox)) = outboxes(server.alloc, stream) else {
-        return Some(pass);
-    };
-    let mut session = Session::new(rt, server, outbox, pass);
-    let mut reader: &TcpStream = stream;
-    let _ = cg_line::run(server.alloc, &mut reader, &mut writer, &mut session);
-    session.into_pass()
+    inbox: &'a Inbox,
+    connections: Slab<Connection<L>>,
+    // Connections whose call waits for its answer.
+    calling: Vec<usize>,
+    // Connections that have more to serve.
+    unserved: Vec<usize>,
+    // Room for either list while it is gone through.
+    spare: Vec<usize>,
+    // Whether a list had no memory for a connection.
+    has_missed: bool,
+    // Whether commands wait for a batch, none is in flight, and no thread was notified.
+    has_pending: bool,
+    // Whether a call was begun since the worker last began to lie down.
+    has_begun: bool,
+    is_closed: bool,
 }
 
-// Serves an accepted stream with this pass.
-fn serve_entered<'a, D: SectorDisk + Drop, L: Ledger, R: Wait + Clock + RandomSource>(
-    rt: &'a R,
-    server: &'a Server<'a, D, L>,
-    entered: Entered,
-    pass: SessionPass<L>,
-) {
-    let Entered { key, stream } = entered;
-    let pass = serve_lines(rt, server, &stream, pass);
-    server.streams.leave(rt, key);
-    drop(stream);
-    if let Some(pass) = pass {
-        server.give_pass(rt, pass);
+impl<'a, D: SectorDisk + Drop, L: Ledger, R: Wait + Clock + RandomSource> Worker<'a, D, L, R> {
+    fn new(rt: &'a R, server: &'a Server<'a, D, L>, inbox: &'a Inbox) -> Self {
+        let alloc = server.alloc;
+        Worker {
+            rt,
+            server,
+            inbox,
+            connections: Slab::new(alloc),
+            calling: Vec::new(alloc),
+            unserved: Vec::new(alloc),
+            spare: Vec::new(alloc),
+            has_missed: false,
+            has_pending: false,
+            has_begun: false,
+            is_closed: false,
+        }
+    }
+
+    // Visits a connection, and notes what it waits for.
+    fn visit(&mut self, key: usize, buffer: &mut [u8]) {
+        let Some(connection) = self.connections.get_mut(key) else {
+            return;
+        };
+        let next = connection.visit(self.rt, self.server, buffer);
+        self.has_pending = connection.take_pending() || self.has_pending;
+        let noted = match next {
+            Next::Stream => Ok(()),
+            Next::Answer => {
+                self.has_begun = true;
+                self.calling.push(key)
+            }
+            Next::Visit => self.unserved.push(key),
+            Next::Over => {
+                self.leave(key);
+                Ok(())
+            }
+        };
+        if noted.is_err() {
+            self.has_missed = true;
+        }
+    }
+
+    // Ends a connection.
+    fn leave(&mut self, key: usize) {
+        if let Some(connection) = self.connections.try_remove(key) {
+            if let Some(pass) = connection.into_pass() {
+                self.server.give_pass(self.rt, pass);
+            }
+        }
+    }
+
+    // Takes the answer to a connection's call, and serves it further. If there is none yet, keeps it in the list.
+    fn take_answer(&mut self, key: usize, buffer: &mut [u8]) {
+        let Some(connection) = self.connections.get_mut(key) else {
+            return;
+        };
+        if connection.take_answer(self.rt, self.server) {
+            self.visit(key, buffer);
+        } else if self.calling.push(key).is_err() {
+            self.has_missed = true;
+        }
+    }
+
+    // Takes the answers that are there.
+    fn take_answers(&mut self, buffer: &mut [u8]) {
+        mem::swap(&mut self.calling, &mut self.spare);
+        for _ in 0..self.spare.len() {
+            if let Some(key) = self.spare.pop() {
+                self.take_answer(key, buffer);
+            }
+        }
+    }
+
+    // Serves the connections that have more to serve.
+    fn serve_more(&mut self, buffer: &mut [u8]) {
+        mem::swap(&mut self.unserved, &mut self.spare);
+        for _ in 0..self.spare.len() {
+            if let Some(key) = self.spare.pop() {
+                self.visit(key, buffer);
+            }
+        }
+    }
+
+    // Looks at every connection, after a list had no memory for one.
+    fn serve_missed(&mut self, buffer: &mut [u8]) {
+        if mem::replace(&mut self.has_missed, false) {
+            self.calling.clear();
+            self.unserved.clear();
+            for key in 0..self.connections.capacity() {
+                self.take_answer(key, buffer);
+            }
+        }
+    }
+
+    // Registers a connection and serves it.
+    fn begin(&mut self, registry: &Registry, key: usize, buffer: &mut [u8]) {
+        let is_registered = match self.connections.get_mut(key) {
+            Some(connection) => connection.register(registry, key).is_ok(),
+            None => false,
+        };
+        if is_registered {
+            self.visit(key, buffer);
+        } else {
+            self.leave(key);
+        }
+    }
+
+    // Enters a stream with this pass.
+    fn enter_with(
+        &mut self,
+        registry: &Registry,
+        stream: TcpStream,
+        pass: SessionPass<L>,
+        buffer: &mut [u8],
+    ) {
+        // Without it a reply may wait for the client's next packet.
+        let _ = stream.set_nodelay(true);
+        let stream = mio::net::TcpStream::from_std(stream);
+        let connection = Connection::new(self.server.alloc, stream, pass);
+        match self.connections.insert(connection) {
+            Ok(key) => self.begin(registry, key, buffer),
+            Err(refused) => {
+                if let Some(pass) = refused.value.into_pass() {
+                    self.server.give_pass(self.rt, pass);
+                }
+            }
+        }
+    }
+
+    // Enters a stream. Closes it if there is no pass to be had, or the server closes.
+    fn enter(&mut self, registry: &Registry, stream: TcpStream, buffer: &mut [u8]) {
+        if self.server.is_closing() || stream.set_nonblocking(true).is_err() {
+            return;
+        }
+        if let Some(pass) = self.server.take_pass(self.rt) {
+            self.enter_with(registry, stream, pass, buffer);
+        }
+    }
+
+    // Enters the streams that were handed over.
+    fn enter_all(&mut self, registry: &Registry, buffer: &mut [u8]) {
+        for _ in self.rt.forever() {
+            let Some(stream) = self.inbox.take(self.rt) else {
+                return;
+            };
+            self.enter(registry, stream, buffer);
+        }
+    }
+
+    // Serves a stream that is ready.
+    fn serve_event(&mut self, event: &Event, buffer: &mut [u8]) {
+        let key = event.token().0;
+        let Some(connection) = self.connections.get_mut(key) else {
+            return;
+        };
+        if event.is_readable() {
+            connection.note_readable(event.is_read_closed());
+        }
+        match connection.next() {
+            Next::Stream | Next::Over => self.visit(key, buffer),
+            Next::Answer => connection.send(),
+            // It is visited anyway.
+            Next::Visit => {}
+        }
+    }
+
+    // Serves the streams that are ready.
+    fn serve_events(&mut self, watch: &Watch, buffer: &mut [u8]) {
+        for event in watch.events() {
+            if event.token() != WOKEN {
+                self.serve_event(event, buffer);
+            }
+        }
+    }
+
+    // Has stored what waits for the disk. This thread does it if all its connections wait for that, which saves two switches
+    // to another thread; else the flusher does.
+    fn flush(&mut self) {
+        if !mem::replace(&mut self.has_pending, false) {
+            return;
+        }
+        if self.server.is_full() || self.calling.len() < self.connections.len() {
+            self.server.engine.notify_flusher();
+            return;
+        }
+        if self.server.engine.flush_round(self.rt) != Ok(RoundEnd::Done) {
+            // The flusher finds out why.
+            self.server.engine.wake(self.rt);
+        }
+    }
+
+    // Returns whether something is to be done that no stream and no other thread will report.
+    fn has_work(&self) -> bool {
+        let is_to_close = self.server.is_closing() && !self.is_closed;
+        let has_new = !self.inbox.is_empty(self.rt);
+        let has_more = self.has_begun || self.has_pending || !self.unserved.is_empty();
+        is_to_close || has_new || has_more || self.is_over()
+    }
+
+    // Returns how long the worker may wait. `None`: without a limit.
+    fn most_wait(&self) -> Option<Duration> {
+        if self.has_work() {
+            Some(Duration::ZERO)
+        } else if self.has_missed {
+            Some(Duration::from_millis(RETRY_MS))
+        } else {
+            None
+        }
+    }
+
+    // Ends every connection, once the server closes. One whose call waits ends when the answer has come.
+    fn close(&mut self) {
+        if !self.server.is_closing() || mem::replace(&mut self.is_closed, true) {
+            return;
+        }
+        for key in 0..self.connections.capacity() {
+            let Some(connection) = self.connections.get_mut(key) else {
+                continue;
+            };
+            connection.shut_down();
+            if connection.next() != Next::Answer {
+                self.leave(key);
+            }
+        }
+    }
+
+    // Returns whether the last connection has ended, and no more come.
+    fn is_over(&self) -> bool {
+        self.connections.is_empty() && self.server.is_done() && self.inbox.is_empty(self.rt)
+    }
+
+    // Wakes the workers that wait for answers, if some were sent since the count was this.
+    fn wake_callers_since(&self, answered: u64) {
+        if self.server.engine.answered() != answered {
+            self.server.wake_callers();
+        }
+    }
+
+    // Takes the answers that are there, then waits for something to do.
+    fn rest(&mut self, watch: &mut Watch, buffer: &mut [u8]) {
+        let answered = self.server.engine.answered();
+        self.has_begun = false;
+        self.inbox.lie_down(!self.calling.is_empty());
+        self.take_answers(buffer);
+        self.flush();
+        self.wake_callers_since(answered);
+        watch.wait(self.most_wait());
+        self.inbox.get_up();
+    }
+
+    // Does what there is to do.
+    fn work(&mut self, watch: &Watch, buffer: &mut [u8]) {
+        let answered = self.server.engine.answered();
+        self.close();
+        self.enter_all(watch.registry(), buffer);
+        self.serve_events(watch, buffer);
+        self.serve_more(buffer);
+        self.serve_missed(buffer);
+        self.flush();
+        self.take_answers(buffer);
+        self.wake_callers_since(answered);
     }
 }
 
-/// Serves one connection until it ends, with a pass of its own. Closes it at once if there is no pass to be had.
-pub fn work<'a, D: SectorDisk + Drop, L: Ledger, R: Wait + Clock + RandomSource>(
+/// Serves the connections of an inbox until no more come and the last has ended.
+pub fn serve_inbox<'a, D: SectorDisk + Drop, L: Ledger, R: Wait + Clock + RandomSource>(
     rt: &'a R,
     server: &'a Server<'a, D, L>,
-    stream: TcpStream,
+    inbox: &'a Inbox,
 ) {
-    let Some(pass) = server.take_pass(rt) else {
+    let Some(mut watch) = inbox.take_watch(rt) else {
         return;
     };
-    match server.streams.enter(rt, server.alloc, stream) {
-        Some(entered) => serve_entered(rt, server, entered, pass),
-        None => server.give_pass(rt, pass),
+    let mut worker = Worker::new(rt, server, inbox);
+    let mut buffer = [0; READ_BYTES];
+    for _ in rt.forever() {
+        if worker.is_over() {
+            return;
+        }
+        worker.rest(&mut watch, &mut buffer);
+        worker.work(&watch, &mut buffer);
     }
 }

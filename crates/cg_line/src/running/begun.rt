@@ -118,7 +118,7 @@ impl BegunLine {
         Ok(asked)
     }
 
-    /// Takes bytes up to the first line feed. Returns what the line that it ends asks for, and the bytes behind it; `None`
+    /// Takes bytes up to the first line feed. Returns what the line that it ends asks for, and the bytes after it; `None`
     /// if the line goes on. A line that lies whole in `bytes` is parsed there, without a copy. A line of more than
     /// `LINE_BYTES_MAX` bytes is an error, with or without its line feed. If an allocation for a line fails, its refusal
     /// is what it asks for. Linear in the bytes taken, besides parsing.
