@@ -83,9 +83,13 @@ impl Inbox {
         self.wake();
     }
 
-    /// Takes a stream that is still to be served.
+    /// Takes the first stream that is still to be served.
     pub fn take<R: Wait>(&self, rt: &R) -> Option<TcpStream> {
-        self.streams.lock(rt).pop()
+        let mut streams = self.streams.lock(rt);
+        if streams.is_empty() {
+            return None;
+        }
+        Some(streams.remove(0))
     }
 
     /// Returns whether no stream is still to be served.

@@ -178,7 +178,7 @@ impl<'a, D: SectorDisk + Drop, L: Ledger> Server<'a, D, L> {
         self.flush.ring(rt);
     }
 
-    /// Prints the other threads that the last worker has ended.
+    /// Tells the other threads that the last worker has ended.
     pub fn end<R: Wait>(&self, rt: &R) {
         self.over.store(true, Ordering::SeqCst);
         self.wake_flusher(rt);

@@ -77,7 +77,7 @@ fn has_crew<D: SectorDisk + Drop, L: Ledger, R: Clock>(rt: &R, server: &Server<'
     false
 }
 
-// Closes the server, and stores what still waits for the disk, so that each worker gets its reply and ends.
+// Closes the server, and stores what still waits for the disk, so that each call that waits is answered, and the workers end.
 fn close_down<D: SectorDisk + Drop, L: Ledger, R: Wait + Clock + Eprint + Net>(
     rt: &R,
     server: &Server<'_, D, L>,

@@ -17,6 +17,9 @@ use std::time::{Clock, Duration};
 /// Bytes of a read.
 const READ_BYTES: usize = 8_192;
 
+/// Most streams that are entered before the others have their turn.
+const ENTERED_MAX: u32 = 64;
+
 /// Longest wait while an allocation has failed, in milliseconds.
 const RETRY_MS: u64 = 10;
 
@@ -181,9 +184,9 @@ impl<'a, D: SectorDisk + Drop, L: Ledger, R: Wait + Clock + RandomSource> Worker
         }
     }
 
-    // Enters the streams that were handed over.
-    fn enter_all(&mut self, registry: &Registry, buffer: &mut [u8]) {
-        for _ in self.rt.forever() {
+    // Enters streams that were handed over.
+    fn enter_some(&mut self, registry: &Registry, buffer: &mut [u8]) {
+        for _ in 0..ENTERED_MAX {
             let Some(stream) = self.inbox.take(self.rt) else {
                 return;
             };
@@ -217,9 +220,10 @@ impl<'a, D: SectorDisk + Drop, L: Ledger, R: Wait + Clock + RandomSource> Worker
         }
     }
 
-    // Has stored what waits for the disk. This thread does it if all its connections wait for that, which saves two switches
-    // to another thread; else the flusher does.
-    fn flush(&mut self) {
+    // Has stored what waits for the disk. This thread does it if all its connections wait for answers, which saves two
+    // switches to another thread; else the flusher does. `answered` is a count of `Engine::answered`: what was sent since is
+    // not to wait for the disk.
+    fn flush(&mut self, answered: u64) {
         if !mem::replace(&mut self.has_pending, false) {
             return;
         }
@@ -227,6 +231,7 @@ impl<'a, D: SectorDisk + Drop, L: Ledger, R: Wait + Clock + RandomSource> Worker
             self.server.engine.notify_flusher();
             return;
         }
+        self.wake_callers_since(answered);
         if self.server.engine.flush_round(self.rt) != Ok(RoundEnd::Done) {
             // The flusher finds out why.
             self.server.engine.wake(self.rt);
@@ -286,7 +291,7 @@ impl<'a, D: SectorDisk + Drop, L: Ledger, R: Wait + Clock + RandomSource> Worker
         self.has_begun = false;
         self.inbox.lie_down(!self.calling.is_empty());
         self.take_answers(buffer);
-        self.flush();
+        self.flush(answered);
         self.wake_callers_since(answered);
         watch.wait(self.most_wait());
         self.inbox.get_up();
@@ -296,11 +301,11 @@ impl<'a, D: SectorDisk + Drop, L: Ledger, R: Wait + Clock + RandomSource> Worker
     fn work(&mut self, watch: &Watch, buffer: &mut [u8]) {
         let answered = self.server.engine.answered();
         self.close();
-        self.enter_all(watch.registry(), buffer);
+        self.enter_some(watch.registry(), buffer);
         self.serve_events(watch, buffer);
         self.serve_more(buffer);
         self.serve_missed(buffer);
-        self.flush();
+        self.flush(answered);
         self.take_answers(buffer);
         self.wake_callers_since(answered);
     }
