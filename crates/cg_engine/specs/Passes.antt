@@ -64,6 +64,11 @@ abbrev pub MatchBegun : {L : Type 0} → BegunCall L → (SessionPass L → Outg
 MatchBegun (Ended pass outgoing) ended waits = ended pass outgoing
 MatchBegun (Waits call) ended waits = waits call
 
+-- what holds of a call that was begun if it ended
+abbrev pub IfEnded : {L : Type 0} → BegunCall L → (SessionPass L → Outgoing → Type 0) → Type 0
+IfEnded (Ended pass outgoing) ended = ended pass outgoing
+IfEnded (Waits call) ended = Unit {0}
+
 -- what holds of a call that was begun if it waits
 abbrev pub IfWaits : {L : Type 0} → BegunCall L → (PendingCall L → Type 0) → Type 0
 IfWaits (Ended pass outgoing) waits = Unit {0}

@@ -2,7 +2,7 @@
 ghost use Rattle.std.specs.Prelude.{◌≡◌, ◌+◌, ◌<◌, IfErr, IfOk};
 ghost use Rattle.cg_desk.specs.Outgoings.{made_of, reply_of, ticket_of};
 ghost use Rattle.cg_engine.specs.Noted.{IsNoted};
-ghost use Rattle.cg_engine.specs.Passes.{IfWaits, MatchBegun, calls_after, calls_of, next_ticket, noted_of, number_of, pending_calls, pending_kind, pending_noted, pending_number, pending_ticket, pending_units, units_of};
+ghost use Rattle.cg_engine.specs.Passes.{IfEnded, IfWaits, MatchBegun, calls_after, calls_of, next_ticket, noted_of, number_of, pending_calls, pending_kind, pending_noted, pending_number, pending_ticket, pending_units, units_of};
 ghost use Rattle.cg_engine.specs.Worth.{kind_of, worth};
 
 use crate::answer::Answer;
@@ -25,11 +25,9 @@ use std::sync::ledger::Ledger;
 use std::thread;
 use uuid::Uuid;
 
-/// Requests that a caller hands to the desk without freeing its lock.
+/// Requests that a caller hands to the desk without freeing its lock. After as many another caller may go on, so that a call
+/// ends although others never cease.
 const TURN_REQUESTS: u32 = 32;
-
-/// Turns after which another caller may go on, so that a call ends although others never cease.
-const TURNS_MAX: u32 = 32;
 
 /// What a turn left in the intake.
 #[derive(Clone, Copy, Debug, Drop, PartialEq, Eq)]
@@ -66,7 +64,8 @@ impl<D: SectorDisk + Drop, L: Ledger> Engine<D, L> {
     }
 
     /// Begins a call, and does not wait for its answer: `end_call` or `try_end_call` ends it. Who began it has to see to it
-    /// that what is pending is stored (`PendingCall::has_pending`). A call that ends here was refused, as `call` refuses it.
+    /// that what is pending is stored (`PendingCall::has_pending`). A call that ends here was refused, by 15 or -1 as `call`
+    /// refuses it.
     pub fn begin_call<R: Wait>(
         &self,
         rt: &R,
@@ -79,6 +78,7 @@ impl<D: SectorDisk + Drop, L: Ledger> Engine<D, L> {
         ensures ticket { MatchBegun result (λ ended outgoing. ticket_of outgoing ≡ next_ticket pass) (λ call. pending_ticket call ≡ next_ticket pass) }
         ensures calls { MatchBegun result (λ ended outgoing. calls_of ended ≡ calls_after (calls_of pass)) (λ call. pending_calls call ≡ calls_of pass) }
         ensures limit { MatchBegun result (λ ended outgoing. calls_of pass ≡ CALLS_MAX → reply_of outgoing ≡ Reply.Refused Code.CoordinatorNotAvailable) (λ call. calls_of pass < CALLS_MAX) }
+        ensures memory { IfEnded result (λ ended outgoing. calls_of pass < CALLS_MAX → reply_of outgoing ≡ Reply.Refused Code.UnknownServerError) }
         ensures noted { MatchBegun result (λ ended outgoing. IsNoted (noted_of pass) (ticket_of outgoing) (reply_of outgoing) (noted_of ended)) (λ call. pending_noted call ≡ noted_of pass) }
         ensures units { MatchBegun result (λ ended outgoing. units_of ended ≡ units_of pass + worth (kind_of request) (reply_of outgoing) (made_of outgoing)) (λ call. pending_units call ≡ units_of pass) }
         ensures kind { IfWaits result (λ call. pending_kind call ≡ kind_of request) }
@@ -166,14 +166,12 @@ impl<D: SectorDisk + Drop, L: Ledger> Engine<D, L> {
     // none is in flight, and no flusher was notified.
     fn serve<R: Wait>(&self, rt: &R) -> bool {
         for _ in rt.forever() {
-            for _ in 0..TURNS_MAX {
-                let (left, has_pending) = self.serve_turn(rt);
-                if left == Left::Nothing {
-                    return has_pending;
-                }
-                if has_pending {
-                    self.pending.notify_one();
-                }
+            let (left, has_pending) = self.serve_turn(rt);
+            if left == Left::Nothing {
+                return has_pending;
+            }
+            if has_pending {
+                self.pending.notify_one();
             }
             if !self.keeps_task(rt) {
                 return false;

@@ -37,6 +37,11 @@ impl<L: Ledger> PendingCall<L> {
         self.has_pending
     }
 
+    /// Returns whether an answer has come. Costs no lock, and moves nothing: a caller with many calls asks this first.
+    pub fn has_answer(&self) -> bool {
+        !self.caller.answers.is_empty()
+    }
+
     // Returns whether this is the answer to the call. No other answer comes, since a pass has one call at a time.
     pub(crate) fn is_answered_by(&self, answer: &Answer<L>) -> bool
         ensures ticket { IsTrue result → ticket_of answer.now.outgoing ≡ pending_ticket self.now }
