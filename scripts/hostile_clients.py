@@ -2,10 +2,12 @@
 
   python3 scripts/hostile_clients.py PROGRAM
 
-PROGRAM is a built cg_server. Clients send half a line and stay; never read their replies, or those before a COMMIT; send a line that is too long;
-close in mid-line; close while their request waits; and 1,000 connect and close. Beside each kind another client commits
-offsets and fetches them, each within ten seconds. At the end the sockets of the closed connections have to be gone. The
-whole run takes less than two minutes. The status is 0 if every commit was answered and none was lost.
+PROGRAM is a built cg_server. Clients send half a line and stay; never read their replies, or those before a COMMIT; send
+400,000 commits at once, every other of which is refused, and read nothing; write the log over more than twice; close
+while 500 commits wait; send a line that is too long; close in mid-line; close while their request waits; and 1,000
+connect and close. Beside each kind another client commits offsets and fetches them, each within ten seconds. At the end
+the sockets of the closed connections have to be gone. The whole run takes less than two minutes. The status is 0 if every
+commit was answered and none was lost.
 """
 import contextlib
 import os
@@ -20,6 +22,10 @@ WHOLE_SECONDS = 120
 LINE_BYTES_MAX = 1_048_576
 CONNECTIONS = 1_000
 UNREAD_REQUESTS = 200
+COMMITS = 400_000
+WAITING = 500
+# Of a quarter of a MiB each, to a log of 64 MiB.
+LARGE_COMMITS = 600
 # The listener.
 SOCKETS_OF_ITS_OWN = 1
 
@@ -145,10 +151,43 @@ def read_nothing_and_commit(port, held):
     held.append(stream)
 
 
+def commit_and_read_nothing(port, held):
+    """Has more replies than sockets hold."""
+    stream = connect(port)
+    stream.setsockopt(socket.SOL_SOCKET, socket.SO_RCVBUF, 4_096)
+    pair = b"COMMIT g -1 - - w:0:1:x\nCOMMIT g 7 m - w:0:1:x\n"
+    stream.settimeout(1)
+    with contextlib.suppress(TimeoutError):
+        for _ in range(UNREAD_REQUESTS):
+            stream.sendall(pair * (COMMITS // UNREAD_REQUESTS // 2))
+    held.append(stream)
+
+
+def write_the_log_over(port, held):
+    """Commits more than the log holds, faster than a tick has it compacted."""
+    partitions = " ".join(f"u:{it}:1:x{'ab' * 4000}" for it in range(64))
+    commit = f"COMMIT big -1 - - {partitions}\n".encode()
+    with connect(port) as stream:
+        replies = stream.makefile("r")
+        for _ in range(LARGE_COMMITS):
+            stream.sendall(commit)
+            if replies.readline() != "OK\n":
+                raise SystemExit("a large commit was refused")
+
+
+def close_while_many_commits_wait(port, held):
+    for _ in range(20):
+        with connect(port) as stream:
+            stream.sendall(b"COMMIT g -1 - - w:0:2:x\n" * WAITING)
+
+
 KINDS = [
     send_half_a_line,
     never_read,
     read_nothing_and_commit,
+    commit_and_read_nothing,
+    write_the_log_over,
+    close_while_many_commits_wait,
     send_a_line_that_is_too_long,
     close_in_mid_line,
     close_while_a_request_waits,

@@ -4,7 +4,7 @@
 
 PROGRAM is a built cg_server. In each of ROUNDS rounds (50 by default) it starts the server on one file, lets four clients
 commit ever larger offsets, each to a partition of its own, for a random time below half a second, kills the server, and
-starts it again. Each partition has to have an offset that is at least the last acknowledged one and at most the last one
+starts it again. Two of the clients wait for each reply, and two have 20 commits on their way. Each partition has to have an offset that is at least the last acknowledged one and at most the last one
 that was sent. The log is so short that the server compacts it all the time, so kills fall into compactions too. A round
 takes at most half a minute. The status is 0 if commits were acknowledged and no offset was missing.
 """
@@ -19,6 +19,8 @@ import threading
 import time
 
 CLIENTS = 4
+# How many commits each client has on its way.
+AHEAD = [1, 20, 1, 20]
 ROUND_SECONDS = 0.5
 WAIT_SECONDS = 10
 LOG = ["--segments", "8"]
@@ -42,25 +44,29 @@ def kill(server):
 
 
 class Client(threading.Thread):
-    """Commits offsets one after the other, until the connection breaks."""
+    """Commits ever larger offsets, so many of them ahead of their replies, until the connection breaks."""
 
     def __init__(self, port, partition, first):
         super().__init__(daemon=True)
         self.port, self.partition = port, partition
         self.sent = self.acknowledged = first
 
+    def send(self, stream, count):
+        lines = []
+        for _ in range(count):
+            self.sent += 1
+            lines.append(f"COMMIT g -1 - - t:{self.partition}:{self.sent}:x\n")
+        stream.sendall("".join(lines).encode())
+
     def run(self):
         try:
             with socket.create_connection(("127.0.0.1", self.port), WAIT_SECONDS) as stream:
                 replies = stream.makefile("r")
-                while True:
-                    self.sent += 1
-                    stream.sendall(f"COMMIT g -1 - - t:{self.partition}:{self.sent}:x\n".encode())
-                    reply = replies.readline()
-                    if reply == "OK\n":
-                        self.acknowledged = self.sent
-                    elif not reply.startswith("ERR 14 "):
-                        return
+                self.send(stream, AHEAD[self.partition])
+                # Replies come in the order of the commits.
+                while replies.readline() == "OK\n":
+                    self.acknowledged += 1
+                    self.send(stream, 1)
         except OSError:
             pass
 

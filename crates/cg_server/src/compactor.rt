@@ -66,21 +66,21 @@ fn pause_after(round: Duration) -> Duration {
     round.saturating_mul(3) / 2
 }
 
-// Leaves the store to commits after a long round, unless they wait for the compaction: the log is full.
+// Leaves the store to commits after a long round, unless they wait for the compaction.
 fn leave_to_commits<D: SectorDisk + Drop, L: Ledger, R: Wait + Clock>(
     rt: &R,
     server: &Server<'_, D, L>,
     began: io::Result<Instant>,
 ) {
     let pause = pause_after(time_since(rt, began));
-    if !pause.is_zero() && !server.is_full() {
+    if !pause.is_zero() && !server.is_full() && !server.is_held() {
         server.compact.wait(rt, pause);
     }
 }
 
 /// Compacts the log until the server is over, whenever too few segments are free or the log is full. The bell rings when
-/// the log becomes full: then the next compaction begins without a pause. A long round leaves the store to commits for a
-/// while.
+/// too few become free, and when the log becomes full: then the next compaction begins without a pause. A long round leaves
+/// the store to commits for a while.
 pub fn compact_until_over<D: SectorDisk + Drop, L: Ledger, R: Wait + Clock>(
     rt: &R,
     server: &Server<'_, D, L>,

@@ -6,6 +6,7 @@ use cg_disk::SectorDisk;
 use cg_engine::SessionPass;
 use cg_group::{Reply, Request};
 use cg_line::{Asked, BegunLine, Refusal};
+use cg_names::Code;
 use mio::net::TcpStream;
 use mio::{Interest, Registry, Token};
 use std::alloc::{AllocError, Global};
@@ -28,6 +29,8 @@ pub struct Connection<L: Ledger> {
     // Bytes that were read, and how many of them are served.
     read: Vec<u8>,
     served: usize,
+    // Bytes of the line that is being served which came before.
+    begun: usize,
     unsent: Unsent,
     session: Session<L>,
     // Whether there may be bytes to read.
@@ -40,6 +43,8 @@ pub struct Connection<L: Ledger> {
     is_broken: bool,
     // Whether commands wait for a batch, none is in flight, and no thread was notified.
     has_pending: bool,
+    // Whether the worker looks for the answers to its calls.
+    is_listed: bool,
     // What it waits for since its last visit.
     next: Next,
 }
@@ -49,12 +54,20 @@ pub struct Connection<L: Ledger> {
 pub enum Next {
     /// Its stream.
     Stream,
-    /// The answer to its call.
+    /// The answer to a call, and its stream if it may have another call.
     Answer,
     /// Another visit: there is more to serve.
     Visit,
     /// Nothing: it is over.
     Over,
+}
+
+// Returns the code of a line's refusal.
+fn code_of(refusal: Refusal) -> Code {
+    match refusal {
+        Refusal::Malformed => Code::InvalidRequest,
+        Refusal::Memory => Code::UnknownServerError,
+    }
 }
 
 impl<L: Ledger> Connection<L> {
@@ -65,13 +78,15 @@ impl<L: Ledger> Connection<L> {
             line: BegunLine::new(alloc),
             read: Vec::new(alloc),
             served: 0,
+            begun: 0,
             unsent: Unsent::new(alloc),
-            session: Session::Idle(pass),
+            session: Session::new(alloc, pass),
             is_readable: true,
             is_closed_there: false,
             is_ending: false,
             is_broken: false,
             has_pending: false,
+            is_listed: false,
             next: Next::Stream,
         }
     }
@@ -97,12 +112,30 @@ impl<L: Ledger> Connection<L> {
     pub fn shut_down(&mut self) {
         let _ = self.stream.shutdown(Shutdown::Both);
         self.break_off();
+        if !self.is_calling() {
+            self.next = Next::Over;
+        }
     }
 
     /// Returns whether commands wait for a batch, none is in flight, and no thread was notified; the next time it returns
     /// false.
     pub fn take_pending(&mut self) -> bool {
         mem::replace(&mut self.has_pending, false)
+    }
+
+    /// Returns whether a call waits for its answer.
+    pub fn is_calling(&self) -> bool {
+        self.session.owes()
+    }
+
+    /// Returns whether the worker looks for the answers to its calls.
+    pub fn is_listed(&self) -> bool {
+        self.is_listed
+    }
+
+    /// Notes whether the worker looks for the answers to its calls.
+    pub fn note_listed(&mut self, is_listed: bool) {
+        self.is_listed = is_listed;
     }
 
     /// Ends the connection, and returns its pass, unless a call has it.
@@ -163,32 +196,35 @@ impl<L: Ledger> Connection<L> {
     fn may_serve(&self) -> bool {
         self.has_unserved()
             && !self.is_broken
-            && !self.session.is_calling()
+            && self.session.takes_more()
             && !self.unsent.is_full()
     }
 
-    // Begins the call of a request.
+    // Begins the call of a request, which came in a line of this many bytes.
     fn call<D: SectorDisk + Drop, R: Wait + Clock + RandomSource>(
         &mut self,
         rt: &R,
         server: &Server<'_, D, L>,
+        bytes: usize,
         request: Request,
     ) {
-        let begun = self.session.begin(rt, server, request);
-        self.has_pending = self.has_pending || begun.has_pending;
-        if let Some(reply) = begun.reply {
-            self.answer(&reply);
+        match self.session.begin(rt, server, bytes, request) {
+            Ok(has_pending) => self.has_pending = self.has_pending || has_pending,
+            Err(code) => self.refuse(bytes, code),
         }
     }
 
-    fn answer(&mut self, reply: &Reply) {
-        let added = self.unsent.add(reply);
-        self.keep(added);
+    // Refuses a line, after the replies that are owed for those before.
+    fn refuse(&mut self, bytes: usize, code: Code) {
+        let owed = self.session.owe(bytes, Reply::Refused(code));
+        self.keep(owed);
     }
 
-    fn refuse(&mut self, refusal: Refusal) {
-        let added = self.unsent.add_refusal(refusal);
-        self.keep(added);
+    // Notes that the bytes before this place are served. Returns how many of the line are.
+    fn advance(&mut self, to: usize) -> usize {
+        let more = to.saturating_sub(self.served);
+        self.served = to;
+        self.begun.saturating_add(more)
     }
 
     // Serves the next line that was read, or keeps the begin of one.
@@ -197,55 +233,79 @@ impl<L: Ledger> Connection<L> {
         rt: &R,
         server: &Server<'_, D, L>,
     ) {
-        let from = self.served.min(self.read.len());
-        let unserved = &self.read.as_slice()[from..];
-        match self.line.next(server.alloc, unserved) {
-            Ok(None) => self.served = self.read.len(),
-            Ok(Some((asked, behind))) => {
-                self.served = self.read.len().saturating_sub(behind.len());
+        let len = self.read.len();
+        let from = self.served.min(len);
+        match self.line.next(server.alloc, &self.read.as_slice()[from..]) {
+            Ok(None) => self.begun = self.advance(len),
+            Ok(Some((asked, after))) => {
+                let to = len.saturating_sub(after.len());
+                let bytes = self.advance(to);
+                self.begun = 0;
                 match asked {
-                    Asked::Request(request) => self.call(rt, server, request),
-                    Asked::Refusal(refusal) => self.refuse(refusal),
+                    Asked::Request(request) => self.call(rt, server, bytes, request),
+                    Asked::Refusal(refusal) => self.refuse(bytes, code_of(refusal)),
                 }
             }
             Err(_too_long) => {
-                self.served = self.read.len();
+                let bytes = self.advance(len);
                 self.is_ending = true;
-                self.refuse(Refusal::Malformed);
+                self.refuse(bytes, Code::InvalidRequest);
             }
         }
     }
 
-    // Serves the lines that were read, until a call waits for its answer or much is unsent.
+    /// Takes the replies that are there, as far as none before them is missing. Returns whether there were any.
+    pub fn take_replies<D: SectorDisk + Drop, R: Wait>(
+        &mut self,
+        rt: &R,
+        server: &Server<'_, D, L>,
+    ) -> bool {
+        let owed = self.session.owed();
+        for _ in 0..owed {
+            let Some(reply) = self.session.next_reply(rt, server) else {
+                break;
+            };
+            let added = self.unsent.add(&reply);
+            self.keep(added);
+        }
+        self.session.owed() < owed
+    }
+
+    // Serves the lines that were read, until no more may be served before a reply leaves, or much is unsent.
     fn serve<D: SectorDisk + Drop, R: Wait + Clock + RandomSource>(
         &mut self,
         rt: &R,
         server: &Server<'_, D, L>,
     ) {
         for _ in 0..LINES_MAX {
-            if !self.may_serve() {
+            if !self.may_serve() || !self.session.reserve(rt, server) {
                 return;
             }
             self.serve_line(rt, server);
+            self.take_replies(rt, server);
         }
     }
 
     fn after_visit(&self) -> Next {
-        if self.session.is_calling() {
+        let is_calling = self.session.owes();
+        if is_calling && (self.is_broken || !self.session.takes_more()) {
             return Next::Answer;
         }
-        if self.is_broken || (self.is_ending && !self.has_unserved() && self.unsent.is_empty()) {
+        let has_ended = self.is_ending && !self.has_unserved() && self.unsent.is_empty();
+        if !is_calling && (self.is_broken || has_ended) {
             return Next::Over;
         }
         let has_more = self.has_unserved() || (self.is_readable && !self.is_ending);
         if has_more && !self.unsent.is_full() {
             Next::Visit
+        } else if is_calling {
+            Next::Answer
         } else {
             Next::Stream
         }
     }
 
-    /// Sends what is unsent, reads once, and serves what was read until a call waits for its answer.
+    /// Sends what is unsent, reads once, and serves what was read until no more may be served before a reply leaves.
     pub fn visit<D: SectorDisk + Drop, R: Wait + Clock + RandomSource>(
         &mut self,
         rt: &R,
@@ -255,7 +315,7 @@ impl<L: Ledger> Connection<L> {
         if self.unsent.is_full() {
             self.send();
         }
-        if !self.session.is_calling() && !self.unsent.is_full() {
+        if self.session.takes_more() && !self.unsent.is_full() {
             if !self.has_unserved() && self.is_readable && !self.is_ending {
                 self.receive(buffer);
             }
@@ -264,17 +324,5 @@ impl<L: Ledger> Connection<L> {
         self.send();
         self.next = self.after_visit();
         self.next
-    }
-
-    /// Takes the answer to the call under way. Returns whether the connection waits for none.
-    pub fn take_answer<D: SectorDisk + Drop, R: Wait>(
-        &mut self,
-        rt: &R,
-        server: &Server<'_, D, L>,
-    ) -> bool {
-        if let Some(reply) = self.session.reply(rt, server) {
-            self.answer(&reply);
-        }
-        !self.session.is_calling()
     }
 }

@@ -67,7 +67,7 @@ fn end_full<D: SectorDisk + Drop, L: Ledger, R: Wait + Eprint>(rt: &R, server: &
 }
 
 /// Stores what waits for the disk until the server is over or the disk fails. Goes to the next batch at once while
-/// commands wait, and sleeps where none does.
+/// commands wait, and sleeps where none does. Waits for a compaction that needs the last free segments.
 pub fn flush_until_over<D: SectorDisk + Drop, L: Ledger, R: Wait + Clock + Eprint>(
     rt: &R,
     server: &Server<'_, D, L>,
@@ -77,8 +77,15 @@ pub fn flush_until_over<D: SectorDisk + Drop, L: Ledger, R: Wait + Clock + Eprin
         if server.is_over() {
             return FlushEnd::Over;
         }
+        if server.is_tight(rt) {
+            server.begin_hold(rt);
+            server.flush.wait(rt, tick);
+            continue;
+        }
+        server.end_hold();
         let ended = server.engine.flush_round(rt);
         server.wake_callers();
+        server.watch_room(rt);
         match next_after(ended) {
             After::Again => end_full(rt, server),
             After::Sleep => {

@@ -4,10 +4,10 @@ use crate::inbox::Inbox;
 use crate::moments::Moments;
 use crate::options::Options;
 use cg_disk::SectorDisk;
-use cg_engine::{Engine, SessionPass};
+use cg_engine::{Engine, PASSES_MAX, SessionPass};
 use std::alloc::Global;
 use std::net::{Net, SocketAddr, TcpStream};
-use std::sync::atomic::{AtomicBool, Ordering};
+use std::sync::atomic::{AtomicBool, AtomicUsize, Ordering};
 use std::sync::ledger::Ledger;
 use std::sync::{Mutex, Wait};
 use std::thread;
@@ -18,6 +18,12 @@ const CONNECTS_MAX: u32 = 1_000;
 
 /// Pause between two of them, in milliseconds.
 const CONNECT_PAUSE_MS: u64 = 10;
+
+/// Most passes that connections have beyond the first of each: half of all, so that new connections find some.
+const EXTRA_MAX: usize = PASSES_MAX / 2;
+
+/// Fewest segments that are kept free for the snapshot of a compaction under way.
+const KEPT_MIN: u64 = 1;
 
 /// What the threads of a server share.
 #[derive(Drop)]
@@ -38,6 +44,10 @@ pub struct Server<'a, D: SectorDisk, L: Ledger> {
     address: SocketAddr,
     // Passes that no connection has.
     passes: Mutex<Vec<SessionPass<L>>>,
+    // How many passes were made.
+    made: AtomicUsize,
+    // How many passes connections have beyond the first of each.
+    extra: AtomicUsize,
     // Whether the thread that accepts connections runs.
     begun: AtomicBool,
     // Whether the server closes.
@@ -48,6 +58,10 @@ pub struct Server<'a, D: SectorDisk, L: Ledger> {
     over: AtomicBool,
     // Whether the log has no room for the next batch.
     full: AtomicBool,
+    // Whether batches wait for the compaction under way.
+    held: AtomicBool,
+    // Whether fewer segments were free after the last batch than the compactor waits for.
+    low: AtomicBool,
 }
 
 impl<'a, D: SectorDisk + Drop, L: Ledger> Server<'a, D, L> {
@@ -70,26 +84,54 @@ impl<'a, D: SectorDisk + Drop, L: Ledger> Server<'a, D, L> {
             tick: Bell::new(),
             address,
             passes: Mutex::new(Vec::new(alloc)),
+            made: AtomicUsize::new(0),
+            extra: AtomicUsize::new(0),
             begun: AtomicBool::new(false),
             closing: AtomicBool::new(false),
             done: AtomicBool::new(false),
             over: AtomicBool::new(false),
             full: AtomicBool::new(false),
+            held: AtomicBool::new(false),
+            low: AtomicBool::new(false),
         }
     }
 
-    /// Returns a pass that a connection gave back, or else a new one. Returns `None` if there is none to be had.
+    /// Returns a pass that was given back, or else a new one. Returns `None` if there is none to be had.
     pub fn take_pass<R: Wait>(&self, rt: &R) -> Option<SessionPass<L>> {
-        let idle = self.passes.lock(rt).pop();
-        match idle {
-            Some(pass) => Some(pass),
-            None => self.engine.pass(rt).ok(),
+        let mut idle = self.passes.lock(rt);
+        if let Some(pass) = idle.pop() {
+            return Some(pass);
         }
+        // Room for all that were made, so that each can be given back.
+        let made = self.made.fetch_add(1, Ordering::SeqCst);
+        idle.reserve(made.saturating_add(1)).ok()?;
+        drop(idle);
+        self.engine.pass(rt).ok()
     }
 
-    /// Keeps a pass for the next connection.
+    /// Gives a pass back.
     pub fn give_pass<R: Wait>(&self, rt: &R, pass: SessionPass<L>) {
         let _ = self.passes.lock(rt).push(pass);
+    }
+
+    /// Returns a pass for a connection that has one, as `take_pass` does, while at most half of all are such.
+    pub fn take_extra_pass<R: Wait>(&self, rt: &R) -> Option<SessionPass<L>> {
+        let taken = self.extra.fetch_add(1, Ordering::SeqCst);
+        let pass = if taken < EXTRA_MAX {
+            self.take_pass(rt)
+        } else {
+            None
+        };
+        if pass.is_none() {
+            self.extra.fetch_sub(1, Ordering::SeqCst);
+        }
+        pass
+    }
+
+    /// Gives a pass back for which the connection has another one.
+    pub fn give_extra_pass<R: Wait>(&self, rt: &R, pass: SessionPass<L>) {
+        self.extra.fetch_sub(1, Ordering::SeqCst);
+        self.give_pass(rt, pass);
     }
 
     /// Notes that the thread that accepts connections runs.
@@ -151,6 +193,39 @@ impl<'a, D: SectorDisk + Drop, L: Ledger> Server<'a, D, L> {
     /// Notes that the log has room again.
     pub fn end_full(&self) {
         self.full.store(false, Ordering::SeqCst);
+    }
+
+    /// Returns whether the next batch has to wait for the compaction under way: fewer segments are free than half of those
+    /// below which one begins, and what is free is for its snapshot.
+    pub fn is_tight<R: Wait>(&self, rt: &R) -> bool {
+        let kept = (self.options.compact_free / 2).max(KEPT_MIN);
+        self.engine.compact_wanted(rt, 0) && self.engine.free_count(rt) < kept
+    }
+
+    /// Returns whether batches wait for the compaction under way.
+    pub fn is_held(&self) -> bool {
+        self.held.load(Ordering::SeqCst)
+    }
+
+    /// Notes that batches wait for the compaction under way, and wakes the compactor.
+    pub fn begin_hold<R: Wait>(&self, rt: &R) {
+        if !self.held.swap(true, Ordering::SeqCst) {
+            self.compact.ring(rt);
+        }
+    }
+
+    /// Notes that batches wait for no compaction.
+    pub fn end_hold(&self) {
+        self.held.store(false, Ordering::SeqCst);
+    }
+
+    /// Wakes the compactor when a batch left fewer segments free than it waits for: within a tick batches might take the last
+    /// ones, and no compaction can begin without any.
+    pub fn watch_room<R: Wait>(&self, rt: &R) {
+        let is_low = self.engine.compact_wanted(rt, self.options.compact_free);
+        if self.low.swap(is_low, Ordering::SeqCst) != is_low && is_low {
+            self.compact.ring(rt);
+        }
     }
 
     /// Accepts no more connections, and has the workers shut down the open ones.

@@ -1,34 +1,53 @@
-//! The session of a connection: its pass, or the call that has it.
+//! The session of a connection: its pass, and the replies that it owes.
 use crate::server::Server;
 use cg_disk::SectorDisk;
 use cg_engine::{BegunCall, PendingCall, SessionPass};
 use cg_group::{Reply, Request};
 use cg_names::Code;
-use std::mem;
+use std::alloc::{AllocError, Global};
+use std::collections::VecDeque;
 use std::random::RandomSource;
 use std::sync::Wait;
 use std::sync::ledger::Ledger;
 use std::time::Clock;
 use uuid::Uuid;
 
-/// The session of a connection. It has one call at a time.
+/// Most replies that a connection owes before another of its lines is served.
+const OWED_MAX: usize = 64;
+
+/// Bytes of the lines whose replies it owes from which on no other is served.
+const OWED_BYTES_MAX: usize = 65_536;
+
+/// A reply that is owed.
 #[derive(Drop)]
-pub enum Session<L: Ledger> {
-    /// No call is under way.
-    Idle(SessionPass<L>),
-    /// A call waits for its answer.
-    Calling(PendingCall<L>),
-    /// The pass is with the code that changes the session.
-    Away,
+enum Due<L: Ledger> {
+    /// That to a call which waits for its answer.
+    Answer(PendingCall<L>),
+    /// One that is there.
+    Reply(Reply),
 }
 
-/// What the begin of a call gave.
+/// What a connection owes for a line that was served.
 #[derive(Drop)]
-pub struct Begun {
-    /// The reply, if it is there already.
-    pub reply: Option<Reply>,
-    /// Whether commands wait for a batch, none is in flight, and no thread was notified.
-    pub has_pending: bool,
+struct Owed<L: Ledger> {
+    /// Length of the line.
+    bytes: usize,
+    due: Due<L>,
+}
+
+/// The session of a connection. Its calls are begun in the order of their lines, without a wait for the answers to those
+/// before, and each has a pass of its own. Replies leave in the same order.
+#[derive(Drop)]
+pub struct Session<L: Ledger> {
+    // The pass for the next call. A session that owes nothing has it.
+    pass: Option<SessionPass<L>>,
+    owed: VecDeque<Owed<L>>,
+    // Bytes of the lines whose replies are owed.
+    bytes: usize,
+    // Whether the reply that is owed last has to leave before another line is served.
+    is_last: bool,
+    // Whether no pass, or no memory, was to be had for another call. It is tried again once a reply has left.
+    is_short: bool,
 }
 
 // Returns the UUID for a request: a random one for a JOIN, from which a member id may be drawn. `None` if the system
@@ -40,96 +59,175 @@ fn fresh_for<R: RandomSource>(rt: &R, request: &Request) -> Option<Uuid> {
     }
 }
 
-fn refused(code: Code) -> Begun {
-    Begun {
-        reply: Some(Reply::Refused(code)),
-        has_pending: false,
+// Returns whether the reply to a request has to leave before the next line is served: it may be parked, or may be long.
+fn is_last(request: &Request) -> bool {
+    match request {
+        Request::Beat(_) | Request::Commit(_) | Request::Leave(_) | Request::Delete(_) => false,
+        Request::Join(_) | Request::Sync(_) => true,
+        Request::Fetch(_) | Request::Describe(_) | Request::List => true,
     }
 }
 
 impl<L: Ledger> Session<L> {
-    /// Returns whether a call waits for its answer.
-    pub fn is_calling(&self) -> bool {
-        matches!(self, Session::Calling(_))
+    /// Creates a session that owes nothing.
+    pub fn new(alloc: Global, pass: SessionPass<L>) -> Self {
+        Session {
+            pass: Some(pass),
+            owed: VecDeque::new(alloc),
+            bytes: 0,
+            is_last: false,
+            is_short: false,
+        }
     }
 
-    /// Calls the engine, and does not wait for the answer.
+    /// Returns whether a reply is owed.
+    pub fn owes(&self) -> bool {
+        !self.owed.is_empty()
+    }
+
+    /// Returns how many replies are owed.
+    pub fn owed(&self) -> usize {
+        self.owed.len()
+    }
+
+    /// Returns whether another line may be served before a reply leaves.
+    pub fn takes_more(&self) -> bool {
+        let is_ahead = self.owed.len() >= OWED_MAX || self.bytes >= OWED_BYTES_MAX;
+        !self.is_last && !self.is_short && !is_ahead
+    }
+
+    /// Makes room for what another line is owed, and takes a pass for its call. Returns whether there are both, or nothing
+    /// is owed: then the line is served all the same.
+    pub fn reserve<D: SectorDisk + Drop, R: Wait>(
+        &mut self,
+        rt: &R,
+        server: &Server<'_, D, L>,
+    ) -> bool {
+        let has_room = self.owed.reserve(1).is_ok();
+        if self.pass.is_none() {
+            self.pass = server.take_extra_pass(rt);
+        }
+        self.is_short = self.owes() && !(has_room && self.pass.is_some());
+        !self.is_short
+    }
+
+    // Adds to what is owed.
+    fn add(&mut self, bytes: usize, due: Due<L>) -> Result<(), AllocError> {
+        self.owed.reserve(1)?;
+        self.owed.push_back_reserved(Owed { bytes, due });
+        self.bytes = self.bytes.saturating_add(bytes);
+        Ok(())
+    }
+
+    /// Owes a reply that is there, to a line of this many bytes.
+    pub fn owe(&mut self, bytes: usize, reply: Reply) -> Result<(), AllocError> {
+        self.add(bytes, Due::Reply(reply))
+    }
+
+    /// Begins the call of a request, which came in a line of this many bytes, and does not wait for the answer. Returns whether
+    /// commands wait for a batch, none is in flight, and no thread was notified.
     pub fn begin<D: SectorDisk + Drop, R: Wait + Clock + RandomSource>(
         &mut self,
         rt: &R,
         server: &Server<'_, D, L>,
+        bytes: usize,
         request: Request,
-    ) -> Begun {
-        let Some(fresh) = fresh_for(rt, &request) else {
-            return refused(Code::UnknownServerError);
+    ) -> Result<bool, Code> {
+        let Ok(()) = self.owed.reserve(1) else {
+            return Err(Code::UnknownServerError);
         };
-        match mem::replace(self, Session::Away) {
-            Session::Idle(pass) => self.call(rt, server, pass, request, fresh),
-            other => {
-                *self = other;
-                refused(Code::CoordinatorNotAvailable)
+        let Some(fresh) = fresh_for(rt, &request) else {
+            return Err(Code::UnknownServerError);
+        };
+        let Some(pass) = self.pass.take() else {
+            return Err(Code::CoordinatorNotAvailable);
+        };
+        self.is_last = is_last(&request);
+        let now = server.moments.now(rt);
+        let (due, has_pending) = match server.engine.begin_call(rt, pass, request, now, fresh) {
+            BegunCall::Ended(pass, outgoing) => {
+                self.keep(rt, server, pass);
+                (Due::Reply(outgoing.into_reply()), false)
             }
-        }
+            BegunCall::Waits(call) => {
+                let has_pending = call.has_pending();
+                (Due::Answer(call), has_pending)
+            }
+        };
+        // There is room.
+        let _ = self.add(bytes, due);
+        Ok(has_pending)
     }
 
-    // Calls the engine with this pass.
-    fn call<D: SectorDisk + Drop, R: Wait + Clock + RandomSource>(
+    // Keeps the pass of a call that has ended for the next one, or gives it back if there is one.
+    fn keep<D: SectorDisk + Drop, R: Wait>(
         &mut self,
         rt: &R,
         server: &Server<'_, D, L>,
         pass: SessionPass<L>,
-        request: Request,
-        fresh: Uuid,
-    ) -> Begun {
-        let now = server.moments.now(rt);
-        match server.engine.begin_call(rt, pass, request, now, fresh) {
-            BegunCall::Ended(pass, outgoing) => {
-                *self = Session::Idle(pass);
-                Begun {
-                    reply: Some(outgoing.into_reply()),
-                    has_pending: false,
-                }
-            }
-            BegunCall::Waits(call) => {
-                let has_pending = call.has_pending();
-                *self = Session::Calling(call);
-                Begun {
-                    reply: self.reply(rt, server),
-                    has_pending,
-                }
-            }
+    ) {
+        if self.pass.is_none() {
+            self.pass = Some(pass);
+        } else {
+            server.give_extra_pass(rt, pass);
         }
     }
 
-    /// Returns the reply to the call under way, if it is there. The call has ended then.
-    pub fn reply<D: SectorDisk + Drop, R: Wait>(
+    // Returns whether the reply that is owed first is there.
+    fn has_reply(&self) -> bool {
+        match self.owed.front() {
+            None => false,
+            Some(owed) => match &owed.due {
+                Due::Answer(call) => call.has_answer(),
+                Due::Reply(_) => true,
+            },
+        }
+    }
+
+    // Returns the reply to the call that was begun first. If its answer has not come, the call is owed as before.
+    fn answer<D: SectorDisk + Drop, R: Wait>(
         &mut self,
         rt: &R,
         server: &Server<'_, D, L>,
+        bytes: usize,
+        call: PendingCall<L>,
     ) -> Option<Reply> {
-        match mem::replace(self, Session::Away) {
-            Session::Calling(call) => match server.engine.try_end_call(rt, call) {
-                Ok((pass, outgoing)) => {
-                    *self = Session::Idle(pass);
-                    Some(outgoing.into_reply())
-                }
-                Err(call) => {
-                    *self = Session::Calling(call);
-                    None
-                }
-            },
-            other => {
-                *self = other;
+        match server.engine.try_end_call(rt, call) {
+            Ok((pass, outgoing)) => {
+                self.keep(rt, server, pass);
+                Some(outgoing.into_reply())
+            }
+            Err(call) => {
+                let due = Due::Answer(call);
+                let _ = self.owed.push_front(Owed { bytes, due });
                 None
             }
         }
     }
 
+    /// Removes the reply that is owed first, if it is there.
+    pub fn next_reply<D: SectorDisk + Drop, R: Wait>(
+        &mut self,
+        rt: &R,
+        server: &Server<'_, D, L>,
+    ) -> Option<Reply> {
+        if !self.has_reply() {
+            return None;
+        }
+        let Owed { bytes, due } = self.owed.pop_front()?;
+        let reply = match due {
+            Due::Answer(call) => self.answer(rt, server, bytes, call)?,
+            Due::Reply(reply) => reply,
+        };
+        self.bytes = self.bytes.saturating_sub(bytes);
+        self.is_short = false;
+        self.is_last = self.is_last && self.owes();
+        Some(reply)
+    }
+
     /// Ends the session, and returns its pass, unless a call has it.
     pub fn into_pass(self) -> Option<SessionPass<L>> {
-        match self {
-            Session::Idle(pass) => Some(pass),
-            Session::Calling(_) | Session::Away => None,
-        }
+        let Session { pass, .. } = self;
+        pass
     }
 }

@@ -243,6 +243,63 @@ fn lines_in_pieces_over_a_socket(rt: HostRuntime) -> Result<(), Fail> {
     Ok(())
 }
 
+#[test]
+fn replies_to_lines_that_are_sent_ahead(rt: HostRuntime) -> Result<(), Fail> {
+    let listener = TcpListener::bind(&rt, "127.0.0.1:0")?;
+    let address = listener.local_addr()?;
+    let disk = with_a_commit(rt.alloc())?;
+    let lines =
+        "COMMIT g -1 - - t:0:43:x\nBEAT g 1 m -\nLIST \nCOMMIT g -1 - - t:0:44:x\nFETCH g t:0\n\
+        DELETE h\nCOMMIT g 7 - - t:0:45:x\nCOMMIT g -1 - - t:0:46:x\nLIST\nFETCH g t:0\n";
+    let ((status, written), said) = thread::join(
+        &rt,
+        || served(&rt, listener, disk, 1),
+        || exchange_loaded(&rt, address, lines, 10),
+    );
+    let replies = "OK\nERR 25 UNKNOWN_MEMBER_ID\nERR 42 INVALID_REQUEST\nOK\nFETCHED t:0:44:x\n\
+        ERR 69 GROUP_ID_NOT_FOUND\nERR 25 UNKNOWN_MEMBER_ID\nOK\nGROUPS g:-:Empty\nFETCHED t:0:46:x\n";
+    assert_eq!(rt; said?.as_str(), replies);
+    assert_eq!(rt; status, 0);
+    assert!(rt; written.ends_with(b"LOADED 1 0 1\nCLOSED 4\n"));
+    Ok(())
+}
+
+// The end of a disk.
+#[derive(Drop)]
+struct Shut {}
+
+impl Gate for Shut {
+    fn opened(&mut self) -> bool {
+        false
+    }
+}
+
+// Number of commits that a client sends ahead, more than are under way at once.
+const AHEAD: u32 = 200;
+
+#[test]
+fn commits_that_are_sent_ahead_share_syncs(rt: HostRuntime) -> Result<(), Fail> {
+    let listener = TcpListener::bind(&rt, "127.0.0.1:0")?;
+    let address = listener.local_addr()?;
+    // One after another, the commits would take 400 syncs, two each.
+    let disk = GateDisk::new(formatted(rt.alloc())?, 40, Shut {});
+    let mut lines = String::new(rt.alloc());
+    let mut replies = String::new(rt.alloc());
+    for _ in 0..AHEAD {
+        lines.push_str("COMMIT g -1 - - t:0:7:x\n")?;
+        replies.push_str("OK\n")?;
+    }
+    let ((status, written), said) = thread::join(
+        &rt,
+        || served(&rt, listener, disk, 1),
+        || exchange_loaded(&rt, address, lines.as_str(), AHEAD),
+    );
+    assert_eq!(rt; said?.as_str(), replies.as_str());
+    assert_eq!(rt; status, 0);
+    assert!(rt; written.ends_with(b"LOADED 0 0 0\nCLOSED 200\n"));
+    Ok(())
+}
+
 // A sync that waits until the flag is up.
 struct Flag<'a, R: Clock> {
     rt: &'a R,

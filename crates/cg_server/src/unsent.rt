@@ -45,8 +45,8 @@ impl Unsent {
         }
     }
 
-    /// Adds the line of a refusal.
-    pub fn add_refusal(&mut self, refusal: Refusal) -> Result<(), AllocError> {
+    // Adds the line of a refusal.
+    fn add_refusal(&mut self, refusal: Refusal) -> Result<(), AllocError> {
         self.bytes.extend_from_slice(refusal.line())
     }
 

@@ -30,17 +30,19 @@ struct Worker<'a, D: SectorDisk, L: Ledger, R> {
     server: &'a Server<'a, D, L>,
     inbox: &'a Inbox,
     connections: Slab<Connection<L>>,
-    // Connections whose call waits for its answer.
+    // Connections with calls that wait for answers.
     calling: Vec<usize>,
     // Connections that have more to serve.
     unserved: Vec<usize>,
     // Room for either list while it is gone through.
     spare: Vec<usize>,
+    // What `Engine::answered` was when the worker last took the answers that were there.
+    taken_at: u64,
     // Whether a list had no memory for a connection.
     has_missed: bool,
     // Whether commands wait for a batch, none is in flight, and no thread was notified.
     has_pending: bool,
-    // Whether a call was begun since the worker last began to lie down.
+    // Whether a connection was listed since the worker last began to lie down.
     has_begun: bool,
     is_closed: bool,
 }
@@ -56,10 +58,18 @@ impl<'a, D: SectorDisk + Drop, L: Ledger, R: Wait + Clock + RandomSource> Worker
             calling: Vec::new(alloc),
             unserved: Vec::new(alloc),
             spare: Vec::new(alloc),
+            taken_at: 0,
             has_missed: false,
             has_pending: false,
             has_begun: false,
             is_closed: false,
+        }
+    }
+
+    // Has the answers to the calls of a connection looked for.
+    fn list(&mut self, key: usize) {
+        if self.calling.push(key).is_err() {
+            self.has_missed = true;
         }
     }
 
@@ -70,20 +80,26 @@ impl<'a, D: SectorDisk + Drop, L: Ledger, R: Wait + Clock + RandomSource> Worker
         };
         let next = connection.visit(self.rt, self.server, buffer);
         self.has_pending = connection.take_pending() || self.has_pending;
-        let noted = match next {
-            Next::Stream => Ok(()),
-            Next::Answer => {
-                self.has_begun = true;
-                self.calling.push(key)
+        let is_listed = connection.is_listed();
+        let begins = connection.is_calling() && !is_listed;
+        if begins {
+            connection.note_listed(true);
+            self.has_begun = true;
+            self.list(key);
+        }
+        match next {
+            Next::Stream | Next::Answer => {}
+            Next::Visit => {
+                if self.unserved.push(key).is_err() {
+                    self.has_missed = true;
+                }
             }
-            Next::Visit => self.unserved.push(key),
+            // One that is listed ends when its turn comes there.
             Next::Over => {
-                self.leave(key);
-                Ok(())
+                if !is_listed {
+                    self.leave(key);
+                }
             }
-        };
-        if noted.is_err() {
-            self.has_missed = true;
         }
     }
 
@@ -96,20 +112,32 @@ impl<'a, D: SectorDisk + Drop, L: Ledger, R: Wait + Clock + RandomSource> Worker
         }
     }
 
-    // Takes the answer to a connection's call, and serves it further. If there is none yet, keeps it in the list.
+    // Takes the answers to a connection's calls that are there, and serves it further.
     fn take_answer(&mut self, key: usize, buffer: &mut [u8]) {
         let Some(connection) = self.connections.get_mut(key) else {
             return;
         };
-        if connection.take_answer(self.rt, self.server) {
+        let has_taken = connection.take_replies(self.rt, self.server);
+        let is_calling = connection.is_calling();
+        let next = connection.next();
+        connection.note_listed(is_calling);
+        if is_calling {
+            self.list(key);
+        }
+        // One that has more to serve is visited anyway.
+        if has_taken && next != Next::Visit {
             self.visit(key, buffer);
-        } else if self.calling.push(key).is_err() {
-            self.has_missed = true;
+        } else if next == Next::Over {
+            self.leave(key);
         }
     }
 
-    // Takes the answers that are there.
+    // Takes the answers that are there, if some were sent since the last time.
     fn take_answers(&mut self, buffer: &mut [u8]) {
+        let answered = self.server.engine.answered();
+        if mem::replace(&mut self.taken_at, answered) == answered {
+            return;
+        }
         mem::swap(&mut self.calling, &mut self.spare);
         for _ in 0..self.spare.len() {
             if let Some(key) = self.spare.pop() {
@@ -128,13 +156,23 @@ impl<'a, D: SectorDisk + Drop, L: Ledger, R: Wait + Clock + RandomSource> Worker
         }
     }
 
+    // Looks at a connection, whatever it waits for.
+    fn look_at(&mut self, key: usize, buffer: &mut [u8]) {
+        let Some(connection) = self.connections.get_mut(key) else {
+            return;
+        };
+        connection.note_listed(false);
+        connection.take_replies(self.rt, self.server);
+        self.visit(key, buffer);
+    }
+
     // Looks at every connection, after a list had no memory for one.
     fn serve_missed(&mut self, buffer: &mut [u8]) {
         if mem::replace(&mut self.has_missed, false) {
             self.calling.clear();
             self.unserved.clear();
             for key in 0..self.connections.capacity() {
-                self.take_answer(key, buffer);
+                self.look_at(key, buffer);
             }
         }
     }
@@ -203,11 +241,9 @@ impl<'a, D: SectorDisk + Drop, L: Ledger, R: Wait + Clock + RandomSource> Worker
         if event.is_readable() {
             connection.note_readable(event.is_read_closed());
         }
-        match connection.next() {
-            Next::Stream | Next::Over => self.visit(key, buffer),
-            Next::Answer => connection.send(),
-            // It is visited anyway.
-            Next::Visit => {}
+        // One that has more to serve is visited anyway.
+        if connection.next() != Next::Visit {
+            self.visit(key, buffer);
         }
     }
 
@@ -227,7 +263,9 @@ impl<'a, D: SectorDisk + Drop, L: Ledger, R: Wait + Clock + RandomSource> Worker
         if !mem::replace(&mut self.has_pending, false) {
             return;
         }
-        if self.server.is_full() || self.calling.len() < self.connections.len() {
+        let is_idle = self.unserved.is_empty() && self.server.engine.answered() == self.taken_at;
+        let waits = is_idle && self.calling.len() >= self.connections.len();
+        if self.server.is_full() || !waits || self.server.is_tight(self.rt) {
             self.server.engine.notify_flusher();
             return;
         }
@@ -236,6 +274,7 @@ impl<'a, D: SectorDisk + Drop, L: Ledger, R: Wait + Clock + RandomSource> Worker
             // The flusher finds out why.
             self.server.engine.wake(self.rt);
         }
+        self.server.watch_room(self.rt);
     }
 
     // Returns whether something is to be done that no stream and no other thread will report.
@@ -257,7 +296,7 @@ impl<'a, D: SectorDisk + Drop, L: Ledger, R: Wait + Clock + RandomSource> Worker
         }
     }
 
-    // Ends every connection, once the server closes. One whose call waits ends when the answer has come.
+    // Ends every connection, once the server closes. One that is listed ends when its turn comes there.
     fn close(&mut self) {
         if !self.server.is_closing() || mem::replace(&mut self.is_closed, true) {
             return;
@@ -267,7 +306,7 @@ impl<'a, D: SectorDisk + Drop, L: Ledger, R: Wait + Clock + RandomSource> Worker
                 continue;
             };
             connection.shut_down();
-            if connection.next() != Next::Answer {
+            if !connection.is_listed() {
                 self.leave(key);
             }
         }
