@@ -27,16 +27,17 @@ use turn::Turns;
 /// Connections that commit.
 const COMMITTING: [u32; 5] = [1, 16, 64, 256, 1_000];
 
-/// Connections that send BEATs.
-const BEATING: [u32; 3] = [1, 16, 64];
+/// Connections that send many requests at a time.
+const AHEAD: [u32; 3] = [1, 16, 64];
 
-/// BEATs that a connection sends at a time.
-const BEATS_A_TURN: u64 = 16;
+/// Requests that such a connection sends at a time.
+const AHEAD_A_TURN: u64 = 16;
 
-fn commit_turns(alloc: Global, connections: u32) -> Result<Vec<Turns>> {
+// Makes turns of this many commits for each of the connections.
+fn commit_turns(alloc: Global, connections: u32, count: u64) -> Result<Vec<Turns>> {
     let mut turns = Vec::with_capacity(alloc, connections as usize)?;
     for committer in committers(alloc, connections)? {
-        turns.push(Turns::of_commits(alloc, committer))?;
+        turns.push(Turns::of_commits(alloc, committer, count))?;
     }
     Ok(turns)
 }
@@ -44,8 +45,8 @@ fn commit_turns(alloc: Global, connections: u32) -> Result<Vec<Turns>> {
 fn beat_turns(alloc: Global, members: &[Member]) -> Result<Vec<Turns>> {
     let mut turns = Vec::with_capacity(alloc, members.len())?;
     for member in members {
-        let lines = member.beats(alloc, BEATS_A_TURN)?;
-        turns.push(Turns::of_lines(lines, BEATS_A_TURN))?;
+        let lines = member.beats(alloc, AHEAD_A_TURN)?;
+        turns.push(Turns::of_lines(lines, AHEAD_A_TURN))?;
     }
     Ok(turns)
 }
@@ -90,15 +91,32 @@ fn measure_commits<
 where
     R::File: Send,
 {
-    let reached = reached::measure(rt, alloc, address, commit_turns(alloc, connections)?)?;
+    let reached = reached::measure(rt, alloc, address, commit_turns(alloc, connections, 1)?)?;
     let rate = rate::measure(rt, alloc, path, connections)?;
     print_commits(rt, connections, &reached, &rate)?;
     print_turn(rt, &reached, rate.call.median)
 }
 
+// Measures commits that are sent many at a time, beside commits one at a time.
+fn measure_commits_ahead<
+    R: Threads + Clock + Net<Listener = TcpListener, Stream = TcpStream> + Print + Sync,
+>(rt: &R, alloc: Global, address: SocketAddr, connections: u32) -> Result<()> {
+    let turns = commit_turns(alloc, connections, 1)?;
+    let one = reached::measure(rt, alloc, address, turns)?.a_second;
+    let turns = commit_turns(alloc, connections, AHEAD_A_TURN)?;
+    let reached = reached::measure(rt, alloc, address, turns)?;
+    let commits = reached.a_second.saturating_mul(AHEAD_A_TURN);
+    let ratio = Ratio::of(commits, one);
+    let median = Micros(reached.turn.median);
+    println!(rt;
+        "connections {connections}, 16 COMMITs at a time: {commits} commits a second, 16 in {median} us (median), one at a time {one}, ratio {ratio}"
+    )?;
+    Ok(())
+}
+
 // Prints BEATs a second, beside the calls that an engine answers at once in one thread.
 fn print_beats<R: Print>(rt: &R, connections: u32, reached: &Reached, call: u64) -> Result<()> {
-    let beats = reached.a_second.saturating_mul(BEATS_A_TURN);
+    let beats = reached.a_second.saturating_mul(AHEAD_A_TURN);
     let engine = a_second(1, call);
     let ratio = Ratio::of(beats, engine);
     let median = Micros(reached.turn.median);
@@ -138,12 +156,17 @@ where
     // A server that is not there is noticed before FILE is written.
     drop(members::connect(rt, alloc, address)?);
     make(rt, path)?;
-    println!(rt; "Look at the ratio that ends a line: of rates and of times to the engine's.")?;
+    println!(rt;
+        "Look at the ratio that ends a line: of rates and of times to the engine's, or to one commit at a time."
+    )?;
     for connections in COMMITTING {
         measure_commits(rt, alloc, address, path, connections)?;
     }
+    for connections in AHEAD {
+        measure_commits_ahead(rt, alloc, address, connections)?;
+    }
     let costs = beats::measure(rt, alloc, path)?;
-    for connections in BEATING {
+    for connections in AHEAD {
         measure_beats(rt, alloc, address, connections, costs.engine)?;
     }
     fs::remove_file(rt, path)?;

@@ -9,8 +9,8 @@ const OK_LINE: &[u8; 3] = b"OK\n";
 /// The requests of a connection.
 #[derive(Drop)]
 enum Requests {
-    /// One COMMIT, with the next offset in each turn.
-    Commits(Committer),
+    /// As many COMMITs, each with the next offset.
+    Commits(Committer, u64),
     /// The same lines in each turn.
     Lines(u64),
 }
@@ -27,10 +27,10 @@ pub struct Turns {
 }
 
 impl Turns {
-    /// Creates turns of one COMMIT each.
-    pub fn of_commits(alloc: Global, committer: Committer) -> Turns {
+    /// Creates turns of this many COMMITs each.
+    pub fn of_commits(alloc: Global, committer: Committer, count: u64) -> Turns {
         Turns {
-            requests: Requests::Commits(committer),
+            requests: Requests::Commits(committer, count),
             lines: String::new(alloc),
             awaited: 0,
             matched: 0,
@@ -50,10 +50,12 @@ impl Turns {
     /// Begins a turn. Returns the lines to send.
     pub fn begin(&mut self) -> Result<&str> {
         match &mut self.requests {
-            Requests::Commits(committer) => {
+            Requests::Commits(committer, count) => {
                 self.lines.clear();
-                committer.put_next_line(&mut self.lines)?;
-                self.awaited = 1;
+                for _ in 0..*count {
+                    committer.put_next_line(&mut self.lines)?;
+                }
+                self.awaited = *count;
             }
             Requests::Lines(count) => self.awaited = *count,
         }
