@@ -123,7 +123,7 @@ impl<L: Ledger> Connection<L> {
         mem::replace(&mut self.has_pending, false)
     }
 
-    /// Returns whether a call waits for its answer.
+    /// Returns whether a reply is owed: a call waits for its answer then.
     pub fn is_calling(&self) -> bool {
         self.session.owes()
     }

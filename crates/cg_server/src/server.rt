@@ -223,7 +223,8 @@ impl<'a, D: SectorDisk + Drop, L: Ledger> Server<'a, D, L> {
     /// ones, and no compaction can begin without any.
     pub fn watch_room<R: Wait>(&self, rt: &R) {
         let is_low = self.engine.compact_wanted(rt, self.options.compact_free);
-        if self.low.swap(is_low, Ordering::SeqCst) != is_low && is_low {
+        let was_low = self.low.swap(is_low, Ordering::SeqCst);
+        if is_low && !was_low {
             self.compact.ring(rt);
         }
     }
