@@ -1,11 +1,11 @@
 -- An append keeps the book and what every crash image carries.
-use Rattle.std.proofs.Common.{◌≡◌, ℕ, ◌+◌, length, Bool, Option, Some, None, Result, Ok, Err, MatchResult, OnOk, OnErr, refl, sym, ◌∙◌, ap, subst, arith}
+use Rattle.std.proofs.Common.{◌≡◌, ℕ, ◌+◌, length, Bool, Option, Some, None, Result, Ok, Err, MatchResult, OnOk, OnErr, sym, ◌∙◌, ap, subst, arith}
 use Rattle.cg_fold.specs.Durable.{State, after}
 use Rattle.cg_record.specs.declared.command.Command.{Command}
 use Rattle.cg_store.specs.Store.{disk_of, front_of, sectors_of}
 use Rattle.cg_store.specs.declared.store.Store.{Store}
 use Rattle.std.specs.Prelude.{List}
-use Rattle.cg_engine.specs.Appended.{AreAsMany, Knows, appended_in, state_in}
+use Rattle.cg_engine.specs.Appended.{AreAsMany, appended_in, state_in}
 use Rattle.cg_engine.specs.Left.{HasLeft}
 use Rattle.cg_engine.specs.Stored.{AllCarryOr, IsKept, Stores}
 use Rattle.cg_engine.specs.declared.appended.Appended.{Appended}

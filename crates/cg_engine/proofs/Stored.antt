@@ -1,5 +1,5 @@
 -- The calls of a store keep what every crash image carries.
-use Rattle.std.proofs.Common.{◌≡◌, ◌≢◌, ℕ, ◌+◌, ◌≤◌, Bool, true, false, List, [], length, Option, Some, None, Result, Ok, Err, MatchResult, IfErr, OnOk, OnErr, IsErrOf, refl, sym, ◌∙◌, ap, subst, inl, inr, arith, rules}
+use Rattle.std.proofs.Common.{◌≡◌, ◌≢◌, ℕ, ◌+◌, Bool, true, false, List, [], length, None, Result, Ok, Err, MatchResult, IfErr, OnOk, OnErr, IsErrOf, refl, sym, ◌∙◌, subst, inl, inr, arith}
 use Rattle.cg_disk.specs.Disk.{History, Image, IsImage, LeavesOnly, Stays, present}
 use Rattle.cg_disk.proofs.Moments.{Stays-content}
 use Rattle.cg_fold.specs.Durable.{State, after}

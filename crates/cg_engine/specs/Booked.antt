@@ -1,5 +1,5 @@
 -- The model of a store with the book of its ledger.
-use Rattle.std.specs.Prelude.{◌≡◌, ℕ, Option}
+use Rattle.std.specs.Prelude.{ℕ, Option}
 use Rattle.cg_store.specs.declared.store.Store.{Store}
 use Rattle.cg_engine.specs.declared.appended.Appended.{Appended}
 use Rattle.cg_engine.specs.declared.booked.BookedStore.{BookedStore}

@@ -1,5 +1,5 @@
 -- What the end of an engine shows of its trail.
-use Rattle.std.specs.Prelude.{◌≡◌, ◌+◌, ◌<◌, ℕ, Bool, true, List, [], ◌∷◌, length, nat_eq, Option, Some, None, IsTrue}
+use Rattle.std.specs.Prelude.{◌≡◌, ◌+◌, ◌<◌, ℕ, Bool, true, List, [], ◌∷◌, length, nat_eq, Option}
 use Rattle.std.specs.List.{list_any}
 use Rattle.cg_disk.specs.Disk.{History}
 use Rattle.cg_fold.specs.Durable.{after, folded}

@@ -7,15 +7,12 @@ ghost use Rattle.cg_engine.specs.Worth.{kind_of, worth};
 
 use crate::answer::Answer;
 use crate::bounds::CALLS_MAX;
-use crate::delivery::Deliveries;
-use crate::desk_side::DeskSide;
 use crate::engine::Engine;
-use crate::intake::{Submission, Submitted};
+use crate::intake::Submission;
 use crate::kind::CallKind;
 use crate::looking::{found_before_wait, looked_for};
 use crate::pass::SessionPass;
 use crate::pending_call::{BegunCall, PendingCall};
-use crate::units::Part;
 use cg_desk::{Outgoing, ReplyToken};
 use cg_disk::SectorDisk;
 use cg_group::{Reply, Request};
@@ -24,19 +21,6 @@ use std::sync::Wait;
 use std::sync::ledger::Ledger;
 use std::thread;
 use uuid::Uuid;
-
-/// Requests that a caller hands to the desk without freeing its lock. After as many another caller may go on, so that a call
-/// ends although others never cease.
-const TURN_REQUESTS: u32 = 32;
-
-/// What a turn left in the intake.
-#[derive(Clone, Copy, Debug, Drop, PartialEq, Eq)]
-enum Left {
-    /// Nothing: the task ends.
-    Nothing,
-    /// Maybe more requests.
-    Perhaps,
-}
 
 impl<D: SectorDisk + Drop, L: Ledger> Engine<D, L> {
     /// Calls the desk, and waits for the answer to this call. The units of the pass grow by what the answer is worth:
@@ -63,9 +47,8 @@ impl<D: SectorDisk + Drop, L: Ledger> Engine<D, L> {
         }
     }
 
-    /// Begins a call, and does not wait for its answer: `end_call` or `try_end_call` ends it. Who began it has to see to it
-    /// that what is pending is stored (`PendingCall::has_pending`). A call that ends here was refused, by 15 or -1 as `call`
-    /// refuses it.
+    /// Begins a call: its request waits in the intake. `end_call` ends it, or `hand_over` and, once the answer has come,
+    /// `try_end_call`. A call that ends here was refused, by 15 or -1 as `call` refuses it.
     pub fn begin_call<R: Wait>(
         &self,
         rt: &R,
@@ -97,21 +80,21 @@ impl<D: SectorDisk + Drop, L: Ledger> Engine<D, L> {
             now,
             fresh,
         };
-        match self.submit(rt, submission) {
-            Ok(has_pending) => BegunCall::Waits(PendingCall {
+        let added = self.intake.lock(rt).add(submission);
+        match added {
+            Ok(()) => BegunCall::Waits(PendingCall {
                 caller,
                 ticket,
                 kind,
-                has_pending,
             }),
-            Err(part) => {
+            Err(Submission { part, .. }) => {
                 let token = ReplyToken::new(ticket);
                 BegunCall::Ended(caller.refused(part), token.refuse(Code::UnknownServerError))
             }
         }
     }
 
-    /// Waits for the answer to a call, which ends it.
+    /// Hands the requests of the intake to the desk, as `hand_over`, and waits for the answer to a call, which ends it.
     pub fn end_call<R: Wait>(&self, rt: &R, call: PendingCall<L>) -> (SessionPass<L>, Outgoing)
         ensures number { number_of result.0 ≡ pending_number call }
         ensures ticket { ticket_of result.1 ≡ pending_ticket call }
@@ -151,75 +134,13 @@ impl<D: SectorDisk + Drop, L: Ledger> Engine<D, L> {
         self.pending.notify_one();
     }
 
-    // Submits a request, and hands the requests of the intake to the desk if no other thread does. Returns whether commands
-    // wait for a batch, and none is in flight. If an allocation fails, returns the part.
-    fn submit<R: Wait>(&self, rt: &R, submission: Submission<L>) -> Result<bool, Part<L>> {
-        let submitted = self.intake.lock(rt).add(submission);
-        match submitted {
-            Ok(Submitted::Serves) => Ok(self.serve(rt)),
-            Ok(Submitted::Waits) => Ok(false),
-            Err(submission) => Err(submission.part),
-        }
-    }
-
-    // Hands requests to the desk until none waits, or another thread has the task. Returns whether commands wait for a batch,
-    // none is in flight, and no flusher was notified.
-    fn serve<R: Wait>(&self, rt: &R) -> bool {
-        for _ in rt.forever() {
-            let (left, has_pending) = self.serve_turn(rt);
-            if left == Left::Nothing {
-                return has_pending;
-            }
-            if has_pending {
-                self.pending.notify_one();
-            }
-            if !self.keeps_task(rt) {
-                return false;
-            }
-        }
-        unreachable!()
-    }
-
-    // Leaves the task to whoever submits a request now. Returns whether no thread did: then this one has it again.
-    fn keeps_task<R: Wait>(&self, rt: &R) -> bool {
-        self.intake.lock(rt).leave();
-        thread::yield_now();
-        self.intake.lock(rt).take_up()
-    }
-
-    // Hands some requests to the desk, and sends the answers that it makes.
-    fn serve_turn<R: Wait>(&self, rt: &R) -> (Left, bool) {
-        let mut deliveries = Deliveries::new(self.alloc);
-        let mut desk = self.desk.lock(rt);
-        let left = self.serve_some(rt, &mut desk, &mut deliveries);
-        let has_pending = desk.has_pending();
-        drop(desk);
-        self.send_all(rt, deliveries);
-        (left, has_pending)
-    }
-
-    // Hands at most `TURN_REQUESTS` requests to the desk.
-    fn serve_some<R: Wait>(
-        &self,
-        rt: &R,
-        desk: &mut DeskSide<L>,
-        deliveries: &mut Deliveries<L>,
-    ) -> Left {
-        for _ in 0..TURN_REQUESTS {
-            let next = self.intake.lock(rt).next();
-            match next {
-                Some(submission) => desk.serve(rt, submission, deliveries),
-                None => return Left::Nothing,
-            }
-        }
-        Left::Perhaps
-    }
-
-    // Receives the next answer to the pass of a call. Before it waits, it notifies the flusher if commands are pending.
+    // Hands requests over, and receives the next answer to the pass of a call. Before it waits, it notifies the flusher if
+    // commands are pending.
     fn received<R: Wait>(&self, rt: &R, call: &PendingCall<L>) -> Option<Answer<L>> {
+        let has_pending = self.hand_over(rt);
         let answers = &call.caller.answers;
         let found = found_before_wait(rt, answers, call.kind);
-        if call.has_pending {
+        if has_pending {
             self.notify_flusher();
         }
         if found.is_some() {

@@ -14,6 +14,7 @@ use crate::kind::CallKind;
 use crate::pass::SessionPass;
 use crate::recorder::{Begun, Recorder};
 use crate::session::{Session, Waiting};
+use crate::taken::{Taken, TakenBatch};
 use crate::units::{Part, Pool};
 use cg_desk::{Desk, Outgoing, ReplyToken, SettleFault, TakeFault};
 use cg_fold::Durable;
@@ -25,17 +26,10 @@ use cg_trail::Trail;
 use crossbeam_channel::bounded;
 use slab::Slab;
 use std::alloc::{AllocError, Global};
+use std::collections::VecDeque;
 use std::sync::Wait;
 use std::sync::ledger::{Ledger, Share};
 use uuid::Uuid;
-
-/// What a round took from the desk.
-pub enum Taken<L: Ledger> {
-    /// A batch for the store, and the part on which its units come back.
-    Batch(Batch, Part<L>),
-    /// Nothing: the round is over.
-    End(RoundEnd),
-}
 
 /// A desk, the sessions that call it, and the units of settled commands that no answer has.
 pub struct DeskSide<L: Ledger> {
@@ -51,6 +45,8 @@ pub struct DeskSide<L: Ledger> {
     // A receipt that the desk could not settle for lack of memory. The next round settles it first.
     unsettled: Option<BookedReceipt<L>>,
     recorder: Recorder,
+    // The requests that a flush round hands over, empty otherwise. Its room is used again.
+    handed_over: VecDeque<Submission<L>>,
     // Whether the wait for commands was ended from outside.
     woken: bool,
 }
@@ -136,6 +132,7 @@ impl<L: Ledger> DeskSide<L> {
             courier,
             unsettled: None,
             recorder: Recorder::new(trail),
+            handed_over: VecDeque::new(alloc),
             woken: false,
         })
     }
@@ -308,6 +305,20 @@ impl<L: Ledger> DeskSide<L> {
         }
     }
 
+    /// Returns the list for the requests that a flush round hands over.
+    pub fn handed_over(&mut self) -> &mut VecDeque<Submission<L>> {
+        &mut self.handed_over
+    }
+
+    /// Hands the requests of that list to the desk, in their order.
+    pub fn serve_all<R: Wait>(&mut self, rt: &R, deliveries: &mut Deliveries<L>) {
+        for _ in 0..self.handed_over.len() {
+            if let Some(submission) = self.handed_over.pop_front() {
+                self.serve(rt, submission, deliveries);
+            }
+        }
+    }
+
     /// Runs the time-dependent rules.
     pub fn tick<R: Wait>(
         &mut self,
@@ -353,7 +364,7 @@ impl<L: Ledger> DeskSide<L> {
             return Ok(Taken::End(RoundEnd::Skipped(Skip::InFlight)));
         };
         match self.desk.take_batch() {
-            Ok(Some(batch)) => Ok(Taken::Batch(batch, part)),
+            Ok(Some(batch)) => Ok(Taken::Batch(TakenBatch { batch, part })),
             Ok(None) => {
                 self.courier = Some(part);
                 Ok(Taken::End(nothing))
@@ -470,6 +481,7 @@ impl<L: Ledger> DeskSide<L> {
             courier: _,
             unsettled: _,
             recorder,
+            handed_over: _,
             woken: _,
         } = self;
         (desk.close(), recorder.into_trail())

@@ -9,16 +9,15 @@ ghost use Rattle.cg_engine.specs.Passes.{opening_of, units_of};
 use crate::appended::snapshots;
 use crate::bounds::PARTS;
 use crate::delivery::Deliveries;
-use crate::desk_side::{DeskSide, Taken};
+use crate::desk_side::DeskSide;
 use crate::fault::{LoadFault, PassFault, RoundEnd, RoundFault, Skip};
 use crate::intake::Intake;
 use crate::loading::opened;
 use crate::pass::SessionPass;
 use crate::store_side::{BlankBook, StoreSide};
-use crate::units::Part;
 use cg_disk::SectorDisk;
 use cg_names::Moment;
-use cg_store::{Batch, CompactFault};
+use cg_store::CompactFault;
 use std::alloc::{AllocError, Global};
 use std::sync::atomic::{AtomicU64, Ordering};
 use std::sync::ledger::{Blank, Ledger};
@@ -40,6 +39,8 @@ pub struct Engine<D: SectorDisk, L: Ledger> {
     pub(crate) pending: Condvar,
     /// How many times answers were sent.
     pub(crate) answered: AtomicU64,
+    /// How many flush rounds wait for the desk lock or have it.
+    pub(crate) rounds: AtomicU64,
 }
 
 impl<D: SectorDisk + Drop, L: Ledger> Engine<D, L> {
@@ -61,6 +62,7 @@ impl<D: SectorDisk + Drop, L: Ledger> Engine<D, L> {
             intake: Mutex::new(Intake::new(alloc)),
             pending: Condvar::new(),
             answered: AtomicU64::new(0),
+            rounds: AtomicU64::new(0),
         })
     }
 
@@ -148,7 +150,7 @@ impl<D: SectorDisk + Drop, L: Ledger> Engine<D, L> {
     }
 
     // Frees the desk lock, notifies a thread in `await_commands` if commands are pending, and sends the answers.
-    fn unlock<R: Wait>(
+    pub(crate) fn unlock<R: Wait>(
         &self,
         rt: &R,
         desk: MutexGuard<'_, DeskSide<L>>,
@@ -183,41 +185,6 @@ impl<D: SectorDisk + Drop, L: Ledger> Engine<D, L> {
     pub fn wake<R: Wait>(&self, rt: &R) {
         self.desk.lock(rt).wake();
         self.pending.notify_one();
-    }
-
-    /// Takes a batch, appends it and settles it: its replies leave. A flusher calls this whenever `await_commands`
-    /// returns.
-    pub fn flush_round<R: Wait>(&self, rt: &R) -> Result<RoundEnd, RoundFault> {
-        match self.take(rt)? {
-            Taken::Batch(batch, part) => self.store_batch(rt, batch, part),
-            Taken::End(end) => Ok(end),
-        }
-    }
-
-    // Takes a batch from the desk.
-    fn take<R: Wait>(&self, rt: &R) -> Result<Taken<L>, RoundFault> {
-        let mut deliveries = Deliveries::new(self.alloc);
-        let taken = self.desk.lock(rt).take(rt, &mut deliveries);
-        self.send_all(rt, deliveries);
-        taken
-    }
-
-    // Appends a batch, and settles it or gives it back.
-    fn store_batch<R: Wait>(
-        &self,
-        rt: &R,
-        batch: Batch,
-        part: Part<L>,
-    ) -> Result<RoundEnd, RoundFault> {
-        let appended = self.store.lock(rt).append(batch, part);
-        let mut deliveries = Deliveries::new(self.alloc);
-        let mut desk = self.desk.lock(rt);
-        let end = match appended {
-            Ok(receipt) => desk.settle(rt, receipt, &mut deliveries),
-            Err((fault, batch, part)) => desk.refused(rt, fault, batch, part, &mut deliveries),
-        };
-        self.unlock(rt, desk, deliveries);
-        end
     }
 
     // Refuses every pending call, since the disk failed.

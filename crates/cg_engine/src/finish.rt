@@ -10,7 +10,6 @@ use crate::closed::Closed;
 use crate::desk_side::DeskSide;
 use crate::engine::Engine;
 use crate::fault::FinishFault;
-use crate::intake::Intake;
 use crate::pass::SessionPass;
 use crate::recorder::Recorder;
 use crate::store_side::StoreSide;
@@ -173,9 +172,10 @@ impl<D: SectorDisk + Drop, L: Ledger> Engine<D, L> {
             trail,
             desk,
             store,
-            intake: _,
+            intake,
             pending: _,
             answered,
+            rounds,
         } = self;
         let desk = desk.into_inner();
         let store = store.into_inner();
@@ -187,9 +187,10 @@ impl<D: SectorDisk + Drop, L: Ledger> Engine<D, L> {
                     trail,
                     desk: Mutex::new(desk),
                     store: Mutex::new(store),
-                    intake: Mutex::new(Intake::new(alloc)),
+                    intake,
                     pending: Condvar::new(),
                     answered,
+                    rounds,
                 };
                 Err((fault, engine, passes))
             }
@@ -197,7 +198,7 @@ impl<D: SectorDisk + Drop, L: Ledger> Engine<D, L> {
     }
 
     /// Ends the engine without its passes and without a test of its trail, which is dropped. For a caller that cannot
-    /// hand the passes in.
+    /// hand the passes in. Calls whose requests were not handed over are not among those that it refuses.
     pub fn abandon(self) -> Closed<D>
         ensures left { ∥ Leaves D.is_honest D.history D.size None result.disk result.front ∥₁ }
         ensures refused { AreRefusals result.refused.items }
@@ -211,6 +212,7 @@ impl<D: SectorDisk + Drop, L: Ledger> Engine<D, L> {
             intake: _,
             pending: _,
             answered: _,
+            rounds: _,
         } = self;
         let Closed {
             front,

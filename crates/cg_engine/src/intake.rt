@@ -1,5 +1,5 @@
 //! Requests on their way to the desk.
-ghost use Rattle.std.specs.Prelude.{◌≡◌, ◌∷◌, ◌++◌, ◌↔◌, [], true, false, if◌then◌else◌, IfErr, IfOk, IsSome, IsTrue, OnErr, OnOk, option_to_list};
+ghost use Rattle.std.specs.Prelude.{◌≡◌, ◌≢◌, ◌⊎◌, ◌∷◌, ◌++◌, ◌↔◌, [], true, false, IfErr, IsSome, IsTrue, OnErr, OnOk, option_to_list};
 
 use crate::units::Part;
 use cg_group::{Request, Ticket};
@@ -21,18 +21,9 @@ pub struct Submission<L: Ledger> {
     pub fresh: Uuid,
 }
 
-/// What a thread does that has submitted a request.
-#[derive(Clone, Copy, Debug, Drop, PartialEq, Eq)]
-pub enum Submitted {
-    /// It hands the requests of the intake to the desk.
-    Serves,
-    /// Another thread does.
-    Waits,
-}
-
-/// The requests that wait for the desk, in the order in which they came. One thread at a time has the task to hand them to
-/// the desk, its own among them, so that callers do not contend for the desk lock. While some wait, no thread has it only
-/// after `leave`, until the next `add` or `take_up`.
+/// The requests that wait for the desk, in the order in which they came. One caller at a time has the task to hand them to
+/// the desk, its own among them, so that callers do not contend for the desk lock. Whoever adds a request, or leaves the
+/// task while some wait, calls `take_up` afterwards; so while some wait a caller has the task, or is about to look.
 #[derive(Drop)]
 pub struct Intake<L: Ledger> {
     pub waiting: VecDeque<Submission<L>>,
@@ -52,23 +43,28 @@ impl<L: Ledger> Intake<L> {
         }
     }
 
-    /// Adds a request. The task goes to its thread unless another one has it. If an allocation fails, returns the request.
-    pub fn add(&mut self, submission: Submission<L>) -> Result<Submitted, Submission<L>>
+    /// Adds a request. If an allocation fails, returns it.
+    pub fn add(&mut self, submission: Submission<L>) -> Result<(), Submission<L>>
         ensures last { OnOk result (self.new.waiting.items ≡ self.old.waiting.items ++ submission ∷ []) }
-        ensures served { OnOk result (self.new.is_served ≡ true) }
-        ensures task { IfOk result (λ submitted. submitted ≡ (if self.old.is_served then Submitted.Waits else Submitted.Serves)) }
         ensures back { IfErr result (λ back. back ≡ submission) }
         ensures same { OnErr result (self.new.waiting.items ≡ self.old.waiting.items) }
-        ensures same_task { OnErr result (self.new.is_served ≡ self.old.is_served) }
+        ensures task { self.new.is_served ≡ self.old.is_served }
     {
-        if let Err(refused) = self.waiting.push_back(submission) {
-            return Err(refused.value);
+        match self.waiting.push_back(submission) {
+            Ok(()) => Ok(()),
+            Err(refused) => Err(refused.value),
         }
-        if mem::replace(&mut self.is_served, true) {
-            Ok(Submitted::Waits)
-        } else {
-            Ok(Submitted::Serves)
-        }
+    }
+
+    /// Takes the task, if requests wait and no thread has it. Returns whether it did.
+    pub fn take_up(&mut self) -> bool
+        ensures waiting { self.new.waiting.items ≡ self.old.waiting.items }
+        ensures task { IsTrue result ↔ ((self.old.is_served ≡ false) × (self.old.waiting.items ≢ [])) }
+        ensures served { IsTrue self.new.is_served ↔ ((self.old.is_served ≡ true) ⊎ (result ≡ true)) }
+    {
+        let takes = !self.is_served && !self.waiting.is_empty();
+        self.is_served = self.is_served || takes;
+        takes
     }
 
     /// Removes the first request. If there is none, the task ends.
@@ -81,20 +77,22 @@ impl<L: Ledger> Intake<L> {
         next
     }
 
-    /// Ends the task while requests may wait. The next thread that submits one gets it, unless `take_up` is called before.
-    pub fn leave(&mut self)
+    /// Ends the task while requests may wait. Returns whether some do.
+    pub fn leave(&mut self) -> bool
         ensures waiting { self.new.waiting.items ≡ self.old.waiting.items }
         ensures unserved { self.new.is_served ≡ false }
+        ensures wait { IsTrue result ↔ (self.old.waiting.items ≢ []) }
     {
         self.is_served = false;
+        !self.waiting.is_empty()
     }
 
-    /// Takes the task up again, unless another thread has it. Returns whether it did.
-    pub fn take_up(&mut self) -> bool
-        ensures waiting { self.new.waiting.items ≡ self.old.waiting.items }
-        ensures served { self.new.is_served ≡ true }
-        ensures task { IsTrue result ↔ (self.old.is_served ≡ false) }
+    /// Exchanges the requests for those of a list, at once and without an allocation. The task stays where it is.
+    pub fn exchange(&mut self, list: &mut VecDeque<Submission<L>>)
+        ensures taken { list.new.items ≡ self.old.waiting.items }
+        ensures waiting { self.new.waiting.items ≡ list.old.items }
+        ensures task { self.new.is_served ≡ self.old.is_served }
     {
-        !mem::replace(&mut self.is_served, true)
+        mem::swap(&mut self.waiting, list);
     }
 }

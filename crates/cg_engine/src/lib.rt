@@ -16,6 +16,8 @@ mod desk_side;
 mod engine;
 mod fault;
 mod finish;
+mod flushing;
+mod handing_over;
 mod intake;
 mod kind;
 mod loading;
@@ -27,6 +29,7 @@ mod recorder;
 mod session;
 mod store_calls;
 mod store_side;
+mod taken;
 mod units;
 
 pub use bounds::{CALLS_MAX, PARTS, PASSES_MAX};
@@ -36,6 +39,7 @@ pub use fault::{FinishFault, LoadFault, PassFault, RoundEnd, RoundFault, Skip};
 pub use kind::CallKind;
 pub use pass::SessionPass;
 pub use pending_call::{BegunCall, PendingCall};
+pub use taken::{Taken, TakenBatch};
 
 #[cfg(test)]
 mod tests;

@@ -25,17 +25,10 @@ pub struct PendingCall<L: Ledger> {
     pub(crate) caller: Caller<L>,
     pub(crate) ticket: Ticket,
     pub(crate) kind: CallKind,
-    pub(crate) has_pending: bool,
 }
 
 impl<L: Ledger> PendingCall<L> {
     ghost use Rattle.cg_engine.specs.Passes.{pending_kind, pending_ticket};
-
-    /// Returns whether commands wait for a batch, none is in flight, and no thread was notified: then the caller has to run
-    /// a flush round or notify a thread that does.
-    pub fn has_pending(&self) -> bool {
-        self.has_pending
-    }
 
     /// Returns whether an answer has come. Costs no lock, and moves nothing: a caller with many calls asks this first.
     pub fn has_answer(&self) -> bool {

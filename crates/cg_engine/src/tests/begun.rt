@@ -29,7 +29,7 @@ fn begun<D: SectorDisk + Drop, L: Ledger, R: Wait>(
     }
 }
 
-// Begins a COMMIT. `None` if it does not wait for its answer.
+// Begins a COMMIT, and does not hand it over. `None` if it does not wait for its answer.
 fn begun_commit<D: SectorDisk + Drop, L: Ledger, R: Wait>(
     rt: &R,
     alloc: Global,
@@ -55,23 +55,47 @@ fn is_acknowledged<D: SectorDisk + Drop, L: Ledger, R: Wait>(
     }
 }
 
-// Returns whether a COMMIT leaves a flush round to its caller and has no answer before that, and OK after it.
+// Returns whether a COMMIT has no answer before a flush round and OK after it. If it is handed over before, the flush round
+// is left to its caller.
 fn is_answered_by_a_round<D: SectorDisk + Drop, L: Ledger, R: Wait>(
     rt: &R,
     alloc: Global,
     engine: &Engine<D, L>,
+    is_handed_over: bool,
 ) -> bool {
     let before = engine.answered();
     let Some(call) = begun_commit(rt, alloc, engine) else {
         return false;
     };
-    let waits = call.has_pending() && engine.answered() == before;
+    let is_left = !is_handed_over || engine.hand_over(rt);
+    let waits = is_left && engine.answered() == before;
     let is_done = engine.flush_round(rt) == Ok(RoundEnd::Done);
     let is_counted = engine.answered() != before;
-    is_acknowledged(rt, engine, call) && waits && is_done && is_counted
+    let nothing_waits = !engine.hand_over(rt);
+    is_acknowledged(rt, engine, call) && waits && is_done && is_counted && nothing_waits
 }
 
-// The same over a disk with no command.
+// Returns whether as many COMMITs, handed over together, leave one flush round to their caller, and that answers each by OK.
+fn are_answered_together<D: SectorDisk + Drop, L: Ledger, R: Wait>(
+    rt: &R,
+    alloc: Global,
+    engine: &Engine<D, L>,
+    count: u32,
+) -> Option<bool> {
+    let mut calls = Vec::new(alloc);
+    for _ in 0..count {
+        let call = begun_commit(rt, alloc, engine)?;
+        calls.push(call).ok()?;
+    }
+    let is_left = engine.hand_over(rt);
+    let mut are_answered = engine.flush_round(rt) == Ok(RoundEnd::Done);
+    for call in calls {
+        are_answered = is_acknowledged(rt, engine, call) && are_answered;
+    }
+    Some(is_left && are_answered)
+}
+
+// Both over a disk with no command.
 fn is_answered_over_memory<L: Ledger, R: Wait>(
     rt: &R,
     alloc: Global,
@@ -83,9 +107,16 @@ fn is_answered_over_memory<L: Ledger, R: Wait>(
     let disk = formatted(alloc)?;
     let engine: Engine<MemDisk, L> = Engine::new(alloc, blank, trail).ok()?;
     let _ = engine.load(rt, disk, Moment::from_millis(0));
-    let is_answered = is_answered_by_a_round(rt, alloc, &engine);
+    let by_caller = is_answered_by_a_round(rt, alloc, &engine, true);
+    let by_round = is_answered_by_a_round(rt, alloc, &engine, false);
+    // As many as a caller hands over without freeing the desk lock, one fewer and one more.
+    let mut together = true;
+    for count in [31, 32, 33] {
+        let answered = are_answered_together(rt, alloc, &engine, count);
+        together = answered == Some(true) && together;
+    }
     let _ = engine.abandon();
-    Some(is_answered)
+    Some(by_caller && by_round && together)
 }
 
 #[test]

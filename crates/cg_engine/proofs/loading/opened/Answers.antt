@@ -1,4 +1,4 @@
-use Rattle.std.proofs.Common.{◌≡◌, ◌∙◌, sym}
+use Rattle.std.proofs.Common.{◌∙◌, sym}
 use Rattle.cg_engine.proofs.Loads.{never-loaded, passing-of}
 use Rattle.cg_engine.proofs.Stored.{found-before, opened-stored}
 use Rattle.cg_engine.proofs.loading.opened.Goals as goal

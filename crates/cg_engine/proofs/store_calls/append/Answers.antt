@@ -1,4 +1,3 @@
-use Rattle.std.proofs.Common.{◌≡◌}
 use Rattle.cg_engine.proofs.Stored.{kept-err, kept-ok}
 use Rattle.cg_engine.proofs.store_calls.append.Goals as goal
 

@@ -1,4 +1,4 @@
-use Rattle.std.proofs.Common.{◌≡◌, ◌∙◌, sym}
+use Rattle.std.proofs.Common.{◌∙◌, sym}
 use Rattle.cg_store.specs.Store.{phase_of}
 use Rattle.cg_store.specs.declared.phase.Phase.TheVariants.{Idle, Reading, Writing, Ready}
 use Rattle.cg_engine.proofs.Stored.{compacted}

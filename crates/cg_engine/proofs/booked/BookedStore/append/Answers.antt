@@ -1,8 +1,6 @@
-use Rattle.std.proofs.Common.{◌≡◌, Some, subst, sym}
 use Rattle.std.proofs.Math.Logic.{∥∥₁_map}
 use Rattle.cg_engine.proofs.Kept.{booked-still, counted-none, counted-some, counted-still, kept-none, kept-some}
 use Rattle.cg_engine.proofs.booked.BookedStore.append.Goals as goal
-use Rattle.cg_engine.specs.Stored.{IsKept}
 
 pub invariant_of-self : goal.invariant_of-self
 invariant_of-self g c = record {

@@ -1,4 +1,3 @@
-use Rattle.std.proofs.Common.{◌≡◌}
 use Rattle.std.proofs.Math.Logic.{∥∥₁_map}
 use Rattle.cg_engine.proofs.Kept.{left-of}
 use Rattle.cg_engine.proofs.booked.BookedStore.close.Goals as goal

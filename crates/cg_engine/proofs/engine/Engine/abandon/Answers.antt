@@ -1,4 +1,3 @@
-use Rattle.std.proofs.Common.{◌≡◌}
 use Rattle.std.proofs.Math.Logic.{∥∥₁_map}
 use Rattle.cg_engine.proofs.BorneOut.{forgot}
 use Rattle.cg_engine.proofs.engine.Engine.abandon.Goals as goal

@@ -1,4 +1,3 @@
-use Rattle.std.proofs.Common.{◌≡◌}
 use Rattle.std.proofs.Math.Logic.{∥∥₁_map}
 use Rattle.cg_engine.specs.Sides.{noted_by, opening_by, recorder_of, since_by, unpaid_in}
 use Rattle.cg_engine.proofs.BorneOut.{borne-out, forgot}

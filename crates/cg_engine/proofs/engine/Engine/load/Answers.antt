@@ -1,4 +1,4 @@
-use Rattle.std.proofs.Common.{◌≡◌, ◌⊎◌, inl, inr, refl}
+use Rattle.std.proofs.Common.{inl, refl}
 use Rattle.cg_engine.proofs.Loads.{found-is}
 use Rattle.cg_engine.proofs.engine.Engine.load.Goals as goal
 
