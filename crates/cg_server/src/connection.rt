@@ -41,8 +41,8 @@ pub struct Connection<L: Ledger> {
     is_ending: bool,
     // Whether no more is sent.
     is_broken: bool,
-    // Whether commands wait for a batch, none is in flight, and no thread was notified.
-    has_pending: bool,
+    // How many calls it began whose requests the worker does not know of yet.
+    begun_calls: usize,
     // Whether the worker looks for the answers to its calls.
     is_listed: bool,
     // What it waits for since its last visit.
@@ -85,7 +85,7 @@ impl<L: Ledger> Connection<L> {
             is_closed_there: false,
             is_ending: false,
             is_broken: false,
-            has_pending: false,
+            begun_calls: 0,
             is_listed: false,
             next: Next::Stream,
         }
@@ -117,10 +117,9 @@ impl<L: Ledger> Connection<L> {
         }
     }
 
-    /// Returns whether commands wait for a batch, none is in flight, and no thread was notified; the next time it returns
-    /// false.
-    pub fn take_pending(&mut self) -> bool {
-        mem::replace(&mut self.has_pending, false)
+    /// Returns how many calls it began since it was last asked: their requests are to be handed over.
+    pub fn take_begun_calls(&mut self) -> usize {
+        mem::take(&mut self.begun_calls)
     }
 
     /// Returns whether a reply is owed: a call waits for its answer then.
@@ -209,7 +208,7 @@ impl<L: Ledger> Connection<L> {
         request: Request,
     ) {
         match self.session.begin(rt, server, bytes, request) {
-            Ok(has_pending) => self.has_pending = self.has_pending || has_pending,
+            Ok(()) => self.begun_calls = self.begun_calls.saturating_add(1),
             Err(code) => self.refuse(bytes, code),
         }
     }

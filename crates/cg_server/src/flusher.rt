@@ -83,7 +83,7 @@ pub fn flush_until_over<D: SectorDisk + Drop, L: Ledger, R: Wait + Clock + Eprin
             continue;
         }
         server.end_hold();
-        let ended = server.engine.flush_round(rt);
+        let ended = server.flush_round(rt);
         server.wake_callers();
         server.watch_room(rt);
         match next_after(ended) {

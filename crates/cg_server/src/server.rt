@@ -4,7 +4,7 @@ use crate::inbox::Inbox;
 use crate::moments::Moments;
 use crate::options::Options;
 use cg_disk::SectorDisk;
-use cg_engine::{Engine, PASSES_MAX, SessionPass};
+use cg_engine::{Engine, PASSES_MAX, RoundEnd, RoundFault, SessionPass, Taken};
 use std::alloc::Global;
 use std::net::{Net, SocketAddr, TcpStream};
 use std::sync::atomic::{AtomicBool, AtomicUsize, Ordering};
@@ -171,6 +171,25 @@ impl<'a, D: SectorDisk + Drop, L: Ledger> Server<'a, D, L> {
     pub fn wake_callers(&self) {
         for inbox in self.inboxes.as_slice() {
             inbox.wake_caller();
+        }
+    }
+
+    /// Wakes the workers that wait for answers, if some were sent since the count of `Engine::answered` was this.
+    pub fn wake_callers_since(&self, answered: u64) {
+        if self.engine.answered() != answered {
+            self.wake_callers();
+        }
+    }
+
+    /// Runs a flush round. The workers that wait for answers which the desk makes before the batch is stored are woken at once:
+    /// these are not to wait for the disk.
+    pub fn flush_round<R: Wait>(&self, rt: &R) -> Result<RoundEnd, RoundFault> {
+        let answered = self.engine.answered();
+        let taken = self.engine.take_batch(rt)?;
+        self.wake_callers_since(answered);
+        match taken {
+            Taken::Batch(batch) => self.engine.store_batch(rt, batch),
+            Taken::End(end) => Ok(end),
         }
     }
 

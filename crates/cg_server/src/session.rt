@@ -124,15 +124,15 @@ impl<L: Ledger> Session<L> {
         self.add(bytes, Due::Reply(reply))
     }
 
-    /// Begins the call of a request, which came in a line of this many bytes, and does not wait for the answer. Returns whether
-    /// commands wait for a batch, none is in flight, and no thread was notified.
+    /// Begins the call of a request, which came in a line of this many bytes, and neither hands the request over nor waits for
+    /// the answer.
     pub fn begin<D: SectorDisk + Drop, R: Wait + Clock + RandomSource>(
         &mut self,
         rt: &R,
         server: &Server<'_, D, L>,
         bytes: usize,
         request: Request,
-    ) -> Result<bool, Code> {
+    ) -> Result<(), Code> {
         let Ok(()) = self.owed.reserve(1) else {
             return Err(Code::UnknownServerError);
         };
@@ -144,19 +144,16 @@ impl<L: Ledger> Session<L> {
         };
         self.is_last = is_last(&request);
         let now = server.moments.now(rt);
-        let (due, has_pending) = match server.engine.begin_call(rt, pass, request, now, fresh) {
+        let due = match server.engine.begin_call(rt, pass, request, now, fresh) {
             BegunCall::Ended(pass, outgoing) => {
                 self.keep(rt, server, pass);
-                (Due::Reply(outgoing.into_reply()), false)
+                Due::Reply(outgoing.into_reply())
             }
-            BegunCall::Waits(call) => {
-                let has_pending = call.has_pending();
-                (Due::Answer(call), has_pending)
-            }
+            BegunCall::Waits(call) => Due::Answer(call),
         };
         // There is room.
         let _ = self.add(bytes, due);
-        Ok(has_pending)
+        Ok(())
     }
 
     // Keeps the pass of a call that has ended for the next one, or gives it back if there is one.

@@ -20,6 +20,9 @@ const READ_BYTES: usize = 8_192;
 /// Most streams that are entered before the others have their turn.
 const ENTERED_MAX: u32 = 64;
 
+/// Calls that are begun before their requests are handed over together. A visit may begin some more.
+const BEGUN_CALLS: usize = 32;
+
 /// Longest wait while an allocation has failed, in milliseconds.
 const RETRY_MS: u64 = 10;
 
@@ -40,6 +43,8 @@ struct Worker<'a, D: SectorDisk, L: Ledger, R> {
     taken_at: u64,
     // Whether a list had no memory for a connection.
     has_missed: bool,
+    // How many calls were begun whose requests are to be handed over.
+    begun_calls: usize,
     // Whether commands wait for a batch, none is in flight, and no thread was notified.
     has_pending: bool,
     // Whether a connection was listed since the worker last began to lie down.
@@ -60,6 +65,7 @@ impl<'a, D: SectorDisk + Drop, L: Ledger, R: Wait + Clock + RandomSource> Worker
             spare: Vec::new(alloc),
             taken_at: 0,
             has_missed: false,
+            begun_calls: 0,
             has_pending: false,
             has_begun: false,
             is_closed: false,
@@ -79,7 +85,7 @@ impl<'a, D: SectorDisk + Drop, L: Ledger, R: Wait + Clock + RandomSource> Worker
             return;
         };
         let next = connection.visit(self.rt, self.server, buffer);
-        self.has_pending = connection.take_pending() || self.has_pending;
+        let begun_calls = connection.take_begun_calls();
         let is_listed = connection.is_listed();
         let begins = connection.is_calling() && !is_listed;
         if begins {
@@ -87,6 +93,7 @@ impl<'a, D: SectorDisk + Drop, L: Ledger, R: Wait + Clock + RandomSource> Worker
             self.has_begun = true;
             self.list(key);
         }
+        self.note_begun(begun_calls);
         match next {
             Next::Stream | Next::Answer => {}
             Next::Visit => {
@@ -256,10 +263,27 @@ impl<'a, D: SectorDisk + Drop, L: Ledger, R: Wait + Clock + RandomSource> Worker
         }
     }
 
-    // Has stored what waits for the disk. This thread does it if all its connections wait for answers, which saves two
-    // switches to another thread; else the flusher does. `answered` is a count of `Engine::answered`: what was sent since is
-    // not to wait for the disk.
+    // Hands the requests of the calls that were begun to the desk, all together: then the memory of the desk moves to this
+    // processor once for all.
+    fn hand_over(&mut self) {
+        if mem::take(&mut self.begun_calls) > 0 && self.server.engine.hand_over(self.rt) {
+            self.has_pending = true;
+        }
+    }
+
+    // Notes that calls were begun, and hands their requests over if they are many.
+    fn note_begun(&mut self, calls: usize) {
+        self.begun_calls = self.begun_calls.saturating_add(calls);
+        if self.begun_calls >= BEGUN_CALLS {
+            self.hand_over();
+        }
+    }
+
+    // Hands requests over, and has stored what waits for the disk. This thread stores it if all its connections wait for
+    // answers, which saves two switches to another thread; else the flusher does. `answered` is a count of
+    // `Engine::answered`: what was sent since is not to wait for the disk.
     fn flush(&mut self, answered: u64) {
+        self.hand_over();
         if !mem::replace(&mut self.has_pending, false) {
             return;
         }
@@ -269,8 +293,8 @@ impl<'a, D: SectorDisk + Drop, L: Ledger, R: Wait + Clock + RandomSource> Worker
             self.server.engine.notify_flusher();
             return;
         }
-        self.wake_callers_since(answered);
-        if self.server.engine.flush_round(self.rt) != Ok(RoundEnd::Done) {
+        self.server.wake_callers_since(answered);
+        if self.server.flush_round(self.rt) != Ok(RoundEnd::Done) {
             // The flusher finds out why.
             self.server.engine.wake(self.rt);
         }
@@ -317,13 +341,6 @@ impl<'a, D: SectorDisk + Drop, L: Ledger, R: Wait + Clock + RandomSource> Worker
         self.connections.is_empty() && self.server.is_done() && self.inbox.is_empty(self.rt)
     }
 
-    // Wakes the workers that wait for answers, if some were sent since the count was this.
-    fn wake_callers_since(&self, answered: u64) {
-        if self.server.engine.answered() != answered {
-            self.server.wake_callers();
-        }
-    }
-
     // Takes the answers that are there, then waits for something to do.
     fn rest(&mut self, watch: &mut Watch, buffer: &mut [u8]) {
         let answered = self.server.engine.answered();
@@ -331,7 +348,7 @@ impl<'a, D: SectorDisk + Drop, L: Ledger, R: Wait + Clock + RandomSource> Worker
         self.inbox.lie_down(!self.calling.is_empty());
         self.take_answers(buffer);
         self.flush(answered);
-        self.wake_callers_since(answered);
+        self.server.wake_callers_since(answered);
         watch.wait(self.most_wait());
         self.inbox.get_up();
     }
@@ -346,7 +363,7 @@ impl<'a, D: SectorDisk + Drop, L: Ledger, R: Wait + Clock + RandomSource> Worker
         self.serve_missed(buffer);
         self.flush(answered);
         self.take_answers(buffer);
-        self.wake_callers_since(answered);
+        self.server.wake_callers_since(answered);
     }
 }
 
