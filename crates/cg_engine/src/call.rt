@@ -10,7 +10,6 @@ use crate::bounds::CALLS_MAX;
 use crate::engine::Engine;
 use crate::intake::Submission;
 use crate::kind::CallKind;
-use crate::looking::{found_before_wait, looked_for};
 use crate::pass::SessionPass;
 use crate::pending_call::{BegunCall, PendingCall};
 use cg_desk::{Outgoing, ReplyToken};
@@ -132,24 +131,6 @@ impl<D: SectorDisk + Drop, L: Ledger> Engine<D, L> {
     /// Notifies a thread in `await_commands`, which returns if commands are pending.
     pub fn notify_flusher(&self) {
         self.pending.notify_one();
-    }
-
-    // Hands requests over, and receives the next answer to the pass of a call. Before it waits, it notifies the flusher if
-    // commands are pending.
-    fn received<R: Wait>(&self, rt: &R, call: &PendingCall<L>) -> Option<Answer<L>> {
-        let has_pending = self.hand_over(rt);
-        let answers = &call.caller.answers;
-        let found = found_before_wait(rt, answers, call.kind);
-        if has_pending {
-            self.notify_flusher();
-        }
-        if found.is_some() {
-            return found;
-        }
-        match looked_for(rt, answers) {
-            Some(answer) => Some(answer),
-            None => answers.recv(rt).ok(),
-        }
     }
 
     // Waits for the answer to a call.

@@ -41,6 +41,16 @@ impl<D: SectorDisk + Drop, L: Ledger> Engine<D, L> {
         unreachable!()
     }
 
+    // Does what `hand_over` does, unless a flush round is at the desk: then it does nothing and returns `None`. Such a round may
+    // hand the requests over itself; a caller has to come back all the same.
+    pub(crate) fn try_hand_over<R: Wait>(&self, rt: &R) -> Option<bool> {
+        if self.has_round() {
+            None
+        } else {
+            Some(self.hand_over(rt))
+        }
+    }
+
     // Hands some requests to the desk, and sends the answers that it makes. Returns also whether commands wait for a batch
     // and none is in flight. Hands over none while a flush round is at the desk: it does that itself before it takes a batch.
     fn hand_over_some<R: Wait>(&self, rt: &R) -> (Left, bool) {
