@@ -3,7 +3,7 @@ use anyhow::{Context, Result, bail};
 use cg_group::{CommitEntry, CommitRequest, Commits, Listed, Request};
 use cg_names::{GroupId, Topic};
 use cg_record::{Offset, Partition};
-use std::alloc::{AllocError, Global};
+use std::alloc::Global;
 use std::collections::VecDeque;
 use std::fmt::Write;
 

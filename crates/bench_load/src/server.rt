@@ -108,8 +108,9 @@ fn measure_commits_ahead<
     let commits = reached.a_second.saturating_mul(AHEAD_A_TURN);
     let ratio = Ratio::of(commits, one);
     let median = Micros(reached.turn.median);
+    let ahead = AHEAD_A_TURN;
     println!(rt;
-        "connections {connections}, 16 COMMITs at a time: {commits} commits a second, 16 in {median} us (median), one at a time {one}, ratio {ratio}"
+        "connections {connections}, {ahead} COMMITs at a time: {commits} commits a second, {ahead} in {median} us (median), one at a time {one}, ratio {ratio}"
     )?;
     Ok(())
 }
@@ -120,8 +121,9 @@ fn print_beats<R: Print>(rt: &R, connections: u32, reached: &Reached, call: u64)
     let engine = a_second(1, call);
     let ratio = Ratio::of(beats, engine);
     let median = Micros(reached.turn.median);
+    let ahead = AHEAD_A_TURN;
     println!(rt;
-        "connections {connections}, 16 BEATs at a time: {beats} BEATs a second, 16 in {median} us (median), the engine's {engine} in one thread, ratio {ratio}"
+        "connections {connections}, {ahead} BEATs at a time: {beats} BEATs a second, {ahead} in {median} us (median), the engine's {engine} in one thread, ratio {ratio}"
     )?;
     Ok(())
 }
