@@ -13,7 +13,7 @@ use std::rt::Clock;
 use std::sync::Wait;
 use std::sync::ledger::Ledger;
 
-// Makes one call, and counts it if it is answered by OK while commits count.
+// Makes one call. Returns whether it was answered by OK while commits count.
 fn call_once<D: SectorDisk + Drop, L: Ledger, R: Wait + Clock>(
     rt: &R,
     engine: &Engine<D, L>,
@@ -21,31 +21,36 @@ fn call_once<D: SectorDisk + Drop, L: Ledger, R: Wait + Clock>(
     pass: SessionPass<L>,
     request: Request,
     samples: &mut Samples,
-) -> Result<SessionPass<L>> {
+) -> Result<(SessionPass<L>, bool)> {
     let start = nanoseconds(rt)?;
     let (pass, reply) = call(rt, engine, pass, request);
     let end = nanoseconds(rt)?;
     ensure!(matches!(reply, Reply::Done), "a commit was refused");
-    if run.count() {
+    let counts = run.is_counting();
+    if counts {
         samples.add(end.saturating_sub(start))?;
     }
-    Ok(pass)
+    Ok((pass, counts))
 }
 
+// Calls until the run is over. Returns how many commits counted.
 fn call_until_over<D: SectorDisk + Drop, L: Ledger, R: Wait + Clock>(
     rt: &R,
     engine: &Engine<D, L>,
     run: &Run,
     committer: &mut Committer,
     samples: &mut Samples,
-) -> Result<()> {
+) -> Result<u64> {
     let mut pass = engine.pass(rt)?;
+    let mut commits = 0u64;
     for _ in rt.forever() {
         if run.is_over() {
-            return Ok(());
+            return Ok(commits);
         }
         let request = committer.next_request()?;
-        pass = call_once(rt, engine, run, pass, request, samples)?;
+        let (after, counts) = call_once(rt, engine, run, pass, request, samples)?;
+        pass = after;
+        commits = commits.saturating_add(u64::from(counts));
     }
     unreachable!()
 }
@@ -59,8 +64,8 @@ fn call_and_keep<D: SectorDisk + Drop, L: Ledger, R: Wait + Clock>(
 ) -> Result<()> {
     let mut committer = Committer::new(alloc, number)?;
     let mut samples = Samples::with_room(alloc, run.samples_each())?;
-    call_until_over(rt, engine, run, &mut committer, &mut samples)?;
-    run.keep(rt, &samples)
+    let commits = call_until_over(rt, engine, run, &mut committer, &mut samples)?;
+    run.keep(rt, commits, &samples)
 }
 
 /// Commits to the partition with this number until the run is over.

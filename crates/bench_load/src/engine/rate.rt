@@ -50,15 +50,15 @@ fn wait<R: Clock>(rt: &R, run: &Run, millis: u64) {
     }
 }
 
-// Waits until the callers have warmed up, and counts their commits. Returns the commits of a second.
+// Waits until the callers have warmed up, and has their commits counted. Returns for how many nanoseconds.
 fn counted<R: Clock>(rt: &R, run: &Run) -> Result<u64> {
     wait(rt, run, WARM_UP_MS);
     let start = nanoseconds(rt)?;
     run.begin_counting();
     wait(rt, run, COUNTED_MS);
-    let commits = run.end_counting();
+    run.end_counting();
     let end = nanoseconds(rt)?;
-    Ok(a_second(commits, end.saturating_sub(start)))
+    Ok(end.saturating_sub(start))
 }
 
 // Starts a caller in the scope.
@@ -86,7 +86,7 @@ fn start_caller<
     }
 }
 
-// Starts the callers in the scope, and counts their commits. Returns the commits of a second.
+// Starts the callers in the scope, and has their commits counted. Returns for how many nanoseconds.
 fn call_in<
     's,
     'e: 's,
@@ -110,7 +110,7 @@ fn call_in<
     reached
 }
 
-// Starts the flusher and the callers in the scope. Returns the commits of a second.
+// Starts the flusher and the callers in the scope. Returns for how many nanoseconds commits counted.
 fn run_in<
     's,
     'e: 's,
@@ -130,7 +130,7 @@ fn run_in<
     call_in(rt, alloc, engine, run, scope)
 }
 
-// Runs the threads until all have ended. Returns the commits of a second.
+// Runs the threads until all have ended. Returns for how many nanoseconds commits counted.
 fn run_all<D: SectorDisk + Drop + Send, L: Ledger + Send, R: Threads + Wait + Clock + Sync>(
     rt: &R,
     alloc: Global,
@@ -153,7 +153,8 @@ fn rate_with<D: SectorDisk + Drop + Send, L: Ledger + Send, R: Threads + Wait + 
 ) -> Result<EngineRate> {
     load(rt, engine, disk)?;
     let run = Run::new(alloc, callers)?;
-    let a_second = run_all(rt, alloc, engine, &run)?;
+    let nanoseconds = run_all(rt, alloc, engine, &run)?;
+    let a_second = a_second(run.commits(), nanoseconds);
     let is_full = run.is_full();
     Ok(EngineRate {
         a_second,

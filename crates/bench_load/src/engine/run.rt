@@ -10,7 +10,7 @@ use std::sync::{Mutex, Wait};
 pub struct Run {
     /// Number of the threads that call.
     pub callers: u32,
-    /// Commits that count.
+    // Commits that counted, of the callers that have ended.
     commits: AtomicU64,
     // Threads that call or may start others.
     running: AtomicU64,
@@ -48,8 +48,9 @@ impl Run {
             .unwrap_or(SAMPLES_MAX)
     }
 
-    /// Keeps the times of a caller.
-    pub fn keep<R: Wait>(&self, rt: &R, samples: &Samples) -> Result<()> {
+    /// Keeps the commits of a caller that counted, and their times.
+    pub fn keep<R: Wait>(&self, rt: &R, commits: u64, samples: &Samples) -> Result<()> {
+        self.commits.fetch_add(commits, Ordering::SeqCst);
         self.samples.lock(rt).add_all(samples)?;
         Ok(())
     }
@@ -59,19 +60,20 @@ impl Run {
         self.counting.store(true, Ordering::SeqCst);
     }
 
-    /// Ends the counting. Returns how many commits counted.
-    pub fn end_counting(&self) -> u64 {
+    /// Ends the counting.
+    pub fn end_counting(&self) {
         self.counting.store(false, Ordering::SeqCst);
-        self.commits.load(Ordering::SeqCst)
     }
 
-    /// Counts a commit. Returns whether it counts.
-    pub fn count(&self) -> bool {
-        let counts = self.counting.load(Ordering::SeqCst);
-        if counts {
-            self.commits.fetch_add(1, Ordering::SeqCst);
-        }
-        counts
+    /// Returns whether a commit that is answered now counts. What the callers share is only read while they call: a count that
+    /// all of them write would be measured too.
+    pub fn is_counting(&self) -> bool {
+        self.counting.load(Ordering::SeqCst)
+    }
+
+    /// Returns how many commits counted, once the callers have ended.
+    pub fn commits(&self) -> u64 {
+        self.commits.load(Ordering::SeqCst)
     }
 
     /// Ends the run: the callers make no further call.
