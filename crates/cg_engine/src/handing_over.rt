@@ -9,7 +9,7 @@ use std::thread;
 
 /// Requests that a caller hands to the desk without freeing its lock. After as many another caller may go on, so that a call
 /// ends although others never cease.
-const TURN_REQUESTS: u32 = 32;
+pub(crate) const TURN_REQUESTS: u32 = 32;
 
 /// What a turn left in the intake.
 #[derive(Clone, Copy, Debug, Drop, PartialEq, Eq)]

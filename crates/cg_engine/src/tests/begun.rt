@@ -3,6 +3,7 @@ ghost use Rattle.std.specs.Prelude.{◌≡◌, ◌≤◌};
 ghost use Rattle.cg_engine.specs.declared.bounds.TheConstants.{PARTS};
 
 use super::scenario::formatted;
+use crate::handing_over::TURN_REQUESTS;
 use crate::{BegunCall, Engine, PARTS, PendingCall, RoundEnd, SessionPass};
 use cg_disk::{MemDisk, SectorDisk};
 use cg_group::Reply;
@@ -110,8 +111,10 @@ fn is_answered_over_memory<L: Ledger, R: Wait>(
     let by_caller = is_answered_by_a_round(rt, alloc, &engine, true);
     let by_round = is_answered_by_a_round(rt, alloc, &engine, false);
     // As many as a caller hands over without freeing the desk lock, one fewer and one more.
+    let fewer = TURN_REQUESTS.saturating_sub(1);
+    let more = TURN_REQUESTS.saturating_add(1);
     let mut together = true;
-    for count in [31, 32, 33] {
+    for count in [fewer, TURN_REQUESTS, more] {
         let answered = are_answered_together(rt, alloc, &engine, count);
         together = answered == Some(true) && together;
     }
