@@ -1,5 +1,5 @@
 -- Ids of segments: ranges, and that no two are equal.
-use Rattle.std.proofs.Common.{◌≡◌, ◌⊎◌, inl, inr, ℕ, zero, suc, ◌<◌, ◌≤◌, ◌+◌, Bool, true, false, List, [], ◌∷◌, ◌++◌, length, get_or, refl, ap, ◌∙◌, arith, add-one}
+use Rattle.std.proofs.Common.{◌≡◌, ◌⊎◌, inl, inr, ℕ, zero, suc, ◌<◌, ◌≤◌, ◌+◌, Bool, true, false, List, [], ◌∷◌, ◌++◌, length, get_or, refl, ap, ◌∙◌, arith}
 use Rattle.std.specs.Prelude.{◌&&◌, ◌||◌, nat_lt, nat_eq, IsTrue}
 use Rattle.std.specs.List.{list_all, AllByRecursion, IsDistinct}
 use Rattle.std.proofs.lemmas.Bool.{cases_lt}
@@ -8,7 +8,7 @@ use Rattle.std.proofs.lemmas.List.Folds.{list_all-append}
 use Rattle.cg_gate.specs.Layout.{first_sector, segment_count}
 use Rattle.cg_root.specs.Roots.{AreSegments, IsLawful, root_ids}
 use Rattle.cg_root.specs.declared.root.Root.{Root}
-use Rattle.cg_log.specs.Free.{is_among, free_below}
+use Rattle.cg_log.specs.Free.{is_among}
 use Rattle.cg_log.specs.Segments.{Filled, ids_of}
 use Rattle.cg_log.proofs.Filled.{AreApart}
 
@@ -111,17 +111,3 @@ AreApart-segment id at n (s ∷ segments) low high none =
     apart (inr le) differs =
         let lt : s.0 < id = grind (arith, nat_tests) in
         inl (omega arith)
-
--- the free ids below a number, one by one
-module _ (ids : List ℕ) (n : ℕ) where
-  pub free_below-among : is_among n ids ≡ true → free_below (n + 1) ids ≡ free_below n ids
-  unfolding free_below
-  free_below-among is = rw (add-one n, is) refl
-
-  pub free_below-free : is_among n ids ≡ false → free_below (n + 1) ids ≡ free_below n ids + 1
-  unfolding free_below
-  free_below-free is = rw (add-one n, is) refl
-
-pub free_below-zero : (ids : List ℕ) → free_below 0 ids ≡ 0
-unfolding free_below
-free_below-zero ids = refl

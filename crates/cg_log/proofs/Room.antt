@@ -86,7 +86,7 @@ among-moved k id xs ys =
     ∙ or-swap (is_among k xs) (nat_eq k id) (is_among k ys)
     ∙ ap (λ (b : Bool). b || (nat_eq k id || false)) (sym (list_any-append (nat_eq k) xs ys)) ∙ sym (list_any-append (nat_eq k) (xs ++ ys) (id ∷ []))
 
-free-as : (xs ys : List ℕ) → ((k : ℕ) → is_among k xs ≡ is_among k ys) → (n : ℕ) → free_below n xs ≡ free_below n ys
+pub free-as : (xs ys : List ℕ) → ((k : ℕ) → is_among k xs ≡ is_among k ys) → (n : ℕ) → free_below n xs ≡ free_below n ys
 unfolding free_below
 free-as xs ys same zero = refl
 free-as xs ys same (suc n) = free-step (is_among n xs) (is_among n ys) _ _ (same n) (free-as xs ys same n)

@@ -1,22 +1,22 @@
 -- Taken ids, those that a root names and the fresh ones: no two are equal, in whatever order they stand.
-use Rattle.std.proofs.Common.{◌≡◌, ◌⊎◌, inl, inr, ℕ, ◌+◌, ◌-◌, ◌^◌, ◌<◌, ◌≤◌, Bool, true, false, List, [], ◌∷◌, ◌++◌, length, take, drop, refl, sym, ap, ◌∙◌, subst, arith, append_assoc}
+use Rattle.std.proofs.Common.{◌≡◌, ◌⊎◌, inl, inr, ℕ, zero, suc, ◌+◌, ◌-◌, ◌^◌, ◌<◌, ◌≤◌, Bool, true, false, List, [], ◌∷◌, ◌++◌, length, take, drop, refl, sym, ap, ◌∙◌, subst, arith, append_assoc}
 use Rattle.std.specs.Prelude.{◌||◌, nat_eq, nat_lt}
 use Rattle.std.specs.List.{list_all, AllByRecursion, IsDistinct}
 use Rattle.std.proofs.lemmas.Bool.{cases_lt}
 use Rattle.std.proofs.lemmas.Bool.Decides.{nat_tests}
-use Rattle.std.proofs.lemmas.List.{append-nil, length-drop, take-append-drop}
+use Rattle.std.proofs.lemmas.List.{append-nil, length-append, length-drop, take-append-drop}
 use Rattle.std.proofs.lemmas.List.Folds.{list_any-append}
 use Rattle.cg_gate.specs.Layout.{segment_count}
 use Rattle.cg_root.specs.Roots.{AreSegments, IsLawful, root_ids}
 use Rattle.cg_root.specs.declared.root.Root.{Root}
 use Rattle.cg_log.specs.Cursors.{index_of}
-use Rattle.cg_log.specs.Free.{is_among}
+use Rattle.cg_log.specs.Free.{free_below, is_among}
 use Rattle.cg_log.specs.Ready.{last_id}
 use Rattle.cg_log.specs.Rolled.{HasOneMoreTail}
 use Rattle.cg_log.specs.Switched.{IsSwitchedRoot}
 use Rattle.cg_log.proofs.Filled.{split_last}
 use Rattle.cg_log.proofs.Ids.{AreSegments-push, below_last, both_false, both_true, is_among-back, is_among-front}
-use Rattle.cg_log.proofs.Room.{among-last, or-true}
+use Rattle.cg_log.proofs.Room.{among-last, free-as, free-less, or-true}
 
 -- ---- parts of a list
 
@@ -143,3 +143,34 @@ IsLawful-switched sectors current next fresh cut base_number is among are low sm
   tail = omega (arith, ap length is.tail, length-drop (index_of cut current.tail) current.tail, index-inside cut current.tail among);
   ids = subst (AreSegments (segment_count sectors)) (λ i. sym is.base i ++ sym is.tail i) (taken-switched (segment_count sectors) current fresh are (index_of cut current.tail));
 }
+
+-- ---- how many are free
+
+free-all : (n : ℕ) → free_below n [] ≡ n
+unfolding free_below
+free-all zero = refl
+free-all (suc n) = omega (arith, free-all n)
+
+or-last : (a b : Bool) → (a || b) ≡ (b || (a || false))
+or-last true b = sym (or-true b)
+or-last false true = refl
+or-last false false = refl
+
+-- an id may stand before the others or after them
+among-first : (k id : ℕ) (ids : List ℕ) → is_among k (id ∷ ids) ≡ is_among k (ids ++ id ∷ [])
+among-first k id ids = or-last (nat_eq k id) (is_among k ids) ∙ sym (list_any-append (nat_eq k) ids (id ∷ []))
+
+-- of that many segments each is free or taken, and none twice
+free_taken : (n : ℕ) (ids : List ℕ) → AreSegments n ids → free_below n ids + length ids ≡ n
+free_taken n [] are = omega (arith, free-all n)
+free_taken n (id ∷ ids) are =
+    let first = AreSegments-first n id ids are in
+    omega (arith, free-as (id ∷ ids) (ids ++ id ∷ []) (λ k. among-first k id ids) n, free-less ids id n first.below first.none, free_taken n ids first.rest)
+
+pub free_and_taken : (sectors : ℕ) (base tail fresh : List ℕ) → AreSegments (segment_count sectors) ((base ++ tail) ++ fresh)
+    → free_below (segment_count sectors) ((base ++ tail) ++ fresh) + (length base + length tail + length fresh) ≡ segment_count sectors
+free_and_taken sectors base tail fresh are = omega (arith, free_taken (segment_count sectors) ((base ++ tail) ++ fresh) are, length-append (base ++ tail) fresh, length-append base tail)
+
+pub segment_count-le : (sectors : ℕ) → segment_count sectors ≤ 200
+unfolding segment_count
+segment_count-le sectors = omega arith

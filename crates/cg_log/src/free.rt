@@ -1,8 +1,8 @@
 //! Free segments: those that the root does not name and no compaction has taken.
-ghost use Rattle.std.specs.Prelude.{◌≡◌, ◌+◌, ◌<◌, ◌≤◌, ◌++◌};
+ghost use Rattle.std.specs.Prelude.{◌≡◌, ◌<◌, ◌≤◌, ◌++◌};
 ghost use Rattle.std.specs.Option.{MatchOption};
 ghost use Rattle.cg_gate.specs.Layout.{segment_count};
-ghost use Rattle.cg_log.specs.Free.{free_count_of, is_among, IsLeastFree, NoneIsFree};
+ghost use Rattle.cg_log.specs.Free.{is_among, IsLeastFree, NoneIsFree};
 
 use cg_gate::segment_count;
 use cg_root::SegmentId;
@@ -44,22 +44,4 @@ pub(crate) fn least_free(
         }
     }
     None
-}
-
-/// Returns how many segments of a disk of that many sectors are free.
-pub(crate) fn count_free(
-    sectors: u64,
-    base: &[SegmentId],
-    tail: &[SegmentId],
-    fresh: &[SegmentId],
-) -> u64
-    ensures { result ≡ free_count_of sectors ((base.now ++ tail.now) ++ fresh.now) }
-{
-    let mut count = 0;
-    for id in 0..segments_of(sectors) {
-        if !is_taken(id, base, tail, fresh) {
-            count += 1;
-        }
-    }
-    count
 }

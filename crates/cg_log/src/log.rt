@@ -13,9 +13,9 @@ ghost use Rattle.cg_log.specs.Segments.{Frames};
 ghost use Rattle.cg_log.specs.declared.numbers.TheConstants.{COMMAND_NUMBER_MAX};
 ghost use Rattle.cg_log.specs.Props.{AreSegments-prop, IsLawful-prop, fresh_ready-prop, ready-prop};
 
-use crate::free::count_free;
 use crate::{LogFault, Opening};
 use cg_disk::SectorDisk;
+use cg_gate::segment_count;
 use cg_root::{Root, SegmentId};
 use std::alloc::Global;
 
@@ -89,17 +89,12 @@ impl<D: SectorDisk> Log<D> {
         self.number
     }
 
-    /// Returns how many segments are free: the root names none of them, and none is fresh. Compares each segment with
-    /// each id.
+    /// Returns how many segments are free: the root names none of them, and none is fresh. Goes through no list.
     pub fn free_count(&self) -> u64
         ensures { result ≡ free_count_of (D.size (disk_of self.now)) (taken_of self.now) }
     {
-        count_free(
-            self.disk.sectors(),
-            self.root.base.as_slice(),
-            self.root.tail.as_slice(),
-            self.fresh.as_slice(),
-        )
+        let taken = self.root.base.len() + self.root.tail.len() + self.fresh.len();
+        segment_count(self.disk.sectors()) - taken as u64
     }
 
     /// Returns whether the device failed in an earlier call.

@@ -47,7 +47,7 @@ impl<D: SectorDisk> Store<D> {
     }
 
     /// Returns how many segments of the disk are free: the root names none of them, and no compaction has taken one.
-    /// Compares each segment with each that is in use.
+    /// Goes through no list.
     pub fn free_count(&self) -> u64
         ensures { result ≡ (room_of self.now).segments }
     {
