@@ -54,7 +54,10 @@ module _ (n : NamedLft) (D : RattleType) (L : RattleType) (k : disk.Ghosts D.Den
                                     search (sendable, one.crosses) depth 10,
                                     (
                                       search (sendable, one.crosses) depth 10,
-                                      (search (sendable, one.crosses) depth 10, tt),
+                                      (
+                                        search (sendable, one.crosses) depth 10,
+                                        (search (sendable, one.crosses) depth 10, tt),
+                                      ),
                                     ),
                                   ),
                                 ),

@@ -17,6 +17,7 @@ pub enum FlushEnd {
 }
 
 // What a flush round asks for.
+#[derive(Clone, Copy, Drop, PartialEq, Eq)]
 enum After {
     /// The next round at once.
     Again,
@@ -78,15 +79,19 @@ pub fn flush_until_over<D: SectorDisk + Drop, L: Ledger, R: Wait + Clock + Eprin
             return FlushEnd::Over;
         }
         if server.is_tight(rt) {
+            server.note_flushing(false);
             server.begin_hold(rt);
             server.flush.wait(rt, tick);
             continue;
         }
         server.end_hold();
-        let ended = server.flush_round(rt);
+        server.note_flushing(true);
+        let after = next_after(server.flush_round(rt));
         server.wake_callers();
         server.watch_room(rt);
-        match next_after(ended) {
+        // A line on standard error may wait for its reader.
+        server.note_flushing(after == After::Again && !server.is_full());
+        match after {
             After::Again => end_full(rt, server),
             After::Sleep => {
                 end_full(rt, server);

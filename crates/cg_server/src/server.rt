@@ -60,6 +60,8 @@ pub struct Server<'a, D: SectorDisk, L: Ledger> {
     full: AtomicBool,
     // Whether batches wait for the compaction under way.
     held: AtomicBool,
+    // Whether the flusher is awake.
+    flushing: AtomicBool,
     // Whether fewer segments were free after the last batch than the compactor waits for.
     low: AtomicBool,
 }
@@ -92,6 +94,7 @@ impl<'a, D: SectorDisk + Drop, L: Ledger> Server<'a, D, L> {
             over: AtomicBool::new(false),
             full: AtomicBool::new(false),
             held: AtomicBool::new(false),
+            flushing: AtomicBool::new(false),
             low: AtomicBool::new(false),
         }
     }
@@ -191,6 +194,17 @@ impl<'a, D: SectorDisk + Drop, L: Ledger> Server<'a, D, L> {
             Taken::Batch(batch) => self.engine.store_batch(rt, batch),
             Taken::End(end) => Ok(end),
         }
+    }
+
+    /// Returns whether the flusher is awake. Then it takes the commands that wait for a batch, or looks for them once more
+    /// before it sleeps: no other thread has to take or to report them.
+    pub fn is_flushing(&self) -> bool {
+        self.flushing.load(Ordering::SeqCst)
+    }
+
+    /// Notes whether the flusher is awake. It notes that it is not before its last look for commands.
+    pub fn note_flushing(&self, flushing: bool) {
+        self.flushing.store(flushing, Ordering::SeqCst);
     }
 
     /// Returns whether the last worker has ended.

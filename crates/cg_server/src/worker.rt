@@ -279,12 +279,12 @@ impl<'a, D: SectorDisk + Drop, L: Ledger, R: Wait + Clock + RandomSource> Worker
         }
     }
 
-    // Hands requests over, and has stored what waits for the disk. This thread stores it if all its connections wait for
-    // answers, which saves two switches to another thread; else the flusher does. `answered` is a count of
-    // `Engine::answered`: what was sent since is not to wait for the disk.
+    // Hands requests over, and has stored what waits for the disk. The flusher does that if it is awake. If it sleeps, this
+    // thread stores it if all its connections wait for answers, which saves two switches to another thread; else it notifies
+    // the flusher. `answered` is a count of `Engine::answered`: what was sent since is not to wait for the disk.
     fn flush(&mut self, answered: u64) {
         self.hand_over();
-        if !mem::replace(&mut self.has_pending, false) {
+        if !mem::replace(&mut self.has_pending, false) || self.server.is_flushing() {
             return;
         }
         let is_idle = self.unserved.is_empty() && self.server.engine.answered() == self.taken_at;
