@@ -30,16 +30,18 @@ fn is_under_way<D: SectorDisk + Drop, L: Ledger, R: Wait>(
     server.engine.compact_wanted(rt, 0)
 }
 
-// Does one round of a compaction if one is wanted. A switch, a round that was skipped and a fault are followed by a pause.
+// Does one round of a compaction if one is wanted, or goes on with the one under way. A switch, a round that was skipped and
+// a fault are followed by a pause. Each look at the store may have to wait for a batch.
 fn compact_once<D: SectorDisk + Drop, L: Ledger, R: Wait>(
     rt: &R,
     server: &Server<'_, D, L>,
+    goes_on: bool,
 ) -> After {
     let least = server.options.compact_free;
-    if !server.is_full() && !server.engine.compact_wanted(rt, least) {
+    if !goes_on && !server.is_full() && !server.engine.compact_wanted(rt, least) {
         return After::Pause;
     }
-    let was_under_way = is_under_way(rt, server);
+    let was_under_way = goes_on || is_under_way(rt, server);
     match server.engine.compact_round(rt) {
         Ok(RoundEnd::Done) if is_under_way(rt, server) => After::Again,
         Ok(RoundEnd::Done) | Err(RoundFault::Device | RoundFault::Failed) => After::Notify,
@@ -86,6 +88,7 @@ pub fn compact_until_over<D: SectorDisk + Drop, L: Ledger, R: Wait + Clock>(
     server: &Server<'_, D, L>,
 ) {
     let pause = Duration::from_millis(server.options.tick_ms);
+    let mut goes_on = false;
     for _ in rt.forever() {
         // A ring from before this round is met by this round. The end of the server is noted before its ring.
         server.compact.hush(rt);
@@ -93,7 +96,9 @@ pub fn compact_until_over<D: SectorDisk + Drop, L: Ledger, R: Wait + Clock>(
             return;
         }
         let began = Instant::now(rt);
-        match compact_once(rt, server) {
+        let after = compact_once(rt, server, goes_on);
+        goes_on = after == After::Again;
+        match after {
             After::Again => leave_to_commits(rt, server, began),
             After::Pause => {
                 server.compact.wait(rt, pause);
