@@ -13,10 +13,9 @@ use Rattle.cg_record.specs.declared.command.Command.{Command}
 use Rattle.cg_record.specs.declared.entries.TheConstants.{ENTRIES_MAX}
 use Rattle.cg_record.specs.declared.entry.Entry.{Entry}
 use Rattle.cg_record.specs.Keys.{AreEntries, have_one_key}
-use Rattle.cg_fold.specs.Key.{KeptOffset, key_cmp, key_of}
-use Rattle.cg_fold.specs.Shelf.{AreOf}
+use Rattle.cg_fold.specs.Key.{KeptRow, partition_at, partition_cmp}
 use Rattle.cg_fold.specs.Snapshot.{commit_command, commits_of, entry_of}
-use Rattle.cg_fold.proofs.KeyOrder.{key_total}
+use Rattle.cg_fold.proofs.KeyOrder.{partition_total}
 use Rattle.cg_fold.proofs.Place.{below_all, both}
 use Rattle.cg_fold.proofs.Put.{tested}
 use Rattle.cg_fold.proofs.Stock.{append-nil}
@@ -34,46 +33,46 @@ of_true false h = absurd h
 same_number : (a b : ℕ) → (a == b) ≡ true → a ≡ b
 same_number a b e = (Decides-eqb a b).0 e
 
-same_key : (a b : KeptOffset) → a.0.group ≡ b.0.group → have_one_key (entry_of a) (entry_of b) ≡ true → a.0 ≡ b.0
-same_key a b group one =
+same_key : (a b : KeptRow) → have_one_key (entry_of a) (entry_of b) ≡ true → a.0 ≡ b.0
+same_key a b one =
     let parts = both (a.0.partition == b.0.partition) (bytes_eq a.0.topic b.0.topic) (true_of (have_one_key (entry_of a) (entry_of b)) one) in
     let partition = same_number a.0.partition b.0.partition (of_true (a.0.partition == b.0.partition) parts.0) in
     let topic = (bytes_eq-Decides a.0.topic b.0.topic).0 (of_true (bytes_eq a.0.topic b.0.topic) parts.1) in
-    ap (λ g. key_of g a.0.topic a.0.partition) group ∙ ap (λ t. key_of b.0.group t a.0.partition) topic ∙ ap (key_of b.0.group b.0.topic) partition
+    ap (λ t. partition_at t a.0.partition) topic ∙ ap (partition_at b.0.topic) partition
 
-keys_apart : (a b : KeptOffset) → a.0.group ≡ b.0.group → T (is_lt (key_cmp a.0 b.0)) → have_one_key (entry_of a) (entry_of b) ≡ false
-keys_apart a b group lt = step (have_one_key (entry_of a) (entry_of b)) refl
+keys_apart : (a b : KeptRow) → T (is_lt (partition_cmp a.0 b.0)) → have_one_key (entry_of a) (entry_of b) ≡ false
+keys_apart a b lt = step (have_one_key (entry_of a) (entry_of b)) refl
   where
     step : (c : Bool) → have_one_key (entry_of a) (entry_of b) ≡ c → c ≡ false
     step false is = refl
-    step true is = absurd (subst (λ r. T (is_lt r)) (ap (λ k. key_cmp k b.0) (same_key a b group is) ∙ tied_itself key_total b.0) lt)
+    step true is = absurd (subst (λ r. T (is_lt r)) (ap (λ k. partition_cmp k b.0) (same_key a b is) ∙ tied_itself partition_total b.0) lt)
 
-apart_from : (g : List ℕ) (row : KeptOffset) (rows : List KeptOffset) → row.0.group ≡ g → AreOf g rows → T (below_all key_cmp row.0 rows) → AllByRecursion (λ e. have_one_key (entry_of row) e ≡ false) (each entry_of rows)
-apart_from g row [] is are below = tt
-apart_from g row (next ∷ rows) is are below =
-    let parts = both (is_lt (key_cmp row.0 next.0)) (below_all key_cmp row.0 rows) below in
-    (keys_apart row next (is ∙ sym are.0) parts.0, apart_from g row rows is are.1 parts.1)
+apart_from : (row : KeptRow) (rows : List KeptRow) → T (below_all partition_cmp row.0 rows) → AllByRecursion (λ e. have_one_key (entry_of row) e ≡ false) (each entry_of rows)
+apart_from row [] below = tt
+apart_from row (next ∷ rows) below =
+    let parts = both (is_lt (partition_cmp row.0 next.0)) (below_all partition_cmp row.0 rows) below in
+    (keys_apart row next parts.0, apart_from row rows parts.1)
 
-pub distinct_entries : (g : List ℕ) (rows : List KeptOffset) → AreOf g rows → T (is_sorted key_cmp rows) → IsDistinct have_one_key (each entry_of rows)
+pub distinct_entries : (rows : List KeptRow) → T (is_sorted partition_cmp rows) → IsDistinct have_one_key (each entry_of rows)
 unfolding IsDistinct
-distinct_entries g [] are sorted = tt
-distinct_entries g (row ∷ rows) are sorted =
-    let parts = both (below_all key_cmp row.0 rows) (is_sorted key_cmp rows) sorted in
-    (apart_from g row rows are.0 are.1 parts.0, distinct_entries g rows are.1 parts.1)
+distinct_entries [] sorted = tt
+distinct_entries (row ∷ rows) sorted =
+    let parts = both (below_all partition_cmp row.0 rows) (is_sorted partition_cmp rows) sorted in
+    (apart_from row rows parts.0, distinct_entries rows parts.1)
 
-pub are_entries : (g : List ℕ) (rows : List KeptOffset) (entries : List Entry) → 0 < length rows → length rows ≤ ENTRIES_MAX → AreOf g rows → IsTrue (is_sorted key_cmp rows) → entries ≡ each entry_of rows → AreEntries entries
-are_entries g rows entries some few own sorted is =
+pub are_entries : (rows : List KeptRow) (entries : List Entry) → 0 < length rows → length rows ≤ ENTRIES_MAX → IsTrue (is_sorted partition_cmp rows) → entries ≡ each entry_of rows → AreEntries entries
+are_entries rows entries some few sorted is =
     let same : length entries ≡ length rows = ap length is ∙ length-map rows entry_of in
     record {
       some = omega (arith, same, some);
       few = subst (λ n. n ≤ ENTRIES_MAX) (sym same) few;
-      distinct = subst (IsDistinct have_one_key) (sym is) (distinct_entries g rows own (tested sorted));
+      distinct = subst (IsDistinct have_one_key) (sym is) (distinct_entries rows (tested sorted));
     }
 
 -- ---- the list of commits
 
 -- the bound on the number of offsets does not matter, if it is large enough
-commits_any : (most more : ℕ) (g : List ℕ) (rows : List KeptOffset) → length rows ≤ most → length rows ≤ more → commits_of most g rows ≡ commits_of more g rows
+commits_any : (most more : ℕ) (g : List ℕ) (rows : List KeptRow) → length rows ≤ most → length rows ≤ more → commits_of most g rows ≡ commits_of more g rows
 unfolding commits_of
 commits_any zero zero g rows le also = refl
 commits_any zero (suc more) g [] le also = refl
@@ -85,7 +84,7 @@ commits_any (suc most) (suc more) g (row ∷ rows) le also =
     let shorter = length-drop ENTRIES_MAX (row ∷ rows) in
     ap (λ l. commit_command g (take ENTRIES_MAX (row ∷ rows)) ∷ l) (commits_any most more g (drop ENTRIES_MAX (row ∷ rows)) (omega (arith, shorter, le)) (omega (arith, shorter, also)))
 
-commits_first : (g : List ℕ) (rows : List KeptOffset) → 0 < length rows → commits_of (length rows) g rows ≡ commit_command g (take ENTRIES_MAX rows) ∷ commits_of (length (drop ENTRIES_MAX rows)) g (drop ENTRIES_MAX rows)
+commits_first : (g : List ℕ) (rows : List KeptRow) → 0 < length rows → commits_of (length rows) g rows ≡ commit_command g (take ENTRIES_MAX rows) ∷ commits_of (length (drop ENTRIES_MAX rows)) g (drop ENTRIES_MAX rows)
 unfolding commits_of
 commits_first g [] some = absurd (omega (arith, some))
 commits_first g (row ∷ rows) some =
@@ -93,7 +92,7 @@ commits_first g (row ∷ rows) some =
     (commits_any (length rows) (length (drop ENTRIES_MAX (row ∷ rows))) g (drop ENTRIES_MAX (row ∷ rows)) (omega (arith, length-drop ENTRIES_MAX (row ∷ rows))) (omega arith))
 
 -- the first commit, appended, in the form of the call
-pub commits_pushed : (g : List ℕ) (rows first others : List KeptOffset) (command : Command) (before after all : List Command) → 0 < length rows
+pub commits_pushed : (g : List ℕ) (rows first others : List KeptRow) (command : Command) (before after all : List Command) → 0 < length rows
     → first ≡ take ENTRIES_MAX rows → others ≡ drop ENTRIES_MAX rows → command ≡ commit_command g first → after ≡ before ++ command ∷ []
     → before ++ commits_of (length rows) g rows ≡ all → after ++ commits_of (length others) g others ≡ all
 commits_pushed g rows first others command before after all some taken left is pushed rest =
@@ -103,7 +102,7 @@ commits_pushed g rows first others command before after all some taken left is p
     ∙ ap (λ l. before ++ commit_command g (take ENTRIES_MAX rows) ∷ commits_of (length l) g l) left
     ∙ ap (λ l. before ++ l) (sym (commits_first g rows some)) ∙ rest
 
-pub commits_none : (g : List ℕ) (rows : List KeptOffset) (before all : List Command) → length rows ≡ 0 → before ++ commits_of (length rows) g rows ≡ all → before ≡ all
+pub commits_none : (g : List ℕ) (rows : List KeptRow) (before all : List Command) → length rows ≡ 0 → before ++ commits_of (length rows) g rows ≡ all → before ≡ all
 unfolding commits_of
 commits_none g [] before all none rest = sym (append-nil before) ∙ rest
 commits_none g (row ∷ rows) before all none rest = absurd (omega (arith, none))

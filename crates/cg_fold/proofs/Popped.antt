@@ -7,9 +7,9 @@ use Rattle.std.specs.declared.cmp.Ordering.TheVariants.{Less}
 use Rattle.std.specs.FinMap.{find}
 use Rattle.cg_record.specs.declared.command.Command.{Command}
 use Rattle.cg_fold.specs.declared.record.GroupRecord.{GroupRecord}
-use Rattle.cg_fold.specs.Key.{KeptOffset, name_cmp}
+use Rattle.cg_fold.specs.Key.{KeptRow, name_cmp}
 use Rattle.cg_fold.specs.Record.{KeptRecord}
-use Rattle.cg_fold.specs.Shelf.{KeptShelf, AreOf, EachShelf, rows_at, rows_on, stock}
+use Rattle.cg_fold.specs.Shelf.{KeptShelf, EachShelf, rows_at, rows_on, stock}
 use Rattle.cg_fold.specs.Snapshot.{Ascending, AreListed, ComesBefore, PopsFirst, commits_of, group_commands, groups_in, groups_of_either, in_order, left_of, listed, offsets_in, record_commands, snapshot_of}
 use Rattle.cg_fold.proofs.KeyOrder.{name_total}
 use Rattle.cg_fold.proofs.Kept.{map-get, map_of}
@@ -33,7 +33,7 @@ flat_map-after group (name ∷ names) f h before same =
 
 -- ---- the commands of a group
 
-abbrev of_group : List ℕ → Option GroupRecord → List KeptOffset → List Command
+abbrev of_group : List ℕ → Option GroupRecord → List KeptRow → List Command
 of_group group held rows = record_commands group held ++ commits_of (length rows) group rows
 
 group_commands-listed : (records : List KeptRecord) (shelves : List KeptShelf) (group : List ℕ) → AreListed records shelves
@@ -46,11 +46,11 @@ group_commands-listed records shelves group are =
 
 -- ---- what is left
 
-each_rest : (group : List ℕ) (rows : Option (List KeptOffset)) (old new : List KeptShelf) → old ≡ each (λ v. (group, v)) (option_to_list rows) ++ new → EachShelf old → EachShelf new
+each_rest : (group : List ℕ) (rows : Option (List KeptRow)) (old new : List KeptShelf) → old ≡ each (λ v. (group, v)) (option_to_list rows) ++ new → EachShelf old → EachShelf new
 each_rest group None old new is all = subst EachShelf is all
 each_rest group (Some rows) old new is all = (let both : EachShelf ((group, rows) ∷ new) = subst EachShelf is all in both.1)
 
-pub listed_rest : (records records' : List KeptRecord) (shelves shelves' : List KeptShelf) (group : List ℕ) (held : Option GroupRecord) (rows : Option (List KeptOffset)) → AreListed records shelves
+pub listed_rest : (records records' : List KeptRecord) (shelves shelves' : List KeptShelf) (group : List ℕ) (held : Option GroupRecord) (rows : Option (List KeptRow)) → AreListed records shelves
     → PopsFirst records shelves group held rows records' shelves' → AreListed records' shelves'
 listed_rest records records' shelves shelves' group held rows are pops = record {
   by_group = pops.first.left_sorted;
@@ -61,19 +61,11 @@ listed_rest records records' shelves shelves' group held rows are pops = record 
   };
 }
 
--- the offsets that were removed are the group's
-pub own_first : (records records' : List KeptRecord) (shelves shelves' : List KeptShelf) (group : List ℕ) (held : Option GroupRecord) (rows : Option (List KeptOffset)) → AreListed records shelves
-    → PopsFirst records shelves group held rows records' shelves' → AreOf group (rows_on rows)
-own_first records records' shelves shelves' group held None are pops = tt
-own_first records records' shelves shelves' group held (Some rows) are pops =
-    let all : EachShelf ((group, rows) ∷ shelves') = subst EachShelf pops.of_right.removed are.are_shelves.each in
-    all.0.own
-
 groups_listed : (records : List KeptRecord) (shelves : List KeptShelf) → AreListed records shelves → groups_of_either records shelves ≡ in_order (groups_in (listed records shelves))
 groups_listed records shelves are = groups_of_shelves (length (stock shelves)) records shelves (listed records shelves) are.by_group are.are_shelves refl
 
 -- a snapshot is the commands of the first group, and then the snapshot of what is left
-pub snapshot_first : (records records' : List KeptRecord) (shelves shelves' : List KeptShelf) (group : List ℕ) (held : Option GroupRecord) (rows : Option (List KeptOffset)) → AreListed records shelves
+pub snapshot_first : (records records' : List KeptRecord) (shelves shelves' : List KeptShelf) (group : List ℕ) (held : Option GroupRecord) (rows : Option (List KeptRow)) → AreListed records shelves
     → PopsFirst records shelves group held rows records' shelves' → snapshot_of (listed records shelves) ≡ of_group group held (rows_on rows) ++ snapshot_of (listed records' shelves')
 snapshot_first records records' shelves shelves' group held rows are pops =
     let now = listed records shelves in
@@ -96,7 +88,7 @@ snapshot_first records records' shelves shelves' group held rows are pops =
 
 -- ---- in the form of the calls
 
-pub left_first : (commands commands' : List Command) (records records' : List KeptRecord) (shelves shelves' : List KeptShelf) (group : List ℕ) (held : Option GroupRecord) (rows : Option (List KeptOffset)) → AreListed records shelves
+pub left_first : (commands commands' : List Command) (records records' : List KeptRecord) (shelves shelves' : List KeptShelf) (group : List ℕ) (held : Option GroupRecord) (rows : Option (List KeptRow)) → AreListed records shelves
     → PopsFirst records shelves group held rows records' shelves' → commands ≡ [] → commands' ≡ of_group group held (rows_on rows) → left_of commands' records' shelves' ≡ left_of commands records shelves
 left_first commands commands' records records' shelves shelves' group held rows are pops none is =
     ap (λ l. left_of l records' shelves') is ∙ sym (snapshot_first records records' shelves shelves' group held rows are pops) ∙ sym (ap (λ l. left_of l records shelves) none)
@@ -106,7 +98,7 @@ left_none commands records shelves are none no_group =
     ap (λ l. left_of l records shelves) none ∙ ap (flat_map (group_commands (listed records shelves))) (sym (groups_listed records shelves are) ∙ no_group)
 
 -- a group without offsets has no commits
-pub commits_absent : (group : List ℕ) (rows : Option (List KeptOffset)) (commands : List Command) → rows ≡ None → commands ≡ commands ++ commits_of (length (rows_on rows)) group (rows_on rows)
+pub commits_absent : (group : List ℕ) (rows : Option (List KeptRow)) (commands : List Command) → rows ≡ None → commands ≡ commands ++ commits_of (length (rows_on rows)) group (rows_on rows)
 unfolding commits_of
 commits_absent group rows commands is = sym (ap (λ r. commands ++ commits_of (length (rows_on r)) group (rows_on r)) is ∙ append-nil commands)
 

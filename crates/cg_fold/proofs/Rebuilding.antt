@@ -1,7 +1,7 @@
 -- The commands of a snapshot build the state that it was taken of.
 use Rattle.std.proofs.Common.{◌≡◌, ℕ, zero, suc, ◌≤◌, Bool, true, false, cond, List, [], ◌∷◌, ◌++◌, length, map as each, take, drop, Option, Some, None, ap, sym, ◌∙◌, refl, arith}
 use Rattle.std.proofs.Math.Dec.{T}
-use Rattle.std.specs.Prelude.{◌||◌, flat_map, bytes_eq, is_some}
+use Rattle.std.specs.Prelude.{◌||◌, filter, flat_map, bytes_eq, is_some}
 use Rattle.std.specs.List.{fold, list_any}
 use Rattle.std.specs.Ordering.{eq_by_cmp, is_eq, is_lt}
 use Rattle.std.specs.declared.cmp.Ordering.{Ordering}
@@ -9,22 +9,20 @@ use Rattle.std.specs.declared.cmp.Ordering.TheVariants.{Less, Equal, Greater}
 use Rattle.std.specs.FinMap as map
 use Rattle.std.specs.FinMap.{find, is_sorted}
 use Rattle.std.specs.FinMap.Entries.{is_sorted-where_key, find-where_key}
-use Rattle.std.proofs.lemmas.List.{take-append-drop, length-drop}
+use Rattle.std.proofs.lemmas.List.{map-append, take-append-drop, length-drop}
 use Rattle.std.proofs.lemmas.List.Concat.{flat_map-cons}
 use Rattle.std.proofs.lemmas.List.Folds.{list_any-append}
 use Rattle.std.proofs.lemmas.Slice.Eq.{bytes_eq-Decides}
 use Rattle.cg_record.specs.declared.entries.TheConstants.{ENTRIES_MAX}
 use Rattle.cg_record.specs.Rosters.{RosterParts}
-use Rattle.cg_fold.specs.declared.key.OffsetKey.{OffsetKey}
 use Rattle.cg_fold.specs.declared.key.StoredOffset.{StoredOffset}
 use Rattle.cg_fold.specs.declared.record.GroupRecord.{GroupRecord}
-use Rattle.cg_fold.specs.Key.{KeptOffset, key_cmp, name_cmp}
+use Rattle.cg_fold.specs.Key.{KeptOffset, KeptRow, OffsetKey, kept_in, key_cmp, name_cmp}
 use Rattle.cg_fold.specs.Durable.{State, after, effect, empty, folded, with_entry, with_record}
 use Rattle.cg_fold.specs.Snapshot.{groups_in, in_order, record_command, record_commands, entry_of, commits_of, is_of_group, offsets_of, group_commands, snapshot_of}
-use Rattle.cg_fold.specs.Shelf.{AreOf}
-use Rattle.cg_fold.proofs.Own.{AreOf-take, AreOf-drop, filter_are_of}
 use Rattle.cg_fold.proofs.KeyOrder.{key_total, key_same, name_total, name_same}
 use Rattle.cg_fold.proofs.Place.{below_all, both}
+use Rattle.cg_fold.proofs.Stock.{kept-filter, kept_all}
 use Rattle.cg_fold.proofs.Names.{any_in_order, any_tie, equal, or_true, tie_is_same}
 
 -- ---- lists of commands
@@ -58,31 +56,32 @@ after_record state group (Some held) = made_record state group held.generation h
 
 -- ---- the offsets of a group
 
-abbrev with_row : map.FinMap key_cmp StoredOffset → KeptOffset → map.FinMap key_cmp StoredOffset
-with_row offsets row = map.insert offsets row.0 row.1
+abbrev with_kept : map.FinMap key_cmp StoredOffset → KeptOffset → map.FinMap key_cmp StoredOffset
+with_kept offsets kept = map.insert offsets kept.0 kept.1
 
-entries_as_rows : (group : List ℕ) (rows : List KeptOffset) (offsets : map.FinMap key_cmp StoredOffset) → AreOf group rows → fold (with_entry group) offsets (each entry_of rows) ≡ fold with_row offsets rows
-entries_as_rows group [] offsets are = refl
-entries_as_rows group (row ∷ rows) offsets are =
-    let same : with_entry group offsets (entry_of row) ≡ with_row offsets row = ap (λ g. map.insert offsets (record { group = g; topic = row.0.topic; partition = row.0.partition }) row.1) (sym are.0) in
-    ap (λ m. fold (with_entry group) m (each entry_of rows)) same ∙ entries_as_rows group rows (with_row offsets row) are.1
+entries_as_rows : (group : List ℕ) (rows : List KeptRow) (offsets : map.FinMap key_cmp StoredOffset) → fold (with_entry group) offsets (each entry_of rows) ≡ fold with_kept offsets (kept_all group rows)
+entries_as_rows group [] offsets = refl
+entries_as_rows group (row ∷ rows) offsets = entries_as_rows group rows (with_entry group offsets (entry_of row))
 
-abbrev with_rows : State → List KeptOffset → State
-with_rows state rows = record state { offsets = fold with_row state.offsets rows }
+-- the state with these offsets of a group
+abbrev with_rows : State → List ℕ → List KeptRow → State
+with_rows state group rows = record state { offsets = fold with_kept state.offsets (kept_all group rows) }
 
-after_commits : (most : ℕ) (group : List ℕ) (rows : List KeptOffset) (state : State) → length rows ≤ most → AreOf group rows → after state (commits_of most group rows) ≡ with_rows state rows
+after_commits : (most : ℕ) (group : List ℕ) (rows : List KeptRow) (state : State) → length rows ≤ most → after state (commits_of most group rows) ≡ with_rows state group rows
 unfolding commits_of effect
-after_commits zero group [] state le are = refl
-after_commits zero group (row ∷ rows) state le are = absurd (omega arith)
-after_commits (suc most) group [] state le are = refl
-after_commits (suc most) group (row ∷ rows) state le are =
-    let shorter : length (drop ENTRIES_MAX (row ∷ rows)) ≤ most = omega (arith, length-drop ENTRIES_MAX (row ∷ rows)) in
-    let first : record state { offsets = fold (with_entry group) state.offsets (each entry_of (take ENTRIES_MAX (row ∷ rows))) } ≡ with_rows state (take ENTRIES_MAX (row ∷ rows)) =
-    ap (λ m. record state { offsets = m }) (entries_as_rows group (take ENTRIES_MAX (row ∷ rows)) state.offsets (AreOf-take group ENTRIES_MAX (row ∷ rows) are)) in
-    let others = after_commits most group (drop ENTRIES_MAX (row ∷ rows)) (with_rows state (take ENTRIES_MAX (row ∷ rows))) shorter (AreOf-drop group ENTRIES_MAX (row ∷ rows) are) in
-    let joined : fold with_row (fold with_row state.offsets (take ENTRIES_MAX (row ∷ rows))) (drop ENTRIES_MAX (row ∷ rows)) ≡ fold with_row state.offsets (row ∷ rows) =
-    sym (fold-append with_row state.offsets (take ENTRIES_MAX (row ∷ rows)) (drop ENTRIES_MAX (row ∷ rows))) ∙ ap (fold with_row state.offsets) (take-append-drop ENTRIES_MAX (row ∷ rows)) in
-    ap (λ s. after s (commits_of most group (drop ENTRIES_MAX (row ∷ rows)))) first ∙ others ∙ ap (λ m. record state { offsets = m }) joined
+after_commits zero group [] state le = refl
+after_commits zero group (row ∷ rows) state le = absurd (omega arith)
+after_commits (suc most) group [] state le = refl
+after_commits (suc most) group (row ∷ rows) state le =
+    let first = take ENTRIES_MAX (row ∷ rows) in
+    let others = drop ENTRIES_MAX (row ∷ rows) in
+    let shorter : length others ≤ most = omega (arith, length-drop ENTRIES_MAX (row ∷ rows)) in
+    let one : record state { offsets = fold (with_entry group) state.offsets (each entry_of first) } ≡ with_rows state group first =
+    ap (λ m. record state { offsets = m }) (entries_as_rows group first state.offsets) in
+    let joined : fold with_kept (fold with_kept state.offsets (kept_all group first)) (kept_all group others) ≡ fold with_kept state.offsets (kept_all group (row ∷ rows)) =
+    sym (fold-append with_kept state.offsets (kept_all group first) (kept_all group others))
+    ∙ ap (fold with_kept state.offsets) (sym (map-append (kept_in group) first others) ∙ ap (kept_all group) (take-append-drop ENTRIES_MAX (row ∷ rows))) in
+    ap (λ s. after s (commits_of most group others)) one ∙ after_commits most group others (with_rows state group first) shorter ∙ ap (λ m. record state { offsets = m }) joined
 
 -- ---- look-ups
 
@@ -100,11 +99,11 @@ none_above {K} {X} R x (e ∷ es) all =
     step Equal before rest = absurd before
     step Greater before rest = absurd before
 
-get-with_rows : (rows : List KeptOffset) (m : map.FinMap key_cmp StoredOffset) (k : OffsetKey) → T (is_sorted key_cmp rows) → map.get (fold with_row m rows) k ≡ or_else (find key_cmp k rows) (map.get m k)
-get-with_rows [] m k sorted = refl
-get-with_rows (row ∷ rows) m k sorted =
+get-with_kept : (rows : List KeptOffset) (m : map.FinMap key_cmp StoredOffset) (k : OffsetKey) → T (is_sorted key_cmp rows) → map.get (fold with_kept m rows) k ≡ or_else (find key_cmp k rows) (map.get m k)
+get-with_kept [] m k sorted = refl
+get-with_kept (row ∷ rows) m k sorted =
     let parts = both (below_all key_cmp row.0 rows) (is_sorted key_cmp rows) sorted in
-    get-with_rows rows (with_row m row) k parts.1 ∙ ap (or_else (find key_cmp k rows)) (map.get-insert key_total m row.0 row.1 k)
+    get-with_kept rows (with_kept m row) k parts.1 ∙ ap (or_else (find key_cmp k rows)) (map.get-insert key_total m row.0 row.1 k)
     ∙ step (eq_by_cmp key_cmp k row.0) refl parts.0
   where
     step : (b : Bool) → eq_by_cmp key_cmp k row.0 ≡ b → T (below_all key_cmp row.0 rows) → or_else (find key_cmp k rows) (cond b (Some row.1) (map.get m k)) ≡ or_else (cond b (Some row.1) (find key_cmp k rows)) (map.get m k)
@@ -124,12 +123,12 @@ record Holds (whole now : State) (done : List ℕ → Bool) : Type 0 where
 abbrev and_this : List ℕ → (List ℕ → Bool) → List ℕ → Bool
 and_this group done q = bytes_eq q group || done q
 
-after_group : (whole now : State) (group : List ℕ) → after now (group_commands whole group) ≡ with_rows (then_record now group (map.get whole.records group)) (offsets_of whole group)
+after_group : (whole now : State) (group : List ℕ) → after now (group_commands whole group) ≡ with_rows (then_record now group (map.get whole.records group)) group (offsets_of whole group)
 unfolding group_commands
 after_group whole now group =
     fold-append effect now (record_commands group (map.get whole.records group)) (commits_of (length (offsets_of whole group)) group (offsets_of whole group))
     ∙ ap (λ s. after s (commits_of (length (offsets_of whole group)) group (offsets_of whole group))) (after_record now group (map.get whole.records group))
-    ∙ after_commits (length (offsets_of whole group)) group (offsets_of whole group) (then_record now group (map.get whole.records group)) (omega arith) (filter_are_of group (map.entries whole.offsets))
+    ∙ after_commits (length (offsets_of whole group)) group (offsets_of whole group) (then_record now group (map.get whole.records group)) (omega arith)
 
 records_then : (whole now : State) (group : List ℕ) (done : List ℕ → Bool) (held : Option GroupRecord) (q : List ℕ) → map.get whole.records group ≡ held
     → map.get now.records q ≡ cond (done q) (map.get whole.records q) None → map.get (then_record now group held).records q ≡ cond (bytes_eq q group || done q) (map.get whole.records q) None
@@ -160,12 +159,14 @@ holds_on : (whole now : State) (group : List ℕ) (done : List ℕ → Bool) →
 holds_on whole now group done holds = record {
   records = λ q. ap (λ (s : State). map.get s.records q) (after_group whole now group) ∙ records_then whole now group done (map.get whole.records group) q refl (holds.records q);
   offsets = λ k.
-      let found : find key_cmp k (offsets_of whole group) ≡ cond (is_of_group group k) (map.get whole.offsets k) None =
+      let own = filter (λ kept. is_of_group group kept.0) (map.entries whole.offsets) in
+      let found : find key_cmp k own ≡ cond (is_of_group group k) (map.get whole.offsets k) None =
       find-where_key key_cmp (is_of_group group) k (λ x tie. ap (is_of_group group) (sym (key_same k x tie))) (map.entries whole.offsets)
       ∙ ap (λ o. cond (is_of_group group k) o None) (sym (map.get-entries whole.offsets k)) in
       ap (λ (s : State). map.get s.offsets k) (after_group whole now group)
-      ∙ get-with_rows (offsets_of whole group) (then_record now group (map.get whole.records group)).offsets k (is_sorted-where_key key_cmp (is_of_group group) (map.entries whole.offsets) (map.entries_sorted whole.offsets))
-      ∙ ap (λ m. or_else (find key_cmp k (offsets_of whole group)) (map.get m k)) (offsets_unmoved now group (map.get whole.records group))
+      ∙ ap (λ l. map.get (fold with_kept (then_record now group (map.get whole.records group)).offsets l) k) (kept-filter group (map.entries whole.offsets))
+      ∙ get-with_kept own (then_record now group (map.get whole.records group)).offsets k (is_sorted-where_key key_cmp (is_of_group group) (map.entries whole.offsets) (map.entries_sorted whole.offsets))
+      ∙ ap (λ m. or_else (find key_cmp k own) (map.get m k)) (offsets_unmoved now group (map.get whole.records group))
       ∙ ap (λ o. or_else o (map.get now.offsets k)) found
       ∙ ap (or_else (cond (is_of_group group k) (map.get whole.offsets k) None)) (holds.offsets k)
       ∙ offsets_then (is_of_group group k) (done k.group) (map.get whole.offsets k);

@@ -7,10 +7,9 @@ use Rattle.cg_record.specs.declared.command.Command.{Command}
 use Rattle.cg_record.specs.declared.command.Command.TheVariants.{Assigned, Emptied, Replaced, Committed, Deleted}
 use Rattle.cg_record.specs.declared.entry.Entry.{Entry}
 use Rattle.cg_record.specs.declared.member.Member.{Member}
-use Rattle.cg_fold.specs.declared.key.OffsetKey.{OffsetKey}
 use Rattle.cg_fold.specs.declared.key.StoredOffset.{StoredOffset}
 use Rattle.cg_fold.specs.declared.record.GroupRecord.{GroupRecord}
-use Rattle.cg_fold.specs.Key.{key_cmp, name_cmp, kept_of, offsets_code}
+use Rattle.cg_fold.specs.Key.{OffsetKey, key_cmp, name_cmp, kept_of, offsets_code}
 use Rattle.cg_fold.specs.Record.{assigned_record, emptied_record, replaced_record, record_code}
 use Rattle.cg_fold.specs.Grouped.{is_another}
 

@@ -1,4 +1,4 @@
--- The order of committed offsets.
+-- Committed offsets and their order.
 use Rattle.std.specs.Prelude.{◌≡◌, ℕ, ◌<◌, Bool, List, length, map as each, slice_index_or, refl}
 use Rattle.std.specs.declared.cmp.Ordering.{Ordering}
 use Rattle.std.specs.declared.cmp.Ordering.TheVariants.{Equal}
@@ -7,14 +7,21 @@ use Rattle.std.specs.Cmp.Lexicographic.{slice_cmp}
 use Rattle.std.specs.Coded.{Coded, code_by, coded×, coded_list, coded_ℕ}
 use Rattle.std.specs.FinMap as map
 use Rattle.std.specs.FinMap.{put}
-use Rattle.cg_record.specs.declared.committed.Committed.{Committed}
 use Rattle.cg_record.specs.declared.entry.Entry.{Entry}
-use Rattle.cg_fold.specs.declared.key.OffsetKey.{OffsetKey}
 use Rattle.cg_fold.specs.declared.key.StoredOffset.{StoredOffset}
+use Rattle.cg_fold.specs.declared.key.TopicPartition.{TopicPartition}
 
 -- the order of names: by bytes
 abbrev pub name_cmp : List ℕ → List ℕ → Ordering
 name_cmp = slice_cmp nat_cmp
+
+-- ---- the offsets of all groups
+
+-- the key of a committed offset: one partition of one topic, for one group
+pub record OffsetKey : Type 0 where
+  pub group : List ℕ
+  pub topic : List ℕ
+  pub partition : ℕ
 
 abbrev pub key_of : List ℕ → List ℕ → ℕ → OffsetKey
 key_of group topic partition = record { group = group; topic = topic; partition = partition }
@@ -27,33 +34,63 @@ key_cmp = then_cmp (on (λ k. k.group) name_cmp) (then_cmp (on (λ k. k.topic) n
 abbrev pub KeptOffset : Type 0
 KeptOffset = OffsetKey × StoredOffset
 
--- the row comes before the key
-abbrev pub is_below : OffsetKey → KeptOffset → Bool
-is_below key row = is_lt (key_cmp row.0 key)
+-- ---- the offsets of one group
 
--- the offset at this index has the key
-abbrev pub IsOwn : List KeptOffset → ℕ → OffsetKey → Type 0
-IsOwn kept at key = (at < length kept) × ((d : KeptOffset) → key_cmp (slice_index_or kept at d).0 key ≡ Equal)
+abbrev pub partition_at : List ℕ → ℕ → TopicPartition
+partition_at topic partition = record { topic = topic; partition = partition }
 
--- no offset at this index has the key
-abbrev pub IsOther : List KeptOffset → ℕ → OffsetKey → Type 0
-IsOther kept at key = (d : KeptOffset) → at < length kept → key_cmp (slice_index_or kept at d).0 key ≡ Equal → ⊥
+-- the order of partitions: by topic, then by number
+abbrev pub partition_cmp : TopicPartition → TopicPartition → Ordering
+partition_cmp = then_cmp (on (λ p. p.topic) name_cmp) (on (λ p. p.partition) nat_cmp)
+
+-- an offset with its partition
+abbrev pub KeptRow : Type 0
+KeptRow = TopicPartition × StoredOffset
+
+-- the row as an offset of this group
+abbrev pub kept_in : List ℕ → KeptRow → KeptOffset
+kept_in group row = (key_of group row.0.topic row.0.partition, row.1)
+
+-- the offset without its group
+abbrev pub row_in : KeptOffset → KeptRow
+row_in kept = (partition_at kept.0.topic kept.0.partition, kept.1)
+
+-- the row comes before the partition
+abbrev pub is_below : TopicPartition → KeptRow → Bool
+is_below at row = is_lt (partition_cmp row.0 at)
+
+-- the row at this index has the partition
+abbrev pub IsOwn : List KeptRow → ℕ → TopicPartition → Type 0
+IsOwn rows at own = (at < length rows) × ((d : KeptRow) → partition_cmp (slice_index_or rows at d).0 own ≡ Equal)
+
+-- no row at this index has the partition
+abbrev pub IsOther : List KeptRow → ℕ → TopicPartition → Type 0
+IsOther rows at own = (d : KeptRow) → at < length rows → partition_cmp (slice_index_or rows at d).0 own ≡ Equal → ⊥
+
+-- the partition and the offset of one entry
+abbrev pub row_of : Entry → KeptRow
+row_of entry = (partition_at entry.topic entry.partition, record { offset = entry.offset; metadata = entry.metadata })
+
+-- the partitions and offsets of entries
+abbrev pub rows_of : List Entry → List KeptRow
+rows_of entries = each row_of entries
 
 -- the key and the offset of one entry, for the group that commits it
 abbrev pub kept_of : List ℕ → Entry → KeptOffset
-kept_of group entry = (key_of group entry.topic entry.partition, record { offset = entry.offset; metadata = entry.metadata })
+kept_of group entry = kept_in group (row_of entry)
 
--- the keys and offsets of a commit
-abbrev pub kept_by : Committed → List KeptOffset
-kept_by commit = each (kept_of commit.group) commit.entries
+-- the sorted rows with a new one, in the place of the one with its partition
+abbrev pub put_row : List KeptRow → KeptRow → List KeptRow
+put_row rows new = put partition_cmp new.0 new.1 rows
 
--- the sorted offsets with a new one, in the place of the one with its key
-abbrev pub put_kept : List KeptOffset → KeptOffset → List KeptOffset
-put_kept kept new = put key_cmp new.0 new.1 kept
+-- ---- codes
 
--- a key has the code of its three parts, and a stored offset that of its two
+-- a key, a partition and a stored offset have the codes of their parts
 abbrev pub key_code : Coded OffsetKey
 key_code = code_by (List ℕ × (List ℕ × ℕ)) (coded× (coded_list coded_ℕ) (coded× (coded_list coded_ℕ) coded_ℕ)) (λ k. (k.group, (k.topic, k.partition))) (λ p. record { group = p.0; topic = p.1.0; partition = p.1.1 }) (λ _. refl)
+
+abbrev pub partition_code : Coded TopicPartition
+partition_code = code_by (List ℕ × ℕ) (coded× (coded_list coded_ℕ) coded_ℕ) (λ p. (p.topic, p.partition)) (λ p. record { topic = p.0; partition = p.1 }) (λ _. refl)
 
 abbrev pub stored_code : Coded StoredOffset
 stored_code = code_by (ℕ × List ℕ) (coded× coded_ℕ (coded_list coded_ℕ)) (λ s. (s.offset, s.metadata)) (λ p. record { offset = p.0; metadata = p.1 }) (λ _. refl)

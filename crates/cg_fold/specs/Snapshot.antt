@@ -10,10 +10,9 @@ use Rattle.cg_record.specs.declared.command.Command.TheVariants.{Assigned, Empti
 use Rattle.cg_record.specs.declared.entries.TheConstants.{ENTRIES_MAX}
 use Rattle.cg_record.specs.declared.entry.Entry.{Entry}
 use Rattle.cg_record.specs.Rosters.{RosterParts}
-use Rattle.cg_fold.specs.declared.key.OffsetKey.{OffsetKey}
 use Rattle.cg_fold.specs.declared.record.GroupRecord.{GroupRecord}
 use Rattle.cg_fold.specs.declared.key.StoredOffset.{StoredOffset}
-use Rattle.cg_fold.specs.Key.{KeptOffset, key_cmp, name_cmp}
+use Rattle.cg_fold.specs.Key.{KeptRow, OffsetKey, key_cmp, name_cmp, row_in}
 use Rattle.cg_fold.specs.Record.{KeptRecord}
 use Rattle.cg_fold.specs.Shelf.{KeptShelf, AreShelves, stock}
 use Rattle.cg_fold.specs.Durable.{State}
@@ -79,15 +78,15 @@ record_commands group None = []
 record_commands group (Some held) = record_command group held.generation held.kind held.roster ∷ []
 
 -- the entry of a commit that sets an offset
-abbrev pub entry_of : KeptOffset → Entry
-entry_of kept = record { topic = kept.0.topic; partition = kept.0.partition; offset = kept.1.offset; metadata = kept.1.metadata }
+abbrev pub entry_of : KeptRow → Entry
+entry_of row = record { topic = row.0.topic; partition = row.0.partition; offset = row.1.offset; metadata = row.1.metadata }
 
 -- the commit that sets these offsets
-abbrev pub commit_command : List ℕ → List KeptOffset → Command
+abbrev pub commit_command : List ℕ → List KeptRow → Command
 commit_command group rows = Committed (record { group = group; entries = each entry_of rows })
 
 -- the commits of these offsets, `ENTRIES_MAX` entries each; there are at most `most` offsets
-unfoldable pub commits_of : ℕ → List ℕ → List KeptOffset → List Command
+unfoldable pub commits_of : ℕ → List ℕ → List KeptRow → List Command
 commits_of zero group rows = []
 commits_of (suc most) group [] = []
 commits_of (suc most) group (row ∷ rows) =
@@ -98,10 +97,10 @@ abbrev pub is_of_group : List ℕ → OffsetKey → Bool
 is_of_group group key = bytes_eq key.group group
 
 -- the offsets of a group, by topic and partition
-abbrev pub offsets_in : map.FinMap key_cmp StoredOffset → List ℕ → List KeptOffset
-offsets_in offsets group = filter (λ row. is_of_group group row.0) (map.entries offsets)
+abbrev pub offsets_in : map.FinMap key_cmp StoredOffset → List ℕ → List KeptRow
+offsets_in offsets group = each row_in (filter (λ kept. is_of_group group kept.0) (map.entries offsets))
 
-abbrev pub offsets_of : State → List ℕ → List KeptOffset
+abbrev pub offsets_of : State → List ℕ → List KeptRow
 offsets_of state group = offsets_in state.offsets group
 
 -- the commands that build one group: its record, and then its offsets

@@ -1,37 +1,33 @@
-//! The key and the value of a committed offset.
+//! A partition of a topic, and its committed offset.
 ghost use Rattle.std.specs.Prelude.{◌≡◌};
 
-use cg_names::{GroupId, Topic};
+use cg_names::Topic;
 use cg_record::{Metadata, Offset, Partition};
 use std::cmp::Ordering;
 
-/// The key of a committed offset: one partition of one topic, for one group.
+/// A partition of a topic: the key of a committed offset among those of a group.
 #[derive(Debug, Drop)]
-pub struct OffsetKey {
-    pub group: GroupId,
+pub struct TopicPartition {
     pub topic: Topic,
     pub partition: Partition,
 }
 
-/// The value of a committed offset, with its metadata.
+/// A committed offset, with its metadata.
 #[derive(Debug, Drop)]
 pub struct StoredOffset {
     pub offset: Offset,
     pub metadata: Metadata,
 }
 
-impl OffsetKey {
-    ghost use Rattle.cg_fold.specs.Key.{key_cmp, key_of};
+impl TopicPartition {
+    ghost use Rattle.cg_fold.specs.Key.{partition_at, partition_cmp};
 
-    /// Compares this key with another one, given by its parts: by group, then by topic, then by partition.
-    pub(crate) fn compare(&self, group: &GroupId, topic: &Topic, partition: Partition) -> Ordering
-        ensures { result ≡ key_cmp self.now (key_of group.now topic.now partition) }
+    /// Compares this partition with another one: by topic, then by number.
+    pub(crate) fn compare(&self, topic: &Topic, partition: Partition) -> Ordering
+        ensures { result ≡ partition_cmp self.now (partition_at topic.now partition) }
     {
-        match self.group.cmp(group) {
-            Ordering::Equal => match self.topic.cmp(topic) {
-                Ordering::Equal => self.partition.get().cmp(&partition.get()),
-                unequal => unequal,
-            },
+        match self.topic.cmp(topic) {
+            Ordering::Equal => self.partition.get().cmp(&partition.get()),
             unequal => unequal,
         }
     }

@@ -22,7 +22,7 @@ mod taking;
 mod tests;
 
 pub use durable::Durable;
-pub use key::{OffsetKey, StoredOffset};
+pub use key::StoredOffset;
 pub use law::snapshots_make_the_state_anew;
 pub use offsets::Offsets;
 pub use record::GroupRecord;

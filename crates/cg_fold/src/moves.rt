@@ -1,119 +1,102 @@
 //! Offsets of a commit that its caller gives away: the topics and metadata are moved into the rows. For partitions that
 //! have an offset already nothing is copied, and nothing is allocated.
-ghost use Rattle.std.specs.Prelude.{◌≡◌, IsTrue, true, length, map, IfOk};
+ghost use Rattle.std.specs.Prelude.{◌≡◌, IsTrue, true, length, IfOk};
 ghost use Rattle.std.specs.List.{fold, list_all, prefix_len};
 ghost use Rattle.std.specs.FinMap.{is_sorted};
-ghost use Rattle.cg_fold.specs.Key.{IsOwn, is_below, key_cmp, kept_of, put_kept};
+ghost use Rattle.cg_fold.specs.Key.{IsOwn, is_below, partition_cmp, put_row, row_of, rows_of};
 ghost use Rattle.cg_fold.specs.Renewed.{has_row};
 
-use crate::key::{OffsetKey, StoredOffset};
+use crate::key::{StoredOffset, TopicPartition};
 use crate::renewals::{Renewal, renew_in};
 use crate::rows::{Row, is_at, place, stored_at};
-use cg_names::GroupId;
 use cg_record::{Entry, Metadata};
 use std::alloc::{AllocError, Global};
 use std::collections::VecDeque;
 
-// Builds the row of an entry. Copies only the group id.
-fn row_from(group: &GroupId, entry: Entry) -> Result<Row, AllocError>
-    ensures { IfOk result (λ row. row ≡ kept_of group.now entry) }
+fn row_from(entry: Entry) -> Row
+    ensures { result ≡ row_of entry }
 {
-    let group = group.clone()?;
     let Entry {
         topic,
         partition,
         offset,
         metadata,
     } = entry;
-    let key = OffsetKey {
-        group,
-        topic,
-        partition,
-    };
-    let stored = StoredOffset { offset, metadata };
-    Ok((key, stored))
+    (
+        TopicPartition { topic, partition },
+        StoredOffset { offset, metadata },
+    )
 }
 
-/// Builds the rows of these entries, in order. Copies only the group id, once for each.
-pub fn rows_from(
-    alloc: Global,
-    group: &GroupId,
-    entries: Vec<Entry>,
-) -> Result<VecDeque<Row>, AllocError>
-    ensures { IfOk result (λ rows. rows.items ≡ map (kept_of group.now) entries.items) }
+/// Builds the rows of these entries, in order, without a copy.
+pub fn rows_from(alloc: Global, entries: Vec<Entry>) -> Result<VecDeque<Row>, AllocError>
+    ensures { IfOk result (λ rows. rows.items ≡ rows_of entries.items) }
 {
     let mut rows = VecDeque::with_capacity(alloc, entries.len())?;
     for entry in entries {
-        rows.push_back(row_from(group, entry)?)?;
+        rows.push_back(row_from(entry))?;
     }
     Ok(rows)
 }
 
 // Returns whether the partition of this entry has a row, which may be the one at `near`.
-fn has_row(rows: &[Row], near: usize, group: &GroupId, entry: &Entry) -> bool
-    requires { IsTrue (is_sorted key_cmp rows.now) }
-    ensures { result ≡ has_row rows.now group.now entry.now }
+fn has_row(rows: &[Row], near: usize, entry: &Entry) -> bool
+    requires { IsTrue (is_sorted partition_cmp rows.now) }
+    ensures { result ≡ has_row rows.now entry.now }
 {
-    is_at(rows, near, group, &entry.topic, entry.partition)
-        || stored_at(rows, group, &entry.topic, entry.partition).is_some()
+    is_at(rows, near, &entry.topic, entry.partition)
+        || stored_at(rows, &entry.topic, entry.partition).is_some()
 }
 
 // Returns whether the partition of each entry has a row. The row of the first may be the one at `near`.
-fn have_rows_near(rows: &[Row], near: usize, group: &GroupId, entries: &[Entry]) -> bool
-    requires { IsTrue (is_sorted key_cmp rows.now) }
-    ensures { result ≡ list_all (has_row rows.now group.now) entries.now }
+fn have_rows_near(rows: &[Row], near: usize, entries: &[Entry]) -> bool
+    requires { IsTrue (is_sorted partition_cmp rows.now) }
+    ensures { result ≡ list_all (has_row rows.now) entries.now }
 {
     match entries {
         [] => true,
         [first, rest @ ..] => {
-            has_row(rows, near, group, first)
-                && have_rows_near(rows, near.wrapping_add(1), group, rest)
+            has_row(rows, near, first) && have_rows_near(rows, near.wrapping_add(1), rest)
         }
     }
 }
 
 /// Returns whether the partition of each entry has a row. No allocation. Entries whose rows follow one another from the
 /// first row on cost one comparison each, the others a look-up.
-pub fn have_rows(rows: &[Row], group: &GroupId, entries: &[Entry]) -> bool
-    requires { IsTrue (is_sorted key_cmp rows.now) }
-    ensures { result ≡ list_all (has_row rows.now group.now) entries.now }
+pub fn have_rows(rows: &[Row], entries: &[Entry]) -> bool
+    requires { IsTrue (is_sorted partition_cmp rows.now) }
+    ensures { result ≡ list_all (has_row rows.now) entries.now }
 {
-    have_rows_near(rows, 0, group, entries)
+    have_rows_near(rows, 0, entries)
 }
 
 // Returns the index of the row of an entry's partition, which has one: it may be the one at `near`.
-fn own_place(rows: &[Row], near: usize, group: &GroupId, entry: &Entry) -> usize
-    requires sorted { IsTrue (is_sorted key_cmp rows.now) }
-    requires has { has_row rows.now group.now entry.now ≡ true }
-    ensures value { result ≡ prefix_len (is_below (kept_of group.now entry.now).0) rows.now }
-    ensures own { IsOwn rows.now result (kept_of group.now entry.now).0 }
+fn own_place(rows: &[Row], near: usize, entry: &Entry) -> usize
+    requires sorted { IsTrue (is_sorted partition_cmp rows.now) }
+    requires has { has_row rows.now entry.now ≡ true }
+    ensures value { result ≡ prefix_len (is_below (row_of entry.now).0) rows.now }
+    ensures own { IsOwn rows.now result (row_of entry.now).0 }
 {
-    if is_at(rows, near, group, &entry.topic, entry.partition) {
+    if is_at(rows, near, &entry.topic, entry.partition) {
         return near;
     }
-    let at = place(rows, group, &entry.topic, entry.partition);
-    if !is_at(rows, at, group, &entry.topic, entry.partition) {
+    let at = place(rows, &entry.topic, entry.partition);
+    if !is_at(rows, at, &entry.topic, entry.partition) {
         unreachable!()
     }
     at
 }
 
 // Sets the offset of an entry whose partition has a row, which may be the one at `near`. Returns the index after it.
-fn move_entry(
-    rows: &mut Vec<Row>,
-    room: &mut Vec<Metadata>,
-    near: usize,
-    group: &GroupId,
-    entry: Entry,
-) -> usize
-    requires sorted { IsTrue (is_sorted key_cmp rows.old.items) }
-    requires has { has_row rows.old.items group.now entry ≡ true }
-    ensures rows { rows.new.items ≡ put_kept rows.old.items (kept_of group.now entry) }
-    ensures sorted { IsTrue (is_sorted key_cmp rows.new.items) }
+fn move_entry(rows: &mut Vec<Row>, room: &mut Vec<Metadata>, near: usize, entry: Entry) -> usize
+    requires sorted { IsTrue (is_sorted partition_cmp rows.old.items) }
+    requires has { has_row rows.old.items entry ≡ true }
+    ensures rows { rows.new.items ≡ put_row rows.old.items (row_of entry) }
+    ensures sorted { IsTrue (is_sorted partition_cmp rows.new.items) }
     ensures len { length rows.new.items ≡ length rows.old.items }
-    ensures keeps { (e : Entry) → has_row rows.new.items group.now e ≡ has_row rows.old.items group.now e }
+    ensures keeps { (e : Entry) → has_row rows.new.items e ≡ has_row rows.old.items e }
 {
-    let at = own_place(rows, near, group, &entry);
+    let at = own_place(rows, near, &entry);
     let stored = StoredOffset {
         offset: entry.offset,
         metadata: entry.metadata,
@@ -124,20 +107,15 @@ fn move_entry(
 
 /// Sets the offsets of these entries, in order. The partition of each has a row. Keeps the metadata that the rows had in
 /// `room`, as far as that has the capacity. No allocation; the costs are those of `have_rows`.
-pub fn move_entries(
-    rows: &mut Vec<Row>,
-    room: &mut Vec<Metadata>,
-    group: &GroupId,
-    entries: Vec<Entry>,
-)
-    requires sorted { IsTrue (is_sorted key_cmp rows.old.items) }
-    requires have { list_all (has_row rows.old.items group.now) entries.items ≡ true }
-    ensures rows { rows.new.items ≡ fold put_kept rows.old.items (map (kept_of group.now) entries.items) }
-    ensures sorted { IsTrue (is_sorted key_cmp rows.new.items) }
+pub fn move_entries(rows: &mut Vec<Row>, room: &mut Vec<Metadata>, entries: Vec<Entry>)
+    requires sorted { IsTrue (is_sorted partition_cmp rows.old.items) }
+    requires have { list_all (has_row rows.old.items) entries.items ≡ true }
+    ensures rows { rows.new.items ≡ fold put_row rows.old.items (rows_of entries.items) }
+    ensures sorted { IsTrue (is_sorted partition_cmp rows.new.items) }
     ensures len { length rows.new.items ≡ length rows.old.items }
 {
     let mut near = 0;
     for entry in entries {
-        near = move_entry(rows, room, near, group, entry);
+        near = move_entry(rows, room, near, entry);
     }
 }

@@ -4,7 +4,7 @@ ghost use Rattle.std.specs.List.{fold};
 ghost use Rattle.std.specs.Option.{option_copied};
 ghost use Rattle.std.specs.FinMap as finmap;
 ghost use Rattle.std.specs.FinMap.{from_sorted, is_sorted};
-ghost use Rattle.cg_fold.specs.Key.{key_cmp, key_of};
+ghost use Rattle.cg_fold.specs.Key.{key_of, partition_cmp};
 ghost use Rattle.cg_fold.specs.Shelf.{AreShelves, stock};
 ghost use Rattle.cg_fold.specs.Snapshot.{offsets_in};
 ghost use Rattle.cg_fold.specs.Durable.{is_of_other, with_entry};
@@ -20,11 +20,11 @@ use std::marker::Model;
 
 /// The committed offsets of all groups. Contracts see the map of `State`.
 ///
-/// The offsets of each group are in a sorted vector of their own, its shelf, and the shelves in an ordered map. A look-up
-/// takes time logarithmic in the number of groups and of the group's offsets, and no allocation. A commit looks up its
-/// group once and each of its partitions once. If the group has an offset for each of these partitions, only the metadata
-/// is copied. Otherwise the entries are copied with the group id and looked up again; a new partition moves the group's
-/// offsets after it, and a new group is looked up once more. The offsets of other groups are never moved.
+/// The offsets of each group are in a sorted vector of their own, its shelf, and the shelves in an ordered map, which has
+/// the id of each group once. A look-up takes time logarithmic in the number of groups and of the group's offsets, and no
+/// allocation. A commit looks up its group once and each of its partitions once. If the group has an offset for each of
+/// these partitions, only the metadata is copied. Otherwise the entries are copied and looked up again; a new partition
+/// moves the group's offsets after it, and a new group is looked up once more. The offsets of other groups are never moved.
 #[derive(Drop)]
 pub struct Offsets {
     alloc: Global,
@@ -63,13 +63,13 @@ impl Offsets {
     pub fn get(&self, group: &GroupId, topic: &Topic, partition: Partition) -> Option<&StoredOffset>
         ensures { option_copied result ≡ finmap.get self.now (key_of group.now topic.now partition) }
     {
-        rows::stored_at(self.of_group(group), group, topic, partition)
+        rows::stored_at(self.of_group(group), topic, partition)
     }
 
     /// Returns the offsets of a group, by topic and partition. Costs one look-up, no allocation.
     pub(crate) fn of_group(&self, group: &GroupId) -> &[Row]
         ensures value { result.now ≡ offsets_in self.now group.now }
-        ensures sorted { IsTrue (is_sorted key_cmp result.now) }
+        ensures sorted { IsTrue (is_sorted partition_cmp result.now) }
     {
         shelves::rows_at(&self.shelves, group)
     }

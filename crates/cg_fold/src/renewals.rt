@@ -1,14 +1,12 @@
-//! New offsets for partitions that have one already: the row is changed in place, so neither the group nor the topic is
-//! copied.
-ghost use Rattle.std.specs.Prelude.{◌≡◌, ◌<◌, IsTrue, false, length, map, IfOk, MatchOption};
+//! New offsets for partitions that have one already: the row is changed in place, so the topic is not copied.
+ghost use Rattle.std.specs.Prelude.{◌≡◌, ◌<◌, IsTrue, false, length, IfOk, MatchOption};
 ghost use Rattle.std.specs.List.{fold, list_all};
 ghost use Rattle.std.specs.FinMap.{find, is_sorted};
-ghost use Rattle.cg_fold.specs.Key.{kept_of, key_cmp};
+ghost use Rattle.cg_fold.specs.Key.{partition_cmp, row_of, rows_of};
 ghost use Rattle.cg_fold.specs.Renewed.{AreBelow, AreRenewals, IsRenewal, has_row, renewed};
 
 use crate::key::StoredOffset;
 use crate::rows::{self, Row};
-use cg_names::GroupId;
 use cg_record::{Entry, Metadata};
 use std::alloc::{AllocError, Global};
 use std::collections::VecDeque;
@@ -21,19 +19,15 @@ pub struct Renewal {
     pub stored: StoredOffset,
 }
 
-/// Returns the new value for the row of this entry's key, if there is such a row. Copies the metadata.
-pub fn renewal_of(
-    rows: &[Row],
-    group: &GroupId,
-    entry: &Entry,
-) -> Result<Option<Renewal>, AllocError>
-    requires { IsTrue (is_sorted key_cmp rows.now) }
+/// Returns the new value for the row of this entry's partition, if there is such a row. Copies the metadata.
+pub fn renewal_of(rows: &[Row], entry: &Entry) -> Result<Option<Renewal>, AllocError>
+    requires { IsTrue (is_sorted partition_cmp rows.now) }
     ensures { IfOk result (λ found. MatchOption found
-        (find key_cmp (kept_of group.now entry.now).0 rows.now ≡ None)
-        (λ renewal. IsRenewal rows.now (kept_of group.now entry.now) renewal)) }
+        (find partition_cmp (row_of entry.now).0 rows.now ≡ None)
+        (λ renewal. IsRenewal rows.now (row_of entry.now) renewal)) }
 {
-    let at = rows::place(rows, group, &entry.topic, entry.partition);
-    if !rows::is_at(rows, at, group, &entry.topic, entry.partition) {
+    let at = rows::place(rows, &entry.topic, entry.partition);
+    if !rows::is_at(rows, at, &entry.topic, entry.partition) {
         return Ok(None);
     }
     let stored = StoredOffset {
@@ -72,17 +66,16 @@ pub fn renew_in(rows: &mut Vec<Row>, room: &mut Vec<Metadata>, renewal: Renewal)
 pub fn renewals_of(
     alloc: Global,
     rows: &[Row],
-    group: &GroupId,
     entries: &[Entry],
 ) -> Result<Option<VecDeque<Renewal>>, AllocError>
-    requires { IsTrue (is_sorted key_cmp rows.now) }
+    requires { IsTrue (is_sorted partition_cmp rows.now) }
     ensures { IfOk result (λ found. MatchOption found
-        (list_all (has_row rows.now group.now) entries.now ≡ false)
-        (λ renewals. AreRenewals rows.now (map (kept_of group.now) entries.now) renewals.items)) }
+        (list_all (has_row rows.now) entries.now ≡ false)
+        (λ renewals. AreRenewals rows.now (rows_of entries.now) renewals.items)) }
 {
     let mut renewals = VecDeque::with_capacity(alloc, entries.len())?;
     for entry in entries {
-        match renewal_of(rows, group, entry)? {
+        match renewal_of(rows, entry)? {
             Some(renewal) => renewals.push_back(renewal)?,
             None => return Ok(None),
         }

@@ -1,25 +1,25 @@
-//! The offsets of a group as rows, sorted by key. A look-up is a binary search, without an allocation.
+//! The offsets of a group as rows, sorted by partition. A look-up is a binary search, without an allocation.
 ghost use Rattle.std.specs.Prelude.{◌≡◌, ◌+◌, ◌<◌, ◌≤◌, IsTrue, length, vec_len, vec_capacity, [], IfOk, OnErr, OnOk};
 ghost use Rattle.std.specs.List.{fold, prefix_len};
 ghost use Rattle.std.specs.FinMap.{find, is_sorted, put};
 ghost use Rattle.std.specs.Bool.{OnTrue, OnFalse};
 ghost use Rattle.std.specs.Option.{option_copied};
 ghost use Rattle.std.specs.VecDeque.{deque_len};
-ghost use Rattle.cg_fold.specs.Key.{IsOther, IsOwn, kept_by, kept_of, is_below, key_cmp, key_of, put_kept};
+ghost use Rattle.cg_fold.specs.Key.{IsOther, IsOwn, is_below, partition_at, partition_cmp, put_row, row_of, rows_of};
 
-use crate::key::{OffsetKey, StoredOffset};
+use crate::key::{StoredOffset, TopicPartition};
 use crate::{moves, renewals};
-use cg_names::{GroupId, Topic};
-use cg_record::{Committed, Entry, Metadata, Partition};
+use cg_names::Topic;
+use cg_record::{Entries, Entry, Metadata, Partition};
 use std::alloc::{AllocError, Global};
 use std::cmp::Ordering;
 use std::collections::VecDeque;
 use std::marker::Model;
 
-/// A committed offset with its key.
-pub type Row = (OffsetKey, StoredOffset);
+/// A partition with its committed offset.
+pub type Row = (TopicPartition, StoredOffset);
 
-/// Rows sorted by key. Contracts see a list.
+/// Rows sorted by topic and partition. Contracts see a list.
 #[derive(Drop)]
 pub struct Rows {
     rows: Vec<Row>,
@@ -28,16 +28,16 @@ pub struct Rows {
 impl Model for Rows {
     ghost use Rattle.std.specs.Prelude.{List, IsTrue};
     ghost use Rattle.std.specs.FinMap.{is_sorted};
-    ghost use Rattle.cg_fold.specs.Key.{KeptOffset, key_cmp};
+    ghost use Rattle.cg_fold.specs.Key.{KeptRow, partition_cmp};
     ghost use Rattle.cg_fold.specs.Shelf.{rows_code};
 
-    ghost Value = { List KeptOffset };
+    ghost Value = { List KeptRow };
 
     ghost coded = { rows_code };
 
     ghost view = { λ r. r.rows.items };
 
-    ghost invariant = { λ r. IsTrue (is_sorted key_cmp r.rows.items) };
+    ghost invariant = { λ r. IsTrue (is_sorted partition_cmp r.rows.items) };
 }
 
 impl Rows {
@@ -50,10 +50,10 @@ impl Rows {
         }
     }
 
-    /// Returns the rows in the order of their keys.
+    /// Returns the rows in the order of their partitions.
     pub fn as_slice(&self) -> &[Row]
         ensures value { result.now ≡ self.now }
-        ensures sorted { IsTrue (is_sorted key_cmp self.now) }
+        ensures sorted { IsTrue (is_sorted partition_cmp self.now) }
     {
         self.rows.as_slice()
     }
@@ -61,84 +61,82 @@ impl Rows {
     /// Returns the rows as a vector, without a copy.
     pub fn into_vec(self) -> Vec<Row>
         ensures value { result.items ≡ self }
-        ensures sorted { IsTrue (is_sorted key_cmp self) }
+        ensures sorted { IsTrue (is_sorted partition_cmp self) }
     {
         let Rows { rows } = self;
         rows
     }
 
-    /// Sets the offsets of a commit, in order. Returns the number of new rows. If an allocation fails, nothing changes.
-    pub fn put_commit(&mut self, alloc: Global, commit: &Committed) -> Result<u64, AllocError>
-        ensures ok { OnOk result (self.new ≡ fold put_kept self.old (kept_by commit.now)) }
+    /// Sets the offsets of these entries, in order. Returns the number of new rows. If an allocation fails, nothing changes.
+    pub fn put_commit(&mut self, alloc: Global, entries: &Entries) -> Result<u64, AllocError>
+        ensures ok { OnOk result (self.new ≡ fold put_row self.old (rows_of entries.now)) }
         ensures grown { IfOk result (λ grown. length self.new ≡ length self.old + grown) }
         ensures err { OnErr result (self.new ≡ self.old) }
     {
-        match commit.entries.as_slice() {
+        match entries.as_slice() {
             [entry] => {
-                let grown = self.put_entry(&commit.group, entry)?;
+                let grown = self.put_entry(entry)?;
                 Ok(grown)
             }
-            _ => {
-                let grown = self.put_entries(alloc, commit)?;
+            entries => {
+                let grown = self.put_entries(alloc, entries)?;
                 Ok(grown)
             }
         }
     }
 
-    /// Sets the offsets of a commit, in order, and moves its topics and metadata. Keeps the metadata of replaced offsets in
+    /// Sets the offsets of these entries, in order, and moves their topics and metadata. Keeps the metadata of replaced offsets in
     /// `room`, as far as that has the capacity. Returns the number of new rows. If an allocation fails, nothing changes.
     pub fn take_commit(
         &mut self,
         alloc: Global,
         room: &mut Vec<Metadata>,
-        commit: Committed,
+        entries: Entries,
     ) -> Result<u64, AllocError>
-        ensures ok { OnOk result (self.new ≡ fold put_kept self.old (kept_by commit)) }
+        ensures ok { OnOk result (self.new ≡ fold put_row self.old (rows_of entries)) }
         ensures grown { IfOk result (λ grown. length self.new ≡ length self.old + grown) }
         ensures err { OnErr result (self.new ≡ self.old) }
     {
-        let Committed { group, entries } = commit;
         let entries = entries.into_vec();
-        if !moves::have_rows(&self.rows, &group, &entries) {
-            let grown = self.put_all(moves::rows_from(alloc, &group, entries)?)?;
+        if !moves::have_rows(&self.rows, &entries) {
+            let grown = self.put_all(moves::rows_from(alloc, entries)?)?;
             return Ok(grown);
         }
-        moves::move_entries(&mut self.rows, room, &group, entries);
+        moves::move_entries(&mut self.rows, room, entries);
         Ok(0)
     }
 
     // Sets the offsets of several entries, in place if all of them have a row. Returns the number of new rows.
-    fn put_entries(&mut self, alloc: Global, commit: &Committed) -> Result<u64, AllocError>
-        ensures ok { OnOk result (self.new ≡ fold put_kept self.old (kept_by commit.now)) }
+    fn put_entries(&mut self, alloc: Global, entries: &[Entry]) -> Result<u64, AllocError>
+        ensures ok { OnOk result (self.new ≡ fold put_row self.old (rows_of entries.now)) }
         ensures grown { IfOk result (λ grown. length self.new ≡ length self.old + grown) }
         ensures err { OnErr result (self.new ≡ self.old) }
     {
-        let entries = commit.entries.as_slice();
-        match renewals::renewals_of(alloc, &self.rows, &commit.group, entries)? {
+        match renewals::renewals_of(alloc, &self.rows, entries)? {
             Some(renewals) => {
                 renewals::renew_all(&mut self.rows, renewals);
                 Ok(0)
             }
             None => {
-                let grown = self.put_all(rows_of(alloc, commit)?)?;
+                let grown = self.put_all(rows_of(alloc, entries)?)?;
                 Ok(grown)
             }
         }
     }
 
     // Sets the offset of one entry, in place if it has a row. Returns the number of new rows.
-    fn put_entry(&mut self, group: &GroupId, entry: &Entry) -> Result<u64, AllocError>
-        ensures ok { OnOk result (self.new ≡ put_kept self.old (kept_of group.now entry.now)) }
+    fn put_entry(&mut self, entry: &Entry) -> Result<u64, AllocError>
+        ensures ok { OnOk result (self.new ≡ put_row self.old (row_of entry.now)) }
         ensures grown { IfOk result (λ grown. length self.new ≡ length self.old + grown) }
         ensures err { OnErr result (self.new ≡ self.old) }
     {
-        match renewals::renewal_of(&self.rows, group, entry)? {
+        match renewals::renewal_of(&self.rows, entry)? {
             Some(renewal) => {
                 renewals::renew(&mut self.rows, renewal);
                 Ok(0)
             }
             None => {
-                let row = row_of(group, entry)?;
+                let row = row_of(entry)?;
                 self.rows.reserve(1)?;
                 put_row(&mut self.rows, row);
                 Ok(1)
@@ -149,7 +147,7 @@ impl Rows {
     // Inserts or replaces these rows, in order. Returns the number of new rows. Reserves the room first, so that a
     // failed allocation changes nothing.
     fn put_all(&mut self, waiting: VecDeque<Row>) -> Result<u64, AllocError>
-        ensures ok { OnOk result (self.new ≡ fold put_kept self.old waiting.items) }
+        ensures ok { OnOk result (self.new ≡ fold put_row self.old waiting.items) }
         ensures grown { IfOk result (λ grown. length self.new ≡ length self.old + grown) }
         ensures err { OnErr result (self.new ≡ self.old) }
     {
@@ -160,58 +158,57 @@ impl Rows {
     }
 }
 
-/// Returns the number of rows before a key.
-pub fn place(rows: &[Row], group: &GroupId, topic: &Topic, partition: Partition) -> usize
-    requires { IsTrue (is_sorted key_cmp rows.now) }
-    ensures value { result ≡ prefix_len (is_below (key_of group.now topic.now partition)) rows.now }
+/// Returns the number of rows before a partition.
+pub fn place(rows: &[Row], topic: &Topic, partition: Partition) -> usize
+    requires { IsTrue (is_sorted partition_cmp rows.now) }
+    ensures value { result ≡ prefix_len (is_below (partition_at topic.now partition)) rows.now }
     ensures within { result ≤ length rows.now }
 {
-    rows.partition_point(|row| row.0.compare(group, topic, partition) == Ordering::Less)
+    rows.partition_point(|row| row.0.compare(topic, partition) == Ordering::Less)
 }
 
-/// Returns whether the row at this index has the key.
-pub fn is_at(rows: &[Row], at: usize, group: &GroupId, topic: &Topic, partition: Partition) -> bool
-    ensures own { OnTrue result (IsOwn rows.now at (key_of group.now topic.now partition)) }
-    ensures other { OnFalse result (IsOther rows.now at (key_of group.now topic.now partition)) }
+/// Returns whether the row at this index has the partition.
+pub fn is_at(rows: &[Row], at: usize, topic: &Topic, partition: Partition) -> bool
+    ensures own { OnTrue result (IsOwn rows.now at (partition_at topic.now partition)) }
+    ensures other { OnFalse result (IsOther rows.now at (partition_at topic.now partition)) }
 {
-    at < rows.len() && rows[at].0.compare(group, topic, partition) == Ordering::Equal
+    at < rows.len() && rows[at].0.compare(topic, partition) == Ordering::Equal
 }
 
-// Inserts the row or replaces the one with its key, without an allocation: the caller reserves the room.
+// Inserts the row or replaces the one with its partition, without an allocation: the caller reserves the room.
 fn put_row(rows: &mut Vec<Row>, row: Row)
-    requires sorted { IsTrue (is_sorted key_cmp rows.old.items) }
+    requires sorted { IsTrue (is_sorted partition_cmp rows.old.items) }
     requires room { vec_len rows.old < vec_capacity rows.old }
-    ensures rows { rows.new.items ≡ put key_cmp row.0 row.1 rows.old.items }
-    ensures sorted { IsTrue (is_sorted key_cmp rows.new.items) }
+    ensures rows { rows.new.items ≡ put partition_cmp row.0 row.1 rows.old.items }
+    ensures sorted { IsTrue (is_sorted partition_cmp rows.new.items) }
     ensures len { vec_len rows.new ≤ vec_len rows.old + 1 }
     ensures capacity { vec_capacity rows.new ≡ vec_capacity rows.old }
 {
-    let (key, stored) = row;
-    let at = place(rows, &key.group, &key.topic, key.partition);
-    if is_at(rows, at, &key.group, &key.topic, key.partition) {
+    let (own, stored) = row;
+    let at = place(rows, &own.topic, own.partition);
+    if is_at(rows, at, &own.topic, own.partition) {
         rows[at].1 = stored;
     } else {
-        rows.insert(at, (key, stored)).unwrap();
+        rows.insert(at, (own, stored)).unwrap();
     }
 }
 
 // Inserts or replaces these rows, in order, without an allocation: the caller reserves the room.
 fn put_rows(rows: &mut Vec<Row>, mut waiting: VecDeque<Row>)
-    requires sorted { IsTrue (is_sorted key_cmp rows.old.items) }
+    requires sorted { IsTrue (is_sorted partition_cmp rows.old.items) }
     requires room { vec_len rows.old + deque_len waiting ≤ vec_capacity rows.old }
-    ensures rows { rows.new.items ≡ fold put_kept rows.old.items waiting.items }
-    ensures sorted { IsTrue (is_sorted key_cmp rows.new.items) }
+    ensures rows { rows.new.items ≡ fold put_row rows.old.items waiting.items }
+    ensures sorted { IsTrue (is_sorted partition_cmp rows.new.items) }
 {
     while let Some(row) = waiting.pop_front() {
         put_row(rows, row);
     }
 }
 
-fn row_of(group: &GroupId, entry: &Entry) -> Result<Row, AllocError>
-    ensures { IfOk result (λ row. row ≡ kept_of group.now entry.now) }
+fn row_of(entry: &Entry) -> Result<Row, AllocError>
+    ensures { IfOk result (λ row. row ≡ row_of entry.now) }
 {
-    let key = OffsetKey {
-        group: group.clone()?,
+    let own = TopicPartition {
         topic: entry.topic.clone()?,
         partition: entry.partition,
     };
@@ -219,32 +216,31 @@ fn row_of(group: &GroupId, entry: &Entry) -> Result<Row, AllocError>
         offset: entry.offset,
         metadata: entry.metadata.clone()?,
     };
-    Ok((key, stored))
+    Ok((own, stored))
 }
 
-// Copies the entries of a commit into rows.
-fn rows_of(alloc: Global, commit: &Committed) -> Result<VecDeque<Row>, AllocError>
-    ensures { IfOk result (λ rows. rows.items ≡ kept_by commit.now) }
+// Copies entries into rows.
+fn rows_of(alloc: Global, entries: &[Entry]) -> Result<VecDeque<Row>, AllocError>
+    ensures { IfOk result (λ rows. rows.items ≡ rows_of entries.now) }
 {
-    let mut rows = VecDeque::with_capacity(alloc, commit.entries.len())?;
-    for entry in commit.entries.as_slice() {
-        rows.push_back(row_of(&commit.group, entry)?)?;
+    let mut rows = VecDeque::with_capacity(alloc, entries.len())?;
+    for entry in entries {
+        rows.push_back(row_of(entry)?)?;
     }
     Ok(rows)
 }
 
-/// Returns the value at a key, if there is one. Logarithmic in the rows, no allocation.
+/// Returns the offset of a partition, if there is one. Logarithmic in the rows, no allocation.
 pub fn stored_at<'a>(
     rows: &'a [Row],
-    group: &GroupId,
     topic: &Topic,
     partition: Partition,
 ) -> Option<&'a StoredOffset>
-    requires { IsTrue (is_sorted key_cmp rows.now) }
-    ensures { option_copied result ≡ find key_cmp (key_of group.now topic.now partition) rows.now }
+    requires { IsTrue (is_sorted partition_cmp rows.now) }
+    ensures { option_copied result ≡ find partition_cmp (partition_at topic.now partition) rows.now }
 {
-    let at = place(rows, group, topic, partition);
-    if is_at(rows, at, group, topic, partition) {
+    let at = place(rows, topic, partition);
+    if is_at(rows, at, topic, partition) {
         Some(&rows[at].1)
     } else {
         None

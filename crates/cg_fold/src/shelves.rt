@@ -2,14 +2,14 @@
 ghost use Rattle.std.specs.Prelude.{◌≡◌, ◌+◌, [], IsTrue, filter, length, IfOk, OnErr, OnOk};
 ghost use Rattle.std.specs.List.{fold};
 ghost use Rattle.std.specs.FinMap.{is_sorted};
-ghost use Rattle.cg_fold.specs.Key.{kept_by, key_cmp, name_cmp, put_kept};
+ghost use Rattle.cg_fold.specs.Key.{name_cmp, partition_cmp, put_row, rows_of};
 ghost use Rattle.cg_fold.specs.Grouped.{is_another};
 ghost use Rattle.cg_fold.specs.Shelf.{rows_at, with_more};
 
 use crate::grouped::{self, ByGroup};
 use crate::rows::{Row, Rows};
 use cg_names::GroupId;
-use cg_record::{Committed, Metadata};
+use cg_record::{Committed, Entries, Metadata};
 use std::alloc::{AllocError, Global};
 
 /// The offsets of each group that has any.
@@ -18,7 +18,7 @@ pub type Shelves = ByGroup<Rows>;
 /// Returns the offsets of a group, by topic and partition. Costs one look-up, no allocation.
 pub fn rows_at<'a>(shelves: &'a Shelves, group: &GroupId) -> &'a [Row]
     ensures value { result.now ≡ rows_at group.now shelves.now.entries }
-    ensures sorted { IsTrue (is_sorted key_cmp result.now) }
+    ensures sorted { IsTrue (is_sorted partition_cmp result.now) }
 {
     match grouped::held_at(shelves, group) {
         None => &[],
@@ -27,11 +27,11 @@ pub fn rows_at<'a>(shelves: &'a Shelves, group: &GroupId) -> &'a [Row]
 }
 
 // Builds a shelf with the offsets of a commit.
-fn shelf_of(alloc: Global, commit: &Committed) -> Result<Rows, AllocError>
-    ensures { IfOk result (λ rows. rows ≡ fold put_kept [] (kept_by commit.now)) }
+fn shelf_of(alloc: Global, entries: &Entries) -> Result<Rows, AllocError>
+    ensures { IfOk result (λ rows. rows ≡ fold put_row [] (rows_of entries.now)) }
 {
     let mut rows = Rows::new(alloc);
-    rows.put_commit(alloc, commit)?;
+    rows.put_commit(alloc, entries)?;
     Ok(rows)
 }
 
@@ -39,31 +39,27 @@ fn shelf_of(alloc: Global, commit: &Committed) -> Result<Rows, AllocError>
 /// offsets. If an allocation fails, nothing changes.
 pub fn add(shelves: &mut Shelves, alloc: Global, commit: &Committed) -> Result<u64, AllocError>
     requires { IsTrue (is_sorted name_cmp shelves.old.entries) }
-    ensures ok { OnOk result (shelves.new.entries ≡ with_more commit.now.group (kept_by commit.now) shelves.old.entries) }
+    ensures ok { OnOk result (shelves.new.entries ≡ with_more commit.now.group (rows_of commit.now.entries) shelves.old.entries) }
     ensures grown { IfOk result (λ grown. length (rows_at commit.now.group shelves.new.entries) ≡ length (rows_at commit.now.group shelves.old.entries) + grown) }
     ensures err { OnErr result (shelves.new.entries ≡ shelves.old.entries) }
 {
     if let Some(rows) = shelves.get_mut(&commit.group) {
-        let grown = rows.put_commit(alloc, commit)?;
+        let grown = rows.put_commit(alloc, &commit.entries)?;
         return Ok(grown);
     }
     let group = commit.group.clone()?;
-    let rows = shelf_of(alloc, commit)?;
+    let rows = shelf_of(alloc, &commit.entries)?;
     let grown = rows.as_slice().len() as u64;
     grouped::put(shelves, group, rows)?;
     Ok(grown)
 }
 
 // Builds a shelf with the offsets of a commit, and moves what it can.
-fn shelf_from(
-    alloc: Global,
-    room: &mut Vec<Metadata>,
-    commit: Committed,
-) -> Result<Rows, AllocError>
-    ensures { IfOk result (λ rows. rows ≡ fold put_kept [] (kept_by commit)) }
+fn shelf_from(alloc: Global, room: &mut Vec<Metadata>, entries: Entries) -> Result<Rows, AllocError>
+    ensures { IfOk result (λ rows. rows ≡ fold put_row [] (rows_of entries)) }
 {
     let mut rows = Rows::new(alloc);
-    rows.take_commit(alloc, room, commit)?;
+    rows.take_commit(alloc, room, entries)?;
     Ok(rows)
 }
 
@@ -77,16 +73,16 @@ pub fn take(
     commit: Committed,
 ) -> Result<u64, AllocError>
     requires { IsTrue (is_sorted name_cmp shelves.old.entries) }
-    ensures ok { OnOk result (shelves.new.entries ≡ with_more commit.group (kept_by commit) shelves.old.entries) }
+    ensures ok { OnOk result (shelves.new.entries ≡ with_more commit.group (rows_of commit.entries) shelves.old.entries) }
     ensures grown { IfOk result (λ grown. length (rows_at commit.group shelves.new.entries) ≡ length (rows_at commit.group shelves.old.entries) + grown) }
     ensures err { OnErr result (shelves.new.entries ≡ shelves.old.entries) }
 {
-    if let Some(rows) = shelves.get_mut(&commit.group) {
-        let grown = rows.take_commit(alloc, room, commit)?;
+    let Committed { group, entries } = commit;
+    if let Some(rows) = shelves.get_mut(&group) {
+        let grown = rows.take_commit(alloc, room, entries)?;
         return Ok(grown);
     }
-    let group = commit.group.clone()?;
-    let rows = shelf_from(alloc, room, commit)?;
+    let rows = shelf_from(alloc, room, entries)?;
     let grown = rows.as_slice().len() as u64;
     grouped::put(shelves, group, rows)?;
     Ok(grown)

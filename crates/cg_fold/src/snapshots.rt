@@ -3,8 +3,7 @@ ghost use Rattle.std.specs.Prelude.{◌≡◌, ◌<◌, ◌≤◌, ◌++◌, IsT
 ghost use Rattle.std.specs.FinMap.{is_sorted};
 ghost use Rattle.std.specs.Option.{option_copied};
 ghost use Rattle.cg_record.specs.declared.entries.TheConstants.{ENTRIES_MAX};
-ghost use Rattle.cg_fold.specs.Key.{key_cmp};
-ghost use Rattle.cg_fold.specs.Shelf.{AreOf};
+ghost use Rattle.cg_fold.specs.Key.{partition_cmp};
 ghost use Rattle.cg_fold.specs.Snapshot.{commit_command, commits_of, entry_of, record_command, record_commands};
 
 use crate::record::GroupRecord;
@@ -81,8 +80,7 @@ fn entries_of(alloc: Global, rows: &[Row]) -> Result<Vec<Entry>, AllocError>
 fn commit_of(alloc: Global, group: &GroupId, rows: &[Row]) -> Result<Command, AllocError>
     requires some { 0 < length rows.now }
     requires few { length rows.now ≤ ENTRIES_MAX }
-    requires own { AreOf group.now rows.now }
-    requires sorted { IsTrue (is_sorted key_cmp rows.now) }
+    requires sorted { IsTrue (is_sorted partition_cmp rows.now) }
     ensures { IfOk result (λ command. command ≡ commit_command group.now rows.now) }
 {
     let group = group.clone()?;
@@ -112,8 +110,7 @@ pub fn push_commits(
     group: &GroupId,
     rows: &[Row],
 ) -> Result<(), AllocError>
-    requires own { AreOf group.now rows.now }
-    requires sorted { IsTrue (is_sorted key_cmp rows.now) }
+    requires sorted { IsTrue (is_sorted partition_cmp rows.now) }
     ensures { OnOk result (commands.new.items ≡ commands.old.items ++ commits_of (length rows.now) group.now rows.now) }
 {
     let mut rest = rows;

@@ -3,12 +3,12 @@ ghost use Rattle.std.specs.Prelude.{◌≡◌, ◌<◌, ◌≤◌, ◌++◌, IsT
 ghost use Rattle.std.specs.FinMap.{is_sorted};
 ghost use Rattle.std.specs.Vec.Iter.{into_iter_items};
 ghost use Rattle.cg_record.specs.declared.entries.TheConstants.{ENTRIES_MAX};
-ghost use Rattle.cg_fold.specs.Key.{key_cmp};
-ghost use Rattle.cg_fold.specs.Shelf.{AreOf, rows_on};
+ghost use Rattle.cg_fold.specs.Key.{partition_cmp};
+ghost use Rattle.cg_fold.specs.Shelf.{rows_on};
 ghost use Rattle.cg_fold.specs.Snapshot.{commit_command, commits_of, entry_of, record_command, record_commands};
 
 use crate::first_group::FirstGroup;
-use crate::key::{OffsetKey, StoredOffset};
+use crate::key::{StoredOffset, TopicPartition};
 use crate::record::GroupRecord;
 use crate::rows::{Row, Rows};
 use cg_names::GroupId;
@@ -62,12 +62,7 @@ fn take_record(
 fn entry_from(row: Row) -> Entry
     ensures { result ≡ entry_of row }
 {
-    let (key, stored) = row;
-    let OffsetKey {
-        topic,
-        partition,
-        ..
-    } = key;
+    let (TopicPartition { topic, partition }, stored) = row;
     let StoredOffset { offset, metadata } = stored;
     Entry {
         topic,
@@ -117,8 +112,7 @@ fn take_commit(
     rows: &mut VecDeque<Row>,
 ) -> Result<Command, AllocError>
     requires some { 0 < length rows.old.items }
-    requires own { AreOf group.now rows.old.items }
-    requires sorted { IsTrue (is_sorted key_cmp rows.old.items) }
+    requires sorted { IsTrue (is_sorted partition_cmp rows.old.items) }
     ensures command { IfOk result (λ command. command ≡ commit_command group.now (take ENTRIES_MAX rows.old.items)) }
     ensures others { OnOk result (rows.new.items ≡ drop ENTRIES_MAX rows.old.items) }
 {
@@ -138,8 +132,7 @@ fn take_commits(
     group: &GroupId,
     rows: Vec<Row>,
 ) -> Result<(), AllocError>
-    requires own { AreOf group.now rows.items }
-    requires sorted { IsTrue (is_sorted key_cmp rows.items) }
+    requires sorted { IsTrue (is_sorted partition_cmp rows.items) }
     ensures { OnOk result (commands.new.items ≡ commands.old.items ++ commits_of (length rows.items) group.now rows.items) }
 {
     let mut rest = VecDeque::from_vec(rows);
@@ -156,7 +149,6 @@ fn take_rows(
     group: &GroupId,
     rows: Option<Rows>,
 ) -> Result<(), AllocError>
-    requires { AreOf group.now (rows_on rows) }
     ensures { OnOk result (commands.new.items ≡ commands.old.items ++ commits_of (length (rows_on rows)) group.now (rows_on rows)) }
 {
     match rows {
@@ -173,7 +165,6 @@ pub fn commands_from(
     alloc: Global,
     first: FirstGroup<GroupRecord, Rows>,
 ) -> Result<IntoIter<Command>, AllocError>
-    requires { AreOf first.group (rows_on first.right) }
     ensures { IfOk result (λ commands. into_iter_items commands
         ≡ record_commands first.group first.left ++ commits_of (length (rows_on first.right)) first.group (rows_on first.right)) }
 {

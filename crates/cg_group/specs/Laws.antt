@@ -9,9 +9,9 @@ use Rattle.cg_record.specs.declared.command.Command.TheVariants as command
 use Rattle.cg_record.specs.declared.member.Member.{Member as KeptMember}
 use Rattle.cg_record.specs.declared.replaced.Replaced.{Replaced}
 use Rattle.cg_record.specs.Rosters.{RosterParts}
-use Rattle.cg_fold.specs.declared.key.OffsetKey.{OffsetKey}
 use Rattle.cg_fold.specs.declared.record.GroupRecord.{GroupRecord}
 use Rattle.cg_fold.specs.Durable.{State, after}
+use Rattle.cg_fold.specs.Key.{OffsetKey}
 use Rattle.cg_request.specs.declared.event.Event.{Event}
 use Rattle.cg_request.specs.declared.event.Event.TheVariants as event
 use Rattle.cg_member.specs.declared.group.Group.{Group}

@@ -16,8 +16,7 @@ use Rattle.std.proofs.lemmas.List.Folds.{list_any-append}
 use Rattle.std.proofs.lemmas.Map.Text.{is_eq-slice_cmp}
 use Rattle.cg_fold.specs.declared.record.GroupRecord.{GroupRecord}
 use Rattle.cg_fold.specs.Durable.{State}
-use Rattle.cg_fold.specs.Key.{key_cmp, name_cmp}
-use Rattle.cg_fold.specs.declared.key.OffsetKey.{OffsetKey}
+use Rattle.cg_fold.specs.Key.{OffsetKey, key_cmp, name_cmp}
 use Rattle.cg_fold.specs.Snapshot.{groups_in, in_order, marked}
 use Rattle.cg_fold.proofs.KeyOrder.{key_total}
 use Rattle.cg_record.specs.Rosters.{RosterParts}

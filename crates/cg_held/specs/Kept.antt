@@ -5,9 +5,9 @@ use Rattle.std.specs.FinMap as finmap
 use mathlib.Core.HLevel.{Unit-prop, ×_prop}
 use Rattle.std.specs.Cmp.Lexicographic.{slice_cmp}
 use Rattle.std.specs.declared.cmp.Ordering.TheVariants.{Less}
-use Rattle.cg_fold.specs.declared.key.OffsetKey.{OffsetKey}
 use Rattle.cg_fold.specs.declared.record.GroupRecord.{GroupRecord}
 use Rattle.cg_fold.specs.Durable.{State}
+use Rattle.cg_fold.specs.Key.{OffsetKey}
 use Rattle.cg_member.specs.Offsets.{OffsetMap}
 use Rattle.cg_record.specs.Rosters.{IsRoster}
 

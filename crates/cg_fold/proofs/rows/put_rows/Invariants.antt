@@ -3,14 +3,14 @@ use Rattle.std.specs.Prelude.{IsTrue}
 use Rattle.std.specs.VecDeque.{deque_len}
 use Rattle.std.specs.List.{fold}
 use Rattle.std.specs.FinMap.{is_sorted}
-use Rattle.cg_fold.specs.Key.{key_cmp, put_kept}
+use Rattle.cg_fold.specs.Key.{partition_cmp, put_row}
 use Rattle.cg_fold.proofs.rows.put_rows.Given as goal
 
 abbrev pub invariant-loop-row : goal.invariant-loop-row
 invariant-loop-row l = record {
-  sorted : IsTrue (is_sorted key_cmp l.rows.items);
+  sorted : IsTrue (is_sorted partition_cmp l.rows.items);
   room : vec_len l.rows + deque_len l.waiting ≤ vec_capacity l.rows;
-  rest : fold put_kept l.rows.items l.waiting.items ≡ fold put_kept l.initial.rows.items l.initial.waiting.items;
+  rest : fold put_row l.rows.items l.waiting.items ≡ fold put_row l.initial.rows.items l.initial.waiting.items;
 }
 
 abbrev pub decreases-loop-row : goal.decreases-loop-row

@@ -3,7 +3,7 @@ use Rattle.std.proofs.lemmas.Map.Steps.{set_value_same}
 use Rattle.std.specs.BTreeMap.{is_at}
 use Rattle.std.specs.Map.{lookup, set_value}
 use Rattle.std.specs.FinMap.{put}
-use Rattle.cg_fold.specs.Key.{kept_by, name_cmp}
+use Rattle.cg_fold.specs.Key.{name_cmp, rows_of}
 use Rattle.cg_fold.proofs.Added.{added_over, grown_over, grown_between}
 use Rattle.cg_fold.proofs.shelves.take.Goals as goal
 
@@ -20,14 +20,14 @@ pub returns-in-Some-clause-ok : goal.returns-in-Some-clause-ok
 returns-in-Some-clause-ok c =
     let shelves = c.args.shelves.now.entries in
     let there : lookup (is_at (name_cmp c.args.commit.group)) shelves ≡ Some c.in-Some.rows.now = search rules in
-    added_over shelves (c.get_mut.follows.lender c.take_commit.new.self).entries c.args.commit.group c.in-Some.rows.now c.take_commit.new.self (kept_by c.args.commit) there
+    added_over shelves (c.get_mut.follows.lender c.take_commit.new.self).entries c.args.commit.group c.in-Some.rows.now c.take_commit.new.self (rows_of c.args.commit.entries) there
     (c.get_mut.follows.holds c.take_commit.new.self).0 c.in_ok-grown.ensures.ok c.requires
 
 pub returns-in-Some-clause-grown : goal.returns-in-Some-clause-grown
 returns-in-Some-clause-grown c =
     let shelves = c.args.shelves.now.entries in
     let there : lookup (is_at (name_cmp c.args.commit.group)) shelves ≡ Some c.in-Some.rows.now = search rules in
-    grown_over shelves (c.get_mut.follows.lender c.take_commit.new.self).entries c.args.commit.group c.in-Some.rows.now c.take_commit.new.self (kept_by c.args.commit) there
+    grown_over shelves (c.get_mut.follows.lender c.take_commit.new.self).entries c.args.commit.group c.in-Some.rows.now c.take_commit.new.self (rows_of c.args.commit.entries) there
     (c.get_mut.follows.holds c.take_commit.new.self).0 c.in_ok-grown.ensures.ok c.requires c.in_ok-grown.grown c.in_ok-grown.ensures.grown
 
 pub returns-clause-grown : goal.returns-clause-grown
@@ -35,4 +35,4 @@ returns-clause-grown c =
     let shelves = c.args.shelves.now.entries in
     let absent : lookup (is_at (name_cmp c.args.commit.group)) shelves ≡ None = search rules in
     let stored : c.put.new.kept.entries ≡ put name_cmp c.args.commit.group c.in_ok-rows.rows shelves = search rules in
-    grown_between shelves c.put.new.kept.entries c.args.commit.group c.in_ok-rows.rows (kept_by c.args.commit) absent stored c.in_ok-rows.ensures c.as_slice.result.now c.as_slice.ensures.value
+    grown_between shelves c.put.new.kept.entries c.args.commit.group c.in_ok-rows.rows (rows_of c.args.commit.entries) absent stored c.in_ok-rows.ensures c.as_slice.result.now c.as_slice.ensures.value

@@ -1,7 +1,7 @@
 use Rattle.std.proofs.Common.{◌≡◌, length, ap, sym, ◌∙◌, arith}
 use Rattle.std.specs.Vec.Iter.{into_iter_items}
 use Rattle.cg_fold.specs.Snapshot.{left_of}
-use Rattle.cg_fold.proofs.Popped.{left_first, left_none, listed_rest, no_commands, own_first}
+use Rattle.cg_fold.proofs.Popped.{left_first, left_none, listed_rest, no_commands}
 use Rattle.cg_fold.proofs.snapshot.next_of.Goals as goal
 
 pub returns-in_default-pop_first-clause-next : goal.returns-in_default-pop_first-clause-next
@@ -15,10 +15,6 @@ returns-in_default-pop_first-clause-next c =
       ap (λ l. left_of new l c.pop_first.new.right.entries) none.1 ∙ ap (left_of new c.loop-command.records.entries) none.2
           ∙ left_none new c.loop-command.records.entries c.loop-command.shelves.entries c.loop-command.invariant.listed (no_commands new after) none.0,
     )
-
-pub commands_from-requires : goal.commands_from-requires
-commands_from-requires c =
-    own_first c.loop-command.records.entries c.pop_first.new.left.entries c.loop-command.shelves.entries c.pop_first.new.right.entries _ _ _ c.loop-command.invariant.listed c.in-Some-pop_first.ensures
 
 pub loop-command-preserved : goal.loop-command-preserved
 loop-command-preserved c =

@@ -1,15 +1,13 @@
 use Rattle.std.proofs.Common.{◌≡◌, ◌++◌, length}
 use Rattle.std.specs.Prelude.{IsTrue}
 use Rattle.std.specs.FinMap.{is_sorted}
-use Rattle.cg_fold.specs.Key.{key_cmp}
-use Rattle.cg_fold.specs.Shelf.{AreOf}
+use Rattle.cg_fold.specs.Key.{partition_cmp}
 use Rattle.cg_fold.specs.Snapshot.{commits_of}
 use Rattle.cg_fold.proofs.snapshots.push_commits.Given as goal
 
 abbrev pub invariant-loop-rest : goal.invariant-loop-rest
 invariant-loop-rest l = record {
-  own : AreOf l.group l.rest;
-  sorted : IsTrue (is_sorted key_cmp l.rest);
+  sorted : IsTrue (is_sorted partition_cmp l.rest);
   rest : l.commands.items ++ commits_of (length l.rest) l.group l.rest ≡ l.initial.commands.items ++ commits_of (length l.rows) l.group l.rows;
 }
 

@@ -2,9 +2,8 @@ use Rattle.std.proofs.Common.{◌<◌, length, take, ap, sym, subst, refl, arith
 use Rattle.std.specs.Prelude.{IsTrue}
 use Rattle.std.specs.FinMap.{is_sorted}
 use Rattle.cg_record.specs.declared.entries.TheConstants.{ENTRIES_MAX}
-use Rattle.cg_fold.specs.Key.{key_cmp}
-use Rattle.cg_fold.specs.Shelf.{AreOf}
-use Rattle.cg_fold.proofs.Own.{AreOf-drop, sorted-drop}
+use Rattle.cg_fold.specs.Key.{partition_cmp}
+use Rattle.cg_fold.proofs.Own.{sorted-drop}
 use Rattle.cg_fold.proofs.Put.{tested, is_true}
 use Rattle.cg_fold.proofs.Commits.{commits_none, commits_pushed}
 use Rattle.cg_fold.proofs.taking.take_commits.Goals as goal
@@ -19,8 +18,7 @@ loop-alloc-preserved c =
     let rows = c.loop-alloc.rest.items in
     let others = c.in_ok-take_commit.ensures.others in
     record {
-      own = subst (AreOf c.args.group.now) (sym others) (AreOf-drop c.args.group.now ENTRIES_MAX rows c.loop-alloc.invariant.own);
-      sorted = subst (λ l. IsTrue (is_sorted key_cmp l)) (sym others) (is_true _ (sorted-drop ENTRIES_MAX rows (tested c.loop-alloc.invariant.sorted)));
+      sorted = subst (λ l. IsTrue (is_sorted partition_cmp l)) (sym others) (is_true _ (sorted-drop ENTRIES_MAX rows (tested c.loop-alloc.invariant.sorted)));
       rest = commits_pushed c.args.group.now rows (take ENTRIES_MAX rows) c.take_commit.new.rows.items c.in_ok-take_commit.field-0 c.loop-alloc.commands.items c.push.new.self.items _
           (search rules) refl others c.in_ok-take_commit.ensures.command c.in_ok-push.ensures.items c.loop-alloc.invariant.rest;
     }

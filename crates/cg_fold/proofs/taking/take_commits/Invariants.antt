@@ -2,15 +2,13 @@ use Rattle.std.proofs.Common.{◌≡◌, ◌++◌, length}
 use Rattle.std.specs.Prelude.{IsTrue}
 use Rattle.std.specs.FinMap.{is_sorted}
 use Rattle.std.specs.VecDeque.{deque_len}
-use Rattle.cg_fold.specs.Key.{key_cmp}
-use Rattle.cg_fold.specs.Shelf.{AreOf}
+use Rattle.cg_fold.specs.Key.{partition_cmp}
 use Rattle.cg_fold.specs.Snapshot.{commits_of}
 use Rattle.cg_fold.proofs.taking.take_commits.Given as goal
 
 abbrev pub invariant-loop-alloc : goal.invariant-loop-alloc
 invariant-loop-alloc l = record {
-  own : AreOf l.group l.rest.items;
-  sorted : IsTrue (is_sorted key_cmp l.rest.items);
+  sorted : IsTrue (is_sorted partition_cmp l.rest.items);
   rest : l.commands.items ++ commits_of (length l.rest.items) l.group l.rest.items ≡ l.initial.commands.items ++ commits_of (length l.fn.rows.items) l.group l.fn.rows.items;
 }
 

@@ -1,7 +1,6 @@
-use Rattle.std.proofs.Common.{◌<◌, length, refl, arith}
+use Rattle.std.proofs.Common.{◌<◌, length, arith}
 use Rattle.std.proofs.lemmas.List.{length-map}
-use Rattle.cg_fold.specs.Key.{kept_by, kept_of}
-use Rattle.cg_fold.proofs.Own.{own-kept}
+use Rattle.cg_fold.specs.Key.{row_of, rows_of}
 use Rattle.cg_fold.proofs.Restock.{length-rows-more, length-stock-more, shelves-commit, shelves-more}
 use Rattle.cg_fold.proofs.offsets.Offsets.commit.Goals as goal
 
@@ -10,24 +9,24 @@ overflow_add-self c =
     let commit = c.args.commit.now in
     omega (
       arith,
-      length-map commit.entries (kept_of commit.group),
+      length-map commit.entries row_of,
       c.in_ok-grown.ensures.grown,
-      length-rows-more commit.group c.self.inside.shelves.entries c.add.new.shelves.entries (kept_by commit) c.in_ok-grown.ensures.ok,
+      length-rows-more commit.group c.self.inside.shelves.entries c.add.new.shelves.entries (rows_of commit.entries) c.in_ok-grown.ensures.ok,
     )
 
 pub invariant_of-self-2 : goal.invariant_of-self-2
 invariant_of-self-2 c =
     let commit = c.args.commit.now in
-    let some : 0 < length (kept_by commit) = omega (arith, length-map commit.entries (kept_of commit.group), c.len.ensures.lawful.some) in
-    shelves-more commit.group c.self.inside.len _ c.self.inside.shelves.entries c.add.new.shelves.entries (kept_by commit) c.self.invariant some
-    (own-kept commit.group commit.entries) c.in_ok-grown.ensures.ok
+    let some : 0 < length (rows_of commit.entries) = omega (arith, length-map commit.entries row_of, c.len.ensures.lawful.some) in
+    shelves-more commit.group c.self.inside.len _ c.self.inside.shelves.entries c.add.new.shelves.entries (rows_of commit.entries) c.self.invariant some
+    c.in_ok-grown.ensures.ok
     (omega (
       arith,
       c.in_ok-grown.ensures.grown,
-      length-stock-more commit.group c.self.inside.len c.self.inside.shelves.entries c.add.new.shelves.entries (kept_by commit) c.self.invariant c.in_ok-grown.ensures.ok,
+      length-stock-more commit.group c.self.inside.len c.self.inside.shelves.entries c.add.new.shelves.entries (rows_of commit.entries) c.self.invariant c.in_ok-grown.ensures.ok,
     ))
 
 pub returns-clause-ok : goal.returns-clause-ok
 returns-clause-ok c =
-    shelves-commit c.args.commit.now c.self.inside.len c.self.inside.shelves.entries c.add.new.shelves.entries (kept_by c.args.commit.now) c.args.self.now
-    c.self.invariant refl c.in_ok-grown.ensures.ok c.self.view_is
+    shelves-commit c.args.commit.now c.self.inside.len c.self.inside.shelves.entries c.add.new.shelves.entries c.args.self.now
+    c.self.invariant c.in_ok-grown.ensures.ok c.self.view_is

@@ -1,8 +1,8 @@
-use Rattle.std.proofs.Common.{length, map, ap, sym, ◌∙◌, subst, arith}
+use Rattle.std.proofs.Common.{length, ap, sym, ◌∙◌, subst, arith}
 use Rattle.std.specs.Prelude.{IsTrue}
 use Rattle.std.specs.List.{fold}
 use Rattle.std.specs.FinMap.{is_sorted}
-use Rattle.cg_fold.specs.Key.{kept_by, kept_of, key_cmp, put_kept}
+use Rattle.cg_fold.specs.Key.{partition_cmp, put_row, rows_of}
 use Rattle.cg_fold.specs.Renewed.{AreRenewals}
 use Rattle.cg_fold.proofs.Own.{sorted-fold}
 use Rattle.cg_fold.proofs.Put.{tested, is_true}
@@ -11,26 +11,26 @@ use Rattle.cg_fold.proofs.rows.Rows.put_entries.Goals as goal
 
 pub renew_all-requires : goal.renew_all-requires
 renew_all-requires c =
-    let commit = c.args.commit.now in
-    let found : AreRenewals c.deref.result.now (map (kept_of commit.group) c.as_slice-entries.result.now) c.in-Some.renewals.items = rw c.in-Some.is at c.in_ok-renewals.ensures in
-    renewals_below c.self.inside.rows.items c.deref.result.now (map (kept_of commit.group) c.as_slice-entries.result.now) c.in-Some.renewals.items c.deref.ensures.value found
+    let new = rows_of c.args.entries.now in
+    let found : AreRenewals c.deref.result.now new c.in-Some.renewals.items = rw c.in-Some.is at c.in_ok-renewals.ensures in
+    renewals_below c.self.inside.rows.items c.deref.result.now new c.in-Some.renewals.items c.deref.ensures.value found
 
 pub returns-in-Some-clause-ok : goal.returns-in-Some-clause-ok
 returns-in-Some-clause-ok c =
-    let commit = c.args.commit.now in
-    let found : AreRenewals c.deref.result.now (map (kept_of commit.group) c.as_slice-entries.result.now) c.in-Some.renewals.items = rw c.in-Some.is at c.in_ok-renewals.ensures in
-    let puts = renewals_are_puts c.self.inside.rows.items c.deref.result.now (map (kept_of commit.group) c.as_slice-entries.result.now) c.in-Some.renewals.items c.deref.ensures.value found in
-    c.renew_all.ensures ∙ puts.0 ∙ ap (λ e. fold put_kept c.self.inside.rows.items (map (kept_of commit.group) e)) c.as_slice-entries.ensures.value ∙ ap (λ rows. fold put_kept rows (kept_by commit)) c.self.view_is
+    let new = rows_of c.args.entries.now in
+    let found : AreRenewals c.deref.result.now new c.in-Some.renewals.items = rw c.in-Some.is at c.in_ok-renewals.ensures in
+    let puts = renewals_are_puts c.self.inside.rows.items c.deref.result.now new c.in-Some.renewals.items c.deref.ensures.value found in
+    c.renew_all.ensures ∙ puts.0 ∙ ap (λ rows. fold put_row rows new) c.self.view_is
 
 pub returns-in-Some-clause-grown : goal.returns-in-Some-clause-grown
 returns-in-Some-clause-grown c =
-    let commit = c.args.commit.now in
-    let found : AreRenewals c.deref.result.now (map (kept_of commit.group) c.as_slice-entries.result.now) c.in-Some.renewals.items = rw c.in-Some.is at c.in_ok-renewals.ensures in
-    let puts = renewals_are_puts c.self.inside.rows.items c.deref.result.now (map (kept_of commit.group) c.as_slice-entries.result.now) c.in-Some.renewals.items c.deref.ensures.value found in
+    let new = rows_of c.args.entries.now in
+    let found : AreRenewals c.deref.result.now new c.in-Some.renewals.items = rw c.in-Some.is at c.in_ok-renewals.ensures in
+    let puts = renewals_are_puts c.self.inside.rows.items c.deref.result.now new c.in-Some.renewals.items c.deref.ensures.value found in
     omega (arith, ap length c.renew_all.ensures, puts.1, ap length c.self.view_is)
 
 pub invariant_of-self : goal.invariant_of-self
 invariant_of-self c =
-    let rows = fold put_kept c.args.self.now (kept_by c.args.commit.now) in
-    let sorted : IsTrue (is_sorted key_cmp c.args.self.now) = subst (λ l. IsTrue (is_sorted key_cmp l)) c.self.view_is c.self.invariant in
-    subst (λ l. IsTrue (is_sorted key_cmp l)) (sym (returns-in-Some-clause-ok c)) (is_true (is_sorted key_cmp rows) (sorted-fold c.args.self.now (kept_by c.args.commit.now) (tested sorted)))
+    let new = rows_of c.args.entries.now in
+    let sorted : IsTrue (is_sorted partition_cmp c.args.self.now) = subst (λ l. IsTrue (is_sorted partition_cmp l)) c.self.view_is c.self.invariant in
+    subst (λ l. IsTrue (is_sorted partition_cmp l)) (sym (returns-in-Some-clause-ok c)) (is_true (is_sorted partition_cmp (fold put_row c.args.self.now new)) (sorted-fold c.args.self.now new (tested sorted)))
