@@ -1,5 +1,6 @@
 -- The disk model: the content of a disk at each moment, and what a crash may leave of it.
 use Rattle.std.specs.Prelude.{◌≡◌, ℕ, zero, suc, ◌+◌, ◌-◌, ◌*◌, ◌/◌, ◌%◌, ◌^◌, ◌<◌, ◌≤◌, Bool, true, false, min, List, [], ◌++◌, length, take, drop}
+use Rattle.cg_disk.specs.declared.disk.TheConstants.{SECTOR_BYTES}
 
 -- the bytes of each sector, by its position
 abbrev pub Image : Type 0
@@ -7,15 +8,15 @@ Image = ℕ → List ℕ
 
 -- the bytes of sector i in a sequence of sectors of 512 bytes
 unfoldable pub sector : List ℕ → ℕ → List ℕ
-sector bytes i = take 512 (drop (512 * i) bytes)
+sector bytes i = take SECTOR_BYTES (drop (SECTOR_BYTES * i) bytes)
 
 -- the number of whole sectors in these bytes
 abbrev pub sector_count : List ℕ → ℕ
-sector_count bytes = length bytes / 512
+sector_count bytes = length bytes / SECTOR_BYTES
 
 -- the bytes are whole sectors
 abbrev pub IsWhole : List ℕ → Type 0
-IsWhole bytes = length bytes % 512 ≡ 0
+IsWhole bytes = length bytes % SECTOR_BYTES ≡ 0
 
 -- the bytes of n sectors from position `at`
 abbrev pub span : Image → ℕ → ℕ → List ℕ

@@ -1,12 +1,13 @@
 -- The model of a disk in memory.
 use Rattle.std.specs.Prelude.{ℕ, ◌/◌, length}
+use Rattle.cg_disk.specs.declared.disk.TheConstants.{SECTOR_BYTES}
 use Rattle.cg_disk.specs.Disk.{History}
 use Rattle.cg_disk.specs.Record.{recorded}
 use Rattle.cg_disk.specs.declared.mem.MemDisk.{MemDisk}
 
 -- the number of sectors
 abbrev pub mem_size : MemDisk → ℕ
-mem_size disk = length disk.bytes.items / 512
+mem_size disk = length disk.bytes.items / SECTOR_BYTES
 
 -- the moments, from the record of calls
 unfoldable pub mem_history : MemDisk → History

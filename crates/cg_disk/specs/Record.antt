@@ -1,6 +1,7 @@
 -- The meaning of a record of calls: the bytes and the unsynced sectors at each moment.
 use Rattle.std.specs.Prelude.{◌≡◌, ℕ, ◌+◌, ◌*◌, ◌/◌, Bool, true, false, ◌&&◌, ◌||◌, nat_lt, nat_le, ◌==◌, List, [], ◌∷◌, ◌++◌, length, take, drop, ◌%◌}
 use Rattle.std.specs.List.{list_all}
+use Rattle.cg_disk.specs.declared.disk.TheConstants.{SECTOR_BYTES}
 use Rattle.cg_disk.specs.Disk.{Moment, History, sector}
 use Rattle.cg_disk.specs.declared.record.Call.{Call}
 use Rattle.cg_disk.specs.declared.record.Call.TheVariants.{Read, Write, Sync}
@@ -12,7 +13,7 @@ overwritten bytes at new = take at bytes ++ new ++ drop (at + length new) bytes
 -- the bytes before a call
 abbrev pub before_call : Call → List ℕ → List ℕ
 before_call Read bytes = bytes
-before_call (Write at replaced) bytes = overwritten bytes (512 * at) replaced.items
+before_call (Write at replaced) bytes = overwritten bytes (SECTOR_BYTES * at) replaced.items
 before_call Sync bytes = bytes
 
 -- the bytes before these calls
@@ -23,7 +24,7 @@ undone (call ∷ calls) bytes = before_call call (undone calls bytes)
 -- sector s is unsynced after a call, given whether it was before
 abbrev pub is_marked : Call → ℕ → Bool → Bool
 is_marked Read s unsynced = unsynced
-is_marked (Write at replaced) s unsynced = unsynced || (nat_le at s && nat_lt s (at + length replaced.items / 512))
+is_marked (Write at replaced) s unsynced = unsynced || (nat_le at s && nat_lt s (at + length replaced.items / SECTOR_BYTES))
 is_marked Sync s unsynced = false
 
 -- sector s is unsynced after these calls
@@ -45,7 +46,7 @@ recorded bytes calls = record { now = length calls; at = moment_after bytes call
 -- the bytes that a call replaced are whole sectors, and lie within this size
 abbrev pub is_within : ℕ → Call → Bool
 is_within size Read = true
-is_within size (Write at replaced) = nat_le (512 * at + length replaced.items) size && (length replaced.items % 512 == 0)
+is_within size (Write at replaced) = nat_le (SECTOR_BYTES * at + length replaced.items) size && (length replaced.items % SECTOR_BYTES == 0)
 is_within size Sync = true
 
 -- the call is not a sync

@@ -1,4 +1,5 @@
 //! A disk in a file.
+ghost use Rattle.cg_disk.specs.declared.disk.TheConstants.{SECTOR_BYTES};
 ghost use Rattle.std.specs.Prelude.{◌≡◌, ◌*◌, ◌^◌, ◌<◌, false, IfOk, IfSome};
 ghost use Rattle.cg_disk.specs.Disk.{unknown_history};
 
@@ -16,7 +17,7 @@ pub struct FileDisk<F> {
     file: F,
     sectors: u64,
     failures: u64,
-    ghost fits: { 512 * sectors < 2 ^ 64 },
+    ghost fits: { SECTOR_BYTES * sectors < 2 ^ 64 },
 }
 
 impl<F: Read + Write + Seek + OpenFile + Drop> FileDisk<F> {
@@ -105,14 +106,14 @@ impl<F: Read + Write + Seek + OpenFile + Drop> SectorDisk for FileDisk<F> {
 }
 
 fn read_at<F: Read + Seek>(file: &mut F, at: u64, bytes: &mut [u8]) -> io::Result<()>
-    requires { 512 * at < 2 ^ 64 }
+    requires { SECTOR_BYTES * at < 2 ^ 64 }
 {
     file.seek(SeekFrom::Start(at * SECTOR_BYTES_U64))?;
     file.read_exact(bytes)
 }
 
 fn write_at<F: Write + Seek>(file: &mut F, at: u64, bytes: &[u8]) -> io::Result<()>
-    requires { 512 * at < 2 ^ 64 }
+    requires { SECTOR_BYTES * at < 2 ^ 64 }
 {
     file.seek(SeekFrom::Start(at * SECTOR_BYTES_U64))?;
     file.write_all(bytes)

@@ -1,4 +1,5 @@
 //! The record of calls of a disk in memory.
+ghost use Rattle.cg_disk.specs.declared.disk.TheConstants.{SECTOR_BYTES};
 ghost use Rattle.std.specs.Prelude.{◌≡◌, ◌+◌, ◌*◌, ◌^◌, ◌<◌, ◌≤◌, [], ◌∷◌, ◌++◌, true, length, take, drop, OnOk, OnErr};
 ghost use Rattle.std.specs.List.{list_all};
 ghost use Rattle.cg_disk.specs.Record.{overwritten, is_within, GoesBackToSync};
@@ -24,11 +25,11 @@ pub(crate) fn replace(
     at: u64,
     bytes: &[u8],
 ) -> Result<(), AllocError>
-    requires { 512 * at + length bytes.now ≤ length disk.old.items }
+    requires { SECTOR_BYTES * at + length bytes.now ≤ length disk.old.items }
     ensures length { length disk.new.items ≡ length disk.old.items }
-    ensures written { OnOk result (disk.new.items ≡ overwritten disk.old.items (512 * at) bytes.now) }
+    ensures written { OnOk result (disk.new.items ≡ overwritten disk.old.items (SECTOR_BYTES * at) bytes.now) }
     ensures noted { OnOk result ((replaced : _)
-        × (replaced.items ≡ take (length bytes.now) (drop (512 * at) disk.old.items))
+        × (replaced.items ≡ take (length bytes.now) (drop (SECTOR_BYTES * at) disk.old.items))
         × (calls.new.items ≡ calls.old.items ++ Call.Write at replaced ∷ [])) }
     ensures same { OnErr result (disk.new.items ≡ disk.old.items) }
     ensures same_calls { OnErr result (calls.new.items ≡ calls.old.items) }
@@ -43,9 +44,9 @@ pub(crate) fn replace(
 
 /// Puts back the bytes that a write replaced.
 pub(crate) fn restore(disk: &mut Vec<u8>, at: u64, replaced: &[u8])
-    requires { 512 * at + length replaced.now ≤ length disk.old.items }
+    requires { SECTOR_BYTES * at + length replaced.now ≤ length disk.old.items }
     ensures length { length disk.new.items ≡ length disk.old.items }
-    ensures restored { disk.new.items ≡ overwritten disk.old.items (512 * at) replaced.now }
+    ensures restored { disk.new.items ≡ overwritten disk.old.items (SECTOR_BYTES * at) replaced.now }
 {
     let start = at as usize * SECTOR_BYTES;
     disk[start..start + replaced.len()].copy_from_slice(replaced);

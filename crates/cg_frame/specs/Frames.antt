@@ -1,13 +1,15 @@
 -- Frames: bodies behind gates, in sequence, in the sectors of a segment.
-use Rattle.std.specs.Prelude.{◌≡◌, ℕ, ◌+◌, ◌/◌, ◌^◌, ◌<◌, ◌≤◌, List, [], ◌∷◌, ◌++◌, length, take, drop, slice_index}
+use Rattle.std.specs.Prelude.{◌≡◌, ℕ, ◌+◌, ◌-◌, ◌/◌, ◌^◌, ◌<◌, ◌≤◌, List, [], ◌∷◌, ◌++◌, length, take, drop, slice_index}
 use Rattle.std.specs.Int.{to_be_bytes, w64}
+use Rattle.cg_disk.specs.declared.disk.TheConstants.{SECTOR_BYTES}
 use Rattle.cg_disk.specs.Disk.{Image, span}
 pub use Rattle.cg_gate.specs.Gates.{IsOpen, IsClosed}
 use Rattle.cg_frame.specs.declared.segment.Segment.{Segment}
+use Rattle.cg_frame.specs.declared.segment.TheConstants.{HEAD_BYTES}
 
--- how many sectors the body of a payload of n bytes takes: 16 bytes stand before the payload
+-- how many sectors the body of a payload of n bytes takes, rounded up: `HEAD_BYTES` stand before the payload
 abbrev pub body_sectors : ℕ → ℕ
-body_sectors n = (n + 527) / 512
+body_sectors n = (HEAD_BYTES + n + (SECTOR_BYTES - 1)) / SECTOR_BYTES
 
 -- where the gate behind a frame stands
 abbrev pub next_gate : ℕ → ℕ → ℕ
@@ -40,7 +42,7 @@ pub record HeadAt (image : Image) (segment : Segment) (pos count n : ℕ) : Type
 -- a gate and the sector after it, read into one buffer, are those of a frame
 pub record IsFront (front : List ℕ) (segment : Segment) (pos count n : ℕ) : Type 0 where
   pub is_open : slice_index front 0 ≡ 1
-  pub head_is : take 16 (drop 512 front) ≡ word count ++ word n
+  pub head_is : take 16 (drop SECTOR_BYTES front) ≡ word count ++ word n
   pub counted : 1 ≤ count
   pub fits_word : count < 2 ^ 64
   pub fits : next_gate pos n < segment.sectors

@@ -1,4 +1,6 @@
 //! The sectors of a frame while it is encoded, and numbers of eight bytes.
+ghost use Rattle.cg_frame.specs.declared.segment.TheConstants.{SECTORS_BOUND};
+ghost use Rattle.cg_disk.specs.declared.disk.TheConstants.{SECTOR_BYTES};
 ghost use Rattle.std.specs.Prelude.{◌≡◌, ℕ, ◌+◌, ◌*◌, ◌/◌, ◌^◌, ◌<◌, ◌≤◌, ◌++◌, IfOk, length, take, drop, slice_index};
 ghost use Rattle.cg_frame.specs.Frames.{word, body, body_sectors};
 
@@ -27,9 +29,9 @@ pub(crate) fn number(bytes: &[u8], at: usize) -> u64
 /// Returns the sectors of a body and of the closed gate after it, with zeros after the payload. Copies the payload
 /// once. They take the memory of `room`, and more only where that is too small.
 pub(crate) fn staged(room: Vec<u8>, count: u64, payload: &[u8]) -> Result<Vec<u8>, AllocError>
-    requires { body_sectors (length payload.now) < 2 ^ 54 }
+    requires { body_sectors (length payload.now) < SECTORS_BOUND }
     ensures length { IfOk result (λ sectors.
-        length sectors.items ≡ 512 * (body_sectors (length payload.now) + 1)) }
+        length sectors.items ≡ SECTOR_BYTES * (body_sectors (length payload.now) + 1)) }
     ensures body { IfOk result (λ sectors.
         take (16 + length payload.now) sectors.items ≡ body count payload.now) }
     ensures padded { IfOk result (λ sectors. (i : ℕ) →

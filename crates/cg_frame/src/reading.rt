@@ -1,4 +1,7 @@
 //! Reading frames: the gate and the head first, then the payload.
+ghost use Rattle.cg_frame.specs.declared.segment.TheConstants.{SECTORS_BOUND};
+ghost use Rattle.cg_frame.specs.declared.reading.TheConstants.{FRONT_BYTES, START_BYTES};
+ghost use Rattle.cg_disk.specs.declared.disk.TheConstants.{SECTOR_BYTES};
 ghost use Rattle.std.specs.Prelude.{◌≡◌, ◌≢◌, ℕ, ◌+◌, ◌-◌, ◌*◌, ◌/◌, ◌%◌, ◌^◌, ◌<◌, ◌≤◌, ◌++◌, ◌↔◌, true, IsTrue, length, take, drop, slice_index, OnOk, IfOk, IfSome, IfErr, IsErr, IsErrOf, is_err, List};
 ghost use Rattle.cg_disk.specs.Disk.{present, span, Holds, Stays, Counts};
 ghost use Rattle.cg_frame.specs.Frames.{IsOpen, IsClosed, FrameAt, HeadAt, IsFront, word, body_sectors, next_gate};
@@ -34,7 +37,7 @@ pub(crate) struct Head {
 
 /// What the front of a frame tells; `None` where its gate is closed.
 pub(crate) fn head_of(front: &[u8], segment: Segment, pos: u64) -> Result<Option<Head>, ScanFault>
-    requires { length front.now ≡ 1024 }
+    requires { length front.now ≡ FRONT_BYTES }
     ensures closed { result ≡ Ok None → slice_index front.now 0 ≢ 1 }
     ensures head { IfOk result (λ o. IfSome o (λ head.
         IsFront front.now segment pos head.count head.bytes)) }
@@ -57,14 +60,14 @@ pub(crate) fn head_of(front: &[u8], segment: Segment, pos: u64) -> Result<Option
 
 /// Reads what a buffer holds behind the start of a payload.
 fn read_behind<D: SectorDisk>(disk: &mut D, at: u64, buffer: &mut [u8]) -> Result<(), DiskFault>
-    requires whole { (length buffer.old - 496) % 512 ≡ 0 }
-    requires start { 496 ≤ length buffer.old }
-    requires in_range { at + (length buffer.old - 496) / 512 ≤ D.size disk.old }
+    requires whole { (length buffer.old - START_BYTES) % SECTOR_BYTES ≡ 0 }
+    requires start { START_BYTES ≤ length buffer.old }
+    requires in_range { at + (length buffer.old - START_BYTES) / SECTOR_BYTES ≤ D.size disk.old }
     ensures same_size { D.size disk.new ≡ D.size disk.old }
     ensures same_honesty { D.is_honest disk.new ≡ D.is_honest disk.old }
-    ensures start { take 496 buffer.new ≡ take 496 buffer.old }
+    ensures start { take START_BYTES buffer.new ≡ take START_BYTES buffer.old }
     ensures behind { D.is_honest disk.old ≡ true → OnOk result
-        (Holds (present (D.history disk.old)).content at ((length buffer.old - 496) / 512) (drop 496 buffer.new)) }
+        (Holds (present (D.history disk.old)).content at ((length buffer.old - START_BYTES) / SECTOR_BYTES) (drop START_BYTES buffer.new)) }
     ensures time { D.is_honest disk.old ≡ true → Stays (D.history disk.old) (D.history disk.new) }
     ensures cause { Counts (D.failures disk.old) (D.failures disk.new) (is_err result) }
 {
@@ -76,9 +79,9 @@ fn read_behind<D: SectorDisk>(disk: &mut D, at: u64, buffer: &mut [u8]) -> Resul
 
 /// Writes the start of a payload over that of a buffer.
 fn put_start(buffer: &mut [u8], start: &[u8])
-    requires start { length start.now ≡ 496 }
-    requires room { 496 ≤ length buffer.old }
-    ensures { take 496 buffer.new ≡ start.now }
+    requires start { length start.now ≡ START_BYTES }
+    requires room { START_BYTES ≤ length buffer.old }
+    ensures { take START_BYTES buffer.new ≡ start.now }
 {
     buffer[..START_BYTES].copy_from_slice(start);
 }
@@ -86,10 +89,10 @@ fn put_start(buffer: &mut [u8], start: &[u8])
 /// Makes a buffer for a payload of that many bytes, in whole sectors, which begins with its start. It takes the memory
 /// of `room`, and more only where that is too small.
 fn buffer_for(room: Vec<u8>, bytes: u64, start: &[u8]) -> Result<Vec<u8>, AllocError>
-    requires start { length start.now ≡ 496 }
-    requires small { body_sectors bytes < 2 ^ 54 }
-    ensures length { IfOk result (λ buffer. length buffer.items + 16 ≡ 512 * body_sectors bytes) }
-    ensures start { IfOk result (λ buffer. take 496 buffer.items ≡ start.now) }
+    requires start { length start.now ≡ START_BYTES }
+    requires small { body_sectors bytes < SECTORS_BOUND }
+    ensures length { IfOk result (λ buffer. length buffer.items + 16 ≡ SECTOR_BYTES * body_sectors bytes) }
+    ensures start { IfOk result (λ buffer. take START_BYTES buffer.items ≡ start.now) }
 {
     let size = sectors_of(bytes) as usize * SECTOR_BYTES - (SECTOR_BYTES - START_BYTES);
     let mut buffer = room;
@@ -106,8 +109,8 @@ fn read_payload<D: SectorDisk>(
     start: &[u8],
     room: Vec<u8>,
 ) -> Result<Vec<u8>, ScanFault>
-    requires start { length start.now ≡ 496 }
-    requires small { body_sectors bytes < 2 ^ 54 }
+    requires start { length start.now ≡ START_BYTES }
+    requires small { body_sectors bytes < SECTORS_BOUND }
     requires in_range { at + (body_sectors bytes - 1) ≤ D.size disk.old }
 
     ensures length { IfOk result (λ payload. length payload.items ≡ bytes) }
@@ -137,7 +140,7 @@ pub fn scan<D: SectorDisk>(
 ) -> Result<Option<Frame>, ScanFault>
     requires in_segment { pos < segment.sectors }
     requires on_disk { segment.first + segment.sectors ≤ D.size disk.old }
-    requires small { segment.first + segment.sectors < 2 ^ 54 }
+    requires small { segment.first + segment.sectors < SECTORS_BOUND }
 
     ensures none { D.is_honest disk.old ≡ true → result ≡ Ok None →
         IsClosed (present (D.history disk.old)).content (segment.first + pos) }

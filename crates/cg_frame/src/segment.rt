@@ -15,6 +15,9 @@ const SECTOR: u64 = SECTOR_BYTES as u64;
 /// Bytes of the count and the length before a payload.
 pub(crate) const HEAD_BYTES: u64 = 16;
 
+/// Bound of the sectors of a disk: each sector before it begins at a byte below 2^63.
+pub const SECTORS_BOUND: u64 = 1 << 54;
+
 /// A run of sectors on a disk, which frames fill from the front. Positions count its sectors from 0.
 #[derive(Clone, Copy, Debug, PartialEq, Eq)]
 pub struct Segment {
@@ -54,4 +57,5 @@ pub fn frame_numbers()
     ensures segment { SEGMENT_SECTORS ≡ 2048 }
     ensures head { HEAD_BYTES ≡ 16 }
     ensures payload { LARGEST_PAYLOAD_BYTES ≡ 1047536 }
+    ensures bound { SECTORS_BOUND ≡ 2 ^ 54 }
 {}

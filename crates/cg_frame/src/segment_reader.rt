@@ -1,4 +1,6 @@
 //! Reading the frames of segments in large pieces, through one buffer.
+ghost use Rattle.cg_frame.specs.declared.segment.TheConstants.{SECTORS_BOUND};
+ghost use Rattle.cg_disk.specs.declared.disk.TheConstants.{SECTOR_BYTES};
 ghost use Rattle.std.specs.Prelude.{◌≡◌, ℕ, ◌+◌, ◌*◌, ◌^◌, ◌<◌, ◌≤◌, true, length, take, min, OnOk, IfOk, IfSome, IfErr, IsErrOf, is_err};
 ghost use Rattle.cg_disk.specs.Disk.{Image, present, Holds, Stays, Counts};
 ghost use Rattle.cg_frame.specs.Frames.{next_gate};
@@ -19,8 +21,8 @@ pub const PIECE_SECTORS: u64 = 256;
 /// Returns the head of the frame whose gate is at `pos`, of the sectors of a segment; `None` if the gate is closed.
 fn head_at(buffer: &[u8], segment: Segment, pos: u64) -> Result<Option<Head>, ScanFault>
     requires in_segment { pos < segment.sectors }
-    requires room { 512 * segment.sectors ≤ length buffer.now }
-    requires small { segment.first + segment.sectors < 2 ^ 54 }
+    requires room { SECTOR_BYTES * segment.sectors ≤ length buffer.now }
+    requires small { segment.first + segment.sectors < SECTORS_BOUND }
 
     // The gate has to be in the buffer, and the sector after it, where the segment has one.
     ensures found { (image : Image) → Holds image segment.first (min (pos + 2) segment.sectors) buffer.now →
@@ -45,7 +47,7 @@ fn head_at(buffer: &[u8], segment: Segment, pos: u64) -> Result<Option<Head>, Sc
 fn piece_end(sectors: u64, filled: u64, to: u64) -> u64
     requires filled { filled ≤ sectors }
     requires to { to ≤ sectors }
-    requires small { sectors < 2 ^ 54 }
+    requires small { sectors < SECTORS_BOUND }
     ensures enough { to ≤ result }
     ensures more { filled ≤ result }
     ensures inside { result ≤ sectors }
@@ -55,7 +57,7 @@ fn piece_end(sectors: u64, filled: u64, to: u64) -> u64
 
 // Returns the position after the gate at `pos` and the sector after it, if the segment has one.
 fn front_end(sectors: u64, pos: u64) -> u64
-    requires { pos < 2 ^ 54 }
+    requires { pos < SECTORS_BOUND }
     ensures { result ≡ min (pos + 2) sectors }
 {
     cmp::min(pos + 2, sectors)
@@ -72,14 +74,14 @@ fn read_piece<D: SectorDisk>(
 ) -> Result<u64, DiskFault>
     requires filled { filled ≤ segment.sectors }
     requires to { to ≤ segment.sectors }
-    requires room { 512 * segment.sectors ≤ length buffer.old }
+    requires room { SECTOR_BYTES * segment.sectors ≤ length buffer.old }
     requires on_disk { segment.first + segment.sectors ≤ D.size disk.old }
-    requires small { segment.first + segment.sectors < 2 ^ 54 }
+    requires small { segment.first + segment.sectors < SECTORS_BOUND }
 
     ensures enough { IfOk result (λ n. (to ≤ n) × (n ≤ segment.sectors)) }
     ensures holds { D.is_honest disk.old ≡ true → (image : Image) → HasContent (present (D.history disk.old)) image →
         Holds image segment.first filled buffer.old → IfOk result (λ n. Holds image segment.first n buffer.new) }
-    ensures kept { take (512 * filled) buffer.new ≡ take (512 * filled) buffer.old }
+    ensures kept { take (SECTOR_BYTES * filled) buffer.new ≡ take (SECTOR_BYTES * filled) buffer.old }
     ensures same_size { D.size disk.new ≡ D.size disk.old }
     ensures same_honesty { D.is_honest disk.new ≡ D.is_honest disk.old }
     ensures time { D.is_honest disk.old ≡ true → Stays (D.history disk.old) (D.history disk.new) }
@@ -109,8 +111,8 @@ pub struct SegmentReader {
     // The bytes of the buffer that are the payload of the last frame.
     payload_start: usize,
     payload_end: usize,
-    ghost room: { 512 * segment.sectors ≤ length buffer.items },
-    ghost small: { segment.first + segment.sectors < 2 ^ 54 },
+    ghost room: { SECTOR_BYTES * segment.sectors ≤ length buffer.items },
+    ghost small: { segment.first + segment.sectors < SECTORS_BOUND },
     ghost filled_inside: { filled ≤ segment.sectors },
     ghost inside: { pos < segment.sectors },
     ghost payload_ends: { payload_start ≤ payload_end },
@@ -123,7 +125,7 @@ impl SegmentReader {
     /// Creates a reader at the first gate of a segment. Allocates the buffer.
     pub fn new(alloc: Global, segment: Segment) -> Result<Self, AllocError>
         requires some { 0 < segment.sectors }
-        requires small { segment.first + segment.sectors < 2 ^ 54 }
+        requires small { segment.first + segment.sectors < SECTORS_BOUND }
         ensures segment { IfOk result (λ reader. segment_read reader ≡ segment) }
         ensures position { IfOk result (λ reader. position_of reader ≡ 0) }
         ensures buffered { IfOk result (λ reader. (image : Image) → IsBuffered image reader) }
@@ -143,7 +145,7 @@ impl SegmentReader {
     pub fn restart(&mut self, segment: Segment)
         requires some { 0 < segment.sectors }
         requires no_larger { segment.sectors ≤ (segment_read self.old).sectors }
-        requires small { segment.first + segment.sectors < 2 ^ 54 }
+        requires small { segment.first + segment.sectors < SECTORS_BOUND }
         ensures segment { segment_read self.new ≡ segment }
         ensures position { position_of self.new ≡ 0 }
         ensures buffered { (image : Image) → IsBuffered image self.new }

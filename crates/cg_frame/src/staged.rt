@@ -1,4 +1,6 @@
 //! Frames that are encoded, to be appended later without an allocation.
+ghost use Rattle.cg_frame.specs.declared.segment.TheConstants.{SECTORS_BOUND};
+ghost use Rattle.cg_disk.specs.declared.disk.TheConstants.{SECTOR_BYTES};
 ghost use Rattle.std.specs.Prelude.{◌≡◌, ℕ, ◌+◌, ◌*◌, ◌^◌, ◌<◌, ◌≤◌, [], ◌∷◌, ◌++◌, true, length, OnOk, IfOk, is_err, List};
 ghost use Rattle.cg_disk.specs.Disk.{Image, present, IsImage, IsSynced, Changes, LeavesOnly, TakesCalls, Counts};
 ghost use Rattle.cg_frame.specs.Frames.{IsClosed, body_sectors, next_gate};
@@ -40,7 +42,7 @@ pub fn stage(
     count: u64,
     payload: &[u8],
 ) -> Result<StagedFrame, AllocError>
-    requires { body_sectors (length payload.now) < 2 ^ 54 }
+    requires { body_sectors (length payload.now) < SECTORS_BOUND }
     ensures { IfOk result (λ frame. frame ≡ (count, payload.now)) }
 {
     let room = mem::replace(room, Vec::new(alloc));
@@ -55,7 +57,7 @@ pub fn stage(
 impl StagedFrame {
     /// Returns the memory of the frame, for the next one.
     pub fn into_room(self) -> Vec<u8>
-        ensures { length result.items ≡ 512 * (body_sectors (length self.1) + 1) }
+        ensures { length result.items ≡ SECTOR_BYTES * (body_sectors (length self.1) + 1) }
     {
         let StagedFrame { sectors, .. } = self;
         sectors
@@ -73,7 +75,7 @@ pub fn append_staged<D: SectorDisk>(
     requires counted { 1 ≤ frame.now.0 }
     requires fits { next_gate pos (length frame.now.1) < segment.sectors }
     requires on_disk { segment.first + segment.sectors ≤ D.size disk.old }
-    requires small { segment.first + segment.sectors < 2 ^ 54 }
+    requires small { segment.first + segment.sectors < SECTORS_BOUND }
     requires closed { D.is_honest disk.old ≡ true →
         (image : Image) → IsImage (present (D.history disk.old)) image → IsClosed image (segment.first + pos) }
 

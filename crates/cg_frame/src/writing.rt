@@ -1,4 +1,5 @@
 //! Appending a frame to a segment.
+ghost use Rattle.cg_frame.specs.declared.segment.TheConstants.{SECTORS_BOUND};
 ghost use Rattle.std.specs.Prelude.{◌≡◌, ◌↔◌, ℕ, ◌+◌, ◌^◌, ◌<◌, ◌≤◌, [], ◌∷◌, ◌++◌, true, length, OnOk, IfOk, IsErrOf, is_err, List};
 ghost use Rattle.cg_disk.specs.Disk.{Image, present, IsImage, IsSynced, AllBut, Changes, LeavesOnly, TakesCalls, Counts};
 ghost use Rattle.cg_frame.specs.Frames.{IsClosed, body_sectors, next_gate};
@@ -12,7 +13,7 @@ use std::alloc::Global;
 pub fn close_gate<D: SectorDisk>(disk: &mut D, segment: Segment, pos: u64) -> Result<(), DiskFault>
     requires in_segment { pos < segment.sectors }
     requires on_disk { segment.first + segment.sectors ≤ D.size disk.old }
-    requires small { segment.first + segment.sectors < 2 ^ 54 }
+    requires small { segment.first + segment.sectors < SECTORS_BOUND }
 
     ensures same_size { D.size disk.new ≡ D.size disk.old }
     ensures same_honesty { D.is_honest disk.new ≡ D.is_honest disk.old }
@@ -45,7 +46,7 @@ pub fn append<D: SectorDisk>(
 ) -> Result<u64, FrameFault>
     requires counted { 1 ≤ count }
     requires on_disk { segment.first + segment.sectors ≤ D.size disk.old }
-    requires small { segment.first + segment.sectors < 2 ^ 54 }
+    requires small { segment.first + segment.sectors < SECTORS_BOUND }
     requires closed { D.is_honest disk.old ≡ true →
         (image : Image) → IsImage (present (D.history disk.old)) image → IsClosed image (segment.first + pos) }
 

@@ -9,19 +9,19 @@ use cg_disk::{DiskFault, SECTOR_BYTES, SectorDisk};
 pub const OPEN: u8 = 1;
 
 /// Returns the sector of an open gate.
-pub(crate) fn open_gate() -> [u8; 512]
+pub(crate) fn open_gate() -> [u8; SECTOR_BYTES]
     ensures { IsOpenGate result }
 {
-    let mut gate = [0; 512];
+    let mut gate = [0; SECTOR_BYTES];
     gate[0] = OPEN;
     gate
 }
 
 /// Returns the sector of a closed gate.
-pub(crate) fn closed_gate() -> [u8; 512]
+pub(crate) fn closed_gate() -> [u8; SECTOR_BYTES]
     ensures { IsClosedGate result }
 {
-    [0; 512]
+    [0; SECTOR_BYTES]
 }
 
 /// Reads whether a gate is open.

@@ -2,6 +2,7 @@
 use Rattle.std.specs.Prelude.{◌≡◌, ℕ, false, ◌+◌, ◌*◌, ◌^◌, ◌<◌, ◌≤◌, List, [], ◌∷◌, take, drop, Result, Ok, Err, nat_lt, ◌==◌, if◌then◌else◌}
 use Rattle.std.specs.Int.{Width, w16, w32, w64, byte_len, from_be_bytes}
 use Rattle.std.specs.List.{list_any}
+use Rattle.cg_disk.specs.declared.disk.TheConstants.{SECTOR_BYTES}
 use Rattle.cg_disk.specs.Disk.{Image}
 use Rattle.cg_gate.specs.Gates.{IsClosed}
 use Rattle.cg_gate.specs.Layout.{segment_count}
@@ -58,7 +59,7 @@ pub record IsLawfulHead (head : Head) : Type 0 where
   pub epoch_to : head.epoch < 2 ^ 63
   pub base_number : head.base_number < 2 ^ 63
   pub tail : 1 ≤ head.tail
-  pub fits : 24 + 2 * (head.base + head.tail) ≤ 512
+  pub fits : 24 + 2 * (head.base + head.tail) ≤ SECTOR_BYTES
 
 -- the body of a root
 pub record IsRootBody (sectors : ℕ) (body : List ℕ) : Type 0 where

@@ -1,4 +1,5 @@
 //! Decoding and checking the body of a root.
+ghost use Rattle.cg_disk.specs.declared.disk.TheConstants.{SECTOR_BYTES};
 ghost use Rattle.std.specs.Prelude.{◌≡◌, ◌↔◌, ◌+◌, ◌*◌, ◌≤◌, ◌==◌, IfOk, IsTrue, length, take, drop};
 ghost use Rattle.std.specs.Int.{w16, w32, w64};
 ghost use Rattle.std.specs.List.{list_any};
@@ -55,7 +56,7 @@ fn eight_at(bytes: &[u8], at: usize) -> u64
 
 /// Reads what a body says before its ids.
 pub(crate) fn head_of(body: &[u8]) -> Head
-    requires { length body.now ≡ 512 }
+    requires { length body.now ≡ SECTOR_BYTES }
     ensures { result ≡ head_in body.now }
 {
     Head {
@@ -116,7 +117,7 @@ fn are_segments(bytes: &[u8], segments: u64) -> bool
 
 /// Returns whether a body, of which this is the head, is that of a root on a disk of that many sectors.
 pub(crate) fn is_root_body(body: &[u8], head: Head, sectors: u64) -> bool
-    requires long { length body.now ≡ 512 }
+    requires long { length body.now ≡ SECTOR_BYTES }
     requires head { head ≡ head_in body.now }
     ensures { IsTrue result ↔ IsRootBody sectors body.now }
 {
@@ -138,7 +139,7 @@ fn ids_of(alloc: Global, bytes: &[u8]) -> Result<SegmentIds, AllocError>
 
 /// Reads the root of a body.
 pub(crate) fn root_of(alloc: Global, slot: Slot, body: &[u8]) -> Result<Root, AllocError>
-    requires long { length body.now ≡ 512 }
+    requires long { length body.now ≡ SECTOR_BYTES }
     requires head { IsLawfulHead (head_in body.now) }
     ensures { IfOk result (λ root. root ≡ root_in slot body.now) }
 {

@@ -1,15 +1,17 @@
 //! Encoding a root as the sector of its body.
+ghost use Rattle.cg_disk.specs.declared.disk.TheConstants.{SECTOR_BYTES};
 ghost use Rattle.std.specs.Prelude.{◌≡◌, ℕ, ◌+◌, ◌*◌, ◌^◌, ◌<◌, ◌≤◌, ◌++◌, length, take, slice_index};
 ghost use Rattle.std.specs.List.{flat_map};
 ghost use Rattle.cg_root.specs.Roots.{two_bytes, four_bytes, eight_bytes, root_ids, root_head, root_body};
 
 use crate::sector_builder::SectorBuilder;
 use crate::{Root, SegmentId, VERSION};
+use cg_disk::SECTOR_BYTES;
 
 // Puts a number at the end in two bytes, and likewise in four and in eight.
 #[tactic(auto, unfolding(crate::specs::Roots::two_bytes))]
 fn push_two(sector: &mut SectorBuilder, number: u16)
-    requires { length sector.old + 2 ≤ 512 }
+    requires { length sector.old + 2 ≤ SECTOR_BYTES }
     ensures bytes { sector.new ≡ sector.old ++ two_bytes number }
     ensures longer { length sector.new ≡ length sector.old + 2 }
 {
@@ -18,7 +20,7 @@ fn push_two(sector: &mut SectorBuilder, number: u16)
 
 #[tactic(auto, unfolding(crate::specs::Roots::four_bytes))]
 fn push_four(sector: &mut SectorBuilder, number: u32)
-    requires { length sector.old + 4 ≤ 512 }
+    requires { length sector.old + 4 ≤ SECTOR_BYTES }
     ensures bytes { sector.new ≡ sector.old ++ four_bytes number }
     ensures longer { length sector.new ≡ length sector.old + 4 }
 {
@@ -27,7 +29,7 @@ fn push_four(sector: &mut SectorBuilder, number: u32)
 
 #[tactic(auto, unfolding(crate::specs::Roots::eight_bytes))]
 fn push_eight(sector: &mut SectorBuilder, number: u64)
-    requires { length sector.old + 8 ≤ 512 }
+    requires { length sector.old + 8 ≤ SECTOR_BYTES }
     ensures bytes { sector.new ≡ sector.old ++ eight_bytes number }
     ensures longer { length sector.new ≡ length sector.old + 8 }
 {
@@ -51,7 +53,7 @@ fn head_of_root(root: &Root) -> SectorBuilder
 }
 
 fn push_ids(sector: &mut SectorBuilder, ids: &[SegmentId])
-    requires { length sector.old + 2 * length ids.now ≤ 512 }
+    requires { length sector.old + 2 * length ids.now ≤ SECTOR_BYTES }
     ensures bytes { sector.new ≡ sector.old ++ flat_map two_bytes ids.now }
     ensures longer { length sector.new ≡ length sector.old + 2 * length ids.now }
 {
@@ -61,9 +63,9 @@ fn push_ids(sector: &mut SectorBuilder, ids: &[SegmentId])
 }
 
 /// Returns the sector of a root's body: its bytes, and zeros. It takes no memory.
-pub(crate) fn body_of(root: &Root) -> [u8; 512]
-    requires { 24 + 2 * length (root_ids root.now) ≤ 512 }
-    ensures long { length result ≡ 512 }
+pub(crate) fn body_of(root: &Root) -> [u8; SECTOR_BYTES]
+    requires { 24 + 2 * length (root_ids root.now) ≤ SECTOR_BYTES }
+    ensures long { length result ≡ SECTOR_BYTES }
     ensures begins { take (length (root_body root.now)) result ≡ root_body root.now }
     ensures zeros { (i : ℕ) → length (root_body root.now) ≤ i → slice_index result i ≡ 0 }
 {

@@ -1,4 +1,5 @@
 //! A sector that is filled from its front.
+ghost use Rattle.cg_disk.specs.declared.disk.TheConstants.{SECTOR_BYTES};
 ghost use Rattle.std.specs.Prelude.{◌≡◌, ℕ, ◌+◌, ◌≤◌, List, [], ◌++◌, length, take, slice_index};
 
 use cg_disk::SECTOR_BYTES;
@@ -7,7 +8,7 @@ use std::marker::Model;
 /// Bytes that are put one after another into a sector of zeros, without memory. Contracts see the bytes so far.
 #[derive(Drop)]
 pub(crate) struct SectorBuilder {
-    sector: [u8; 512],
+    sector: [u8; SECTOR_BYTES],
     used: usize,
 }
 
@@ -27,14 +28,14 @@ impl SectorBuilder {
         ensures { result ≡ [] }
     {
         SectorBuilder {
-            sector: [0; 512],
+            sector: [0; SECTOR_BYTES],
             used: 0,
         }
     }
 
     /// Puts bytes at the end.
     pub(crate) fn push(&mut self, bytes: &[u8])
-        requires { length self.old + length bytes.now ≤ 512 }
+        requires { length self.old + length bytes.now ≤ SECTOR_BYTES }
         ensures { self.new ≡ self.old ++ bytes.now }
     {
         let end = self.used + bytes.len();
@@ -43,9 +44,9 @@ impl SectorBuilder {
     }
 
     /// Returns the whole sector.
-    pub(crate) fn finish(self) -> [u8; 512]
-        ensures long { length result ≡ 512 }
-        ensures fits { length self ≤ 512 }
+    pub(crate) fn finish(self) -> [u8; SECTOR_BYTES]
+        ensures long { length result ≡ SECTOR_BYTES }
+        ensures fits { length self ≤ SECTOR_BYTES }
         ensures begins { take (length self) result ≡ self }
         ensures zeros { (i : ℕ) → length self ≤ i → slice_index result i ≡ 0 }
     {

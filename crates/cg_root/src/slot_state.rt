@@ -1,4 +1,5 @@
 //! What a slot holds, as its two sectors show it.
+ghost use Rattle.cg_disk.specs.declared.disk.TheConstants.{SECTOR_BYTES};
 ghost use Rattle.std.specs.Prelude.{◌≡◌, ◌+◌, length};
 ghost use Rattle.cg_disk.specs.Disk.{sector};
 ghost use Rattle.cg_root.specs.Decoding.{IsState, counting_slot, greater_epoch};
@@ -27,7 +28,7 @@ pub(crate) enum SlotState {
 pub(crate) fn body_of_slot(slots: &[u8], slot: Slot) -> &[u8]
     requires { length slots.now ≡ 2048 }
     ensures body { result.now ≡ sector slots.now (gate_of slot + 1) }
-    ensures long { length result.now ≡ 512 }
+    ensures long { length result.now ≡ SECTOR_BYTES }
 {
     let at = (slot.gate() as usize + 1) * SECTOR_BYTES;
     &slots[at..at + SECTOR_BYTES]
