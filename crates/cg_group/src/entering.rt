@@ -20,6 +20,7 @@ use cg_member::member::Waits;
 use cg_names::{GroupId, MemberId, Moment};
 use cg_record::Assignment;
 use cg_request::ticket::Ticket;
+use cg_turn::call::Call;
 use cg_turn::joining::new_member;
 use cg_turn::parking::is_entering;
 use std::alloc::{AllocError, Global};
@@ -79,10 +80,9 @@ pub fn entering<'a>(r: &'a CheckedJoin, fresh: Uuid, groups: &Held) -> Option<&'
 
 /// Processes a JOIN by a new member that is only parked, in the group with this id.
 pub fn enter_in(
-    now: Moment,
+    call: Call,
     held: &mut Held,
     homes: &mut Homes,
-    ticket: Ticket,
     own: &GroupId,
     r: CheckedJoin,
     fresh: Uuid,
@@ -93,19 +93,18 @@ pub fn enter_in(
     ensures known { AreKnown (is_home homes.new) held.new }
     ensures tight { IsTight homes.new held.new }
     ensures ok { IfOk result
-        (λ e. concluded (at_moment now held.old) ticket (join now r fresh ticket held.old) ≡ outcome (at_moment now held.new) e) }
+        (λ e. concluded (at_moment call.now held.old) call.ticket (join call.now r fresh call.ticket held.old) ≡ outcome (at_moment call.now held.new) e) }
     ensures err { OnErr result (held.new ≡ held.old) }
-    ensures taken { is_ok (join now r fresh ticket held.old) ≡ true }
+    ensures taken { is_ok (join call.now r fresh call.ticket held.old) ≡ true }
 {
-    let alloc = held.allocator();
-    let id = drawn(alloc, &r.request, fresh)?;
+    let id = drawn(call.alloc, &r.request, fresh)?;
     let altering = EnteringJoin {
-        alloc,
-        now,
+        alloc: call.alloc,
+        now: call.now,
         id,
         request: r,
-        ticket,
+        ticket: call.ticket,
     };
-    let effects = park_in(held, homes, ticket, own, altering, None)?;
+    let effects = park_in(held, homes, call.ticket, own, altering, None)?;
     Ok(effects)
 }

@@ -21,22 +21,21 @@ use cg_names::{Code, Moment};
 use cg_request::request::JoinRequest;
 use cg_request::ticket::Ticket;
 use cg_turn::admission::{join_held, join_unheld, unheld_refusal};
-use std::alloc::{AllocError, Global};
+use cg_turn::call::Call;
+use std::alloc::AllocError;
 use uuid::Uuid;
 
 // Returns the step of a JOIN whose session timeout is within its limits, or its error code.
 #[tactic(auto, unfolding(crate::specs::Machine::join))]
 fn join_checked(
-    alloc: Global,
-    now: Moment,
+    call: Call,
     r: CheckedJoin,
     fresh: Uuid,
-    ticket: Ticket,
     groups: &Held,
 ) -> Result<Outcome, AllocError>
     requires { is_session_refused r ≡ false }
-    ensures ok { IfOk result (λ o. o ≡ join now r fresh ticket groups.now) }
-    ensures taken { OnErr result (is_ok (join now r fresh ticket groups.now) ≡ true) }
+    ensures ok { IfOk result (λ o. o ≡ join call.now r fresh call.ticket groups.now) }
+    ensures taken { OnErr result (is_ok (join call.now r fresh call.ticket groups.now) ≡ true) }
 {
     let Some(id) = &r.request.group else {
         return Ok(Err(Code::InvalidGroupId));
@@ -47,11 +46,11 @@ fn join_checked(
                 return Ok(Err(code));
             }
             let id = id.clone()?;
-            let taken = join_unheld(alloc, now, r, fresh, ticket, groups.len(), id)?;
+            let taken = join_unheld(call, r, fresh, groups.len(), id)?;
             Ok(taken)
         }
         Some(group) => {
-            let taken = join_held(alloc, now, r, fresh, ticket, group)?;
+            let taken = join_held(call, r, fresh, group)?;
             Ok(taken)
         }
     }
@@ -90,10 +89,20 @@ fn meet_join_changing(
     }
     if let Some(own) = entering(&r, fresh, held) {
         let group = own.clone()?;
-        let effects = enter_in(now, held, homes, ticket, &group, r, fresh)?;
+        let call = Call {
+            alloc: held.allocator(),
+            now,
+            ticket,
+        };
+        let effects = enter_in(call, held, homes, &group, r, fresh)?;
         return Ok(effects);
     }
-    let concluding = join_checked(held.allocator(), now, r, fresh, ticket, held)?;
+    let call = Call {
+        alloc: held.allocator(),
+        now,
+        ticket,
+    };
+    let concluding = join_checked(call, r, fresh, held)?;
     let effects = park(now, held, homes, ticket, concluding)?;
     Ok(effects)
 }

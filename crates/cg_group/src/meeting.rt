@@ -32,7 +32,8 @@ use cg_request::commits::Commits;
 use cg_request::event::Event;
 use cg_request::request::CommitRequest;
 use cg_request::ticket::Ticket;
-use cg_turn::committing::{committer, committing_unheld, kept};
+use cg_turn::call::Call;
+use cg_turn::committing::{committer, kept, unheld_refusal};
 use cg_turn::joining::new_group;
 use std::alloc::{AllocError, Global};
 
@@ -57,26 +58,24 @@ fn describe(alloc: Global, id: &Option<GroupId>, groups: &Held) -> Result<Reply,
 // changes.
 #[tactic(auto, unfolding(cg_fold::specs::Durable::effect))]
 fn commit_new(
-    now: Moment,
+    call: Call,
     held: &mut Held,
     offsets: &mut Offsets,
-    ticket: Ticket,
     id: GroupId,
     entries: Entries,
 ) -> Result<Effects, AllocError>
     requires { find_group id held.old ≡ None }
     ensures ok { IfOk result
-        (λ e. concluded (at_moment now held.old) ticket (Ok (keeping_entries entries ticket (new_group id))) ≡ outcome (at_moment now held.new) e) }
+        (λ e. concluded (at_moment call.now held.old) call.ticket (Ok (keeping_entries entries call.ticket (new_group id))) ≡ outcome (at_moment call.now held.new) e) }
     ensures parked { StayParked held.old held.new }
     ensures offsets { IfOk result (λ e. offsets.new ≡ offsets_after offsets.old e.commands) }
     ensures err { OnErr result ((held.new ≡ held.old) × (offsets.new ≡ offsets.old)) }
 {
-    let alloc = held.allocator();
     let own = id.clone()?;
-    held.put(new_group(alloc, own))?;
+    held.put(new_group(call.alloc, own))?;
     let committed = Committed { group: id, entries };
     match offsets.commit(&committed) {
-        Ok(()) => Ok(kept(alloc, committed, ticket)),
+        Ok(()) => Ok(kept(call.alloc, committed, call.ticket)),
         Err(wanting) => {
             held.remove(&committed.group);
             Err(wanting)
@@ -86,30 +85,29 @@ fn commit_new(
 
 // Processes a COMMIT whose group is not loaded.
 fn commit_apart(
-    now: Moment,
+    call: Call,
     held: &mut Held,
     offsets: &mut Offsets,
-    ticket: Ticket,
     id: GroupId,
     generation: i32,
     entries: Commits,
 ) -> Result<Effects, AllocError>
     requires { find_group id held.old ≡ None }
     ensures ok { IfOk result
-        (λ e. concluded (at_moment now held.old) ticket (commit_unheld generation entries ticket (length held.old) id) ≡ outcome (at_moment now held.new) e) }
+        (λ e. concluded (at_moment call.now held.old) call.ticket (commit_unheld generation entries call.ticket (length held.old) id) ≡ outcome (at_moment call.now held.new) e) }
     ensures parked { StayParked held.old held.new }
     ensures offsets { IfOk result (λ e. offsets.new ≡ offsets_after offsets.old e.commands) }
     ensures err { OnErr result ((held.new ≡ held.old) × (offsets.new ≡ offsets.old)) }
-    ensures taken { OnErr result (is_ok (commit_unheld generation entries ticket (length held.old) id) ≡ true) }
+    ensures taken { OnErr result (is_ok (commit_unheld generation entries call.ticket (length held.old) id) ≡ true) }
 {
-    let alloc = held.allocator();
-    match committing_unheld(alloc, generation, entries, held.len())? {
-        Err(code) => Ok(reply_alone(alloc, ticket, Reply::Refused(code))),
-        Ok(entries) => {
-            let effects = commit_new(now, held, offsets, ticket, id, entries)?;
-            Ok(effects)
-        }
+    if let Some(code) = unheld_refusal(generation, &entries, held.len()) {
+        return Ok(reply_alone(call.alloc, call.ticket, Reply::Refused(code)));
     }
+    let Some(entries) = entries.into_entries(call.alloc)? else {
+        unreachable!()
+    };
+    let effects = commit_new(call, held, offsets, id, entries)?;
+    Ok(effects)
 }
 
 // Processes a COMMIT: stores it in the loaded group, or in a new one.
@@ -139,13 +137,20 @@ fn meet_commit(
         return Ok(reply_alone(alloc, ticket, Reply::Refused(Code::InvalidGroupId)));
     };
     let Some(group) = held.find(&id) else {
-        let effects = commit_apart(now, held, offsets, ticket, id, generation, entries)?;
+        let effects = commit_apart(
+            Call { alloc, now, ticket },
+            held,
+            offsets,
+            id,
+            generation,
+            entries,
+        )?;
         return Ok(effects);
     };
     match committer(generation, &instance, &member, group) {
         Err(code) => Ok(reply_alone(alloc, ticket, Reply::Refused(code))),
         Ok(who) => {
-            let effects = commit_in(now, held, offsets, ticket, id, who, entries)?;
+            let effects = commit_in(Call { alloc, now, ticket }, held, offsets, id, who, entries)?;
             Ok(effects)
         }
     }

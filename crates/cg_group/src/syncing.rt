@@ -25,9 +25,10 @@ use cg_names::{GroupId, MemberId, Moment};
 use cg_record::Assignment;
 use cg_request::request::SyncRequest;
 use cg_request::ticket::Ticket;
+use cg_turn::call::Call;
 use cg_turn::parking::parking_syncer;
 use cg_turn::syncing::sync_held;
-use std::alloc::{AllocError, Global};
+use std::alloc::AllocError;
 
 // Returns the member whose SYNC gets its reply at once, in a stable group.
 #[tactic(auto, unfolding(cg_member::specs::Syncing::sync_held, cg_member::specs::Syncing::sync_taken))]
@@ -135,20 +136,14 @@ fn parking_sync<'a>(
 
 // Returns the step of a SYNC, or its error code. Only a SYNC that is not refused needs an allocation.
 #[tactic(auto, unfolding(crate::specs::Machine::sync))]
-fn sync(
-    alloc: Global,
-    now: Moment,
-    r: &SyncRequest,
-    ticket: Ticket,
-    groups: &Held,
-) -> Result<Outcome, AllocError>
-    ensures ok { IfOk result (λ o. o ≡ sync now r.now ticket groups.now) }
-    ensures taken { OnErr result (is_ok (sync now r.now ticket groups.now) ≡ true) }
+fn sync(call: Call, r: &SyncRequest, groups: &Held) -> Result<Outcome, AllocError>
+    ensures ok { IfOk result (λ o. o ≡ sync call.now r.now call.ticket groups.now) }
+    ensures taken { OnErr result (is_ok (sync call.now r.now call.ticket groups.now) ≡ true) }
 {
     match named(groups, &r.group) {
         Err(code) => Ok(Err(code)),
         Ok((_, group)) => {
-            let taken = sync_held(alloc, now, r, ticket, group)?;
+            let taken = sync_held(call, r, group)?;
             Ok(taken)
         }
     }
@@ -179,7 +174,15 @@ pub fn meet_sync(
         let effects = park_in(held, homes, ticket, own, altering, older)?;
         return Ok(effects);
     }
-    let concluding = sync(held.allocator(), now, r, ticket, held)?;
+    let concluding = sync(
+        Call {
+            alloc: held.allocator(),
+            now,
+            ticket,
+        },
+        r,
+        held,
+    )?;
     let effects = park(now, held, homes, ticket, concluding)?;
     Ok(effects)
 }

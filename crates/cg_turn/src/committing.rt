@@ -1,7 +1,8 @@
 //! COMMIT (OffsetCommit request): its checks and its command.
-ghost use Rattle.std.specs.Prelude.{◌≡◌, ℕ, List, Ok, Err, Some, true, is_ok, IfOk, OnErr, MatchResult};
+ghost use Rattle.std.specs.Prelude.{◌≡◌, ℕ, List, Ok, Err, Some, false, MatchOption, MatchResult};
 ghost use Rattle.std.specs.Option.{option_copied};
-ghost use Rattle.cg_turn.specs.Committing.{commit_effects, commit_of_member, commit_unheld, committer, keeping_entries};
+ghost use Rattle.cg_turn.specs.Committing.{commit_effects, commit_of_member, commit_unheld, committed, committer};
+ghost use Rattle.cg_request.specs.Commits.{is_too_large};
 ghost use Rattle.cg_member.specs.Joining.{new_group};
 
 use crate::bounds::GROUPS_MAX;
@@ -11,10 +12,10 @@ use cg_member::few::Few;
 use cg_member::group::{Group, Phase};
 use cg_member::reply::Reply;
 use cg_names::{Code, InstanceId, MemberId};
-use cg_record::{Command, Committed, Entries};
+use cg_record::{Command, Committed};
 use cg_request::commits::Commits;
 use cg_request::ticket::Ticket;
-use std::alloc::{AllocError, Global};
+use std::alloc::Global;
 
 #[tactic(auto, unfolding(crate::specs::Committing::commit_of_member))]
 fn committing_member<'a>(
@@ -72,31 +73,23 @@ pub fn kept(alloc: Global, committed: Committed, ticket: Ticket) -> Effects
     }
 }
 
-/// Returns the entries that a COMMIT stores in a group that is not loaded, or its error code. `loaded` is the number of
-/// loaded groups. Only a COMMIT that is not refused needs an allocation.
-#[tactic(auto, unfolding(crate::specs::Committing::commit_unheld, crate::specs::Committing::keeping_entries))]
-pub fn committing_unheld(
-    alloc: Global,
-    generation: i32,
-    entries: Commits,
-    loaded: usize,
-) -> Result<Result<Entries, Code>, AllocError>
-    ensures ok { IfOk result (λ o. MatchResult o
-        (λ kept. (ticket : Ticket) (id : List ℕ) → commit_unheld generation entries ticket loaded id ≡ Ok (keeping_entries kept ticket (new_group id)))
-        (λ code. (ticket : Ticket) (id : List ℕ) → commit_unheld generation entries ticket loaded id ≡ Err code)) }
-    ensures err { OnErr result ((ticket : Ticket) (id : List ℕ) → is_ok (commit_unheld generation entries ticket loaded id) ≡ true) }
+/// Returns the error code of a COMMIT to a group that is not loaded, if it is refused. `loaded` is the number of loaded
+/// groups. No allocation.
+#[tactic(auto, unfolding(crate::specs::Committing::commit_unheld))]
+pub fn unheld_refusal(generation: i32, entries: &Commits, loaded: usize) -> Option<Code>
+    ensures { MatchOption result
+        ((is_too_large entries.now ≡ false)
+        × ((ticket : Ticket) (id : List ℕ) → commit_unheld generation entries.now ticket loaded id ≡ Ok (committed entries.now ticket (new_group id))))
+        (λ code. (ticket : Ticket) (id : List ℕ) → commit_unheld generation entries.now ticket loaded id ≡ Err code) }
 {
     if generation >= 0 {
-        return Ok(Err(Code::IllegalGeneration));
+        return Some(Code::IllegalGeneration);
     }
     if entries.is_too_large() {
-        return Ok(Err(Code::OffsetMetadataTooLarge));
+        return Some(Code::OffsetMetadataTooLarge);
     }
     if GROUPS_MAX <= loaded {
-        return Ok(Err(Code::CoordinatorNotAvailable));
+        return Some(Code::CoordinatorNotAvailable);
     }
-    match entries.into_entries(alloc)? {
-        None => Ok(Err(Code::OffsetMetadataTooLarge)),
-        Some(entries) => Ok(Ok(entries)),
-    }
+    None
 }

@@ -5,6 +5,7 @@ ghost use Rattle.cg_member.specs.Membership.{find_member, find_instance};
 ghost use Rattle.cg_member.specs.Joining.{new_group, new_member, admitted, in_join_phase, join_new, updating, waiting, rejoined, join_again, join_current, is_current, join_known};
 ghost use Rattle.cg_member.specs.declared.member.Waits.TheVariants.{Join};
 
+use crate::call::Call;
 use crate::rebalance::{joined_reply, leads, prepared, tried, turn_of};
 use cg_member::answers::{Refusing, answer_one};
 use cg_member::calls::Calls;
@@ -17,7 +18,6 @@ use cg_member::turn::Turn;
 use cg_names::{Code, Generation, GroupId, MemberId, Moment, ProtocolName};
 use cg_record::{Assignment, MEMBERS_MAX};
 use cg_request::request::JoinRequest;
-use cg_request::ticket::Ticket;
 use std::alloc::{AllocError, Global};
 
 /// Creates a group without members, without an allocation.
@@ -92,23 +92,22 @@ fn in_join_phase(now: Moment, turn: Turn) -> Result<Turn, AllocError>
 
 /// Returns the step of a JOIN by a new member.
 #[tactic(auto, unfolding(cg_member::specs::Joining::join_new, cg_member::specs::Joining::new_member))]
-pub fn join_new(
-    alloc: Global,
-    now: Moment,
-    r: CheckedJoin,
-    id: MemberId,
-    ticket: Ticket,
-    group: Group,
-) -> Result<Turn, AllocError>
+pub fn join_new(call: Call, r: CheckedJoin, id: MemberId, group: Group) -> Result<Turn, AllocError>
     requires room { length group.members < MEMBERS_MAX }
     requires own_id { is_some (find_member id group.members) ≡ false }
     requires own_instance { is_some (find_instance r.instance group.members) ≡ false }
-    ensures { IfOk result (λ t. t ≡ join_new now r id ticket group) }
+    ensures { IfOk result (λ t. t ≡ join_new call.now r id call.ticket group) }
 {
-    let (member, kind) = new_member(now, r, id, Assignment::empty(alloc), Waits::Join(ticket));
+    let (member, kind) = new_member(
+        call.now,
+        r,
+        id,
+        Assignment::empty(call.alloc),
+        Waits::Join(call.ticket),
+    );
     let group = admitted(member, kind, group)?;
-    let turn = in_join_phase(now, turn_of(alloc, group))?;
-    tried(alloc, now, turn)
+    let turn = in_join_phase(call.now, turn_of(call.alloc, group))?;
+    tried(call.alloc, call.now, turn)
 }
 
 #[tactic(auto, unfolding(cg_member::specs::Joining::updating))]
@@ -121,73 +120,49 @@ fn updating(r: CheckedJoin, id: &MemberId, mut group: Group) -> Group
 
 /// Parks a call of the member. An older parked call gets 27.
 #[tactic(auto, unfolding(cg_member::specs::Joining::waiting))]
-pub fn waiting(now: Moment, id: &MemberId, waits: Waits, turn: Turn) -> Result<Turn, AllocError>
+pub fn waiting(now: Moment, id: &MemberId, waits: Waits, mut turn: Turn) -> Result<Turn, AllocError>
     ensures { IfOk result (λ t. t ≡ waiting now id.now waits turn) }
 {
-    let Turn {
-        mut group,
-        mut replies,
-        commands,
-    } = turn;
-    if let Some(member) = group.members.find(id) {
+    if let Some(member) = turn.group.members.find(id) {
         let refusing = Refusing(Code::RebalanceInProgress);
-        answer_one(Calls::Any, &refusing, member, &mut replies)?;
+        answer_one(Calls::Any, &refusing, member, &mut turn.replies)?;
     }
-    group.members.wait(id, waits, now);
-    Ok(Turn {
-        group,
-        replies,
-        commands,
-    })
+    turn.group.members.wait(id, waits, now);
+    Ok(turn)
 }
 
 /// Parks the JOIN in the rebalance, which begins if none is under way and completes if all members have joined.
 #[tactic(auto, unfolding(cg_member::specs::Joining::rejoined))]
-pub fn rejoined(
-    alloc: Global,
-    now: Moment,
-    id: &MemberId,
-    ticket: Ticket,
-    turn: Turn,
-) -> Result<Turn, AllocError>
-    ensures { IfOk result (λ t. t ≡ rejoined now id.now ticket turn) }
+pub fn rejoined(call: Call, id: &MemberId, turn: Turn) -> Result<Turn, AllocError>
+    ensures { IfOk result (λ t. t ≡ rejoined call.now id.now call.ticket turn) }
 {
-    let turn = in_join_phase(now, turn)?;
-    let turn = waiting(now, id, Waits::Join(ticket), turn)?;
-    tried(alloc, now, turn)
+    let turn = in_join_phase(call.now, turn)?;
+    let turn = waiting(call.now, id, Waits::Join(call.ticket), turn)?;
+    tried(call.alloc, call.now, turn)
 }
 
 #[tactic(auto, unfolding(cg_member::specs::Joining::join_again))]
-fn join_again(
-    alloc: Global,
-    now: Moment,
-    r: CheckedJoin,
-    id: &MemberId,
-    ticket: Ticket,
-    group: Group,
-) -> Result<Turn, AllocError>
-    ensures { IfOk result (λ t. t ≡ join_again now r id.now ticket group) }
+fn join_again(call: Call, r: CheckedJoin, id: &MemberId, group: Group) -> Result<Turn, AllocError>
+    ensures { IfOk result (λ t. t ≡ join_again call.now r id.now call.ticket group) }
 {
-    let turn = turn_of(alloc, updating(r, id, group));
-    rejoined(alloc, now, id, ticket, turn)
+    let turn = turn_of(call.alloc, updating(r, id, group));
+    rejoined(call, id, turn)
 }
 
 // The machine answers such a JOIN without a copy of the group (`current_joiner`); the contract of `join_held` has every JOIN.
 #[tactic(auto, unfolding(cg_member::specs::Joining::join_current, cg_member::specs::Membership::hearing))]
 fn join_current(
-    alloc: Global,
-    now: Moment,
+    call: Call,
     id: &MemberId,
-    ticket: Ticket,
     member: &Member,
     group: &Group,
 ) -> Result<Turn, AllocError>
-    ensures { IfOk result (λ t. t ≡ join_current now id.now ticket member.now group.now) }
+    ensures { IfOk result (λ t. t ≡ join_current call.now id.now call.ticket member.now group.now) }
 {
-    let reply = joined_reply(alloc, group, member)?;
-    let mut turn = turn_of(alloc, copied_group(alloc, group)?);
-    turn.group.members.hear(id, now);
-    turn.replies.push((ticket, reply))?;
+    let reply = joined_reply(call.alloc, group, member)?;
+    let mut turn = turn_of(call.alloc, copied_group(call.alloc, group)?);
+    turn.group.members.hear(id, call.now);
+    turn.replies.push((call.ticket, reply))?;
     Ok(turn)
 }
 
@@ -208,19 +183,17 @@ pub fn is_current(r: &JoinRequest, member: &Member, group: &Group) -> bool
 /// Returns the step of a JOIN by a known member. Copies the group.
 #[tactic(auto, unfolding(cg_member::specs::Joining::join_known))]
 pub fn join_known(
-    alloc: Global,
-    now: Moment,
+    call: Call,
     r: CheckedJoin,
     id: &MemberId,
-    ticket: Ticket,
     member: &Member,
     group: &Group,
 ) -> Result<Turn, AllocError>
-    ensures { IfOk result (λ t. t ≡ join_known now r id.now ticket member.now group.now) }
+    ensures { IfOk result (λ t. t ≡ join_known call.now r id.now call.ticket member.now group.now) }
 {
     if is_current(&r.request, member, group) {
-        join_current(alloc, now, id, ticket, member, group)
+        join_current(call, id, member, group)
     } else {
-        join_again(alloc, now, r, id, ticket, copied_group(alloc, group)?)
+        join_again(call, r, id, copied_group(call.alloc, group)?)
     }
 }

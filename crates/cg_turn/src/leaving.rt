@@ -7,6 +7,7 @@ ghost use Rattle.std.specs.List.{list_any};
 ghost use Rattle.cg_member.specs.declared.member.Member.{Member};
 ghost use Rattle.cg_request.specs.declared.ticket.Ticket.{Ticket};
 
+use crate::call::Call;
 use crate::parking::waits_for_others;
 use crate::rebalance::{is_preparing, leads, prepared, tried, turn_of};
 use cg_member::answers::{Refusing, answer_all, answer_one};
@@ -91,17 +92,15 @@ fn left(
 
 #[tactic(auto, unfolding(cg_member::specs::Leaving::leave_taken))]
 fn leave_taken(
-    alloc: Global,
-    now: Moment,
+    call: Call,
     id: &MemberId,
-    ticket: Ticket,
     member: &Member,
     group: &Group,
 ) -> Result<Turn, AllocError>
-    ensures { IfOk result (λ t. t ≡ leave_taken now id.now ticket member.now group.now) }
+    ensures { IfOk result (λ t. t ≡ leave_taken call.now id.now call.ticket member.now group.now) }
 {
-    let turn = left(alloc, id, ticket, member, group)?;
-    let turn = after_removal(alloc, now, turn)?;
+    let turn = left(call.alloc, id, call.ticket, member, group)?;
+    let turn = after_removal(call.alloc, call.now, turn)?;
     Ok(turn)
 }
 
@@ -158,20 +157,14 @@ fn leaver<'a>(r: &LeaveRequest, members: &'a Members) -> Result<&'a Member, Code
 /// Returns the step of a LEAVE in a loaded group, or its error code. Copies the group. Only a LEAVE that is not refused
 /// needs an allocation.
 #[tactic(auto, unfolding(cg_member::specs::Leaving::leave_held))]
-pub fn leave_held(
-    alloc: Global,
-    now: Moment,
-    r: &LeaveRequest,
-    ticket: Ticket,
-    group: &Group,
-) -> Result<Outcome, AllocError>
-    ensures ok { IfOk result (λ o. o ≡ leave_held now r.now ticket group.now) }
-    ensures err { OnErr result (is_ok (leave_held now r.now ticket group.now) ≡ true) }
+pub fn leave_held(call: Call, r: &LeaveRequest, group: &Group) -> Result<Outcome, AllocError>
+    ensures ok { IfOk result (λ o. o ≡ leave_held call.now r.now call.ticket group.now) }
+    ensures err { OnErr result (is_ok (leave_held call.now r.now call.ticket group.now) ≡ true) }
 {
     match leaver(r, &group.members) {
         Err(code) => Ok(Err(code)),
         Ok(member) => {
-            let turn = leave_taken(alloc, now, &member.id, ticket, member, group)?;
+            let turn = leave_taken(call, &member.id, member, group)?;
             Ok(Ok(turn))
         }
     }

@@ -7,6 +7,7 @@
 pub mod admission;
 pub mod beating;
 pub mod bounds;
+pub mod call;
 pub mod committing;
 pub mod joining;
 pub mod leaving;

@@ -40,29 +40,20 @@ pub fn turn_of(alloc: Global, group: Group) -> Turn
 
 /// Starts a rebalance: every parked SYNC gets 27.
 #[tactic(auto, unfolding(cg_member::specs::Rebalance::prepared))]
-pub fn prepared(now: Moment, turn: Turn) -> Result<Turn, AllocError>
+pub fn prepared(now: Moment, mut turn: Turn) -> Result<Turn, AllocError>
     ensures { IfOk result (λ t. t ≡ prepared now turn) }
 {
-    let Turn {
-        mut group,
-        mut replies,
-        commands,
-    } = turn;
     let refusing = Refusing(Code::RebalanceInProgress);
     answer_all(
         Calls::Syncs,
         &refusing,
-        group.members.as_slice(),
-        &mut replies,
+        turn.group.members.as_slice(),
+        &mut turn.replies,
     )?;
-    group.members.answer(Calls::Syncs, now);
-    group.phase = Phase::Preparing;
-    group.started = now;
-    Ok(Turn {
-        group,
-        replies,
-        commands,
-    })
+    turn.group.members.answer(Calls::Syncs, now);
+    turn.group.phase = Phase::Preparing;
+    turn.group.started = now;
+    Ok(turn)
 }
 
 fn is_chosen(protocol: &Option<ProtocolName>, name: &ProtocolName) -> bool

@@ -3,6 +3,7 @@ ghost use Rattle.std.specs.Prelude.{◌≡◌, ◌++◌, true, Some, is_ok, IfOk
 ghost use Rattle.cg_member.specs.Membership.{find_member, has_member, is_led};
 ghost use Rattle.cg_member.specs.Syncing.{assigning, kept_member, kept_roster, assigned_command, synced_reply, told_to_syncs, distributed, sync_waits, sync_current, sync_taken, sync_held};
 
+use crate::call::Call;
 use crate::joining::waiting;
 use crate::rebalance::{is_preparing, leads, subscription_for, turn_of};
 use cg_member::answers::{Telling, answer_all};
@@ -17,7 +18,6 @@ use cg_member::turn::{Outcome, Turn};
 use cg_names::{Code, MemberId, Moment, ProtocolName};
 use cg_record::{Assigned, Command, CompletedGeneration, Member as KeptMember, Roster};
 use cg_request::request::{SyncEntry, SyncRequest};
-use cg_request::ticket::Ticket;
 use std::alloc::{AllocError, Global};
 
 #[tactic(auto, unfolding(cg_member::specs::Syncing::assigning))]
@@ -151,27 +151,18 @@ impl Telling for TellingSynced {
 }
 
 #[tactic(auto, unfolding(cg_member::specs::Syncing::told_to_syncs))]
-fn told_to_syncs(now: Moment, turn: Turn) -> Result<Turn, AllocError>
+fn told_to_syncs(now: Moment, mut turn: Turn) -> Result<Turn, AllocError>
     ensures { IfOk result (λ t. t ≡ told_to_syncs now turn) }
 {
-    let Turn {
-        mut group,
-        mut replies,
-        commands,
-    } = turn;
     let telling = TellingSynced;
     answer_all(
         Calls::Syncs,
         &telling,
-        group.members.as_slice(),
-        &mut replies,
+        turn.group.members.as_slice(),
+        &mut turn.replies,
     )?;
-    group.members.answer(Calls::Syncs, now);
-    Ok(Turn {
-        group,
-        replies,
-        commands,
-    })
+    turn.group.members.answer(Calls::Syncs, now);
+    Ok(turn)
 }
 
 #[tactic(auto, unfolding(cg_member::specs::Syncing::distributed), using(crate::proofs::Leading::led_assigning))]
@@ -203,22 +194,20 @@ fn distributed(
 
 #[tactic(auto, unfolding(cg_member::specs::Syncing::sync_waits, cg_member::specs::Membership::hearing), using(crate::proofs::Leading::led_waiting))]
 fn sync_waits(
-    alloc: Global,
-    now: Moment,
+    call: Call,
     r: &SyncRequest,
     id: &MemberId,
-    ticket: Ticket,
     member: &Member,
     group: &Group,
 ) -> Result<Turn, AllocError>
     requires { find_member id.now group.now.members ≡ Some member.now }
-    ensures { IfOk result (λ t. t ≡ sync_waits now r.now id.now ticket member.now group.now) }
+    ensures { IfOk result (λ t. t ≡ sync_waits call.now r.now id.now call.ticket member.now group.now) }
 {
-    let mut turn = turn_of(alloc, copied_group(alloc, group)?);
-    turn.group.members.hear(id, now);
-    let turn = waiting(now, id, Waits::Sync(ticket), turn)?;
+    let mut turn = turn_of(call.alloc, copied_group(call.alloc, group)?);
+    turn.group.members.hear(id, call.now);
+    let turn = waiting(call.now, id, Waits::Sync(call.ticket), turn)?;
     if leads(group, member) {
-        distributed(alloc, now, r.entries.as_slice(), turn)
+        distributed(call.alloc, call.now, r.entries.as_slice(), turn)
     } else {
         Ok(turn)
     }
@@ -226,53 +215,43 @@ fn sync_waits(
 
 #[tactic(auto, unfolding(cg_member::specs::Syncing::sync_current, cg_member::specs::Membership::hearing))]
 fn sync_current(
-    alloc: Global,
-    now: Moment,
+    call: Call,
     id: &MemberId,
-    ticket: Ticket,
     member: &Member,
     group: &Group,
 ) -> Result<Turn, AllocError>
-    ensures { IfOk result (λ t. t ≡ sync_current now id.now ticket member.now group.now) }
+    ensures { IfOk result (λ t. t ≡ sync_current call.now id.now call.ticket member.now group.now) }
 {
     let assignment = member.assignment.clone()?;
-    let mut turn = turn_of(alloc, copied_group(alloc, group)?);
-    turn.group.members.hear(id, now);
-    turn.replies.push((ticket, Reply::Synced(assignment)))?;
+    let mut turn = turn_of(call.alloc, copied_group(call.alloc, group)?);
+    turn.group.members.hear(id, call.now);
+    turn.replies.push((call.ticket, Reply::Synced(assignment)))?;
     Ok(turn)
 }
 
 #[tactic(auto, unfolding(cg_member::specs::Syncing::sync_taken))]
 fn sync_taken(
-    alloc: Global,
-    now: Moment,
+    call: Call,
     r: &SyncRequest,
     id: &MemberId,
-    ticket: Ticket,
     member: &Member,
     group: &Group,
 ) -> Result<Turn, AllocError>
     requires { find_member id.now group.now.members ≡ Some member.now }
-    ensures { IfOk result (λ t. t ≡ sync_taken now r.now id.now ticket member.now group.now group.now.phase) }
+    ensures { IfOk result (λ t. t ≡ sync_taken call.now r.now id.now call.ticket member.now group.now group.now.phase) }
 {
     match group.phase {
-        Phase::Completing => sync_waits(alloc, now, r, id, ticket, member, group),
-        _ => sync_current(alloc, now, id, ticket, member, group),
+        Phase::Completing => sync_waits(call, r, id, member, group),
+        _ => sync_current(call, id, member, group),
     }
 }
 
 /// Returns the step of a SYNC in a loaded group, or its error code. Copies the group. Only a SYNC that is not refused
 /// needs an allocation.
 #[tactic(auto, unfolding(cg_member::specs::Syncing::sync_held))]
-pub fn sync_held(
-    alloc: Global,
-    now: Moment,
-    r: &SyncRequest,
-    ticket: Ticket,
-    group: &Group,
-) -> Result<Outcome, AllocError>
-    ensures ok { IfOk result (λ o. o ≡ sync_held now r.now ticket group.now) }
-    ensures err { OnErr result (is_ok (sync_held now r.now ticket group.now) ≡ true) }
+pub fn sync_held(call: Call, r: &SyncRequest, group: &Group) -> Result<Outcome, AllocError>
+    ensures ok { IfOk result (λ o. o ≡ sync_held call.now r.now call.ticket group.now) }
+    ensures err { OnErr result (is_ok (sync_held call.now r.now call.ticket group.now) ≡ true) }
 {
     let (id, member) = match checked_member(&r.instance, &r.member, &group.members) {
         Ok(who) => who,
@@ -284,6 +263,6 @@ pub fn sync_held(
     if is_preparing(group.phase) {
         return Ok(Err(Code::RebalanceInProgress));
     }
-    let turn = sync_taken(alloc, now, r, id, ticket, member, group)?;
+    let turn = sync_taken(call, r, id, member, group)?;
     Ok(Ok(turn))
 }

@@ -15,28 +15,15 @@ use cg_names::Moment;
 use std::alloc::{AllocError, Global};
 
 #[tactic(auto, unfolding(cg_member::specs::Ticking::expired, cg_member::specs::Membership::keeping))]
-fn expired(alloc: Global, now: Moment, turn: Turn) -> Result<Turn, AllocError>
+fn expired(alloc: Global, now: Moment, mut turn: Turn) -> Result<Turn, AllocError>
     ensures { IfOk result (λ t. t ≡ expired now turn) }
 {
     if !turn.group.members.has_overdue(now) {
         return tried(alloc, now, turn);
     }
-    let Turn {
-        mut group,
-        replies,
-        commands,
-    } = turn;
-    group.members.remove_overdue(now);
-    check_leader(&mut group);
-    after_removal(
-        alloc,
-        now,
-        Turn {
-            group,
-            replies,
-            commands,
-        },
-    )
+    turn.group.members.remove_overdue(now);
+    check_leader(&mut turn.group);
+    after_removal(alloc, now, turn)
 }
 
 #[tactic(auto, unfolding(cg_member::specs::Ticking::greatest_rebalance))]
@@ -64,48 +51,26 @@ fn can_complete(members: &Members) -> bool
 }
 
 #[tactic(auto, unfolding(cg_member::specs::Ticking::ended))]
-fn ended(alloc: Global, now: Moment, turn: Turn) -> Result<Turn, AllocError>
+fn ended(alloc: Global, now: Moment, mut turn: Turn) -> Result<Turn, AllocError>
     ensures { IfOk result (λ t. t ≡ ended now turn) }
 {
     if can_complete(&turn.group.members) {
         return completed(alloc, now, turn);
     }
-    let Turn {
-        mut group,
-        replies,
-        commands,
-    } = turn;
-    group.started = now;
-    Ok(Turn {
-        group,
-        replies,
-        commands,
-    })
+    turn.group.started = now;
+    Ok(turn)
 }
 
 #[tactic(auto, unfolding(cg_member::specs::Ticking::at_deadline, cg_member::specs::Membership::keeping))]
-fn at_deadline(alloc: Global, now: Moment, turn: Turn) -> Result<Turn, AllocError>
+fn at_deadline(alloc: Global, now: Moment, mut turn: Turn) -> Result<Turn, AllocError>
     ensures { IfOk result (λ t. t ≡ at_deadline now turn) }
 {
     if !is_due(now, &turn.group) {
         return Ok(turn);
     }
-    let Turn {
-        mut group,
-        replies,
-        commands,
-    } = turn;
-    group.members.remove_idle();
-    check_leader(&mut group);
-    ended(
-        alloc,
-        now,
-        Turn {
-            group,
-            replies,
-            commands,
-        },
-    )
+    turn.group.members.remove_idle();
+    check_leader(&mut turn.group);
+    ended(alloc, now, turn)
 }
 
 /// Returns whether a tick changes the group. Linear in the members, no allocation.

@@ -3,7 +3,7 @@ use Rattle.cg_turn.specs.Committing.{commit_unheld}
 use Rattle.cg_group.proofs.InPlace.{concluded_refused}
 use Rattle.cg_group.proofs.meeting.commit_apart.Goals as goal
 
-pub returns-in-Err-clause-ok : goal.returns-in-Err-clause-ok
-returns-in-Err-clause-ok c =
-    concluded_refused c.args.now c.args.held.now c.args.ticket (commit_unheld c.args.generation c.args.entries c.args.ticket (length c.args.held.now) c.args.id) c.in-Err.code c.reply_alone.result
+pub returns-in-Some-clause-ok : goal.returns-in-Some-clause-ok
+returns-in-Some-clause-ok c =
+    concluded_refused c.args.call.now c.args.held.now c.args.call.ticket (commit_unheld c.args.generation c.args.entries c.args.call.ticket (length c.args.held.now) c.args.id) c.in-Some.code c.reply_alone.result
     (search rules) c.reply_alone.ensures
