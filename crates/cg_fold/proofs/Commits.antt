@@ -13,7 +13,7 @@ use Rattle.cg_record.specs.declared.command.Command.{Command}
 use Rattle.cg_record.specs.declared.entries.TheConstants.{ENTRIES_MAX}
 use Rattle.cg_record.specs.declared.entry.Entry.{Entry}
 use Rattle.cg_record.specs.Keys.{AreEntries, have_one_key}
-use Rattle.cg_fold.specs.Key.{KeptRow, partition_at, partition_cmp}
+use Rattle.cg_fold.specs.Key.{KeptRow, topic_partition, partition_cmp}
 use Rattle.cg_fold.specs.Snapshot.{commit_command, commits_of, entry_of}
 use Rattle.cg_fold.proofs.KeyOrder.{partition_total}
 use Rattle.cg_fold.proofs.Place.{below_all, both}
@@ -38,7 +38,7 @@ same_key a b one =
     let parts = both (a.0.partition == b.0.partition) (bytes_eq a.0.topic b.0.topic) (true_of (have_one_key (entry_of a) (entry_of b)) one) in
     let partition = same_number a.0.partition b.0.partition (of_true (a.0.partition == b.0.partition) parts.0) in
     let topic = (bytes_eq-Decides a.0.topic b.0.topic).0 (of_true (bytes_eq a.0.topic b.0.topic) parts.1) in
-    ap (λ t. partition_at t a.0.partition) topic ∙ ap (partition_at b.0.topic) partition
+    ap (λ t. topic_partition t a.0.partition) topic ∙ ap (topic_partition b.0.topic) partition
 
 keys_apart : (a b : KeptRow) → T (is_lt (partition_cmp a.0 b.0)) → have_one_key (entry_of a) (entry_of b) ≡ false
 keys_apart a b lt = step (have_one_key (entry_of a) (entry_of b)) refl

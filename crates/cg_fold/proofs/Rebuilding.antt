@@ -17,7 +17,7 @@ use Rattle.cg_record.specs.declared.entries.TheConstants.{ENTRIES_MAX}
 use Rattle.cg_record.specs.Rosters.{RosterParts}
 use Rattle.cg_fold.specs.declared.key.StoredOffset.{StoredOffset}
 use Rattle.cg_fold.specs.declared.record.GroupRecord.{GroupRecord}
-use Rattle.cg_fold.specs.Key.{KeptOffset, KeptRow, OffsetKey, kept_in, key_cmp, name_cmp}
+use Rattle.cg_fold.specs.Key.{KeptOffset, KeptRow, OffsetKey, in_group, key_cmp, name_cmp}
 use Rattle.cg_fold.specs.Durable.{State, after, effect, empty, folded, with_entry, with_record}
 use Rattle.cg_fold.specs.Snapshot.{groups_in, in_order, record_command, record_commands, entry_of, commits_of, is_of_group, offsets_of, group_commands, snapshot_of}
 use Rattle.cg_fold.proofs.KeyOrder.{key_total, key_same, name_total, name_same}
@@ -80,7 +80,7 @@ after_commits (suc most) group (row ∷ rows) state le =
     ap (λ m. record state { offsets = m }) (entries_as_rows group first state.offsets) in
     let joined : fold with_kept (fold with_kept state.offsets (kept_all group first)) (kept_all group others) ≡ fold with_kept state.offsets (kept_all group (row ∷ rows)) =
     sym (fold-append with_kept state.offsets (kept_all group first) (kept_all group others))
-    ∙ ap (fold with_kept state.offsets) (sym (map-append (kept_in group) first others) ∙ ap (kept_all group) (take-append-drop ENTRIES_MAX (row ∷ rows))) in
+    ∙ ap (fold with_kept state.offsets) (sym (map-append (in_group group) first others) ∙ ap (kept_all group) (take-append-drop ENTRIES_MAX (row ∷ rows))) in
     ap (λ s. after s (commits_of most group others)) one ∙ after_commits most group others (with_rows state group first) shorter ∙ ap (λ m. record state { offsets = m }) joined
 
 -- ---- look-ups

@@ -11,7 +11,7 @@ use Rattle.cg_record.specs.declared.entry.Entry.{Entry}
 use Rattle.cg_fold.specs.declared.key.StoredOffset.{StoredOffset}
 use Rattle.cg_fold.specs.declared.key.TopicPartition.{TopicPartition}
 use Rattle.cg_fold.specs.declared.renewals.Renewal.{Renewal}
-use Rattle.cg_fold.specs.Key.{IsOwn, KeptRow, is_below, partition_at, partition_cmp, put_row}
+use Rattle.cg_fold.specs.Key.{IsOwn, KeptRow, is_below, topic_partition, partition_cmp, put_row}
 use Rattle.cg_fold.specs.Renewed.{AreBelow, AreRenewals, IsRenewal, has_row, renewed}
 use Rattle.cg_fold.proofs.KeyOrder.{partition_total}
 use Rattle.cg_fold.proofs.Place.{put-same}
@@ -20,7 +20,7 @@ use Rattle.cg_fold.proofs.Place.{put-same}
 pub renewed_is_put : (rows deref : List KeptRow) (kept : KeptRow) (renewal : Renewal) → deref ≡ rows → IsRenewal deref kept renewal → renewed rows renewal ≡ put_row rows kept
 renewed_is_put rows deref kept renewal same is =
     let here : IsRenewal rows kept renewal = subst (λ l. IsRenewal l kept renewal) same is in
-    let none : KeptRow = (partition_at [] 0, renewal.stored) in
+    let none : KeptRow = (topic_partition [] 0, renewal.stored) in
     ap (λ v. set rows renewal.at ((get_or rows renewal.at none).0, v)) here.stored ∙ sym (put-same partition_total kept.0 kept.1 rows renewal.at none here.at here.own.0 (here.own.1 none))
 
 -- ---- several entries
@@ -29,7 +29,7 @@ abbrev keys : List KeptRow → List TopicPartition
 keys rows = each (λ row. row.0) rows
 
 keys-renewed : (rows : List KeptRow) (renewal : Renewal) → keys (renewed rows renewal) ≡ keys rows
-keys-renewed rows renewal = map-set_same (λ (row : KeptRow). row.0) rows renewal.at _ (partition_at [] 0, renewal.stored) refl
+keys-renewed rows renewal = map-set_same (λ (row : KeptRow). row.0) rows renewal.at _ (topic_partition [] 0, renewal.stored) refl
 
 prefix_len-keys : (key : TopicPartition) (rows : List KeptRow) → prefix_len (is_below key) rows ≡ prefix_len (λ k. is_lt (partition_cmp k key)) (keys rows)
 prefix_len-keys key [] = refl
@@ -114,5 +114,5 @@ has-key key (row ∷ rows) = is_some-cond (is_eq (partition_cmp key row.0)) row.
 
 pub has_row-renewed : (rows new : List KeptRow) (renewal : Renewal) (entry : Entry) → new ≡ renewed rows renewal → has_row new entry ≡ has_row rows entry
 has_row-renewed rows new renewal entry is =
-    let key = partition_at entry.topic entry.partition in
+    let key = topic_partition entry.topic entry.partition in
     has-key key new ∙ ap (λ l. any_key key (keys l)) is ∙ ap (any_key key) (keys-renewed rows renewal) ∙ sym (has-key key rows)

@@ -17,7 +17,7 @@ use Rattle.cg_fold.specs.declared.key.StoredOffset.{StoredOffset}
 use Rattle.cg_fold.specs.declared.key.TopicPartition.{TopicPartition}
 use Rattle.cg_fold.specs.Key.{KeptOffset, KeptRow, OffsetKey, key_cmp, key_of, name_cmp, partition_cmp, put_row, row_of, rows_of}
 use Rattle.cg_fold.specs.Grouped.{is_another}
-use Rattle.cg_fold.specs.Shelf.{KeptShelf, IsShelf, EachShelf, AreShelves, stock, rows_on, rows_at, with_more}
+use Rattle.cg_fold.specs.Shelf.{KeptShelf, AreShelfRows, EachShelf, AreShelves, stock, rows_on, rows_at, with_more}
 use Rattle.cg_fold.specs.Durable.{is_of_other, with_entry}
 use Rattle.cg_fold.proofs.KeyOrder.{key_total, key_same, name_total, name_same, partition_total}
 use Rattle.cg_fold.proofs.Place.{above_all, below_all, both}
@@ -38,7 +38,7 @@ sound-put g rows (s ∷ shelves) sorted each = step (name_cmp g s.0) (sound-put 
     step Equal rest = (sorted, each.1)
     step Greater rest = (each.0, rest)
 
-each-put : (g : List ℕ) (rows : List KeptRow) (shelves : List KeptShelf) → IsShelf rows → EachShelf shelves → EachShelf (put name_cmp g rows shelves)
+each-put : (g : List ℕ) (rows : List KeptRow) (shelves : List KeptShelf) → AreShelfRows rows → EachShelf shelves → EachShelf (put name_cmp g rows shelves)
 each-put g rows [] new each = (new, tt)
 each-put g rows (s ∷ shelves) new each = step (name_cmp g s.0) (each-put g rows shelves new each.1)
   where
@@ -236,7 +236,7 @@ pub shelves-more : (g : List ℕ) (len new_len : ℕ) (before after : List KeptS
 shelves-more g len new_len before after more are some put_is count =
     let sorted = sorted-at g before (sound before are.each) in
     let rows = fold put_row (rows_at g before) more in
-    let shelf : IsShelf rows = record { some = some-more (rows_at g before) more some; by_partition = is_true _ (sorted-fold (rows_at g before) more sorted) } in
+    let shelf : AreShelfRows rows = record { some = some-more (rows_at g before) more some; by_partition = is_true _ (sorted-fold (rows_at g before) more sorted) } in
     record {
       by_group = put_keeps_order name_total g rows before after put_is are.by_group;
       each = subst EachShelf (sym put_is) (each-put g rows before shelf are.each);

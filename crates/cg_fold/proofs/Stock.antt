@@ -12,7 +12,7 @@ use Rattle.std.proofs.lemmas.List.Elements.{filter-append}
 use Rattle.std.proofs.lemmas.List.Folds.{list_any-append}
 use Rattle.std.proofs.lemmas.Slice.Eq.{bytes_eq-Decides}
 use Rattle.cg_fold.specs.declared.key.TopicPartition.{TopicPartition}
-use Rattle.cg_fold.specs.Key.{KeptOffset, KeptRow, OffsetKey, kept_in, key_cmp, key_of, name_cmp, partition_at, partition_cmp, row_in}
+use Rattle.cg_fold.specs.Key.{KeptOffset, KeptRow, OffsetKey, in_group, key_cmp, key_of, name_cmp, topic_partition, partition_cmp, without_group_id}
 use Rattle.cg_fold.specs.Record.{KeptRecord}
 use Rattle.cg_fold.specs.Shelf.{KeptShelf, EachShelf, AreShelves, stock, rows_on, rows_at}
 use Rattle.cg_fold.specs.Durable.{State}
@@ -34,11 +34,11 @@ or_same false = refl
 -- ---- the rows of one group, and its offsets
 
 abbrev pub kept_all : List ℕ → List KeptRow → List KeptOffset
-kept_all g rows = each (kept_in g) rows
+kept_all g rows = each (in_group g) rows
 
 -- the partition of a key
 abbrev pub at_of : OffsetKey → TopicPartition
-at_of k = partition_at k.topic k.partition
+at_of k = topic_partition k.topic k.partition
 
 -- a search among the offsets of a group is a search among its rows
 pub find-kept : (k : OffsetKey) (rows : List KeptRow) → find key_cmp k (kept_all k.group rows) ≡ find partition_cmp (at_of k) rows
@@ -47,21 +47,21 @@ find-kept k (row ∷ rows) =
     ap (λ o. cond (is_eq o) (Some row.1) (find key_cmp k (kept_all k.group rows))) (cmp_in k.group (at_of k) row.0)
     ∙ ap (cond (is_eq (partition_cmp (at_of k) row.0)) (Some row.1)) (find-kept k rows)
 
-pub rows-kept : (g : List ℕ) (rows : List KeptRow) → each row_in (kept_all g rows) ≡ rows
+pub rows-kept : (g : List ℕ) (rows : List KeptRow) → each without_group_id (kept_all g rows) ≡ rows
 rows-kept g [] = refl
 rows-kept g (row ∷ rows) = ap (λ l. row ∷ l) (rows-kept g rows)
 
 -- the offsets of a group among others are made of its rows
-pub kept-filter : (g : List ℕ) (kept : List KeptOffset) → kept_all g (each row_in (filter (λ k. is_of_group g k.0) kept)) ≡ filter (λ k. is_of_group g k.0) kept
+pub kept-filter : (g : List ℕ) (kept : List KeptOffset) → kept_all g (each without_group_id (filter (λ k. is_of_group g k.0) kept)) ≡ filter (λ k. is_of_group g k.0) kept
 kept-filter g [] = refl
 kept-filter g (k ∷ kept) = step (is_of_group g k.0) refl (kept-filter g kept)
   where
     others : List KeptOffset
     others = filter (λ q. is_of_group g q.0) kept
 
-    step : (b : Bool) → is_of_group g k.0 ≡ b → kept_all g (each row_in others) ≡ others → kept_all g (each row_in (cond b (k ∷ others) others)) ≡ cond b (k ∷ others) others
+    step : (b : Bool) → is_of_group g k.0 ≡ b → kept_all g (each without_group_id others) ≡ others → kept_all g (each without_group_id (cond b (k ∷ others) others)) ≡ cond b (k ∷ others) others
     step true is rest =
-        ap (λ h. (key_of h k.0.topic k.0.partition, k.1) ∷ kept_all g (each row_in others)) (sym ((bytes_eq-Decides k.0.group g).0 is))
+        ap (λ h. (key_of h k.0.topic k.0.partition, k.1) ∷ kept_all g (each without_group_id others)) (sym ((bytes_eq-Decides k.0.group g).0 is))
         ∙ ap (λ l. k ∷ l) rest
     step false is rest = rest
 
@@ -70,8 +70,8 @@ below-kept g at [] below = tt
 below-kept g at (row ∷ rows) below =
     let k = key_of g at.topic at.partition in
     let parts = both (is_lt (partition_cmp at row.0)) (below_all partition_cmp at rows) below in
-    let first : T (is_lt (key_cmp k (kept_in g row).0)) = subst (λ o. T (is_lt o)) (sym (cmp_in g at row.0)) parts.0 in
-    and (is_lt (key_cmp k (kept_in g row).0)) (below_all key_cmp k (kept_all g rows)) first (below-kept g at rows parts.1)
+    let first : T (is_lt (key_cmp k (in_group g row).0)) = subst (λ o. T (is_lt o)) (sym (cmp_in g at row.0)) parts.0 in
+    and (is_lt (key_cmp k (in_group g row).0)) (below_all key_cmp k (kept_all g rows)) first (below-kept g at rows parts.1)
 
 -- ---- shelves, some of them possibly empty
 
@@ -92,13 +92,13 @@ none_above x (s ∷ shelves) all =
 filter-own : (g : List ℕ) (rows : List KeptRow) → filter (λ k. is_of_group g k.0) (kept_all g rows) ≡ kept_all g rows
 filter-own g [] = refl
 filter-own g (row ∷ rows) =
-    ap (λ b. cond b (kept_in g row ∷ filter (λ k. is_of_group g k.0) (kept_all g rows)) (filter (λ k. is_of_group g k.0) (kept_all g rows))) (itself g)
-    ∙ ap (λ l. kept_in g row ∷ l) (filter-own g rows)
+    ap (λ b. cond b (in_group g row ∷ filter (λ k. is_of_group g k.0) (kept_all g rows)) (filter (λ k. is_of_group g k.0) (kept_all g rows))) (itself g)
+    ∙ ap (λ l. in_group g row ∷ l) (filter-own g rows)
 
 filter-strange : (g h : List ℕ) (rows : List KeptRow) → bytes_eq h g ≡ false → filter (λ k. is_of_group g k.0) (kept_all h rows) ≡ []
 filter-strange g h [] apart = refl
 filter-strange g h (row ∷ rows) apart =
-    ap (λ b. cond b (kept_in h row ∷ filter (λ k. is_of_group g k.0) (kept_all h rows)) (filter (λ k. is_of_group g k.0) (kept_all h rows))) apart
+    ap (λ b. cond b (in_group h row ∷ filter (λ k. is_of_group g k.0) (kept_all h rows)) (filter (λ k. is_of_group g k.0) (kept_all h rows))) apart
     ∙ filter-strange g h rows apart
 
 pub append-nil : {X : Type 0} (xs : List X) → xs ++ [] ≡ xs
@@ -142,8 +142,8 @@ below-append k (row ∷ rows) others p q =
 below-rows : (k : OffsetKey) (g : List ℕ) (rows : List KeptRow) → name_cmp k.group g ≡ Less → T (below_all key_cmp k (kept_all g rows))
 below-rows k g [] lt = tt
 below-rows k g (row ∷ rows) lt =
-    let first : T (is_lt (key_cmp k (kept_in g row).0)) = subst (λ r. T (is_lt (ordering_then r (partition_cmp (at_of k) row.0)))) (sym lt) tt in
-    and (is_lt (key_cmp k (kept_in g row).0)) (below_all key_cmp k (kept_all g rows)) first (below-rows k g rows lt)
+    let first : T (is_lt (key_cmp k (in_group g row).0)) = subst (λ r. T (is_lt (ordering_then r (partition_cmp (at_of k) row.0)))) (sym lt) tt in
+    and (is_lt (key_cmp k (in_group g row).0)) (below_all key_cmp k (kept_all g rows)) first (below-rows k g rows lt)
 
 below-stock : (k : OffsetKey) (shelves : List KeptShelf) → T (below_all name_cmp k.group shelves) → T (below_all key_cmp k (stock shelves))
 below-stock k [] above = tt
@@ -154,7 +154,7 @@ below-stock k (s ∷ shelves) above =
 sorted-shelf : (g : List ℕ) (rows : List KeptRow) (shelves : List KeptShelf) → T (is_sorted partition_cmp rows) → T (below_all name_cmp g shelves) → T (is_sorted key_cmp (stock shelves)) → T (is_sorted key_cmp (kept_all g rows ++ stock shelves))
 sorted-shelf g [] shelves sorted above rest = rest
 sorted-shelf g (row ∷ rows) shelves sorted above rest =
-    let k = (kept_in g row).0 in
+    let k = (in_group g row).0 in
     let parts = both (below_all partition_cmp row.0 rows) (is_sorted partition_cmp rows) sorted in
     and (below_all key_cmp k (kept_all g rows ++ stock shelves)) (is_sorted key_cmp (kept_all g rows ++ stock shelves))
     (below-append k (kept_all g rows) (stock shelves) (below-kept g row.0 rows parts.0) (below-stock k shelves above))
@@ -182,8 +182,8 @@ pub shelves-group : (g : List ℕ) (len : ℕ) (shelves : List KeptShelf) (now :
 shelves-group g len shelves now are is =
     let sorted = sorted-stock shelves (tested are.by_group) (sound shelves are.each) in
     sym (rows-kept g (rows_at g shelves))
-    ∙ ap (each row_in) (sym (filter-stock g shelves (tested are.by_group)))
-    ∙ ap (λ l. each row_in (filter (λ k. is_of_group g k.0) l)) (sym (map.entries-from_sorted key_cmp (stock shelves) sorted)) ∙ ap (λ m. offsets_in m g) is
+    ∙ ap (each without_group_id) (sym (filter-stock g shelves (tested are.by_group)))
+    ∙ ap (λ l. each without_group_id (filter (λ k. is_of_group g k.0) l)) (sym (map.entries-from_sorted key_cmp (stock shelves) sorted)) ∙ ap (λ m. offsets_in m g) is
 
 pub shelves-len : (len : ℕ) (shelves : List KeptShelf) (now : Offsets) → AreShelves len shelves → map_of (stock shelves) ≡ now → len ≡ map.len now
 shelves-len len shelves now are is =

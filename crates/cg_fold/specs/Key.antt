@@ -23,6 +23,7 @@ pub record OffsetKey : Type 0 where
   pub topic : List ℕ
   pub partition : ℕ
 
+-- the key of this partition of this topic, for this group
 abbrev pub key_of : List ℕ → List ℕ → ℕ → OffsetKey
 key_of group topic partition = record { group = group; topic = topic; partition = partition }
 
@@ -36,8 +37,9 @@ KeptOffset = OffsetKey × StoredOffset
 
 -- ---- the offsets of one group
 
-abbrev pub partition_at : List ℕ → ℕ → TopicPartition
-partition_at topic partition = record { topic = topic; partition = partition }
+-- a partition of a topic
+abbrev pub topic_partition : List ℕ → ℕ → TopicPartition
+topic_partition topic partition = record { topic = topic; partition = partition }
 
 -- the order of partitions: by topic, then by number
 abbrev pub partition_cmp : TopicPartition → TopicPartition → Ordering
@@ -48,28 +50,28 @@ abbrev pub KeptRow : Type 0
 KeptRow = TopicPartition × StoredOffset
 
 -- the row as an offset of this group
-abbrev pub kept_in : List ℕ → KeptRow → KeptOffset
-kept_in group row = (key_of group row.0.topic row.0.partition, row.1)
+abbrev pub in_group : List ℕ → KeptRow → KeptOffset
+in_group group row = (key_of group row.0.topic row.0.partition, row.1)
 
 -- the offset without its group
-abbrev pub row_in : KeptOffset → KeptRow
-row_in kept = (partition_at kept.0.topic kept.0.partition, kept.1)
+abbrev pub without_group_id : KeptOffset → KeptRow
+without_group_id kept = (topic_partition kept.0.topic kept.0.partition, kept.1)
 
 -- the row comes before the partition
 abbrev pub is_below : TopicPartition → KeptRow → Bool
-is_below at row = is_lt (partition_cmp row.0 at)
+is_below key row = is_lt (partition_cmp row.0 key)
 
 -- the row at this index has the partition
 abbrev pub IsOwn : List KeptRow → ℕ → TopicPartition → Type 0
-IsOwn rows at own = (at < length rows) × ((d : KeptRow) → partition_cmp (slice_index_or rows at d).0 own ≡ Equal)
+IsOwn rows at key = (at < length rows) × ((d : KeptRow) → partition_cmp (slice_index_or rows at d).0 key ≡ Equal)
 
 -- no row at this index has the partition
 abbrev pub IsOther : List KeptRow → ℕ → TopicPartition → Type 0
-IsOther rows at own = (d : KeptRow) → at < length rows → partition_cmp (slice_index_or rows at d).0 own ≡ Equal → ⊥
+IsOther rows at key = (d : KeptRow) → at < length rows → partition_cmp (slice_index_or rows at d).0 key ≡ Equal → ⊥
 
 -- the partition and the offset of one entry
 abbrev pub row_of : Entry → KeptRow
-row_of entry = (partition_at entry.topic entry.partition, record { offset = entry.offset; metadata = entry.metadata })
+row_of entry = (topic_partition entry.topic entry.partition, record { offset = entry.offset; metadata = entry.metadata })
 
 -- the partitions and offsets of entries
 abbrev pub rows_of : List Entry → List KeptRow
@@ -77,7 +79,7 @@ rows_of entries = each row_of entries
 
 -- the key and the offset of one entry, for the group that commits it
 abbrev pub kept_of : List ℕ → Entry → KeptOffset
-kept_of group entry = kept_in group (row_of entry)
+kept_of group entry = in_group group (row_of entry)
 
 -- the sorted rows with a new one, in the place of the one with its partition
 abbrev pub put_row : List KeptRow → KeptRow → List KeptRow

@@ -4,7 +4,7 @@ use Rattle.std.specs.List.{AllByRecursion, AllZip, prefix_len}
 use Rattle.std.specs.FinMap.{find}
 use Rattle.cg_record.specs.declared.entry.Entry.{Entry}
 use Rattle.cg_fold.specs.declared.renewals.Renewal.{Renewal}
-use Rattle.cg_fold.specs.Key.{IsOwn, KeptRow, is_below, partition_at, partition_cmp, row_of}
+use Rattle.cg_fold.specs.Key.{IsOwn, KeptRow, is_below, topic_partition, partition_cmp, row_of}
 
 -- the renewal has the index of the row with this partition, and the new value
 pub record IsRenewal (rows : List KeptRow) (kept : KeptRow) (renewal : Renewal) : Type 0 where
@@ -26,4 +26,4 @@ has_row rows entry = is_some (find partition_cmp (row_of entry).0 rows)
 
 -- the rows with the new value at this index, under the partition that is there
 abbrev pub renewed : List KeptRow → Renewal → List KeptRow
-renewed rows renewal = slice_set rows renewal.at ((slice_index_or rows renewal.at (partition_at [] 0, renewal.stored)).0, renewal.stored)
+renewed rows renewal = slice_set rows renewal.at ((slice_index_or rows renewal.at (topic_partition [] 0, renewal.stored)).0, renewal.stored)

@@ -3,7 +3,7 @@ use Rattle.std.specs.Prelude.{◌≡◌, ℕ, ◌<◌, List, [], ◌∷◌, leng
 use Rattle.std.specs.List.{fold}
 use Rattle.std.specs.Coded.{Coded, coded×, coded_list}
 use Rattle.std.specs.FinMap.{find, is_sorted, put}
-use Rattle.cg_fold.specs.Key.{KeptOffset, KeptRow, kept_in, name_cmp, partition_cmp, partition_code, put_row, stored_code}
+use Rattle.cg_fold.specs.Key.{KeptOffset, KeptRow, in_group, name_cmp, partition_cmp, partition_code, put_row, stored_code}
 use Rattle.cg_fold.specs.Grouped.{OfGroup}
 
 -- the offsets of a group, with the id of the group
@@ -14,18 +14,18 @@ KeptShelf = OfGroup (List KeptRow)
 abbrev pub rows_code : Coded (List KeptRow)
 rows_code = coded_list (coded× partition_code stored_code)
 
--- at least one offset, by topic and partition
-pub record IsShelf (rows : List KeptRow) : Type 0 where
+-- the rows of a shelf: at least one, sorted by topic and partition
+pub record AreShelfRows (rows : List KeptRow) : Type 0 where
   pub some : 0 < length rows
   pub by_partition : IsTrue (is_sorted partition_cmp rows)
 
 abbrev pub EachShelf : List KeptShelf → Type 0
 EachShelf [] = Unit {0}
-EachShelf (shelf ∷ shelves) = IsShelf shelf.1 × EachShelf shelves
+EachShelf (shelf ∷ shelves) = AreShelfRows shelf.1 × EachShelf shelves
 
 -- the offsets of all shelves
 abbrev pub stock : List KeptShelf → List KeptOffset
-stock shelves = flat_map (λ shelf. each (kept_in shelf.0) shelf.1) shelves
+stock shelves = flat_map (λ shelf. each (in_group shelf.0) shelf.1) shelves
 
 -- a shelf for each group, by the groups' ids, with `len` offsets in all
 pub record AreShelves (len : ℕ) (shelves : List KeptShelf) : Type 0 where

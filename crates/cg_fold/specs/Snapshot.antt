@@ -12,7 +12,7 @@ use Rattle.cg_record.specs.declared.entry.Entry.{Entry}
 use Rattle.cg_record.specs.Rosters.{RosterParts}
 use Rattle.cg_fold.specs.declared.record.GroupRecord.{GroupRecord}
 use Rattle.cg_fold.specs.declared.key.StoredOffset.{StoredOffset}
-use Rattle.cg_fold.specs.Key.{KeptRow, OffsetKey, key_cmp, name_cmp, row_in}
+use Rattle.cg_fold.specs.Key.{KeptRow, OffsetKey, key_cmp, name_cmp, without_group_id}
 use Rattle.cg_fold.specs.Record.{KeptRecord}
 use Rattle.cg_fold.specs.Shelf.{KeptShelf, AreShelves, stock}
 use Rattle.cg_fold.specs.Durable.{State}
@@ -98,7 +98,7 @@ is_of_group group key = bytes_eq key.group group
 
 -- the offsets of a group, by topic and partition
 abbrev pub offsets_in : map.FinMap key_cmp StoredOffset → List ℕ → List KeptRow
-offsets_in offsets group = each row_in (filter (λ kept. is_of_group group kept.0) (map.entries offsets))
+offsets_in offsets group = each without_group_id (filter (λ kept. is_of_group group kept.0) (map.entries offsets))
 
 abbrev pub offsets_of : State → List ℕ → List KeptRow
 offsets_of state group = offsets_in state.offsets group

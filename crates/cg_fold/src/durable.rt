@@ -73,8 +73,9 @@ impl Durable {
         }
     }
 
-    /// Applies a command that the caller gives away. The topics and metadata of a commit are moved, without an allocation if
-    /// its partitions have an offset already; all else is copied. If an allocation fails, nothing changes.
+    /// Applies a command that the caller gives away. The topics and metadata of a commit are moved, and the id of a group that
+    /// has no offset yet, without an allocation if its partitions have an offset already; other commands are copied. If an
+    /// allocation fails, nothing changes.
     pub fn apply_owned(&mut self, command: Command) -> Result<(), AllocError>
         ensures ok { OnOk result (self.new ≡ effect self.old command) }
         ensures err { OnErr result (self.new ≡ self.old) }

@@ -20,11 +20,11 @@ pub struct StoredOffset {
 }
 
 impl TopicPartition {
-    ghost use Rattle.cg_fold.specs.Key.{partition_at, partition_cmp};
+    ghost use Rattle.cg_fold.specs.Key.{topic_partition, partition_cmp};
 
     /// Compares this partition with another one: by topic, then by number.
     pub(crate) fn compare(&self, topic: &Topic, partition: Partition) -> Ordering
-        ensures { result ≡ partition_cmp self.now (partition_at topic.now partition) }
+        ensures { result ≡ partition_cmp self.now (topic_partition topic.now partition) }
     {
         match self.topic.cmp(topic) {
             Ordering::Equal => self.partition.get().cmp(&partition.get()),

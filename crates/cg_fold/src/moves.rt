@@ -1,5 +1,5 @@
 //! Offsets of a commit that its caller gives away: the topics and metadata are moved into the rows. For partitions that
-//! have an offset already nothing is copied, and nothing is allocated.
+//! have an offset already nothing is allocated.
 ghost use Rattle.std.specs.Prelude.{◌≡◌, IsTrue, true, length, IfOk};
 ghost use Rattle.std.specs.List.{fold, list_all, prefix_len};
 ghost use Rattle.std.specs.FinMap.{is_sorted};

@@ -1,11 +1,11 @@
 //! The offsets of a group as rows, sorted by partition. A look-up is a binary search, without an allocation.
 ghost use Rattle.std.specs.Prelude.{◌≡◌, ◌+◌, ◌<◌, ◌≤◌, IsTrue, length, vec_len, vec_capacity, [], IfOk, OnErr, OnOk};
 ghost use Rattle.std.specs.List.{fold, prefix_len};
-ghost use Rattle.std.specs.FinMap.{find, is_sorted, put};
+ghost use Rattle.std.specs.FinMap.{find, is_sorted};
 ghost use Rattle.std.specs.Bool.{OnTrue, OnFalse};
 ghost use Rattle.std.specs.Option.{option_copied};
 ghost use Rattle.std.specs.VecDeque.{deque_len};
-ghost use Rattle.cg_fold.specs.Key.{IsOther, IsOwn, is_below, partition_at, partition_cmp, put_row, row_of, rows_of};
+ghost use Rattle.cg_fold.specs.Key.{IsOther, IsOwn, is_below, topic_partition, partition_cmp, put_row, row_of, rows_of};
 
 use crate::key::{StoredOffset, TopicPartition};
 use crate::{moves, renewals};
@@ -68,7 +68,7 @@ impl Rows {
     }
 
     /// Sets the offsets of these entries, in order. Returns the number of new rows. If an allocation fails, nothing changes.
-    pub fn put_commit(&mut self, alloc: Global, entries: &Entries) -> Result<u64, AllocError>
+    pub fn put_entries(&mut self, alloc: Global, entries: &Entries) -> Result<u64, AllocError>
         ensures ok { OnOk result (self.new ≡ fold put_row self.old (rows_of entries.now)) }
         ensures grown { IfOk result (λ grown. length self.new ≡ length self.old + grown) }
         ensures err { OnErr result (self.new ≡ self.old) }
@@ -79,15 +79,16 @@ impl Rows {
                 Ok(grown)
             }
             entries => {
-                let grown = self.put_entries(alloc, entries)?;
+                let grown = self.put_several(alloc, entries)?;
                 Ok(grown)
             }
         }
     }
 
-    /// Sets the offsets of these entries, in order, and moves their topics and metadata. Keeps the metadata of replaced offsets in
-    /// `room`, as far as that has the capacity. Returns the number of new rows. If an allocation fails, nothing changes.
-    pub fn take_commit(
+    /// Sets the offsets of these entries, in order, and moves their topics and metadata. Keeps the metadata of replaced
+    /// offsets in `room`, as far as that has the capacity. Returns the number of new rows. If an allocation fails, nothing
+    /// changes.
+    pub fn take_entries(
         &mut self,
         alloc: Global,
         room: &mut Vec<Metadata>,
@@ -107,7 +108,7 @@ impl Rows {
     }
 
     // Sets the offsets of several entries, in place if all of them have a row. Returns the number of new rows.
-    fn put_entries(&mut self, alloc: Global, entries: &[Entry]) -> Result<u64, AllocError>
+    fn put_several(&mut self, alloc: Global, entries: &[Entry]) -> Result<u64, AllocError>
         ensures ok { OnOk result (self.new ≡ fold put_row self.old (rows_of entries.now)) }
         ensures grown { IfOk result (λ grown. length self.new ≡ length self.old + grown) }
         ensures err { OnErr result (self.new ≡ self.old) }
@@ -161,7 +162,7 @@ impl Rows {
 /// Returns the number of rows before a partition.
 pub fn place(rows: &[Row], topic: &Topic, partition: Partition) -> usize
     requires { IsTrue (is_sorted partition_cmp rows.now) }
-    ensures value { result ≡ prefix_len (is_below (partition_at topic.now partition)) rows.now }
+    ensures value { result ≡ prefix_len (is_below (topic_partition topic.now partition)) rows.now }
     ensures within { result ≤ length rows.now }
 {
     rows.partition_point(|row| row.0.compare(topic, partition) == Ordering::Less)
@@ -169,8 +170,8 @@ pub fn place(rows: &[Row], topic: &Topic, partition: Partition) -> usize
 
 /// Returns whether the row at this index has the partition.
 pub fn is_at(rows: &[Row], at: usize, topic: &Topic, partition: Partition) -> bool
-    ensures own { OnTrue result (IsOwn rows.now at (partition_at topic.now partition)) }
-    ensures other { OnFalse result (IsOther rows.now at (partition_at topic.now partition)) }
+    ensures own { OnTrue result (IsOwn rows.now at (topic_partition topic.now partition)) }
+    ensures other { OnFalse result (IsOther rows.now at (topic_partition topic.now partition)) }
 {
     at < rows.len() && rows[at].0.compare(topic, partition) == Ordering::Equal
 }
@@ -179,17 +180,17 @@ pub fn is_at(rows: &[Row], at: usize, topic: &Topic, partition: Partition) -> bo
 fn put_row(rows: &mut Vec<Row>, row: Row)
     requires sorted { IsTrue (is_sorted partition_cmp rows.old.items) }
     requires room { vec_len rows.old < vec_capacity rows.old }
-    ensures rows { rows.new.items ≡ put partition_cmp row.0 row.1 rows.old.items }
+    ensures rows { rows.new.items ≡ put_row rows.old.items row }
     ensures sorted { IsTrue (is_sorted partition_cmp rows.new.items) }
     ensures len { vec_len rows.new ≤ vec_len rows.old + 1 }
     ensures capacity { vec_capacity rows.new ≡ vec_capacity rows.old }
 {
-    let (own, stored) = row;
-    let at = place(rows, &own.topic, own.partition);
-    if is_at(rows, at, &own.topic, own.partition) {
+    let (key, stored) = row;
+    let at = place(rows, &key.topic, key.partition);
+    if is_at(rows, at, &key.topic, key.partition) {
         rows[at].1 = stored;
     } else {
-        rows.insert(at, (own, stored)).unwrap();
+        rows.insert(at, (key, stored)).unwrap();
     }
 }
 
@@ -208,7 +209,7 @@ fn put_rows(rows: &mut Vec<Row>, mut waiting: VecDeque<Row>)
 fn row_of(entry: &Entry) -> Result<Row, AllocError>
     ensures { IfOk result (λ row. row ≡ row_of entry.now) }
 {
-    let own = TopicPartition {
+    let key = TopicPartition {
         topic: entry.topic.clone()?,
         partition: entry.partition,
     };
@@ -216,7 +217,7 @@ fn row_of(entry: &Entry) -> Result<Row, AllocError>
         offset: entry.offset,
         metadata: entry.metadata.clone()?,
     };
-    Ok((own, stored))
+    Ok((key, stored))
 }
 
 // Copies entries into rows.
@@ -237,7 +238,7 @@ pub fn stored_at<'a>(
     partition: Partition,
 ) -> Option<&'a StoredOffset>
     requires { IsTrue (is_sorted partition_cmp rows.now) }
-    ensures { option_copied result ≡ find partition_cmp (partition_at topic.now partition) rows.now }
+    ensures { option_copied result ≡ find partition_cmp (topic_partition topic.now partition) rows.now }
 {
     let at = place(rows, topic, partition);
     if is_at(rows, at, topic, partition) {

@@ -26,12 +26,12 @@ pub fn rows_at<'a>(shelves: &'a Shelves, group: &GroupId) -> &'a [Row]
     }
 }
 
-// Builds a shelf with the offsets of a commit.
+// Builds a shelf with the offsets of these entries.
 fn shelf_of(alloc: Global, entries: &Entries) -> Result<Rows, AllocError>
     ensures { IfOk result (λ rows. rows ≡ fold put_row [] (rows_of entries.now)) }
 {
     let mut rows = Rows::new(alloc);
-    rows.put_commit(alloc, entries)?;
+    rows.put_entries(alloc, entries)?;
     Ok(rows)
 }
 
@@ -44,7 +44,7 @@ pub fn add(shelves: &mut Shelves, alloc: Global, commit: &Committed) -> Result<u
     ensures err { OnErr result (shelves.new.entries ≡ shelves.old.entries) }
 {
     if let Some(rows) = shelves.get_mut(&commit.group) {
-        let grown = rows.put_commit(alloc, &commit.entries)?;
+        let grown = rows.put_entries(alloc, &commit.entries)?;
         return Ok(grown);
     }
     let group = commit.group.clone()?;
@@ -54,12 +54,12 @@ pub fn add(shelves: &mut Shelves, alloc: Global, commit: &Committed) -> Result<u
     Ok(grown)
 }
 
-// Builds a shelf with the offsets of a commit, and moves what it can.
+// Builds a shelf with the offsets of these entries, whose topics and metadata are moved.
 fn shelf_from(alloc: Global, room: &mut Vec<Metadata>, entries: Entries) -> Result<Rows, AllocError>
     ensures { IfOk result (λ rows. rows ≡ fold put_row [] (rows_of entries)) }
 {
     let mut rows = Rows::new(alloc);
-    rows.take_commit(alloc, room, entries)?;
+    rows.take_entries(alloc, room, entries)?;
     Ok(rows)
 }
 
@@ -79,7 +79,7 @@ pub fn take(
 {
     let Committed { group, entries } = commit;
     if let Some(rows) = shelves.get_mut(&group) {
-        let grown = rows.take_commit(alloc, room, entries)?;
+        let grown = rows.take_entries(alloc, room, entries)?;
         return Ok(grown);
     }
     let rows = shelf_from(alloc, room, entries)?;

@@ -14,8 +14,8 @@ use std::alloc::{AllocError, Global};
 use std::marker::Model;
 use std::vec::IntoIter;
 
-/// The commands of a snapshot that are left. Contracts see them in order. It takes the state apart, group by group: names,
-/// rosters and metadata are moved into the commands, and their memory is free once the commands are dropped.
+/// The commands of a snapshot that are left. Contracts see them in order. It takes the state apart, group by group:
+/// topics, rosters and metadata are moved into the commands, and their memory is free once the commands are dropped.
 #[derive(Drop)]
 pub struct Snapshot {
     alloc: Global,

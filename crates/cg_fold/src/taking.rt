@@ -1,4 +1,4 @@
-//! The commands that build a group that its caller gives away: names, rosters and metadata are moved.
+//! The commands that build a group that its caller gives away: topics, rosters and metadata are moved.
 ghost use Rattle.std.specs.Prelude.{◌≡◌, ◌<◌, ◌≤◌, ◌++◌, IsTrue, length, drop, take, map, IfOk, OnOk};
 ghost use Rattle.std.specs.FinMap.{is_sorted};
 ghost use Rattle.std.specs.Vec.Iter.{into_iter_items};

@@ -7,7 +7,7 @@ pub use Rattle.cg_gate.specs.Gates.{IsOpen, IsClosed}
 use Rattle.cg_frame.specs.declared.segment.Segment.{Segment}
 use Rattle.cg_frame.specs.declared.segment.TheConstants.{HEAD_BYTES}
 
--- how many sectors the body of a payload of n bytes takes, rounded up: `HEAD_BYTES` stand before the payload
+-- how many sectors the body of a payload of n bytes takes: the count and the length come before the payload
 abbrev pub body_sectors : ℕ → ℕ
 body_sectors n = (HEAD_BYTES + n + (SECTOR_BYTES - 1)) / SECTOR_BYTES
 
@@ -26,15 +26,15 @@ body count payload = word count ++ word (length payload) ++ payload
 -- a segment has a frame with this count and payload, its gate at pos
 pub record FrameAt (image : Image) (segment : Segment) (pos count : ℕ) (payload : List ℕ) : Type 0 where
   pub is_open : IsOpen image (segment.first + pos)
-  pub body_is : take (16 + length payload) (span image (segment.first + pos + 1) (body_sectors (length payload))) ≡ body count payload
+  pub body_is : take (HEAD_BYTES + length payload) (span image (segment.first + pos + 1) (body_sectors (length payload))) ≡ body count payload
   pub counted : 1 ≤ count
   pub fits_word : count < 2 ^ 64
   pub fits : next_gate pos (length payload) < segment.sectors
 
--- the gate and the first 16 bytes are those of a frame
+-- the gate, the count and the length are those of a frame
 pub record HeadAt (image : Image) (segment : Segment) (pos count n : ℕ) : Type 0 where
   pub is_open : IsOpen image (segment.first + pos)
-  pub head_is : take 16 (image (segment.first + pos + 1)) ≡ word count ++ word n
+  pub head_is : take HEAD_BYTES (image (segment.first + pos + 1)) ≡ word count ++ word n
   pub counted : 1 ≤ count
   pub fits_word : count < 2 ^ 64
   pub fits : next_gate pos n < segment.sectors
@@ -42,7 +42,7 @@ pub record HeadAt (image : Image) (segment : Segment) (pos count n : ℕ) : Type
 -- a gate and the sector after it, read into one buffer, are those of a frame
 pub record IsFront (front : List ℕ) (segment : Segment) (pos count n : ℕ) : Type 0 where
   pub is_open : slice_index front 0 ≡ 1
-  pub head_is : take 16 (drop SECTOR_BYTES front) ≡ word count ++ word n
+  pub head_is : take HEAD_BYTES (drop SECTOR_BYTES front) ≡ word count ++ word n
   pub counted : 1 ≤ count
   pub fits_word : count < 2 ^ 64
   pub fits : next_gate pos n < segment.sectors

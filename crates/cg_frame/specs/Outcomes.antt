@@ -7,11 +7,12 @@ use Rattle.cg_frame.specs.declared.fault.FrameFault.{FrameFault}
 use Rattle.cg_frame.specs.declared.fault.FrameFault.TheVariants.{Memory, Device, NoRoom}
 use Rattle.cg_frame.specs.declared.fault.ScanFault.{ScanFault}
 use Rattle.cg_frame.specs.declared.fault.ScanFault.TheVariants.{Memory as scan_memory, Device as scan_device, BadLength as scan_bad_length}
+use Rattle.cg_frame.specs.declared.segment.TheConstants.{HEAD_BYTES}
 
 -- the frame is there, its last sector ends in zeros, and the gate after it is closed
 pub record StandsLast (image : Image) (segment : Segment) (pos count : ℕ) (payload : List ℕ) : Type 0 where
   pub frame : FrameAt image segment pos count payload
-  pub padded : (i : ℕ) → 16 + length payload ≤ i → slice_index (span image (segment.first + pos + 1) (body_sectors (length payload))) i ≡ 0
+  pub padded : (i : ℕ) → HEAD_BYTES + length payload ≤ i → slice_index (span image (segment.first + pos + 1) (body_sectors (length payload))) i ≡ 0
   pub closed : IsClosed image (segment.first + next_gate pos (length payload))
 
 -- what a crash during an append at pos may leave of a disk at m: all else as it was, and a closed gate or the frame

@@ -1,5 +1,5 @@
 //! The sectors of a frame while it is encoded, and numbers of eight bytes.
-ghost use Rattle.cg_frame.specs.declared.segment.TheConstants.{SECTORS_BOUND};
+ghost use Rattle.cg_frame.specs.declared.segment.TheConstants.{HEAD_BYTES, SECTORS_BOUND};
 ghost use Rattle.cg_disk.specs.declared.disk.TheConstants.{SECTOR_BYTES};
 ghost use Rattle.std.specs.Prelude.{◌≡◌, ℕ, ◌+◌, ◌*◌, ◌/◌, ◌^◌, ◌<◌, ◌≤◌, ◌++◌, IfOk, length, take, drop, slice_index};
 ghost use Rattle.cg_frame.specs.Frames.{word, body, body_sectors};
@@ -33,9 +33,9 @@ pub(crate) fn staged(room: Vec<u8>, count: u64, payload: &[u8]) -> Result<Vec<u8
     ensures length { IfOk result (λ sectors.
         length sectors.items ≡ SECTOR_BYTES * (body_sectors (length payload.now) + 1)) }
     ensures body { IfOk result (λ sectors.
-        take (16 + length payload.now) sectors.items ≡ body count payload.now) }
+        take (HEAD_BYTES + length payload.now) sectors.items ≡ body count payload.now) }
     ensures padded { IfOk result (λ sectors. (i : ℕ) →
-        16 + length payload.now ≤ i → slice_index sectors.items i ≡ 0) }
+        HEAD_BYTES + length payload.now ≤ i → slice_index sectors.items i ≡ 0) }
 {
     let size = (sectors_of(payload.len() as u64) as usize + 1) * SECTOR_BYTES;
     let mut sectors = room;

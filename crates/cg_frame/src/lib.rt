@@ -15,7 +15,9 @@ mod writing;
 
 pub use fault::{FrameFault, ScanFault};
 pub use reading::scan;
-pub use segment::{Frame, LARGEST_PAYLOAD_BYTES, SEGMENT_SECTORS, Segment, fits, frame_numbers};
+pub use segment::{
+    Frame, LARGEST_PAYLOAD_BYTES, SECTORS_BOUND, SEGMENT_SECTORS, Segment, fits, frame_numbers,
+};
 pub use segment_reader::{PIECE_SECTORS, SegmentReader};
 pub use staged::{StagedFrame, append_staged, stage};
 pub use writing::{append, close_gate};

@@ -1,5 +1,5 @@
 //! Reading frames: the gate and the head first, then the payload.
-ghost use Rattle.cg_frame.specs.declared.segment.TheConstants.{SECTORS_BOUND};
+ghost use Rattle.cg_frame.specs.declared.segment.TheConstants.{HEAD_BYTES, SECTORS_BOUND};
 ghost use Rattle.cg_frame.specs.declared.reading.TheConstants.{FRONT_BYTES, START_BYTES};
 ghost use Rattle.cg_disk.specs.declared.disk.TheConstants.{SECTOR_BYTES};
 ghost use Rattle.std.specs.Prelude.{◌≡◌, ◌≢◌, ℕ, ◌+◌, ◌-◌, ◌*◌, ◌/◌, ◌%◌, ◌^◌, ◌<◌, ◌≤◌, ◌++◌, ◌↔◌, true, IsTrue, length, take, drop, slice_index, OnOk, IfOk, IfSome, IfErr, IsErr, IsErrOf, is_err, List};
@@ -91,7 +91,7 @@ fn put_start(buffer: &mut [u8], start: &[u8])
 fn buffer_for(room: Vec<u8>, bytes: u64, start: &[u8]) -> Result<Vec<u8>, AllocError>
     requires start { length start.now ≡ START_BYTES }
     requires small { body_sectors bytes < SECTORS_BOUND }
-    ensures length { IfOk result (λ buffer. length buffer.items + 16 ≡ SECTOR_BYTES * body_sectors bytes) }
+    ensures length { IfOk result (λ buffer. length buffer.items + HEAD_BYTES ≡ SECTOR_BYTES * body_sectors bytes) }
     ensures start { IfOk result (λ buffer. take START_BYTES buffer.items ≡ start.now) }
 {
     let size = sectors_of(bytes) as usize * SECTOR_BYTES - (SECTOR_BYTES - START_BYTES);

@@ -15,7 +15,7 @@ const SECTOR: u64 = SECTOR_BYTES as u64;
 /// Bytes of the count and the length before a payload.
 pub(crate) const HEAD_BYTES: u64 = 16;
 
-/// Bound of the sectors of a disk: each sector before it begins at a byte below 2^63.
+/// Bound of the end of a segment on its disk, and of the sectors of a body: these have fewer than 2^63 bytes.
 pub const SECTORS_BOUND: u64 = 1 << 54;
 
 /// A run of sectors on a disk, which frames fill from the front. Positions count its sectors from 0.
@@ -51,7 +51,7 @@ pub fn fits(segment: Segment, pos: u64, payload_bytes: u64) -> bool
     pos < segment.sectors && sectors_of(payload_bytes) + 1 < segment.sectors - pos
 }
 
-/// States the numbers of the format, on which the disks that exist depend. It does nothing.
+/// States the numbers of the format, on which the disks that exist depend, and the bound of sectors. It does nothing.
 pub fn frame_numbers()
     ensures sector { SECTOR ≡ 512 }
     ensures segment { SEGMENT_SECTORS ≡ 2048 }

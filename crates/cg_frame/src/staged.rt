@@ -25,11 +25,12 @@ pub struct StagedFrame {
 
 impl Model for StagedFrame {
     ghost use Rattle.std.specs.Prelude.{ℕ, List, take, drop};
+    ghost use Rattle.cg_frame.specs.declared.segment.TheConstants.{HEAD_BYTES};
     ghost use Rattle.cg_frame.specs.Staged.{IsStagedFrame};
 
     ghost Value = { ℕ × List ℕ };
 
-    ghost view = { λ f. (f.count, take f.bytes (drop 16 f.sectors.items)) };
+    ghost view = { λ f. (f.count, take f.bytes (drop HEAD_BYTES f.sectors.items)) };
 
     ghost invariant = { λ f. IsStagedFrame f.sectors.items f.count f.bytes };
 }

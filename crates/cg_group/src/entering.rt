@@ -20,7 +20,7 @@ use cg_member::member::Waits;
 use cg_names::{GroupId, MemberId, Moment};
 use cg_record::Assignment;
 use cg_request::ticket::Ticket;
-use cg_turn::call::Call;
+use cg_turn::context::RequestContext;
 use cg_turn::joining::new_member;
 use cg_turn::parking::is_entering;
 use std::alloc::{AllocError, Global};
@@ -80,7 +80,7 @@ pub fn entering<'a>(r: &'a CheckedJoin, fresh: Uuid, groups: &Held) -> Option<&'
 
 /// Processes a JOIN by a new member that is only parked, in the group with this id.
 pub fn enter_in(
-    call: Call,
+    context: RequestContext,
     held: &mut Held,
     homes: &mut Homes,
     own: &GroupId,
@@ -93,18 +93,18 @@ pub fn enter_in(
     ensures known { AreKnown (is_home homes.new) held.new }
     ensures tight { IsTight homes.new held.new }
     ensures ok { IfOk result
-        (λ e. concluded (at_moment call.now held.old) call.ticket (join call.now r fresh call.ticket held.old) ≡ outcome (at_moment call.now held.new) e) }
+        (λ e. concluded (at_moment context.now held.old) context.ticket (join context.now r fresh context.ticket held.old) ≡ outcome (at_moment context.now held.new) e) }
     ensures err { OnErr result (held.new ≡ held.old) }
-    ensures taken { is_ok (join call.now r fresh call.ticket held.old) ≡ true }
+    ensures taken { is_ok (join context.now r fresh context.ticket held.old) ≡ true }
 {
-    let id = drawn(call.alloc, &r.request, fresh)?;
+    let id = drawn(context.alloc, &r.request, fresh)?;
     let altering = EnteringJoin {
-        alloc: call.alloc,
-        now: call.now,
+        alloc: context.alloc,
+        now: context.now,
         id,
         request: r,
-        ticket: call.ticket,
+        ticket: context.ticket,
     };
-    let effects = park_in(held, homes, call.ticket, own, altering, None)?;
+    let effects = park_in(held, homes, context.ticket, own, altering, None)?;
     Ok(effects)
 }

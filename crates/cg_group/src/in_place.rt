@@ -23,8 +23,8 @@ use cg_request::commits::Commits;
 use cg_request::request::BeatRequest;
 use cg_request::ticket::Ticket;
 use cg_turn::beating::{beat_reply, beating_member};
-use cg_turn::call::Call;
 use cg_turn::committing::kept;
+use cg_turn::context::RequestContext;
 use std::alloc::{AllocError, Global};
 
 /// Builds effects of one reply and no command, without an allocation.
@@ -96,7 +96,7 @@ fn hear_committer(now: Moment, held: &mut Held, own: &GroupId, who: Option<&Memb
 /// the command.
 #[tactic(auto, unfolding(cg_fold::specs::Durable::effect))]
 pub fn commit_in(
-    call: Call,
+    context: RequestContext,
     held: &mut Held,
     offsets: &mut Offsets,
     id: GroupId,
@@ -105,18 +105,18 @@ pub fn commit_in(
 ) -> Result<Effects, AllocError>
     requires { InOrder held.old }
     ensures ok { IfOk result (λ e. (g : Group) → find_group id held.old ≡ Some g
-        → concluded (at_moment call.now held.old) call.ticket (commit_by call.now (option_copied who.entry) entries call.ticket g) ≡ outcome (at_moment call.now held.new) e) }
+        → concluded (at_moment context.now held.old) context.ticket (commit_by context.now (option_copied who.entry) entries context.ticket g) ≡ outcome (at_moment context.now held.new) e) }
     ensures parked { (g : Group) → find_group id held.old ≡ Some g → StayParked held.old held.new }
     ensures offsets { IfOk result (λ e. offsets.new ≡ offsets_after offsets.old e.commands) }
     ensures err { OnErr result ((held.new ≡ held.old) × (offsets.new ≡ offsets.old)) }
-    ensures taken { OnErr result ((g : Group) → is_ok (commit_by call.now (option_copied who.entry) entries call.ticket g) ≡ true) }
+    ensures taken { OnErr result ((g : Group) → is_ok (commit_by context.now (option_copied who.entry) entries context.ticket g) ≡ true) }
 {
-    let Some(entries) = entries.into_entries(call.alloc)? else {
+    let Some(entries) = entries.into_entries(context.alloc)? else {
         let refused = Reply::Refused(Code::OffsetMetadataTooLarge);
-        return Ok(reply_alone(call.alloc, call.ticket, refused));
+        return Ok(reply_alone(context.alloc, context.ticket, refused));
     };
     let committed = Committed { group: id, entries };
     offsets.commit(&committed)?;
-    hear_committer(call.now, held, &committed.group, who);
-    Ok(kept(call.alloc, committed, call.ticket))
+    hear_committer(context.now, held, &committed.group, who);
+    Ok(kept(context.alloc, committed, context.ticket))
 }

@@ -21,21 +21,21 @@ use cg_names::{Code, Moment};
 use cg_request::request::JoinRequest;
 use cg_request::ticket::Ticket;
 use cg_turn::admission::{join_held, join_unheld, unheld_refusal};
-use cg_turn::call::Call;
+use cg_turn::context::RequestContext;
 use std::alloc::AllocError;
 use uuid::Uuid;
 
 // Returns the step of a JOIN whose session timeout is within its limits, or its error code.
 #[tactic(auto, unfolding(crate::specs::Machine::join))]
 fn join_checked(
-    call: Call,
+    context: RequestContext,
     r: CheckedJoin,
     fresh: Uuid,
     groups: &Held,
 ) -> Result<Outcome, AllocError>
     requires { is_session_refused r ≡ false }
-    ensures ok { IfOk result (λ o. o ≡ join call.now r fresh call.ticket groups.now) }
-    ensures taken { OnErr result (is_ok (join call.now r fresh call.ticket groups.now) ≡ true) }
+    ensures ok { IfOk result (λ o. o ≡ join context.now r fresh context.ticket groups.now) }
+    ensures taken { OnErr result (is_ok (join context.now r fresh context.ticket groups.now) ≡ true) }
 {
     let Some(id) = &r.request.group else {
         return Ok(Err(Code::InvalidGroupId));
@@ -46,11 +46,11 @@ fn join_checked(
                 return Ok(Err(code));
             }
             let id = id.clone()?;
-            let taken = join_unheld(call, r, fresh, groups.len(), id)?;
+            let taken = join_unheld(context, r, fresh, groups.len(), id)?;
             Ok(taken)
         }
         Some(group) => {
-            let taken = join_held(call, r, fresh, group)?;
+            let taken = join_held(context, r, fresh, group)?;
             Ok(taken)
         }
     }
@@ -89,20 +89,20 @@ fn meet_join_changing(
     }
     if let Some(own) = entering(&r, fresh, held) {
         let group = own.clone()?;
-        let call = Call {
+        let context = RequestContext {
             alloc: held.allocator(),
             now,
             ticket,
         };
-        let effects = enter_in(call, held, homes, &group, r, fresh)?;
+        let effects = enter_in(context, held, homes, &group, r, fresh)?;
         return Ok(effects);
     }
-    let call = Call {
+    let context = RequestContext {
         alloc: held.allocator(),
         now,
         ticket,
     };
-    let concluding = join_checked(call, r, fresh, held)?;
+    let concluding = join_checked(context, r, fresh, held)?;
     let effects = park(now, held, homes, ticket, concluding)?;
     Ok(effects)
 }

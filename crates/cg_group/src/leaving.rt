@@ -26,7 +26,7 @@ use cg_member::turn::Outcome;
 use cg_names::{Code, GroupId, MemberId, Moment};
 use cg_request::request::LeaveRequest;
 use cg_request::ticket::Ticket;
-use cg_turn::call::Call;
+use cg_turn::context::RequestContext;
 use cg_turn::leaving::{departing, leave_held, remove_member};
 use std::alloc::{AllocError, Global};
 
@@ -92,14 +92,14 @@ fn departing_effects(
 
 // Returns the step of a LEAVE, or its error code. Only a LEAVE that is not refused needs an allocation.
 #[tactic(auto, unfolding(crate::specs::Machine::leave))]
-fn leave(call: Call, r: &LeaveRequest, groups: &Held) -> Result<Outcome, AllocError>
-    ensures ok { IfOk result (λ o. o ≡ leave call.now r.now call.ticket groups.now) }
-    ensures taken { OnErr result (is_ok (leave call.now r.now call.ticket groups.now) ≡ true) }
+fn leave(context: RequestContext, r: &LeaveRequest, groups: &Held) -> Result<Outcome, AllocError>
+    ensures ok { IfOk result (λ o. o ≡ leave context.now r.now context.ticket groups.now) }
+    ensures taken { OnErr result (is_ok (leave context.now r.now context.ticket groups.now) ≡ true) }
 {
     match named(groups, &r.group) {
         Err(code) => Ok(Err(code)),
         Ok((_, group)) => {
-            let taken = leave_held(call, r, group)?;
+            let taken = leave_held(context, r, group)?;
             Ok(taken)
         }
     }
@@ -142,7 +142,7 @@ pub fn meet_leave(
         settle_older(homes, held, own, parked);
         return Ok(effects);
     }
-    let concluding = leave(Call { alloc, now, ticket }, r, held)?;
+    let concluding = leave(RequestContext { alloc, now, ticket }, r, held)?;
     let Concluded { effects, replaced } = conclude(alloc, now, held, ticket, concluding)?;
     settle_replaced(homes, held, &replaced);
     Ok(effects)

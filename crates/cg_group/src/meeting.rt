@@ -32,8 +32,8 @@ use cg_request::commits::Commits;
 use cg_request::event::Event;
 use cg_request::request::CommitRequest;
 use cg_request::ticket::Ticket;
-use cg_turn::call::Call;
-use cg_turn::committing::{committer, kept, unheld_refusal};
+use cg_turn::committing::{committer, kept, new_group_commit_refusal};
+use cg_turn::context::RequestContext;
 use cg_turn::joining::new_group;
 use std::alloc::{AllocError, Global};
 
@@ -58,7 +58,7 @@ fn describe(alloc: Global, id: &Option<GroupId>, groups: &Held) -> Result<Reply,
 // changes.
 #[tactic(auto, unfolding(cg_fold::specs::Durable::effect))]
 fn commit_new(
-    call: Call,
+    context: RequestContext,
     held: &mut Held,
     offsets: &mut Offsets,
     id: GroupId,
@@ -66,16 +66,16 @@ fn commit_new(
 ) -> Result<Effects, AllocError>
     requires { find_group id held.old ≡ None }
     ensures ok { IfOk result
-        (λ e. concluded (at_moment call.now held.old) call.ticket (Ok (keeping_entries entries call.ticket (new_group id))) ≡ outcome (at_moment call.now held.new) e) }
+        (λ e. concluded (at_moment context.now held.old) context.ticket (Ok (keeping_entries entries context.ticket (new_group id))) ≡ outcome (at_moment context.now held.new) e) }
     ensures parked { StayParked held.old held.new }
     ensures offsets { IfOk result (λ e. offsets.new ≡ offsets_after offsets.old e.commands) }
     ensures err { OnErr result ((held.new ≡ held.old) × (offsets.new ≡ offsets.old)) }
 {
     let own = id.clone()?;
-    held.put(new_group(call.alloc, own))?;
+    held.put(new_group(context.alloc, own))?;
     let committed = Committed { group: id, entries };
     match offsets.commit(&committed) {
-        Ok(()) => Ok(kept(call.alloc, committed, call.ticket)),
+        Ok(()) => Ok(kept(context.alloc, committed, context.ticket)),
         Err(wanting) => {
             held.remove(&committed.group);
             Err(wanting)
@@ -85,7 +85,7 @@ fn commit_new(
 
 // Processes a COMMIT whose group is not loaded.
 fn commit_apart(
-    call: Call,
+    context: RequestContext,
     held: &mut Held,
     offsets: &mut Offsets,
     id: GroupId,
@@ -94,19 +94,19 @@ fn commit_apart(
 ) -> Result<Effects, AllocError>
     requires { find_group id held.old ≡ None }
     ensures ok { IfOk result
-        (λ e. concluded (at_moment call.now held.old) call.ticket (commit_unheld generation entries call.ticket (length held.old) id) ≡ outcome (at_moment call.now held.new) e) }
+        (λ e. concluded (at_moment context.now held.old) context.ticket (commit_unheld generation entries context.ticket (length held.old) id) ≡ outcome (at_moment context.now held.new) e) }
     ensures parked { StayParked held.old held.new }
     ensures offsets { IfOk result (λ e. offsets.new ≡ offsets_after offsets.old e.commands) }
     ensures err { OnErr result ((held.new ≡ held.old) × (offsets.new ≡ offsets.old)) }
-    ensures taken { OnErr result (is_ok (commit_unheld generation entries call.ticket (length held.old) id) ≡ true) }
+    ensures taken { OnErr result (is_ok (commit_unheld generation entries context.ticket (length held.old) id) ≡ true) }
 {
-    if let Some(code) = unheld_refusal(generation, &entries, held.len()) {
-        return Ok(reply_alone(call.alloc, call.ticket, Reply::Refused(code)));
+    if let Some(code) = new_group_commit_refusal(generation, &entries, held.len()) {
+        return Ok(reply_alone(context.alloc, context.ticket, Reply::Refused(code)));
     }
-    let Some(entries) = entries.into_entries(call.alloc)? else {
+    let Some(entries) = entries.into_entries(context.alloc)? else {
         unreachable!()
     };
-    let effects = commit_new(call, held, offsets, id, entries)?;
+    let effects = commit_new(context, held, offsets, id, entries)?;
     Ok(effects)
 }
 
@@ -138,7 +138,7 @@ fn meet_commit(
     };
     let Some(group) = held.find(&id) else {
         let effects = commit_apart(
-            Call { alloc, now, ticket },
+            RequestContext { alloc, now, ticket },
             held,
             offsets,
             id,
@@ -150,7 +150,14 @@ fn meet_commit(
     match committer(generation, &instance, &member, group) {
         Err(code) => Ok(reply_alone(alloc, ticket, Reply::Refused(code))),
         Ok(who) => {
-            let effects = commit_in(Call { alloc, now, ticket }, held, offsets, id, who, entries)?;
+            let effects = commit_in(
+                RequestContext { alloc, now, ticket },
+                held,
+                offsets,
+                id,
+                who,
+                entries,
+            )?;
             Ok(effects)
         }
     }

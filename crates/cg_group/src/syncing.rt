@@ -25,7 +25,7 @@ use cg_names::{GroupId, MemberId, Moment};
 use cg_record::Assignment;
 use cg_request::request::SyncRequest;
 use cg_request::ticket::Ticket;
-use cg_turn::call::Call;
+use cg_turn::context::RequestContext;
 use cg_turn::parking::parking_syncer;
 use cg_turn::syncing::sync_held;
 use std::alloc::AllocError;
@@ -136,14 +136,14 @@ fn parking_sync<'a>(
 
 // Returns the step of a SYNC, or its error code. Only a SYNC that is not refused needs an allocation.
 #[tactic(auto, unfolding(crate::specs::Machine::sync))]
-fn sync(call: Call, r: &SyncRequest, groups: &Held) -> Result<Outcome, AllocError>
-    ensures ok { IfOk result (λ o. o ≡ sync call.now r.now call.ticket groups.now) }
-    ensures taken { OnErr result (is_ok (sync call.now r.now call.ticket groups.now) ≡ true) }
+fn sync(context: RequestContext, r: &SyncRequest, groups: &Held) -> Result<Outcome, AllocError>
+    ensures ok { IfOk result (λ o. o ≡ sync context.now r.now context.ticket groups.now) }
+    ensures taken { OnErr result (is_ok (sync context.now r.now context.ticket groups.now) ≡ true) }
 {
     match named(groups, &r.group) {
         Err(code) => Ok(Err(code)),
         Ok((_, group)) => {
-            let taken = sync_held(call, r, group)?;
+            let taken = sync_held(context, r, group)?;
             Ok(taken)
         }
     }
@@ -175,7 +175,7 @@ pub fn meet_sync(
         return Ok(effects);
     }
     let concluding = sync(
-        Call {
+        RequestContext {
             alloc: held.allocator(),
             now,
             ticket,

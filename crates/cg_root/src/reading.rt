@@ -1,4 +1,5 @@
 //! Reading the root that counts.
+ghost use Rattle.cg_root.specs.declared.slot_state.TheConstants.{SLOTS_BYTES};
 ghost use Rattle.std.specs.Prelude.{◌≡◌, ◌<◌, ◌≤◌, true, length, IfOk, IsErrOf};
 ghost use Rattle.cg_disk.specs.Disk.{present, sector, Stays, Counts};
 ghost use Rattle.cg_root.specs.Roots.{IsLawful, CountingRoot, HasNoRoot, HasBadRoot};
@@ -14,7 +15,7 @@ use std::alloc::Global;
 
 // Reads the root that counts among those of both slots.
 fn root_among(alloc: Global, slots: &[u8], sectors: u64) -> Result<Root, RootFault>
-    requires long { length slots.now ≡ 2048 }
+    requires long { length slots.now ≡ SLOTS_BYTES }
     requires room { 4 ≤ sectors }
     ensures counting { IfOk result (λ root. CountingRoot (sector slots.now) sectors root) }
     ensures no_root { IsErrOf result RootFault.NoRoot → HasNoRoot (sector slots.now) sectors }

@@ -1,4 +1,5 @@
 //! What a slot holds, as its two sectors show it.
+ghost use Rattle.cg_root.specs.declared.slot_state.TheConstants.{SLOTS_BYTES};
 ghost use Rattle.cg_disk.specs.declared.disk.TheConstants.{SECTOR_BYTES};
 ghost use Rattle.std.specs.Prelude.{◌≡◌, ◌+◌, length};
 ghost use Rattle.cg_disk.specs.Disk.{sector};
@@ -26,7 +27,7 @@ pub(crate) enum SlotState {
 
 /// Returns the body of a slot.
 pub(crate) fn body_of_slot(slots: &[u8], slot: Slot) -> &[u8]
-    requires { length slots.now ≡ 2048 }
+    requires { length slots.now ≡ SLOTS_BYTES }
     ensures body { result.now ≡ sector slots.now (gate_of slot + 1) }
     ensures long { length result.now ≡ SECTOR_BYTES }
 {
@@ -36,7 +37,7 @@ pub(crate) fn body_of_slot(slots: &[u8], slot: Slot) -> &[u8]
 
 /// Returns what a slot holds.
 pub(crate) fn state_of_slot(slots: &[u8], slot: Slot, sectors: u64) -> SlotState
-    requires { length slots.now ≡ 2048 }
+    requires { length slots.now ≡ SLOTS_BYTES }
     ensures { IsState (sector slots.now) sectors slot result }
 {
     if slots[slot.gate() as usize * SECTOR_BYTES] != OPEN {

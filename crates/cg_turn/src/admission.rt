@@ -9,7 +9,7 @@ ghost use Rattle.cg_member.specs.Joining.{drawn, is_inconsistent, join_current, 
 ghost use Rattle.cg_turn.specs.Admission.{is_full, join_placed, join_held, join_unheld};
 
 use crate::bounds::GROUPS_MAX;
-use crate::call::Call;
+use crate::context::RequestContext;
 use crate::joining::{is_current, join_known, join_new, new_group};
 use crate::replacing::join_replacing;
 use cg_member::checked::CheckedJoin;
@@ -65,17 +65,22 @@ fn is_full(old: Option<&Member>, members: &Members) -> bool
 }
 
 #[tactic(auto, using(cg_member::proofs::Seats::instance_given))]
-fn join_placed(call: Call, r: CheckedJoin, id: MemberId, group: &Group) -> Result<Turn, AllocError>
+fn join_placed(
+    context: RequestContext,
+    r: CheckedJoin,
+    id: MemberId,
+    group: &Group,
+) -> Result<Turn, AllocError>
     requires room { is_full (find_instance r.instance group.now.members) group.now.members ≡ false }
     requires own_id { is_some (find_member id group.now.members) ≡ false }
-    ensures { IfOk result (λ t. t ≡ join_placed call.now r id call.ticket group.now (find_instance r.instance group.now.members)) }
+    ensures { IfOk result (λ t. t ≡ join_placed context.now r id context.ticket group.now (find_instance r.instance group.now.members)) }
 {
     match group.members.find_instance(&r.request.instance) {
         None => {
-            let own = copied_group(call.alloc, group)?;
-            join_new(call, r, id, own)
+            let own = copied_group(context.alloc, group)?;
+            join_new(context, r, id, own)
         }
-        Some(old) => join_replacing(call, r, id, old, group),
+        Some(old) => join_replacing(context, r, id, old, group),
     }
 }
 
@@ -103,19 +108,19 @@ pub fn stranger_refusal(r: &JoinRequest, fresh: Uuid, group: &Group) -> Option<C
 
 // The refusals come before the first allocation.
 fn join_stranger(
-    call: Call,
+    context: RequestContext,
     r: CheckedJoin,
     fresh: Uuid,
     group: &Group,
 ) -> Result<Outcome, AllocError>
-    ensures ok { IfOk result (λ o. o ≡ join_held call.now r fresh call.ticket None group.now) }
-    ensures err { OnErr result (is_ok (join_held call.now r fresh call.ticket None group.now) ≡ true) }
+    ensures ok { IfOk result (λ o. o ≡ join_held context.now r fresh context.ticket None group.now) }
+    ensures err { OnErr result (is_ok (join_held context.now r fresh context.ticket None group.now) ≡ true) }
 {
     if let Some(code) = stranger_refusal(&r.request, fresh, group) {
         return Ok(Err(code));
     }
-    let id = drawn(call.alloc, &r.request, fresh)?;
-    let turn = join_placed(call, r, id, group)?;
+    let id = drawn(context.alloc, &r.request, fresh)?;
+    let turn = join_placed(context, r, id, group)?;
     Ok(Ok(turn))
 }
 
@@ -175,21 +180,21 @@ pub fn current_joiner<'a, 'b>(
 /// Returns the step of a JOIN in a loaded group, or its error code. Copies the group. Only a JOIN that is not refused
 /// needs an allocation.
 pub fn join_held(
-    call: Call,
+    context: RequestContext,
     r: CheckedJoin,
     fresh: Uuid,
     group: &Group,
 ) -> Result<Outcome, AllocError>
-    ensures ok { IfOk result (λ o. o ≡ join_held call.now r fresh call.ticket r.member group.now) }
-    ensures err { OnErr result (is_ok (join_held call.now r fresh call.ticket r.member group.now) ≡ true) }
+    ensures ok { IfOk result (λ o. o ≡ join_held context.now r fresh context.ticket r.member group.now) }
+    ensures err { OnErr result (is_ok (join_held context.now r fresh context.ticket r.member group.now) ≡ true) }
 {
     match &r.request.member {
-        None => join_stranger(call, r, fresh, group),
+        None => join_stranger(context, r, fresh, group),
         Some(_) => match known_joiner(&r.request, group) {
             Err(code) => Ok(Err(code)),
             Ok((id, member)) => {
                 let id = id.clone()?;
-                let turn = join_known(call, r, &id, member, group)?;
+                let turn = join_known(context, r, &id, member, group)?;
                 Ok(Ok(turn))
             }
         },
@@ -215,19 +220,19 @@ pub fn unheld_refusal(r: &JoinRequest, loaded: usize) -> Option<Code>
 /// Returns the step of a JOIN in a group that is not loaded, or its error code. `loaded` is the number of loaded groups.
 #[tactic(auto, unfolding(crate::specs::Admission::join_unheld, cg_member::specs::Joining::new_group, cg_member::specs::Membership::find_member, cg_member::specs::Membership::find_instance))]
 pub fn join_unheld(
-    call: Call,
+    context: RequestContext,
     r: CheckedJoin,
     fresh: Uuid,
     loaded: usize,
     id: GroupId,
 ) -> Result<Outcome, AllocError>
-    ensures ok { IfOk result (λ o. o ≡ join_unheld call.now r fresh call.ticket loaded id) }
-    ensures err { OnErr result (is_ok (join_unheld call.now r fresh call.ticket loaded id) ≡ true) }
+    ensures ok { IfOk result (λ o. o ≡ join_unheld context.now r fresh context.ticket loaded id) }
+    ensures err { OnErr result (is_ok (join_unheld context.now r fresh context.ticket loaded id) ≡ true) }
 {
     if let Some(code) = unheld_refusal(&r.request, loaded) {
         return Ok(Err(code));
     }
-    let member = drawn(call.alloc, &r.request, fresh)?;
-    let turn = join_new(call, r, member, new_group(call.alloc, id))?;
+    let member = drawn(context.alloc, &r.request, fresh)?;
+    let turn = join_new(context, r, member, new_group(context.alloc, id))?;
     Ok(Ok(turn))
 }

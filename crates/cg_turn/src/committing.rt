@@ -76,7 +76,7 @@ pub fn kept(alloc: Global, committed: Committed, ticket: Ticket) -> Effects
 /// Returns the error code of a COMMIT to a group that is not loaded, if it is refused. `loaded` is the number of loaded
 /// groups. No allocation.
 #[tactic(auto, unfolding(crate::specs::Committing::commit_unheld))]
-pub fn unheld_refusal(generation: i32, entries: &Commits, loaded: usize) -> Option<Code>
+pub fn new_group_commit_refusal(generation: i32, entries: &Commits, loaded: usize) -> Option<Code>
     ensures { MatchOption result
         ((is_too_large entries.now ≡ false)
         × ((ticket : Ticket) (id : List ℕ) → commit_unheld generation entries.now ticket loaded id ≡ Ok (committed entries.now ticket (new_group id))))

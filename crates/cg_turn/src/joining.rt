@@ -5,7 +5,7 @@ ghost use Rattle.cg_member.specs.Membership.{find_member, find_instance};
 ghost use Rattle.cg_member.specs.Joining.{new_group, new_member, admitted, in_join_phase, join_new, updating, waiting, rejoined, join_again, join_current, is_current, join_known};
 ghost use Rattle.cg_member.specs.declared.member.Waits.TheVariants.{Join};
 
-use crate::call::Call;
+use crate::context::RequestContext;
 use crate::rebalance::{joined_reply, leads, prepared, tried, turn_of};
 use cg_member::answers::{Refusing, answer_one};
 use cg_member::calls::Calls;
@@ -92,22 +92,27 @@ fn in_join_phase(now: Moment, turn: Turn) -> Result<Turn, AllocError>
 
 /// Returns the step of a JOIN by a new member.
 #[tactic(auto, unfolding(cg_member::specs::Joining::join_new, cg_member::specs::Joining::new_member))]
-pub fn join_new(call: Call, r: CheckedJoin, id: MemberId, group: Group) -> Result<Turn, AllocError>
+pub fn join_new(
+    context: RequestContext,
+    r: CheckedJoin,
+    id: MemberId,
+    group: Group,
+) -> Result<Turn, AllocError>
     requires room { length group.members < MEMBERS_MAX }
     requires own_id { is_some (find_member id group.members) ≡ false }
     requires own_instance { is_some (find_instance r.instance group.members) ≡ false }
-    ensures { IfOk result (λ t. t ≡ join_new call.now r id call.ticket group) }
+    ensures { IfOk result (λ t. t ≡ join_new context.now r id context.ticket group) }
 {
     let (member, kind) = new_member(
-        call.now,
+        context.now,
         r,
         id,
-        Assignment::empty(call.alloc),
-        Waits::Join(call.ticket),
+        Assignment::empty(context.alloc),
+        Waits::Join(context.ticket),
     );
     let group = admitted(member, kind, group)?;
-    let turn = in_join_phase(call.now, turn_of(call.alloc, group))?;
-    tried(call.alloc, call.now, turn)
+    let turn = in_join_phase(context.now, turn_of(context.alloc, group))?;
+    tried(context.alloc, context.now, turn)
 }
 
 #[tactic(auto, unfolding(cg_member::specs::Joining::updating))]
@@ -133,36 +138,41 @@ pub fn waiting(now: Moment, id: &MemberId, waits: Waits, mut turn: Turn) -> Resu
 
 /// Parks the JOIN in the rebalance, which begins if none is under way and completes if all members have joined.
 #[tactic(auto, unfolding(cg_member::specs::Joining::rejoined))]
-pub fn rejoined(call: Call, id: &MemberId, turn: Turn) -> Result<Turn, AllocError>
-    ensures { IfOk result (λ t. t ≡ rejoined call.now id.now call.ticket turn) }
+pub fn rejoined(context: RequestContext, id: &MemberId, turn: Turn) -> Result<Turn, AllocError>
+    ensures { IfOk result (λ t. t ≡ rejoined context.now id.now context.ticket turn) }
 {
-    let turn = in_join_phase(call.now, turn)?;
-    let turn = waiting(call.now, id, Waits::Join(call.ticket), turn)?;
-    tried(call.alloc, call.now, turn)
+    let turn = in_join_phase(context.now, turn)?;
+    let turn = waiting(context.now, id, Waits::Join(context.ticket), turn)?;
+    tried(context.alloc, context.now, turn)
 }
 
 #[tactic(auto, unfolding(cg_member::specs::Joining::join_again))]
-fn join_again(call: Call, r: CheckedJoin, id: &MemberId, group: Group) -> Result<Turn, AllocError>
-    ensures { IfOk result (λ t. t ≡ join_again call.now r id.now call.ticket group) }
+fn join_again(
+    context: RequestContext,
+    r: CheckedJoin,
+    id: &MemberId,
+    group: Group,
+) -> Result<Turn, AllocError>
+    ensures { IfOk result (λ t. t ≡ join_again context.now r id.now context.ticket group) }
 {
-    let turn = turn_of(call.alloc, updating(r, id, group));
-    rejoined(call, id, turn)
+    let turn = turn_of(context.alloc, updating(r, id, group));
+    rejoined(context, id, turn)
 }
 
 // The machine answers such a JOIN without a copy of the group (`current_joiner`); the contract of `join_held` has every JOIN.
 #[tactic(auto, unfolding(cg_member::specs::Joining::join_current, cg_member::specs::Membership::hearing))]
 fn join_current(
-    call: Call,
+    context: RequestContext,
     id: &MemberId,
     member: &Member,
     group: &Group,
 ) -> Result<Turn, AllocError>
-    ensures { IfOk result (λ t. t ≡ join_current call.now id.now call.ticket member.now group.now) }
+    ensures { IfOk result (λ t. t ≡ join_current context.now id.now context.ticket member.now group.now) }
 {
-    let reply = joined_reply(call.alloc, group, member)?;
-    let mut turn = turn_of(call.alloc, copied_group(call.alloc, group)?);
-    turn.group.members.hear(id, call.now);
-    turn.replies.push((call.ticket, reply))?;
+    let reply = joined_reply(context.alloc, group, member)?;
+    let mut turn = turn_of(context.alloc, copied_group(context.alloc, group)?);
+    turn.group.members.hear(id, context.now);
+    turn.replies.push((context.ticket, reply))?;
     Ok(turn)
 }
 
@@ -183,17 +193,17 @@ pub fn is_current(r: &JoinRequest, member: &Member, group: &Group) -> bool
 /// Returns the step of a JOIN by a known member. Copies the group.
 #[tactic(auto, unfolding(cg_member::specs::Joining::join_known))]
 pub fn join_known(
-    call: Call,
+    context: RequestContext,
     r: CheckedJoin,
     id: &MemberId,
     member: &Member,
     group: &Group,
 ) -> Result<Turn, AllocError>
-    ensures { IfOk result (λ t. t ≡ join_known call.now r id.now call.ticket member.now group.now) }
+    ensures { IfOk result (λ t. t ≡ join_known context.now r id.now context.ticket member.now group.now) }
 {
     if is_current(&r.request, member, group) {
-        join_current(call, id, member, group)
+        join_current(context, id, member, group)
     } else {
-        join_again(call, r, id, copied_group(call.alloc, group)?)
+        join_again(context, r, id, copied_group(context.alloc, group)?)
     }
 }

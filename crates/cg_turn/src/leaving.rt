@@ -7,7 +7,7 @@ ghost use Rattle.std.specs.List.{list_any};
 ghost use Rattle.cg_member.specs.declared.member.Member.{Member};
 ghost use Rattle.cg_request.specs.declared.ticket.Ticket.{Ticket};
 
-use crate::call::Call;
+use crate::context::RequestContext;
 use crate::parking::waits_for_others;
 use crate::rebalance::{is_preparing, leads, prepared, tried, turn_of};
 use cg_member::answers::{Refusing, answer_all, answer_one};
@@ -92,15 +92,15 @@ fn left(
 
 #[tactic(auto, unfolding(cg_member::specs::Leaving::leave_taken))]
 fn leave_taken(
-    call: Call,
+    context: RequestContext,
     id: &MemberId,
     member: &Member,
     group: &Group,
 ) -> Result<Turn, AllocError>
-    ensures { IfOk result (λ t. t ≡ leave_taken call.now id.now call.ticket member.now group.now) }
+    ensures { IfOk result (λ t. t ≡ leave_taken context.now id.now context.ticket member.now group.now) }
 {
-    let turn = left(call.alloc, id, call.ticket, member, group)?;
-    let turn = after_removal(call.alloc, call.now, turn)?;
+    let turn = left(context.alloc, id, context.ticket, member, group)?;
+    let turn = after_removal(context.alloc, context.now, turn)?;
     Ok(turn)
 }
 
@@ -157,14 +157,18 @@ fn leaver<'a>(r: &LeaveRequest, members: &'a Members) -> Result<&'a Member, Code
 /// Returns the step of a LEAVE in a loaded group, or its error code. Copies the group. Only a LEAVE that is not refused
 /// needs an allocation.
 #[tactic(auto, unfolding(cg_member::specs::Leaving::leave_held))]
-pub fn leave_held(call: Call, r: &LeaveRequest, group: &Group) -> Result<Outcome, AllocError>
-    ensures ok { IfOk result (λ o. o ≡ leave_held call.now r.now call.ticket group.now) }
-    ensures err { OnErr result (is_ok (leave_held call.now r.now call.ticket group.now) ≡ true) }
+pub fn leave_held(
+    context: RequestContext,
+    r: &LeaveRequest,
+    group: &Group,
+) -> Result<Outcome, AllocError>
+    ensures ok { IfOk result (λ o. o ≡ leave_held context.now r.now context.ticket group.now) }
+    ensures err { OnErr result (is_ok (leave_held context.now r.now context.ticket group.now) ≡ true) }
 {
     match leaver(r, &group.members) {
         Err(code) => Ok(Err(code)),
         Ok(member) => {
-            let turn = leave_taken(call, &member.id, member, group)?;
+            let turn = leave_taken(context, &member.id, member, group)?;
             Ok(Ok(turn))
         }
     }

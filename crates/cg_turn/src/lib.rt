@@ -7,8 +7,8 @@
 pub mod admission;
 pub mod beating;
 pub mod bounds;
-pub mod call;
 pub mod committing;
+pub mod context;
 pub mod joining;
 pub mod leaving;
 pub mod parking;

@@ -7,7 +7,7 @@ ghost use Rattle.cg_member.specs.Membership.{find_instance, find_member};
 ghost use Rattle.cg_member.specs.Replacing.{leads_and_goes, replacing, is_protocol, keeps_generation, successor, replaced, replaced_command, replaced_reply, replaced_in_place, join_replacing};
 ghost use Rattle.cg_member.specs.Syncing.{kept_member};
 
-use crate::call::Call;
+use crate::context::RequestContext;
 use crate::joining::{new_member, rejoined};
 use crate::rebalance::leads;
 use crate::syncing::kept_member;
@@ -206,25 +206,25 @@ fn successor(
 
 // Ends a replacement: the generation continues with the new member, or that member joins a rebalance.
 fn continued(
-    call: Call,
+    context: RequestContext,
     own: &MemberId,
     kept: StaticMember,
     before: &Group,
     mut turn: Turn,
 ) -> Result<Turn, AllocError>
-    ensures { IfOk result (λ t. t ≡ if keeps_generation turn.group then replaced_in_place call.ticket kept before.now turn else rejoined call.now own.now call.ticket turn) }
+    ensures { IfOk result (λ t. t ≡ if keeps_generation turn.group then replaced_in_place context.ticket kept before.now turn else rejoined context.now own.now context.ticket turn) }
 {
-    if keep_generation(call.alloc, call.ticket, kept, before, &mut turn)? {
+    if keep_generation(context.alloc, context.ticket, kept, before, &mut turn)? {
         Ok(turn)
     } else {
-        rejoined(call, own, turn)
+        rejoined(context, own, turn)
     }
 }
 
 /// Returns the step of a JOIN that replaces the old member under the new id. Copies the group.
 #[tactic(auto, unfolding(cg_member::specs::Replacing::join_replacing, cg_member::specs::Joining::new_member))]
 pub fn join_replacing(
-    call: Call,
+    context: RequestContext,
     r: CheckedJoin,
     id: MemberId,
     old: &Member,
@@ -232,10 +232,10 @@ pub fn join_replacing(
 ) -> Result<Turn, AllocError>
     requires own_id { is_some (find_member id group.now.members) ≡ false }
     requires given { IsSome r.instance }
-    ensures { IfOk result (λ t. t ≡ join_replacing call.now r id call.ticket old.now group.now) }
+    ensures { IfOk result (λ t. t ≡ join_replacing context.now r id context.ticket old.now group.now) }
 {
     let own = id.clone()?;
-    let (new, kept) = successor(call.alloc, call.now, r, id, old, group)?;
-    let turn = replaced(call.alloc, new, old, group)?;
-    continued(call, &own, kept, group, turn)
+    let (new, kept) = successor(context.alloc, context.now, r, id, old, group)?;
+    let turn = replaced(context.alloc, new, old, group)?;
+    continued(context, &own, kept, group, turn)
 }

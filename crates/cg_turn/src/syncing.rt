@@ -3,7 +3,7 @@ ghost use Rattle.std.specs.Prelude.{◌≡◌, ◌++◌, true, Some, is_ok, IfOk
 ghost use Rattle.cg_member.specs.Membership.{find_member, has_member, is_led};
 ghost use Rattle.cg_member.specs.Syncing.{assigning, kept_member, kept_roster, assigned_command, synced_reply, told_to_syncs, distributed, sync_waits, sync_current, sync_taken, sync_held};
 
-use crate::call::Call;
+use crate::context::RequestContext;
 use crate::joining::waiting;
 use crate::rebalance::{is_preparing, leads, subscription_for, turn_of};
 use cg_member::answers::{Telling, answer_all};
@@ -194,20 +194,20 @@ fn distributed(
 
 #[tactic(auto, unfolding(cg_member::specs::Syncing::sync_waits, cg_member::specs::Membership::hearing), using(crate::proofs::Leading::led_waiting))]
 fn sync_waits(
-    call: Call,
+    context: RequestContext,
     r: &SyncRequest,
     id: &MemberId,
     member: &Member,
     group: &Group,
 ) -> Result<Turn, AllocError>
     requires { find_member id.now group.now.members ≡ Some member.now }
-    ensures { IfOk result (λ t. t ≡ sync_waits call.now r.now id.now call.ticket member.now group.now) }
+    ensures { IfOk result (λ t. t ≡ sync_waits context.now r.now id.now context.ticket member.now group.now) }
 {
-    let mut turn = turn_of(call.alloc, copied_group(call.alloc, group)?);
-    turn.group.members.hear(id, call.now);
-    let turn = waiting(call.now, id, Waits::Sync(call.ticket), turn)?;
+    let mut turn = turn_of(context.alloc, copied_group(context.alloc, group)?);
+    turn.group.members.hear(id, context.now);
+    let turn = waiting(context.now, id, Waits::Sync(context.ticket), turn)?;
     if leads(group, member) {
-        distributed(call.alloc, call.now, r.entries.as_slice(), turn)
+        distributed(context.alloc, context.now, r.entries.as_slice(), turn)
     } else {
         Ok(turn)
     }
@@ -215,43 +215,48 @@ fn sync_waits(
 
 #[tactic(auto, unfolding(cg_member::specs::Syncing::sync_current, cg_member::specs::Membership::hearing))]
 fn sync_current(
-    call: Call,
+    context: RequestContext,
     id: &MemberId,
     member: &Member,
     group: &Group,
 ) -> Result<Turn, AllocError>
-    ensures { IfOk result (λ t. t ≡ sync_current call.now id.now call.ticket member.now group.now) }
+    ensures { IfOk result (λ t. t ≡ sync_current context.now id.now context.ticket member.now group.now) }
 {
     let assignment = member.assignment.clone()?;
-    let mut turn = turn_of(call.alloc, copied_group(call.alloc, group)?);
-    turn.group.members.hear(id, call.now);
-    turn.replies.push((call.ticket, Reply::Synced(assignment)))?;
+    let mut turn = turn_of(context.alloc, copied_group(context.alloc, group)?);
+    turn.group.members.hear(id, context.now);
+    turn.replies
+        .push((context.ticket, Reply::Synced(assignment)))?;
     Ok(turn)
 }
 
 #[tactic(auto, unfolding(cg_member::specs::Syncing::sync_taken))]
 fn sync_taken(
-    call: Call,
+    context: RequestContext,
     r: &SyncRequest,
     id: &MemberId,
     member: &Member,
     group: &Group,
 ) -> Result<Turn, AllocError>
     requires { find_member id.now group.now.members ≡ Some member.now }
-    ensures { IfOk result (λ t. t ≡ sync_taken call.now r.now id.now call.ticket member.now group.now group.now.phase) }
+    ensures { IfOk result (λ t. t ≡ sync_taken context.now r.now id.now context.ticket member.now group.now group.now.phase) }
 {
     match group.phase {
-        Phase::Completing => sync_waits(call, r, id, member, group),
-        _ => sync_current(call, id, member, group),
+        Phase::Completing => sync_waits(context, r, id, member, group),
+        _ => sync_current(context, id, member, group),
     }
 }
 
 /// Returns the step of a SYNC in a loaded group, or its error code. Copies the group. Only a SYNC that is not refused
 /// needs an allocation.
 #[tactic(auto, unfolding(cg_member::specs::Syncing::sync_held))]
-pub fn sync_held(call: Call, r: &SyncRequest, group: &Group) -> Result<Outcome, AllocError>
-    ensures ok { IfOk result (λ o. o ≡ sync_held call.now r.now call.ticket group.now) }
-    ensures err { OnErr result (is_ok (sync_held call.now r.now call.ticket group.now) ≡ true) }
+pub fn sync_held(
+    context: RequestContext,
+    r: &SyncRequest,
+    group: &Group,
+) -> Result<Outcome, AllocError>
+    ensures ok { IfOk result (λ o. o ≡ sync_held context.now r.now context.ticket group.now) }
+    ensures err { OnErr result (is_ok (sync_held context.now r.now context.ticket group.now) ≡ true) }
 {
     let (id, member) = match checked_member(&r.instance, &r.member, &group.members) {
         Ok(who) => who,
@@ -263,6 +268,6 @@ pub fn sync_held(call: Call, r: &SyncRequest, group: &Group) -> Result<Outcome, 
     if is_preparing(group.phase) {
         return Ok(Err(Code::RebalanceInProgress));
     }
-    let turn = sync_taken(call, r, id, member, group)?;
+    let turn = sync_taken(context, r, id, member, group)?;
     Ok(Ok(turn))
 }

@@ -12,23 +12,23 @@ returns-in_err-grown-clause-err c =
     let shelves = c.args.shelves.now.entries in
     let own = is_at (name_cmp c.args.commit.group) in
     let there : lookup own shelves ≡ Some c.in-Some.rows.now = search rules in
-    let same : (c.get_mut.follows.lender c.take_commit.new.self).entries ≡ shelves =
-    (c.get_mut.follows.holds c.take_commit.new.self).0 ∙ ap (set_value own shelves) c.in_err-grown.ensures.err ∙ set_value_same own shelves c.in-Some.rows.now there in
+    let same : (c.get_mut.follows.lender c.take_entries.new.self).entries ≡ shelves =
+    (c.get_mut.follows.holds c.take_entries.new.self).0 ∙ ap (set_value own shelves) c.in_err-grown.ensures.err ∙ set_value_same own shelves c.in-Some.rows.now there in
     search (rules, same)
 
 pub returns-in-Some-clause-ok : goal.returns-in-Some-clause-ok
 returns-in-Some-clause-ok c =
     let shelves = c.args.shelves.now.entries in
     let there : lookup (is_at (name_cmp c.args.commit.group)) shelves ≡ Some c.in-Some.rows.now = search rules in
-    added_over shelves (c.get_mut.follows.lender c.take_commit.new.self).entries c.args.commit.group c.in-Some.rows.now c.take_commit.new.self (rows_of c.args.commit.entries) there
-    (c.get_mut.follows.holds c.take_commit.new.self).0 c.in_ok-grown.ensures.ok c.requires
+    added_over shelves (c.get_mut.follows.lender c.take_entries.new.self).entries c.args.commit.group c.in-Some.rows.now c.take_entries.new.self (rows_of c.args.commit.entries) there
+    (c.get_mut.follows.holds c.take_entries.new.self).0 c.in_ok-grown.ensures.ok c.requires
 
 pub returns-in-Some-clause-grown : goal.returns-in-Some-clause-grown
 returns-in-Some-clause-grown c =
     let shelves = c.args.shelves.now.entries in
     let there : lookup (is_at (name_cmp c.args.commit.group)) shelves ≡ Some c.in-Some.rows.now = search rules in
-    grown_over shelves (c.get_mut.follows.lender c.take_commit.new.self).entries c.args.commit.group c.in-Some.rows.now c.take_commit.new.self (rows_of c.args.commit.entries) there
-    (c.get_mut.follows.holds c.take_commit.new.self).0 c.in_ok-grown.ensures.ok c.requires c.in_ok-grown.grown c.in_ok-grown.ensures.grown
+    grown_over shelves (c.get_mut.follows.lender c.take_entries.new.self).entries c.args.commit.group c.in-Some.rows.now c.take_entries.new.self (rows_of c.args.commit.entries) there
+    (c.get_mut.follows.holds c.take_entries.new.self).0 c.in_ok-grown.ensures.ok c.requires c.in_ok-grown.grown c.in_ok-grown.ensures.grown
 
 pub returns-clause-grown : goal.returns-clause-grown
 returns-clause-grown c =

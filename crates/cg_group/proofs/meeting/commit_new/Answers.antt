@@ -11,7 +11,7 @@ use Rattle.cg_group.proofs.meeting.commit_new.Goals as goal
 
 pub returns-in-Ok-clause-ok : goal.returns-in-Ok-clause-ok
 returns-in-Ok-clause-ok c =
-    commit_made c.args.call.now c.args.held.now c.put.new.self c.args.call.ticket c.args.entries c.args.id c.kept.result
+    commit_made c.args.context.now c.args.held.now c.put.new.self c.args.context.ticket c.args.entries c.args.id c.kept.result
     (c.in_ok-put.ensures.ok ∙ ap (λ g. with_group g c.args.held.now) (c.new_group.ensures ∙ ap new_group c.in_ok-own.ensures.cases))
     c.kept.ensures
 

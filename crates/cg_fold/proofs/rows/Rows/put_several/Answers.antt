@@ -7,7 +7,7 @@ use Rattle.cg_fold.specs.Renewed.{AreRenewals}
 use Rattle.cg_fold.proofs.Own.{sorted-fold}
 use Rattle.cg_fold.proofs.Put.{tested, is_true}
 use Rattle.cg_fold.proofs.Renewed.{renewals_are_puts, renewals_below}
-use Rattle.cg_fold.proofs.rows.Rows.put_entries.Goals as goal
+use Rattle.cg_fold.proofs.rows.Rows.put_several.Goals as goal
 
 pub renew_all-requires : goal.renew_all-requires
 renew_all-requires c =
