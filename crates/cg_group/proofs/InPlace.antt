@@ -15,7 +15,7 @@ use Rattle.cg_member.specs.declared.reply.Reply.TheVariants as reply
 use Rattle.cg_request.specs.declared.ticket.Ticket.{Ticket}
 use Rattle.cg_member.specs.declared.turn.Turn.{Turn}
 use Rattle.cg_turn.specs.Admission.{join_held}
-use Rattle.cg_turn.specs.Beating.{beat_held, beat_reply, beat_taken}
+use Rattle.cg_turn.specs.Beating.{IsBeat, beat_held, beat_reply, beat_taken}
 use Rattle.cg_request.specs.Commits.{is_too_large, kept_entry}
 use Rattle.cg_turn.specs.Committing.{commit_by, commit_effects, commit_held, committed, committer, hearing_committer, keeping_entries}
 use Rattle.cg_group.specs.InPlace.{IsBeatIn, IsCurrent, IsJoinIn, IsNamed, IsSyncIn}
@@ -53,14 +53,15 @@ concluded_refused now groups ticket o code e is made = ap (concluded (at_moment 
 pub named_is : (o : Option (List ℕ)) (groups : List Group) (own : List ℕ) (g : Group) → IsNamed o groups own g → named_group o groups ≡ Ok g
 named_is o groups own g at = ap (λ o. named_group o groups) at.named ∙ ap (λ o. ok_or o UnknownMemberId) at.found
 
-pub beat_in_place : (now : ℕ) (r : BeatRequest) (ticket : Ticket) (groups after : List Group) (own id : List ℕ) (answer : Reply) (e : Effects) → IsBeatIn r groups own id answer
-    → ((g : Group) → find_group own groups ≡ Some g → after ≡ with_group (hearing now id g) groups) → e ≡ reply_alone ticket answer → concluded (at_moment now groups) ticket (beat now r ticket groups) ≡ outcome (at_moment now after) e
+pub beat_in_place : (now : ℕ) (r : BeatRequest) (ticket : Ticket) (groups after : List Group) (id : List ℕ) (answer : Reply) (e : Effects) → IsBeatIn now r groups after id answer
+    → e ≡ reply_alone ticket answer → concluded (at_moment now groups) ticket (beat now r ticket groups) ≡ outcome (at_moment now after) e
 unfolding concluded beat beat_taken
-beat_in_place now r ticket groups after own id answer e at put made =
+beat_in_place now r ticket groups after id answer e at made =
     let g : Group = at.group in
-    ap (concluded (at_moment now groups) ticket) (ap (λ o. o >>= λ g. beat_held now r ticket g) (named_is r.group groups own g at.named) ∙ at.taken now ticket)
-    ∙ ap (λ gs. outcome (at_moment now gs) (reply_alone ticket (beat_reply g))) (sym (put g at.named.found))
-    ∙ ap (λ a. outcome (at_moment now after) (reply_alone ticket a)) (sym at.answered)
+    let done : IsBeat r g id answer = at.beat in
+    ap (concluded (at_moment now groups) ticket) (ap (λ o. o >>= λ g. beat_held now r ticket g) (named_is r.group groups at.own g at.named) ∙ done.taken now ticket)
+    ∙ ap (λ gs. outcome (at_moment now gs) (reply_alone ticket (beat_reply g))) (sym at.heard)
+    ∙ ap (λ a. outcome (at_moment now after) (reply_alone ticket a)) (sym done.answered)
     ∙ ap (outcome (at_moment now after)) (sym made)
 
 pub sync_in_place : (now : ℕ) (r : SyncRequest) (ticket : Ticket) (groups after : List Group) (own id bytes : List ℕ) (e : Effects) → IsSyncIn r groups own id bytes

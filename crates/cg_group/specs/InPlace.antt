@@ -17,7 +17,7 @@ use Rattle.cg_request.specs.declared.ticket.Ticket.{Ticket}
 use Rattle.cg_member.specs.declared.turn.Turn.{Turn}
 use Rattle.cg_turn.specs.Admission.{join_held}
 use Rattle.cg_turn.specs.Entering.{HasPlace, entered}
-use Rattle.cg_turn.specs.Beating.{beat_held, beat_reply, beat_taken}
+use Rattle.cg_turn.specs.Beating.{IsBeat}
 use Rattle.cg_group.specs.Machine.{concluded}
 use Rattle.cg_held.specs.Held.{at_moment, find_group, outcome, with_group}
 use Rattle.cg_held.specs.Sessions.{AreKnown, Known, is_parked}
@@ -34,12 +34,13 @@ pub record IsNamed (given : Option (List ℕ)) (groups : List Group) (own : List
   pub named : given ≡ Some own
   pub found : find_group own groups ≡ Some group
 
--- the BEAT passes its checks, from this member, in the group with this id, and gets this reply
-pub record IsBeatIn (r : BeatRequest) (groups : List Group) (own id : List ℕ) (reply : Reply) : Type 0 where
+-- the BEAT passes its checks, from this member, in a loaded group, where the member is heard, and gets this reply
+pub record IsBeatIn (now : ℕ) (r : BeatRequest) (groups after : List Group) (id : List ℕ) (reply : Reply) : Type 0 where
+  pub own : List ℕ
   pub group : Group
   pub named : IsNamed r.group groups own group
-  pub taken : (now : ℕ) (ticket : Ticket) → beat_held now r ticket group ≡ Ok (beat_taken now id ticket group)
-  pub answered : reply ≡ beat_reply group
+  pub beat : IsBeat r group id reply
+  pub heard : after ≡ with_group (hearing now id group) groups
 
 -- a SYNC of the member gets this assignment at once
 pub record IsCurrent (r : SyncRequest) (g : Group) (id bytes : List ℕ) : Type 0 where

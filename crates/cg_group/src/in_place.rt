@@ -10,7 +10,6 @@ ghost use Rattle.cg_member.specs.Membership.{hearing};
 ghost use Rattle.cg_member.specs.Offsets.{offsets_after};
 ghost use Rattle.cg_held.specs.Sessions.{StayParked};
 
-use crate::naming::named;
 use cg_fold::Offsets;
 use cg_held::held::Held;
 use cg_member::effects::Effects;
@@ -22,7 +21,6 @@ use cg_record::Committed;
 use cg_request::commits::Commits;
 use cg_request::request::BeatRequest;
 use cg_request::ticket::Ticket;
-use cg_turn::beating::{beat_reply, beating_member};
 use cg_turn::committing::kept;
 use cg_turn::context::RequestContext;
 use std::alloc::{AllocError, Global};
@@ -53,31 +51,30 @@ pub fn hear_in(
     reply_alone(held.allocator(), ticket, reply)
 }
 
-// Returns the group, the member and the reply of a BEAT that passes its checks.
-fn beating<'a>(
+// Processes a BEAT in the group that it names: marks the calling member as heard, and returns its id and the reply. Reports 24
+// for `-`, and 25 if the group is not loaded.
+fn beat_named<'a>(
+    now: Moment,
+    held: &mut Held,
     r: &'a BeatRequest,
-    groups: &Held,
-) -> Result<(&'a GroupId, &'a MemberId, Reply), Code>
-    ensures { MatchResult result (λ p. IsBeatIn r.now groups.now p.0.now p.1.now p.2)
-        (λ code. (now : ℕ) (ticket : Ticket) → beat now r.now ticket groups.now ≡ Err code) }
+) -> Result<(&'a MemberId, Reply), Code>
+    ensures { MatchResult result (λ p. IsBeatIn now r.now held.old held.new p.0.now p.1)
+        (λ code. ((now : ℕ) (ticket : Ticket) → beat now r.now ticket held.old ≡ Err code) × (held.new ≡ held.old)) }
 {
-    match named(groups, &r.group) {
-        Err(code) => Err(code),
-        Ok((own, group)) => match beating_member(r, group) {
-            Err(code) => Err(code),
-            Ok(id) => Ok((own, id, beat_reply(group))),
-        },
-    }
+    let Some(own) = &r.group else {
+        return Err(Code::InvalidGroupId);
+    };
+    held.beat(own, now, r)
 }
 
-/// Processes a BEAT. Two look-ups of the group, two of the member, no allocation.
+/// Processes a BEAT. One look-up of the group and one of the member, no allocation.
 pub fn meet_beat(now: Moment, held: &mut Held, ticket: Ticket, r: &BeatRequest) -> Effects
     ensures met { concluded (at_moment now held.old) ticket (beat now r.now ticket held.old) ≡ outcome (at_moment now held.new) result }
     ensures parked { StayParked held.old held.new }
 {
-    match beating(r, held) {
+    match beat_named(now, held, r) {
         Err(code) => reply_alone(held.allocator(), ticket, Reply::Refused(code)),
-        Ok((own, id, reply)) => hear_in(now, held, own, id, ticket, reply),
+        Ok((_, reply)) => reply_alone(held.allocator(), ticket, reply),
     }
 }
 

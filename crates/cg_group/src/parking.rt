@@ -1,5 +1,5 @@
 //! A step that may park its request: its group replaces the old one, and the session index is kept.
-ghost use Rattle.std.specs.Prelude.{◌≡◌, ◌⊎◌, ℕ, List, Some, true, false, is_ok, is_some, IfOk, OnErr, OnOk};
+ghost use Rattle.std.specs.Prelude.{◌≡◌, ◌⊎◌, ℕ, List, Some, true, is_ok, is_some, IfOk, OnErr, OnOk};
 ghost use Rattle.cg_group.specs.InPlace.{ParksKnown, group_of};
 ghost use Rattle.cg_group.specs.Machine.{concluded};
 ghost use Rattle.cg_held.specs.Held.{at_moment, outcome};

@@ -14,3 +14,4 @@ pub mod Tight
 pub mod DueGroups
 pub mod Quiet
 pub mod Timed
+pub mod Beaten

@@ -1,5 +1,5 @@
 //! The loaded groups, with an index of the moments at which ticks may change them.
-ghost use Rattle.std.specs.Prelude.{◌≡◌, ℕ, ◌<◌, List, Some, None, [], length, false, slice_get, IfOk, OnErr, OnOk};
+ghost use Rattle.std.specs.Prelude.{◌≡◌, ℕ, Err, MatchResult, ◌<◌, List, Some, None, [], length, false, slice_get, IfOk, OnErr, OnOk};
 ghost use Rattle.std.specs.Map.Iter.{ShowsInOrder, deref};
 ghost use Rattle.std.specs.Option.{option_copied};
 ghost use Rattle.cg_member.specs.declared.group.Group.{Group};
@@ -8,6 +8,8 @@ ghost use Rattle.cg_held.specs.Held.{IsHeld, InOrder, find_group, with_group, wi
 ghost use Rattle.cg_held.specs.Kept.{Ascending, Each};
 ghost use Rattle.cg_held.specs.Timed.{AreTimed};
 ghost use Rattle.cg_member.specs.Membership.{hearing};
+ghost use Rattle.cg_names.specs.declared.code.Code.TheVariants.{UnknownMemberId};
+ghost use Rattle.cg_turn.specs.Beating.{IsBeat, IsBeatRefused};
 ghost use Rattle.cg_member.specs.Rebalance.{turn_of};
 ghost use Rattle.cg_member.specs.Ticking.{ticked};
 ghost use Rattle.cg_member.specs.Waiting.{waiting_calls};
@@ -15,7 +17,9 @@ ghost use Rattle.cg_member.specs.Waiting.{waiting_calls};
 use crate::altering::Altering;
 use crate::loaded::Loaded;
 use cg_member::group::Group;
-use cg_names::{GroupId, MemberId, Moment};
+use cg_member::reply::Reply;
+use cg_names::{Code, GroupId, MemberId, Moment};
+use cg_request::request::BeatRequest;
 use cg_request::ticket::Ticket;
 use cg_time::Deadlines;
 use cg_turn::ticking::next_deadline;
@@ -162,6 +166,24 @@ impl Held {
     {
         hear_in_index(&mut self.deadlines, self.since, now, group);
         self.loaded.hear(group, id, now);
+    }
+
+    /// Processes a BEAT in the group with this id: marks the calling member as heard, and returns its id and the reply.
+    /// Reports 25 if the group is not loaded. Costs one look-up of the group, no allocation.
+    pub fn beat<'a>(
+        &mut self,
+        group: &GroupId,
+        now: Moment,
+        r: &'a BeatRequest,
+    ) -> Result<(&'a MemberId, Reply), Code>
+        ensures beaten { (g : Group) → find_group group.now self.old ≡ Some g → MatchResult result
+            (λ p. IsBeat r.now g p.0.now p.1 × (self.new ≡ with_group (hearing now p.0.now g) self.old))
+            (λ code. IsBeatRefused r.now g code × (self.new ≡ self.old)) }
+        ensures absent { find_group group.now self.old ≡ None → (result ≡ Err UnknownMemberId) × (self.new ≡ self.old) }
+    {
+        let (id, reply) = self.loaded.beat(group, now, r)?;
+        hear_in_index(&mut self.deadlines, self.since, now, group);
+        Ok((id, reply))
     }
 
     /// Changes the group with this id in place, if it is loaded, and finds out its next moment for ticks. Costs three look-ups

@@ -1,5 +1,5 @@
 //! A map of groups by their ids.
-ghost use Rattle.std.specs.Prelude.{◌≡◌, ℕ, Some, None, [], length, is_some, slice_get, true, IfOk, OnErr, OnOk};
+ghost use Rattle.std.specs.Prelude.{◌≡◌, Err, MatchResult, Some, None, [], length, is_some, slice_get, true, OnErr, OnOk};
 ghost use Rattle.std.specs.BTreeMap.{get, is_at};
 ghost use Rattle.std.specs.Cmp.Lexicographic.{slice_cmp};
 ghost use Rattle.std.specs.Map.{set_value};
@@ -10,13 +10,18 @@ ghost use Rattle.cg_member.specs.declared.group.Group.{Group};
 ghost use Rattle.cg_held.specs.Changes.{ChangeKeepsId};
 ghost use Rattle.cg_held.specs.Held.{IsHeld, InOrder, find_group, with_group, without_group};
 ghost use Rattle.cg_member.specs.Membership.{hearing};
+ghost use Rattle.cg_names.specs.declared.code.Code.TheVariants.{UnknownMemberId};
+ghost use Rattle.cg_turn.specs.Beating.{IsBeat, IsBeatRefused};
 ghost use Rattle.cg_member.specs.Waiting.{waiting_calls};
 
 use crate::altering::Altering;
 use cg_member::calls::Calls;
 use cg_member::group::Group;
-use cg_names::{GroupId, MemberId, Moment};
+use cg_member::reply::Reply;
+use cg_names::{Code, GroupId, MemberId, Moment};
+use cg_request::request::BeatRequest;
 use cg_request::ticket::Ticket;
+use cg_turn::beating::beat_in;
 use std::alloc::{AllocError, Global};
 use std::collections::BTreeMap;
 use std::collections::btree_map::Values;
@@ -67,6 +72,24 @@ fn hear_among(groups: &mut BTreeMap<GroupId, Group>, own: &GroupId, id: &MemberI
 {
     if let Some(group) = groups.get_mut(own) {
         hear_in(now, id, group);
+    }
+}
+
+// Processes a BEAT in the group with this id.
+fn beat_among<'a>(
+    groups: &mut BTreeMap<GroupId, Group>,
+    own: &GroupId,
+    now: Moment,
+    r: &'a BeatRequest,
+) -> Result<(&'a MemberId, Reply), Code>
+    ensures some { (g : Group) → get (slice_cmp nat_cmp) groups.old own.now ≡ Some g → MatchResult result
+        (λ p. IsBeat r.now g p.0.now p.1 × (groups.new.entries ≡ set_value (is_at (slice_cmp nat_cmp own.now)) groups.old.entries (hearing now p.0.now g)))
+        (λ code. IsBeatRefused r.now g code × (groups.new.entries ≡ groups.old.entries)) }
+    ensures none { get (slice_cmp nat_cmp) groups.old own.now ≡ None → (result ≡ Err UnknownMemberId) × (groups.new.entries ≡ groups.old.entries) }
+{
+    match groups.get_mut(own) {
+        None => Err(Code::UnknownMemberId),
+        Some(group) => beat_in(now, r, group),
     }
 }
 
@@ -173,6 +196,22 @@ impl Loaded {
         ensures in_order { InOrder self.old }
     {
         hear_among(&mut self.groups, group, id, now);
+    }
+
+    /// Processes a BEAT in the group with this id. Costs one look-up, no allocation.
+    pub fn beat<'a>(
+        &mut self,
+        group: &GroupId,
+        now: Moment,
+        r: &'a BeatRequest,
+    ) -> Result<(&'a MemberId, Reply), Code>
+        ensures beaten { (g : Group) → find_group group.now self.old ≡ Some g → MatchResult result
+            (λ p. IsBeat r.now g p.0.now p.1 × (self.new ≡ with_group (hearing now p.0.now g) self.old))
+            (λ code. IsBeatRefused r.now g code × (self.new ≡ self.old)) }
+        ensures absent { find_group group.now self.old ≡ None → (result ≡ Err UnknownMemberId) × (self.new ≡ self.old) }
+        ensures in_order { InOrder self.old }
+    {
+        beat_among(&mut self.groups, group, now, r)
     }
 
     /// Changes the group with this id, if it is loaded. If an allocation fails, nothing changes.

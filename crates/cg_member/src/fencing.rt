@@ -1,6 +1,7 @@
 //! The member check (KIP-345, fencing): the caller is a member of the group, and no other member has taken its
 //! instance.
-ghost use Rattle.std.specs.Prelude.{◌≡◌, Ok, Err, Some, IfOk, MatchResult};
+ghost use Rattle.std.specs.Prelude.{◌≡◌, Ok, Err, Some, IfOk, MatchResult, ok_or, option_map};
+ghost use Rattle.cg_names.specs.declared.code.Code.TheVariants.{UnknownMemberId};
 ghost use Rattle.cg_member.specs.Fencing.{fencing, member_check};
 ghost use Rattle.cg_member.specs.Membership.{find_member, is_named};
 
@@ -38,6 +39,25 @@ fn fencing(
     }
 }
 
+/// Returns the id of the caller, by the instance and the id in the request: the member check passes if a member has this id.
+/// Reads the members only if an instance is given.
+#[tactic(auto, unfolding(crate::specs::Fencing::member_check))]
+pub fn fenced_caller<'a>(
+    instance: &Option<InstanceId>,
+    member: &'a Option<MemberId>,
+    members: &Members,
+) -> Result<&'a MemberId, Code>
+    ensures { MatchResult result
+        (λ id. member_check instance.now member.now members.now ≡ ok_or (option_map (λ m. (id.now, m)) (find_member id.now members.now)) UnknownMemberId)
+        (λ code. member_check instance.now member.now members.now ≡ Err code) }
+{
+    fencing(instance, member, members)?;
+    let Some(id) = member else {
+        return Err(Code::UnknownMemberId);
+    };
+    Ok(id)
+}
+
 /// Returns the calling member and its id, by the instance and the id in the request. Linear in the members, no
 /// allocation.
 #[tactic(auto, unfolding(crate::specs::Fencing::member_check))]
@@ -51,10 +71,7 @@ pub fn checked_member<'a, 'b>(
         (λ code. member_check instance.now member.now members.now ≡ Err code) }
     ensures found { IfOk result (λ who. find_member who.0.now members.now ≡ Some who.1.now) }
 {
-    fencing(instance, member, members)?;
-    let Some(id) = member else {
-        return Err(Code::UnknownMemberId);
-    };
+    let id = fenced_caller(instance, member, members)?;
     match members.find(id) {
         None => Err(Code::UnknownMemberId),
         Some(own) => Ok((id, own)),

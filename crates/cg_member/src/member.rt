@@ -15,21 +15,21 @@ pub enum Waits {
     Sync(Ticket),
 }
 
-/// A member of a group.
+/// A member of a group. What heartbeats and ticks read comes first, so that it lies together.
 #[derive(Debug, Drop)]
 pub struct Member {
     pub id: MemberId,
-    /// Instance id of a static member (KIP-345); `None` for a dynamic one.
-    pub instance: Option<InstanceId>,
-    pub client: ClientId,
+    /// Moment at which the member was last heard.
+    pub heard: Moment,
+    pub waits: Waits,
     /// Session timeout: a member without a parked call expires if it is not heard for this long (KIP-62).
     pub session: SessionTimeout,
     /// Rebalance timeout: how long a rebalance waits for this member (KIP-62).
     pub rebalance: RebalanceTimeout,
+    /// Instance id of a static member (KIP-345); `None` for a dynamic one.
+    pub instance: Option<InstanceId>,
+    pub client: ClientId,
     /// Protocols that the member supports, the preferred one first.
     pub protocols: Protocols,
     pub assignment: Assignment,
-    /// Moment at which the member was last heard.
-    pub heard: Moment,
-    pub waits: Waits,
 }

@@ -120,12 +120,17 @@ fn take_over(member: &mut Member, join: CheckedJoin)
 }
 
 #[tactic(auto, using(crate::proofs::Places::placing))]
-fn hear_one(members: &mut Vec<Member>, tags: &[u32], id: &MemberId, now: Moment)
+fn hear_one(members: &mut Vec<Member>, tags: &[u32], id: &MemberId, now: Moment) -> bool
     requires { tags.now ≡ tags_of members.old.items }
-    ensures { members.new.items ≡ with_member id.now (heard now) members.old.items }
+    ensures heard { members.new.items ≡ with_member id.now (heard now) members.old.items }
+    ensures found { result ≡ is_some (find_member id.now members.old.items) }
 {
-    if let Some(place) = place_of(id, tags, members.as_slice()) {
-        members[place].heard = now;
+    match place_of(id, tags, members.as_slice()) {
+        None => false,
+        Some(place) => {
+            members[place].heard = now;
+            true
+        }
     }
 }
 
@@ -323,12 +328,13 @@ impl Members {
         retag(&mut self.tags, self.items.as_slice());
     }
 
-    /// Sets the moment at which the member was last heard.
+    /// Sets the moment at which the member was last heard. Returns whether there is such a member.
     #[tactic(auto, using(crate::proofs::Together::after_hearing, crate::proofs::Tagging::tags_after_hearing))]
-    pub fn hear(&mut self, id: &MemberId, now: Moment)
-        ensures { self.new ≡ with_member id.now (heard now) self.old }
+    pub fn hear(&mut self, id: &MemberId, now: Moment) -> bool
+        ensures heard { self.new ≡ with_member id.now (heard now) self.old }
+        ensures found { result ≡ is_some (find_member id.now self.old) }
     {
-        hear_one(&mut self.items, self.tags.as_slice(), id, now);
+        hear_one(&mut self.items, self.tags.as_slice(), id, now)
     }
 
     /// Parks a call of the member. If an older one was parked, the member also counts as heard, as that call gets a

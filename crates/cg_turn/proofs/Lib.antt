@@ -3,3 +3,4 @@ pub mod Entering
 pub mod Leading
 pub mod Rostering
 pub mod Lagging
+pub mod Strangers

@@ -1,5 +1,5 @@
 -- BEAT (protocol guide, "Heartbeat").
-use Rattle.std.specs.Prelude.{ℕ, List, pos, not, [], ◌∷◌, Result, Ok, if◌then◌else◌}
+use Rattle.std.specs.Prelude.{◌≡◌, ℕ, List, pos, not, [], ◌∷◌, Result, Ok, Err, if◌then◌else◌}
 use Rattle.std.specs.Ordering.{int_eq}
 use Rattle.cg_names.specs.declared.code.Code.{Code}
 use Rattle.cg_names.specs.declared.code.Code.TheVariants.{IllegalGeneration, RebalanceInProgress}
@@ -27,3 +27,12 @@ beat_held now r ticket g = do
   who ← member_check r.instance r.member g.members
   _ ← refused_if (not (int_eq r.generation (pos g.generation))) IllegalGeneration
   Ok (beat_taken now who.0 ticket g)
+
+-- the BEAT passes its checks in this group, from this member, and gets this reply
+pub record IsBeat (r : BeatRequest) (g : Group) (id : List ℕ) (reply : Reply) : Type 0 where
+  pub taken : (now : ℕ) (ticket : Ticket) → beat_held now r ticket g ≡ Ok (beat_taken now id ticket g)
+  pub answered : reply ≡ beat_reply g
+
+-- the BEAT is refused in this group
+abbrev pub IsBeatRefused : BeatRequest → Group → Code → Type 0
+IsBeatRefused r g code = (now : ℕ) (ticket : Ticket) → beat_held now r ticket g ≡ Err code

@@ -1,5 +1,5 @@
 //! JOIN (JoinGroup request): its checks, in the order of the refusals.
-ghost use Rattle.std.specs.Prelude.{◌≡◌, ◌<◌, ℕ, List, Ok, Err, None, Some, true, false, is_ok, is_some, length, IfOk, IfSome, OnErr, MatchOption, MatchResult, ⊤};
+ghost use Rattle.std.specs.Prelude.{◌≡◌, ◌<◌, ℕ, List, Ok, Err, None, Some, true, false, is_ok, is_some, IfOk, IfSome, OnErr, MatchOption, MatchResult, ⊤};
 ghost use Rattle.std.specs.Option.{option_copied};
 ghost use Rattle.std.specs.List.{list_any};
 ghost use Rattle.cg_record.specs.declared.roster.TheConstants.{MEMBERS_MAX};

@@ -1,17 +1,17 @@
 //! BEAT (Heartbeat request).
-ghost use Rattle.std.specs.Prelude.{◌≡◌, ℕ, Ok, Err, MatchResult};
-ghost use Rattle.cg_turn.specs.Beating.{beat_reply, beat_taken, beat_held};
+ghost use Rattle.std.specs.Prelude.{◌≡◌, MatchResult};
+ghost use Rattle.cg_member.specs.Membership.{hearing};
+ghost use Rattle.cg_turn.specs.Beating.{IsBeat, IsBeatRefused, beat_reply};
 
-use cg_member::fencing::checked_member;
+use cg_member::fencing::fenced_caller;
 use cg_member::group::{Group, Phase};
 use cg_member::reply::Reply;
-use cg_names::{Code, MemberId};
+use cg_names::{Code, MemberId, Moment};
 use cg_request::request::BeatRequest;
-use cg_request::ticket::Ticket;
 
-/// Returns the reply to a BEAT that passes the checks: 27 while a rebalance is under way, otherwise OK.
+// Returns the reply to a BEAT that passes the checks: 27 while a rebalance is under way, otherwise OK.
 #[tactic(auto, unfolding(crate::specs::Beating::beat_reply))]
-pub fn beat_reply(group: &Group) -> Reply
+fn beat_reply(group: &Group) -> Reply
     ensures { result ≡ beat_reply group.now }
 {
     match group.phase {
@@ -20,16 +20,28 @@ pub fn beat_reply(group: &Group) -> Reply
     }
 }
 
-/// Returns the id of the calling member if the BEAT passes the checks. Linear in the members, no allocation.
-#[tactic(auto, unfolding(crate::specs::Beating::beat_held))]
-pub fn beating_member<'a>(r: &'a BeatRequest, group: &Group) -> Result<&'a MemberId, Code>
+/// Processes a BEAT in its group: marks the calling member as heard, and returns its id and the reply. A BEAT that is refused
+/// changes nothing. One look-up of the member, no allocation.
+#[tactic(auto, unfolding(crate::specs::Beating::beat_held, crate::specs::Beating::beat_reply, cg_member::specs::Membership::hearing))]
+pub fn beat_in<'a>(
+    now: Moment,
+    r: &'a BeatRequest,
+    group: &mut Group,
+) -> Result<(&'a MemberId, Reply), Code>
     ensures { MatchResult result
-        (λ id. (now : ℕ) (ticket : Ticket) → beat_held now r.now ticket group.now ≡ Ok (beat_taken now id.now ticket group.now))
-        (λ code. (now : ℕ) (ticket : Ticket) → beat_held now r.now ticket group.now ≡ Err code) }
+        (λ p. IsBeat r.now group.old p.0.now p.1 × (group.new ≡ hearing now p.0.now group.old))
+        (λ code. IsBeatRefused r.now group.old code × (group.new ≡ group.old)) }
 {
-    let (id, _) = checked_member(&r.instance, &r.member, &group.members)?;
+    let id = fenced_caller(&r.instance, &r.member, &group.members)?;
     if i64::from(r.generation) != i64::from(group.generation.get()) {
-        return Err(Code::IllegalGeneration);
+        return Err(if group.members.has(id) {
+            Code::IllegalGeneration
+        } else {
+            Code::UnknownMemberId
+        });
     }
-    Ok(id)
+    if !group.members.hear(id, now) {
+        return Err(Code::UnknownMemberId);
+    }
+    Ok((id, beat_reply(group)))
 }

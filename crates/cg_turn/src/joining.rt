@@ -1,5 +1,5 @@
 //! JOIN (JoinGroup request) after its checks: a new member, or a known member.
-ghost use Rattle.std.specs.Prelude.{◌≡◌, ◌<◌, [], false, is_some, length, IfOk};
+ghost use Rattle.std.specs.Prelude.{◌≡◌, ◌<◌, false, is_some, length, IfOk};
 ghost use Rattle.cg_record.specs.declared.roster.TheConstants.{MEMBERS_MAX};
 ghost use Rattle.cg_member.specs.Membership.{find_member, find_instance};
 ghost use Rattle.cg_member.specs.Joining.{new_group, new_member, admitted, in_join_phase, join_new, updating, waiting, rejoined, join_again, join_current, is_current, join_known};

@@ -1,0 +1,37 @@
+-- A BEAT with an id that no member has.
+use Rattle.std.proofs.Common.{◌≡◌, ℕ, true, false, not, List, [], ◌∷◌, cond, Option, Some, None, is_some, option_map, Ok, ok_or, refl, ap, ◌∙◌}
+use Rattle.std.specs.Ordering.{int_eq}
+use Rattle.std.specs.Prelude.{pos, if◌then◌else◌}
+use Rattle.cg_names.specs.declared.code.Code.TheVariants.{IllegalGeneration, UnknownMemberId}
+use Rattle.cg_member.specs.declared.group.Group.{Group}
+use Rattle.cg_member.specs.declared.member.Member.{Member}
+use Rattle.cg_member.specs.Fencing.{member_check}
+use Rattle.cg_member.specs.Membership.{find_member, has_id, heard, with_member}
+use Rattle.cg_member.specs.Refusing.{◌>>=◌, refused_if}
+use Rattle.cg_request.specs.declared.request.BeatRequest.{BeatRequest}
+use Rattle.cg_turn.specs.Beating.{IsBeatRefused, beat_held, beat_taken}
+
+none_is : (o : Option Member) → is_some o ≡ false → o ≡ None
+none_is None e = refl
+none_is (Some m) e = absurd (cc)
+
+unfound : (id : List ℕ) (change : Member → Member) (ms : List Member) → find_member id ms ≡ None → with_member id change ms ≡ ms
+unfolding find_member with_member
+unfound id change [] e = refl
+unfound id change (m ∷ ms) e =
+    (elim (has_id id m) as (λ b. cond b (Some m) (find_member id ms) ≡ None → (if b then change m ∷ ms else m ∷ with_member id change ms) ≡ m ∷ ms) [
+      | true ↦ λ h. absurd (cc)
+      | false ↦ λ h. ap (λ xs. m ∷ xs) (unfound id change ms h)
+    ]) e
+
+module _ (r : BeatRequest) (g : Group) (id : List ℕ) (missing : is_some (find_member id g.members) ≡ false) where
+  -- the BEAT is refused
+  pub beat_stranger : member_check r.instance r.member g.members ≡ ok_or (option_map (λ m. (id, m)) (find_member id g.members)) UnknownMemberId → IsBeatRefused r g UnknownMemberId
+  unfolding beat_held
+  beat_stranger check now ticket =
+      ap (λ o. o >>= λ who. refused_if (not (int_eq r.generation (pos g.generation))) IllegalGeneration >>= λ _. Ok (beat_taken now who.0 ticket g))
+      (check ∙ ap (λ o. ok_or (option_map (λ m. (id, m)) o) UnknownMemberId) (none_is (find_member id g.members) missing))
+
+  -- no member is heard
+  pub unheard : (now : ℕ) (after : List Member) → after ≡ with_member id (heard now) g.members → after ≡ g.members
+  unheard now after e = e ∙ unfound id (heard now) g.members (none_is (find_member id g.members) missing)
