@@ -3,8 +3,8 @@ ghost use Rattle.std.specs.Prelude.{◌≡◌, IfOk};
 
 use cg_fold::StoredOffset;
 use cg_group::{
-    Described, DescribedMember, FetchedPartition, Few, Joined, JoinedMember, Listed, Listing,
-    Reply, Ticket,
+    Boxed, Described, DescribedMember, FetchedPartition, Few, Joined, JoinedMember, Listed,
+    Listing, Reply, Ticket,
 };
 use cg_member::copies::copied_name;
 use std::alloc::{AllocError, Global};
@@ -101,7 +101,7 @@ impl Copied for Listing {
     }
 }
 
-fn copied_joined(alloc: Global, joined: &Joined) -> Result<Joined, AllocError>
+fn copied_joined(alloc: Global, joined: &Joined) -> Result<Boxed<Joined>, AllocError>
     ensures { IfOk result (λ copy. copy ≡ joined.now) }
 {
     let kind = copied_name(&joined.kind)?;
@@ -109,14 +109,16 @@ fn copied_joined(alloc: Global, joined: &Joined) -> Result<Joined, AllocError>
     let leader = copied_name(&joined.leader)?;
     let member = joined.member.clone()?;
     let members = copied_list(alloc, &joined.members)?;
-    Ok(Joined {
+    let copy = Joined {
         generation: joined.generation,
         kind,
         protocol,
         leader,
         member,
         members,
-    })
+    };
+    let copy = Boxed::new(alloc, copy)?;
+    Ok(copy)
 }
 
 fn copied_group(alloc: Global, group: &Described) -> Result<Described, AllocError>
@@ -136,14 +138,14 @@ fn copied_group(alloc: Global, group: &Described) -> Result<Described, AllocErro
 
 fn copied_description(
     alloc: Global,
-    described: &Option<Described>,
-) -> Result<Option<Described>, AllocError>
+    described: &Option<Boxed<Described>>,
+) -> Result<Option<Boxed<Described>>, AllocError>
     ensures { IfOk result (λ copy. copy ≡ described.now) }
 {
     match described {
         None => Ok(None),
         Some(group) => {
-            let copy = copied_group(alloc, group)?;
+            let copy = Boxed::new(alloc, copied_group(alloc, group.get())?)?;
             Ok(Some(copy))
         }
     }
@@ -154,7 +156,7 @@ pub fn copied_reply(alloc: Global, reply: &Reply) -> Result<Reply, AllocError>
     ensures { IfOk result (λ copy. copy ≡ reply.now) }
 {
     let copy = match reply {
-        Reply::Joined(joined) => Reply::Joined(copied_joined(alloc, joined)?),
+        Reply::Joined(joined) => Reply::Joined(copied_joined(alloc, joined.get())?),
         Reply::Synced(assignment) => Reply::Synced(assignment.clone()?),
         Reply::Done => Reply::Done,
         Reply::Fetched(partitions) => Reply::Fetched(copied_list(alloc, partitions)?),

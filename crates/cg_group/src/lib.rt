@@ -24,6 +24,7 @@ pub use laws::{
 };
 
 // The types of events, replies and groups, for the callers of `step`.
+pub use cg_member::boxed::Boxed;
 pub use cg_member::effects::Effects;
 pub use cg_member::few::{Few, Items};
 pub use cg_member::group::{Group, Phase};

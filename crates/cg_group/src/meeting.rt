@@ -1,5 +1,5 @@
 //! The processing of each event on the loaded groups.
-ghost use Rattle.std.specs.Prelude.{◌≡◌, ℕ, false, Ok, Err, None, true, is_ok, is_some, length, IfOk, OnErr, OnOk, MatchResult};
+ghost use Rattle.std.specs.Prelude.{◌≡◌, ℕ, false, Ok, Err, None, true, is_ok, is_some, length, IfOk, OnErr, MatchResult};
 ghost use Rattle.cg_member.specs.Leaving.{gone_in};
 ghost use Rattle.cg_turn.specs.Committing.{commit_unheld, keeping_entries};
 ghost use Rattle.cg_member.specs.Joining.{new_group};
@@ -22,6 +22,7 @@ use cg_held::held::Held;
 use cg_held::homes::turn_there;
 use cg_held::sessions::Homes;
 use cg_held::settling::settle_all;
+use cg_member::boxed::Boxed;
 use cg_member::effects::Effects;
 use cg_member::fetching::fetched;
 use cg_member::few::Few;
@@ -47,7 +48,7 @@ fn describe(alloc: Global, id: &Option<GroupId>, groups: &Held) -> Result<Reply,
         Some(id) => match groups.find(id) {
             None => Ok(Reply::Described(None)),
             Some(group) => {
-                let description = description(alloc, group)?;
+                let description = Boxed::new(alloc, description(alloc, group)?)?;
                 Ok(Reply::Described(Some(description)))
             }
         },

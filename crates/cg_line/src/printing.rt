@@ -5,7 +5,7 @@ ghost use Rattle.cg_line.specs.Replies.{described_line, fetched_word, held_line,
 ghost use Rattle.cg_line.specs.Running.{ended};
 ghost use Rattle.cg_line.specs.Words.{name_word, spaced};
 
-use cg_group::{Described, FetchedPartition, Joined, Listed, Listing, Reply};
+use cg_group::{Boxed, Described, FetchedPartition, Joined, Listed, Listing, Reply};
 use cg_names::{Code, Generation, ProtocolName};
 use itoa::Buffer;
 use std::alloc::{AllocError, Global};
@@ -88,13 +88,13 @@ fn put_held(out: &mut Vec<u8>, described: &Described) -> Result<(), AllocError>
     Ok(())
 }
 
-fn put_described(out: &mut Vec<u8>, described: &Option<Described>) -> Result<(), AllocError>
+fn put_described(out: &mut Vec<u8>, described: &Option<Boxed<Described>>) -> Result<(), AllocError>
     ensures ok { OnOk result (out.new.items ≡ out.old.items ++ described_line described.now) }
     ensures err { OnErr result (StartsWith out.new.items out.old.items) }
 {
     match described {
         None => out.extend_from_slice(b"GROUP Dead 0 - -")?,
-        Some(held) => put_held(out, held)?,
+        Some(held) => put_held(out, held.get())?,
     }
     Ok(())
 }
@@ -141,7 +141,7 @@ pub fn print_into(reply: &Reply, out: &mut Vec<u8>) -> Result<(), AllocError>
     ensures err { OnErr result (StartsWith out.new.items out.old.items) }
 {
     match reply {
-        Reply::Joined(joined) => put_joined(out, joined)?,
+        Reply::Joined(joined) => put_joined(out, joined.get())?,
         Reply::Synced(assignment) => {
             out.extend_from_slice(b"SYNCED ")?;
             put_bytes(out, assignment.as_bytes())?;

@@ -4,6 +4,7 @@
 
 pub mod answers;
 pub mod assignments;
+pub mod boxed;
 pub mod calls;
 pub mod checked;
 pub mod copies;

@@ -1,4 +1,5 @@
 //! The replies to requests.
+use crate::boxed::Boxed;
 use crate::group::Phase;
 use cg_fold::StoredOffset;
 use cg_names::{ClientId, Code, Generation, GroupId, InstanceId, MemberId, ProtocolName, Topic};
@@ -72,7 +73,7 @@ pub struct Listing {
 #[derive(Debug, Drop)]
 pub enum Reply {
     /// The reply to a JOIN.
-    Joined(Joined),
+    Joined(Boxed<Joined>),
     /// The reply to a SYNC: the assignment of the member.
     Synced(Assignment),
     /// The reply OK to a BEAT, a LEAVE, a COMMIT or a DELETE.
@@ -80,7 +81,7 @@ pub enum Reply {
     /// The reply to a FETCH: the partitions in request order.
     Fetched(Listed<FetchedPartition>),
     /// The reply to a DESCRIBE; `None` for a group that is not loaded, which a client sees as Dead.
-    Described(Option<Described>),
+    Described(Option<Boxed<Described>>),
     /// The reply to a LIST: the loaded groups, by the bytes of their ids.
     Groups(Listed<Listing>),
     /// The refusal of any call, with its error code.

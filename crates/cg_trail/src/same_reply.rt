@@ -2,7 +2,7 @@
 use crate::same::Same;
 use cg_fold::StoredOffset;
 use cg_group::{
-    Described, DescribedMember, FetchedPartition, Joined, JoinedMember, Listing, Reply,
+    Boxed, Described, DescribedMember, FetchedPartition, Joined, JoinedMember, Listing, Reply,
 };
 
 impl Same for StoredOffset {
@@ -27,6 +27,12 @@ impl Same for Joined {
             && self.leader.is_same(&other.leader)
             && self.member.is_same(&other.member)
             && self.members.is_same(&other.members)
+    }
+}
+
+impl<T: Same> Same for Boxed<T> {
+    fn is_same(&self, other: &Self) -> bool {
+        self.get().is_same(other.get())
     }
 }
 

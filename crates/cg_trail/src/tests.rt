@@ -2,8 +2,8 @@
 //! give.
 use crate::{Replies, RequestEntry, TickEntry, Trail, TrailEntry, begins_with};
 use cg_group::{
-    CommitEntry, CommitRequest, Commits, Few, JoinRequest, Joined, JoinedMember, Listed, Protocol,
-    Protocols, Reply, Request, Ticket,
+    Boxed, CommitEntry, CommitRequest, Commits, Few, JoinRequest, Joined, JoinedMember, Listed,
+    Protocol, Protocols, Reply, Request, Ticket,
 };
 use cg_names::{Code, Generation, Moment, Name};
 use cg_record::{
@@ -113,15 +113,15 @@ fn joined(alloc: Global, generation: u32) -> Result<(Ticket, Reply), Fail> {
     let leader = name(alloc, MEMBER)?;
     let member = name(alloc, MEMBER)?;
     let members = members(alloc)?;
-    let reply = Reply::Joined(Joined {
+    let joined = Joined {
         generation,
         kind: Some(kind),
         protocol: Some(protocol),
         leader: Some(leader),
         member,
         members,
-    });
-    Ok((JOIN, reply))
+    };
+    Ok((JOIN, Reply::Joined(Boxed::new(alloc, joined)?)))
 }
 
 fn commits(alloc: Global) -> Result<Commits, Fail> {

@@ -1,11 +1,12 @@
 //! The rebalance: its start, its completion, and the replies to its members (KIP-62).
-ghost use Rattle.std.specs.Prelude.{◌≡◌, ◌&&◌, ◌++◌, [], IfOk, OnOk, find, option_map};
+ghost use Rattle.std.specs.Prelude.{◌≡◌, ◌&&◌, ◌++◌, IfOk, OnOk, find, option_map};
 ghost use Rattle.std.specs.List.{list_any};
 ghost use Rattle.cg_member.specs.Rebalance.{turn_of, prepared, subscription_for, joined_member, joined_members, joined_reply, next_leader, next_round, emptied_command, emptied, told_to_joins, completed, is_ready, tried};
 ghost use Rattle.cg_member.specs.Membership.{is_named, is_preparing, leads};
 ghost use Rattle.cg_member.specs.Waiting.{is_waiting};
 
 use cg_member::answers::{Refusing, Telling, answer_all};
+use cg_member::boxed::Boxed;
 use cg_member::calls::{Calls, is_waiting};
 use cg_member::copies::copied_name;
 use cg_member::few::Few;
@@ -137,14 +138,18 @@ pub fn joined_reply(alloc: Global, group: &Group, member: &Member) -> Result<Rep
     let leader = copied_name(&group.leader)?;
     let id = member.id.clone()?;
     let members = joined_members(alloc, group, member)?;
-    Ok(Reply::Joined(Joined {
-        generation: group.generation,
-        kind,
-        protocol,
-        leader,
-        member: id,
-        members,
-    }))
+    let joined = Boxed::new(
+        alloc,
+        Joined {
+            generation: group.generation,
+            kind,
+            protocol,
+            leader,
+            member: id,
+            members,
+        },
+    )?;
+    Ok(Reply::Joined(joined))
 }
 
 /// The rule that replies to each JOIN with the current generation.

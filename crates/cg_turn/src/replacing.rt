@@ -1,9 +1,8 @@
 //! JOIN that replaces the member with the same instance (KIP-345).
 ghost use Rattle.std.specs.Prelude.{◌≡◌, ◌++◌, ◌∷◌, [], Some, false, is_some, IfOk, IsSome, OnOk, if◌then◌else◌};
 ghost use Rattle.std.specs.List.{list_any};
-ghost use Rattle.cg_record.specs.declared.member.Member.{Member as KeptMember};
 ghost use Rattle.cg_member.specs.Joining.{new_member, rejoined};
-ghost use Rattle.cg_member.specs.Membership.{find_instance, find_member};
+ghost use Rattle.cg_member.specs.Membership.{find_member};
 ghost use Rattle.cg_member.specs.Replacing.{leads_and_goes, replacing, is_protocol, keeps_generation, successor, replaced, replaced_command, replaced_reply, replaced_in_place, join_replacing};
 ghost use Rattle.cg_member.specs.Syncing.{kept_member};
 
@@ -12,6 +11,7 @@ use crate::joining::{new_member, rejoined};
 use crate::rebalance::leads;
 use crate::syncing::kept_member;
 use cg_member::answers::{Refusing, answer_one};
+use cg_member::boxed::Boxed;
 use cg_member::calls::Calls;
 use cg_member::checked::CheckedJoin;
 use cg_member::copies::{copied_group, copied_name};
@@ -101,14 +101,18 @@ fn replaced_reply(alloc: Global, id: MemberId, before: &Group) -> Result<Reply, 
     let kind = copied_name(&before.kind)?;
     let protocol = copied_name(&before.protocol)?;
     let leader = copied_name(&before.leader)?;
-    Ok(Reply::Joined(Joined {
-        generation: before.generation,
-        kind,
-        protocol,
-        leader,
-        member: id,
-        members: Listed::new(alloc),
-    }))
+    let joined = Boxed::new(
+        alloc,
+        Joined {
+            generation: before.generation,
+            kind,
+            protocol,
+            leader,
+            member: id,
+            members: Listed::new(alloc),
+        },
+    )?;
+    Ok(Reply::Joined(joined))
 }
 
 // The contract leaves only members with an instance, so the record of a static member is lawful.

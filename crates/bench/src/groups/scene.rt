@@ -113,7 +113,7 @@ fn join_request(
 fn last_joined(effects: &Effects) -> Result<MemberId> {
     match effects.replies.as_slice().last() {
         Some((_, Reply::Joined(joined))) => {
-            let member = joined.member.clone()?;
+            let member = joined.get().member.clone()?;
             Ok(member)
         }
         _ => bail!("a JOIN has no reply"),
@@ -125,7 +125,7 @@ fn assignments(alloc: Global, joined: &Effects, sizes: Sizes) -> Result<SyncEntr
     let mut entries = Vec::new(alloc);
     for (_, reply) in joined.replies.as_slice() {
         if let Reply::Joined(joined) = reply {
-            for member in joined.members.as_slice() {
+            for member in joined.get().members.as_slice() {
                 entries.push(SyncEntry {
                     member: member.id.clone()?,
                     assignment: assignment(alloc, 0, sizes.assignment)?,
