@@ -14,7 +14,7 @@ use crate::store_calls;
 use crate::units::{Part, Units};
 use cg_disk::SectorDisk;
 use cg_record::Command;
-use cg_store::{Batch, Commands, CompactFault, Phase, Progress, Receipt, Store, StoreFault};
+use cg_store::{Batch, CompactFault, Phase, Progress, Receipt, Store, StoreFault};
 use cg_trail::Trail;
 use std::alloc::{AllocError, Global};
 use std::sync::ledger::{Book, Ledger};

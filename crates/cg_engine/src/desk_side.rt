@@ -246,33 +246,26 @@ impl<L: Ledger> DeskSide<L> {
             .begin(self.alloc, &self.desk, ticket, request, now, fresh)
     }
 
-    /// Asks the desk. The answer goes to the session of the token. If an allocation fails, returns token and part.
-    pub fn request<R: Wait>(
+    // Asks the desk, and records the request. If an allocation fails, returns the token.
+    fn ask(
         &mut self,
-        rt: &R,
         token: ReplyToken,
-        part: Part<L>,
         request: Request,
         now: Moment,
         fresh: Uuid,
-        deliveries: &mut Deliveries<L>,
-    ) -> Result<(), (ReplyToken, Part<L>)>
-        ensures { IfErr result (λ refused. call_of refused.0 ≡ call_of token) }
+    ) -> Result<Vec<Outgoing>, ReplyToken>
+        ensures { IfErr result (λ back. call_of back ≡ call_of token) }
     {
-        let ticket = token.ticket();
-        let kind = CallKind::of(&request);
-        let Ok((request, begun)) = self.begin(ticket, request, now, fresh) else {
-            return Err((token, part));
+        let Ok((request, begun)) = self.begin(token.ticket(), request, now, fresh) else {
+            return Err(token);
         };
         match self.desk.request(token, request, now, fresh) {
             Ok(out) => {
                 self.recorder
                     .end(self.alloc, &self.desk, begun, out.as_slice());
-                self.wait(ticket.session, Waiting { kind, part });
-                self.deliver_all(rt, out, deliveries);
-                Ok(())
+                Ok(out)
             }
-            Err((_memory, token)) => Err((token, part)),
+            Err((_memory, token)) => Err(token),
         }
     }
 
@@ -291,16 +284,21 @@ impl<L: Ledger> DeskSide<L> {
             fresh,
         } = submission;
         let kind = CallKind::of(&request);
-        let token = ReplyToken::new(ticket);
-        if let Err((token, part)) = self.request(rt, token, part, request, now, fresh, deliveries) {
-            let answer = Answer {
-                kind,
-                outgoing: token.refuse(Code::UnknownServerError),
-                units: part.without_units(),
-                opening: self.opening,
-            };
-            if let Some(session) = self.sessions.get(ticket.session as usize) {
-                address(rt, session, answer, deliveries);
+        match self.ask(ReplyToken::new(ticket), request, now, fresh) {
+            Ok(out) => {
+                self.wait(ticket.session, Waiting { kind, part });
+                self.deliver_all(rt, out, deliveries);
+            }
+            Err(token) => {
+                let answer = Answer {
+                    kind,
+                    outgoing: token.refuse(Code::UnknownServerError),
+                    units: part.without_units(),
+                    opening: self.opening,
+                };
+                if let Some(session) = self.sessions.get(ticket.session as usize) {
+                    address(rt, session, answer, deliveries);
+                }
             }
         }
     }

@@ -1,5 +1,5 @@
 //! Opening a store for an engine.
-ghost use Rattle.std.specs.Prelude.{◌≡◌, ◌≢◌, ◌⊎◌, ℕ, true, IfErr, IfOk, MatchResult};
+ghost use Rattle.std.specs.Prelude.{◌≡◌, ◌≢◌, ℕ, true, IfErr, IfOk, MatchResult};
 ghost use Rattle.cg_disk.specs.Disk.{Stays, present};
 ghost use Rattle.cg_fold.specs.Durable.{State};
 ghost use Rattle.cg_store.specs.Carried.{Carries};

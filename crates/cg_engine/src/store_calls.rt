@@ -1,10 +1,8 @@
 //! The calls of a store, by what they keep in every crash image.
 ghost use Rattle.std.specs.Prelude.{◌≡◌, ◌+◌, length, MatchResult, OnErr, OnOk};
-ghost use Rattle.cg_disk.specs.Disk.{Counts};
 ghost use Rattle.cg_fold.specs.Durable.{State, after};
-ghost use Rattle.cg_store.specs.Phases.{is_compact_failure};
 ghost use Rattle.cg_store.specs.Receipts.{batch_of};
-ghost use Rattle.cg_store.specs.Store.{disk_of, front_of};
+ghost use Rattle.cg_store.specs.Store.{front_of};
 ghost use Rattle.cg_engine.specs.Stored.{Stores};
 
 use cg_disk::SectorDisk;
