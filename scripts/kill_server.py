@@ -4,9 +4,10 @@
 
 PROGRAM is a built cg_server. In each of ROUNDS rounds (50 by default) it starts the server on one file, lets four clients
 commit ever larger offsets, each to a partition of its own, for a random time below half a second, kills the server, and
-starts it again. Two of the clients wait for each reply, and two have 20 commits on their way. Each partition has to have an offset that is at least the last acknowledged one and at most the last one
-that was sent. The log is so short that the server compacts it all the time, so kills fall into compactions too. A round
-takes at most half a minute. The status is 0 if commits were acknowledged and no offset was missing.
+starts it again. Two of the clients wait for each reply, and two have 20 commits on their way. Each partition has to have an
+offset that is at least the last acknowledged one and at most the last one that was sent. The log is so short that the server
+compacts it all the time, so kills fall into compactions too. A round takes at most half a minute. The status is 0 if commits
+were acknowledged and no offset was missing.
 """
 import os
 import random

@@ -1,8 +1,8 @@
 //! The compactor.
 use crate::server::Server;
 use cg_disk::SectorDisk;
-use cg_engine::{RoundEnd, RoundFault};
-use std::io;
+use cg_engine::{RoundEnd, RoundFault, Skip};
+use std::io::{self, Eprint};
 use std::sync::Wait;
 use std::sync::ledger::Ledger;
 use std::time::{Clock, Duration, Instant};
@@ -10,6 +10,9 @@ use std::time::{Clock, Duration, Instant};
 /// A round of at least this many microseconds is followed by a pause. Shorter ones read small frames, of which a log has up
 /// to a thousand a segment.
 const LONG_ROUND_US: u64 = 250;
+
+/// Fewest free segments with which a compaction of a log with some state can end well: one for its cut, one for its snapshot.
+const ROOM_MIN: u64 = 2;
 
 // What a round of a compaction asks for.
 #[derive(Clone, Copy, Debug, Drop, PartialEq, Eq)]
@@ -20,6 +23,17 @@ enum After {
     Pause,
     /// The same, and a look of the flusher: there may be room now, or the disk failed.
     Notify,
+    /// The same, and a line on standard error: the compaction found no room for its snapshot.
+    Cramped,
+}
+
+// What the compactor knows from one round to the next.
+#[derive(Clone, Copy, Drop)]
+struct CompactorState {
+    /// Whether a compaction is under way.
+    goes_on: bool,
+    /// How many segments were free after the last compaction, if it found no room for its snapshot.
+    cramped: Option<u64>,
 }
 
 // Returns whether a compaction is under way: only then is one wanted where no free segment is asked for.
@@ -30,24 +44,73 @@ fn is_under_way<D: SectorDisk + Drop, L: Ledger, R: Wait>(
     server.engine.compact_wanted(rt, 0)
 }
 
+// Returns whether a compaction is to begin. Each try takes a segment for its cut, and after one that found no room the next one
+// finds some only if the state became smaller. So it begins once batches have taken a further segment, or the log is full.
+fn is_wanted<D: SectorDisk + Drop, L: Ledger, R: Wait>(
+    rt: &R,
+    server: &Server<'_, D, L>,
+    cramped: Option<u64>,
+) -> bool {
+    if server.room.is_full() {
+        return true;
+    }
+    let may_find_room = match cramped {
+        None => true,
+        Some(before) => {
+            let free = server.engine.free_count(rt);
+            ROOM_MIN <= free && free < before
+        }
+    };
+    may_find_room && server.room.is_low(rt, server.engine)
+}
+
 // Does one round of a compaction if one is wanted, or goes on with the one under way. A switch, a round that was skipped and
 // a fault are followed by a pause. Each look at the store may have to wait for a batch.
 fn compact_once<D: SectorDisk + Drop, L: Ledger, R: Wait>(
     rt: &R,
     server: &Server<'_, D, L>,
-    goes_on: bool,
+    state: &mut CompactorState,
 ) -> After {
-    let least = server.options.compact_free;
-    if !goes_on && !server.is_full() && !server.engine.compact_wanted(rt, least) {
+    if !state.goes_on && !is_wanted(rt, server, state.cramped) {
         return After::Pause;
     }
-    let was_under_way = goes_on || is_under_way(rt, server);
+    let was_under_way = state.goes_on || is_under_way(rt, server);
     match server.engine.compact_round(rt) {
         Ok(RoundEnd::Done) if is_under_way(rt, server) => After::Again,
-        Ok(RoundEnd::Done) | Err(RoundFault::Device | RoundFault::Failed) => After::Notify,
-        // What a compaction had taken is free again.
-        Ok(RoundEnd::Skipped(_)) if was_under_way => After::Notify,
-        Ok(RoundEnd::Nothing | RoundEnd::Skipped(_)) | Err(RoundFault::Memory) => After::Pause,
+        Ok(RoundEnd::Done) => {
+            state.cramped = None;
+            After::Notify
+        }
+        Err(RoundFault::Device | RoundFault::Failed) => After::Notify,
+        Ok(RoundEnd::Skipped(Skip::NoRoom)) if state.cramped.is_none() => {
+            state.cramped = Some(server.engine.free_count(rt));
+            After::Cramped
+        }
+        Ok(RoundEnd::Skipped(skip)) => {
+            if skip == Skip::NoRoom {
+                state.cramped = Some(server.engine.free_count(rt));
+            }
+            // What a compaction had taken is free again.
+            if was_under_way {
+                After::Notify
+            } else {
+                After::Pause
+            }
+        }
+        Ok(RoundEnd::Nothing) | Err(RoundFault::Memory) => After::Pause,
+    }
+}
+
+// Says on standard error that a compaction found no room, unless the log is full, which was said already.
+fn say_cramped<D: SectorDisk + Drop, L: Ledger, R: Wait + Eprint>(
+    rt: &R,
+    server: &Server<'_, D, L>,
+) {
+    if !server.room.is_full() {
+        let free = server.engine.free_count(rt);
+        let _ = eprintln!(rt;
+            "cg_server: no room for a snapshot, {free} segments free: make the log longer before it is full"
+        );
     }
 }
 
@@ -75,38 +138,47 @@ fn leave_to_commits<D: SectorDisk + Drop, L: Ledger, R: Wait + Clock>(
     began: io::Result<Instant>,
 ) {
     let pause = pause_after(time_since(rt, began));
-    if !pause.is_zero() && !server.is_full() && !server.is_held() {
-        server.compact.wait(rt, pause);
+    if !pause.is_zero() && !server.room.is_full() && !server.room.is_held() {
+        server.room.compactor.wait(rt, pause);
     }
 }
 
-/// Compacts the log until the server is over, whenever too few segments are free or the log is full. The bell rings when
-/// too few become free, and when the log becomes full: then the next compaction begins without a pause. A long round leaves
-/// the store to commits for a while.
-pub fn compact_until_over<D: SectorDisk + Drop, L: Ledger, R: Wait + Clock>(
+/// Compacts the log until the server is over, whenever too few segments are free or the log is full; after a compaction that
+/// found no room, once batches have taken a further segment or the log is full. The bell rings when too few become free, and
+/// when the log becomes full: then the next compaction begins without a pause. A long round leaves the store to commits for a
+/// while.
+pub fn compact_until_over<D: SectorDisk + Drop, L: Ledger, R: Wait + Clock + Eprint>(
     rt: &R,
     server: &Server<'_, D, L>,
 ) {
     let pause = Duration::from_millis(server.options.tick_ms);
-    let mut goes_on = false;
+    let bell = &server.room.compactor;
+    let mut state = CompactorState {
+        goes_on: false,
+        cramped: None,
+    };
     for _ in rt.forever() {
         // A ring from before this round is met by this round. The end of the server is noted before its ring.
-        server.compact.hush(rt);
+        bell.hush(rt);
         if server.is_over() {
             return;
         }
         let began = Instant::now(rt);
-        let after = compact_once(rt, server, goes_on);
-        goes_on = after == After::Again;
+        let after = compact_once(rt, server, &mut state);
+        state.goes_on = after == After::Again;
         match after {
             After::Again => leave_to_commits(rt, server, began),
             After::Pause => {
-                server.compact.wait(rt, pause);
+                bell.wait(rt, pause);
             }
-            After::Notify => {
+            After::Notify | After::Cramped => {
                 server.wake_flusher(rt);
                 server.wake_callers();
-                server.compact.wait(rt, pause);
+                // A line on standard error may wait for its reader.
+                if after == After::Cramped {
+                    say_cramped(rt, server);
+                }
+                bell.wait(rt, pause);
             }
         }
     }

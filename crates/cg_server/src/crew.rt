@@ -7,6 +7,7 @@ use crate::stop::Stop;
 use crate::ticker::tick_until_over;
 use crate::worker::serve_inbox;
 use cg_disk::SectorDisk;
+use std::io::Eprint;
 use std::net::TcpListener;
 use std::random::RandomSource;
 use std::sync::Wait;
@@ -19,7 +20,7 @@ use std::time::Clock;
 pub fn run_crew<
     D: SectorDisk + Drop + Send,
     L: Ledger + Send,
-    R: Threads + Wait + Clock + RandomSource + Sync,
+    R: Threads + Wait + Clock + RandomSource + Eprint + Sync,
 >(rt: &R, server: &Server<'_, D, L>, listener: &TcpListener) -> Result<(), Stop> {
     server.begin();
     thread::scope(thread::scope_env(), rt, |scope| {
@@ -44,7 +45,7 @@ fn start_compactor<
     'e: 's,
     D: SectorDisk + Drop + Send,
     L: Ledger + Send,
-    R: Threads + Wait + Clock + RandomSource + Sync,
+    R: Threads + Wait + Clock + RandomSource + Eprint + Sync,
 >(rt: &'e R, server: &'e Server<'e, D, L>, scope: &'s Scope<'s, &'e ()>) -> bool {
     scope.spawn(move || compact_until_over(rt, server)).is_ok()
 }
@@ -118,7 +119,7 @@ fn run_in<
     'e: 's,
     D: SectorDisk + Drop + Send,
     L: Ledger + Send,
-    R: Threads + Wait + Clock + RandomSource + Sync,
+    R: Threads + Wait + Clock + RandomSource + Eprint + Sync,
 >(
     rt: &'e R,
     server: &'e Server<'e, D, L>,

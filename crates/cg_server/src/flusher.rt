@@ -49,21 +49,21 @@ fn begin_full<D: SectorDisk + Drop, L: Ledger, R: Wait + Eprint>(
     rt: &R,
     server: &Server<'_, D, L>,
 ) {
-    if !server.is_full() {
+    if !server.room.is_full() {
         let free = server.engine.free_count(rt);
         let _ = eprintln!(rt;
             "cg_server: the log is full, {free} segments free: no reply leaves before it has room"
         );
-        server.begin_full(rt);
+        server.room.begin_full(rt);
     }
 }
 
 // Says once, on standard error, that the log has room again.
 fn end_full<D: SectorDisk + Drop, L: Ledger, R: Wait + Eprint>(rt: &R, server: &Server<'_, D, L>) {
-    if server.is_full() {
+    if server.room.is_full() {
         let free = server.engine.free_count(rt);
         let _ = eprintln!(rt; "cg_server: the log has room again, {free} segments free");
-        server.end_full();
+        server.room.end_full();
     }
 }
 
@@ -78,19 +78,19 @@ pub fn flush_until_over<D: SectorDisk + Drop, L: Ledger, R: Wait + Clock + Eprin
         if server.is_over() {
             return FlushEnd::Over;
         }
-        if server.is_tight(rt) {
+        if server.room.is_tight(rt, server.engine) {
             server.note_flushing(false);
-            server.begin_hold(rt);
+            server.room.begin_hold(rt);
             server.flush.wait(rt, tick);
             continue;
         }
-        server.end_hold();
+        server.room.end_hold();
         server.note_flushing(true);
         let after = next_after(server.flush_round(rt));
         server.wake_callers();
-        server.watch_room(rt);
+        server.room.watch(rt, server.engine);
         // A line on standard error may wait for its reader.
-        server.note_flushing(after == After::Again && !server.is_full());
+        server.note_flushing(after == After::Again && !server.room.is_full());
         match after {
             After::Again => end_full(rt, server),
             After::Sleep => {

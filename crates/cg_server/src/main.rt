@@ -16,6 +16,8 @@ mod inbox;
 mod moments;
 mod options;
 mod output;
+mod passes;
+mod room;
 mod serve;
 mod server;
 mod session;

@@ -3,13 +3,15 @@ use crate::bell::Bell;
 use crate::inbox::Inbox;
 use crate::moments::Moments;
 use crate::options::Options;
+use crate::passes::Passes;
+use crate::room::Room;
 use cg_disk::SectorDisk;
-use cg_engine::{Engine, PASSES_MAX, RoundEnd, RoundFault, SessionPass, Taken};
+use cg_engine::{Engine, RoundEnd, RoundFault, SessionPass, Taken};
 use std::alloc::Global;
 use std::net::{Net, SocketAddr, TcpStream};
-use std::sync::atomic::{AtomicBool, AtomicUsize, Ordering};
+use std::sync::Wait;
+use std::sync::atomic::{AtomicBool, Ordering};
 use std::sync::ledger::Ledger;
-use std::sync::{Mutex, Wait};
 use std::thread;
 use std::time::{Clock, Duration};
 
@@ -18,12 +20,6 @@ const CONNECTS_MAX: u32 = 1_000;
 
 /// Pause between two of them, in milliseconds.
 const CONNECT_PAUSE_MS: u64 = 10;
-
-/// Most passes that connections have beyond the first of each: half of all, so that new connections find some.
-const EXTRA_MAX: usize = PASSES_MAX / 2;
-
-/// Fewest segments that are kept free for the snapshot of a compaction under way.
-const KEPT_MIN: u64 = 1;
 
 /// What the threads of a server share.
 #[derive(Drop)]
@@ -36,18 +32,14 @@ pub struct Server<'a, D: SectorDisk, L: Ledger> {
     pub inboxes: Vec<Inbox>,
     /// Wakes the flusher while the log is full, an allocation failed or the disk failed.
     pub flush: Bell,
-    /// Wakes the compactor.
-    pub compact: Bell,
     /// Wakes the ticker.
     pub tick: Bell,
+    /// The room of the log.
+    pub room: Room,
+    /// The passes that no connection has.
+    pub passes: Passes<L>,
     /// The address that the server listens on.
     address: SocketAddr,
-    // Passes that no connection has.
-    passes: Mutex<Vec<SessionPass<L>>>,
-    // How many passes were made.
-    made: AtomicUsize,
-    // How many passes connections have beyond the first of each.
-    extra: AtomicUsize,
     // Whether the thread that accepts connections runs.
     begun: AtomicBool,
     // Whether the server closes.
@@ -56,14 +48,8 @@ pub struct Server<'a, D: SectorDisk, L: Ledger> {
     done: AtomicBool,
     // Whether the last worker has ended.
     over: AtomicBool,
-    // Whether the log has no room for the next batch.
-    full: AtomicBool,
-    // Whether batches wait for the compaction under way.
-    held: AtomicBool,
     // Whether the flusher is awake.
     flushing: AtomicBool,
-    // Whether fewer segments were free after the last batch than the compactor waits for.
-    low: AtomicBool,
 }
 
 impl<'a, D: SectorDisk + Drop, L: Ledger> Server<'a, D, L> {
@@ -82,59 +68,16 @@ impl<'a, D: SectorDisk + Drop, L: Ledger> Server<'a, D, L> {
             moments: Moments::new(),
             inboxes,
             flush: Bell::new(),
-            compact: Bell::new(),
             tick: Bell::new(),
+            room: Room::new(options.compact_free),
+            passes: Passes::new(alloc),
             address,
-            passes: Mutex::new(Vec::new(alloc)),
-            made: AtomicUsize::new(0),
-            extra: AtomicUsize::new(0),
             begun: AtomicBool::new(false),
             closing: AtomicBool::new(false),
             done: AtomicBool::new(false),
             over: AtomicBool::new(false),
-            full: AtomicBool::new(false),
-            held: AtomicBool::new(false),
             flushing: AtomicBool::new(false),
-            low: AtomicBool::new(false),
         }
-    }
-
-    /// Returns a pass that was given back, or else a new one. Returns `None` if there is none to be had.
-    pub fn take_pass<R: Wait>(&self, rt: &R) -> Option<SessionPass<L>> {
-        let mut idle = self.passes.lock(rt);
-        if let Some(pass) = idle.pop() {
-            return Some(pass);
-        }
-        // Room for all that were made, so that each can be given back.
-        let made = self.made.fetch_add(1, Ordering::SeqCst);
-        idle.reserve(made.saturating_add(1)).ok()?;
-        drop(idle);
-        self.engine.pass(rt).ok()
-    }
-
-    /// Gives a pass back.
-    pub fn give_pass<R: Wait>(&self, rt: &R, pass: SessionPass<L>) {
-        let _ = self.passes.lock(rt).push(pass);
-    }
-
-    /// Returns a pass for a connection that has one, as `take_pass` does, while at most half of all are such.
-    pub fn take_extra_pass<R: Wait>(&self, rt: &R) -> Option<SessionPass<L>> {
-        let taken = self.extra.fetch_add(1, Ordering::SeqCst);
-        let pass = if taken < EXTRA_MAX {
-            self.take_pass(rt)
-        } else {
-            None
-        };
-        if pass.is_none() {
-            self.extra.fetch_sub(1, Ordering::SeqCst);
-        }
-        pass
-    }
-
-    /// Gives a pass back for which the connection has another one.
-    pub fn give_extra_pass<R: Wait>(&self, rt: &R, pass: SessionPass<L>) {
-        self.extra.fetch_sub(1, Ordering::SeqCst);
-        self.give_pass(rt, pass);
     }
 
     /// Notes that the thread that accepts connections runs.
@@ -212,56 +155,6 @@ impl<'a, D: SectorDisk + Drop, L: Ledger> Server<'a, D, L> {
         self.over.load(Ordering::SeqCst)
     }
 
-    /// Returns whether the log has no room for the next batch.
-    pub fn is_full(&self) -> bool {
-        self.full.load(Ordering::SeqCst)
-    }
-
-    /// Notes that the log has no room for the next batch, and wakes the compactor.
-    pub fn begin_full<R: Wait>(&self, rt: &R) {
-        self.full.store(true, Ordering::SeqCst);
-        self.compact.ring(rt);
-    }
-
-    /// Notes that the log has room again.
-    pub fn end_full(&self) {
-        self.full.store(false, Ordering::SeqCst);
-    }
-
-    /// Returns whether the next batch has to wait for the compaction under way: fewer segments are free than half of those
-    /// below which one begins, and what is free is for its snapshot.
-    pub fn is_tight<R: Wait>(&self, rt: &R) -> bool {
-        let kept = (self.options.compact_free / 2).max(KEPT_MIN);
-        self.engine.compact_wanted(rt, 0) && self.engine.free_count(rt) < kept
-    }
-
-    /// Returns whether batches wait for the compaction under way.
-    pub fn is_held(&self) -> bool {
-        self.held.load(Ordering::SeqCst)
-    }
-
-    /// Notes that batches wait for the compaction under way, and wakes the compactor.
-    pub fn begin_hold<R: Wait>(&self, rt: &R) {
-        if !self.held.swap(true, Ordering::SeqCst) {
-            self.compact.ring(rt);
-        }
-    }
-
-    /// Notes that batches wait for no compaction.
-    pub fn end_hold(&self) {
-        self.held.store(false, Ordering::SeqCst);
-    }
-
-    /// Wakes the compactor when a batch left fewer segments free than it waits for: within a tick batches might take the last
-    /// ones, and no compaction can begin without any.
-    pub fn watch_room<R: Wait>(&self, rt: &R) {
-        let is_low = self.engine.compact_wanted(rt, self.options.compact_free);
-        let was_low = self.low.swap(is_low, Ordering::SeqCst);
-        if is_low && !was_low {
-            self.compact.ring(rt);
-        }
-    }
-
     /// Accepts no more connections, and has the workers shut down the open ones.
     pub fn refuse(&self) {
         self.closing.store(true, Ordering::SeqCst);
@@ -291,13 +184,13 @@ impl<'a, D: SectorDisk + Drop, L: Ledger> Server<'a, D, L> {
     pub fn end<R: Wait>(&self, rt: &R) {
         self.over.store(true, Ordering::SeqCst);
         self.wake_flusher(rt);
-        self.compact.ring(rt);
+        self.room.compactor.ring(rt);
         self.tick.ring(rt);
     }
 
     /// Returns the passes, once no worker is left.
     pub fn into_passes(self) -> Vec<SessionPass<L>> {
         let Server { passes, .. } = self;
-        passes.into_inner()
+        passes.into_idle()
     }
 }

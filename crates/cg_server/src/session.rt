@@ -105,7 +105,7 @@ impl<L: Ledger> Session<L> {
     ) -> bool {
         let has_room = self.owed.reserve(1).is_ok();
         if self.pass.is_none() {
-            self.pass = server.take_extra_pass(rt);
+            self.pass = server.passes.take_extra(rt, server.engine);
         }
         self.is_short = self.owes() && !(has_room && self.pass.is_some());
         !self.is_short
@@ -166,7 +166,7 @@ impl<L: Ledger> Session<L> {
         if self.pass.is_none() {
             self.pass = Some(pass);
         } else {
-            server.give_extra_pass(rt, pass);
+            server.passes.give_extra(rt, pass);
         }
     }
 

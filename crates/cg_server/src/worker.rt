@@ -114,7 +114,7 @@ impl<'a, D: SectorDisk + Drop, L: Ledger, R: Wait + Clock + RandomSource> Worker
     fn leave(&mut self, key: usize) {
         if let Some(connection) = self.connections.try_remove(key) {
             if let Some(pass) = connection.into_pass() {
-                self.server.give_pass(self.rt, pass);
+                self.server.passes.give(self.rt, pass);
             }
         }
     }
@@ -213,7 +213,7 @@ impl<'a, D: SectorDisk + Drop, L: Ledger, R: Wait + Clock + RandomSource> Worker
             Ok(key) => self.begin(registry, key, buffer),
             Err(refused) => {
                 if let Some(pass) = refused.value.into_pass() {
-                    self.server.give_pass(self.rt, pass);
+                    self.server.passes.give(self.rt, pass);
                 }
             }
         }
@@ -224,7 +224,7 @@ impl<'a, D: SectorDisk + Drop, L: Ledger, R: Wait + Clock + RandomSource> Worker
         if self.server.is_closing() || stream.set_nonblocking(true).is_err() {
             return;
         }
-        if let Some(pass) = self.server.take_pass(self.rt) {
+        if let Some(pass) = self.server.passes.take(self.rt, self.server.engine) {
             self.enter_with(registry, stream, pass, buffer);
         }
     }
@@ -289,7 +289,10 @@ impl<'a, D: SectorDisk + Drop, L: Ledger, R: Wait + Clock + RandomSource> Worker
         }
         let is_idle = self.unserved.is_empty() && self.server.engine.answered() == self.taken_at;
         let waits = is_idle && self.calling.len() >= self.connections.len();
-        if self.server.is_full() || !waits || self.server.is_tight(self.rt) {
+        if self.server.room.is_full()
+            || !waits
+            || self.server.room.is_tight(self.rt, self.server.engine)
+        {
             self.server.engine.notify_flusher();
             return;
         }
@@ -298,7 +301,7 @@ impl<'a, D: SectorDisk + Drop, L: Ledger, R: Wait + Clock + RandomSource> Worker
             // The flusher finds out why.
             self.server.engine.wake(self.rt);
         }
-        self.server.watch_room(self.rt);
+        self.server.room.watch(self.rt, self.server.engine);
     }
 
     // Returns whether something is to be done that no stream and no other thread will report.
