@@ -247,7 +247,7 @@ impl<L: Ledger> DeskSide<L> {
     }
 
     // Asks the desk, and records the request. If an allocation fails, returns the token.
-    fn ask(
+    fn request(
         &mut self,
         token: ReplyToken,
         request: Request,
@@ -284,7 +284,7 @@ impl<L: Ledger> DeskSide<L> {
             fresh,
         } = submission;
         let kind = CallKind::of(&request);
-        match self.ask(ReplyToken::new(ticket), request, now, fresh) {
+        match self.request(ReplyToken::new(ticket), request, now, fresh) {
             Ok(out) => {
                 self.wait(ticket.session, Waiting { kind, part });
                 self.deliver_all(rt, out, deliveries);

@@ -75,8 +75,7 @@ impl From<AllocError> for PassFault {
 pub enum Skip {
     /// The store has no room for the batch, which waits for the next round.
     Full,
-    /// The compaction has no room, or read a damaged frame; it is over. If segments are free, the disk is damaged, and the
-    /// next load says how.
+    /// The compaction has no room, or read a damaged frame, which the next load reports; it is over.
     NoRoom,
     /// Another thread has a batch in flight.
     InFlight,

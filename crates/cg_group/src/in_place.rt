@@ -67,7 +67,8 @@ fn beat_named<'a>(
     held.beat(own, now, r)
 }
 
-/// Processes a BEAT. One look-up of the group and one of the member, no allocation.
+/// Processes a BEAT. One look-up of the group and one of the member, and a pass over the members if an instance is given. No
+/// allocation.
 pub fn meet_beat(now: Moment, held: &mut Held, ticket: Ticket, r: &BeatRequest) -> Effects
     ensures met { concluded (at_moment now held.old) ticket (beat now r.now ticket held.old) ≡ outcome (at_moment now held.new) result }
     ensures parked { StayParked held.old held.new }

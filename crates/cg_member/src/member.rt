@@ -15,7 +15,7 @@ pub enum Waits {
     Sync(Ticket),
 }
 
-/// A member of a group. What heartbeats and ticks read comes first, so that it lies together.
+/// A member of a group. What heartbeats and ticks read comes first, so that it is adjacent in memory.
 #[derive(Debug, Drop)]
 pub struct Member {
     pub id: MemberId,

@@ -21,7 +21,7 @@ fn beat_reply(group: &Group) -> Reply
 }
 
 /// Processes a BEAT in its group: marks the calling member as heard, and returns its id and the reply. A BEAT that is refused
-/// changes nothing. One look-up of the member, no allocation.
+/// changes nothing. One look-up of the member, and a pass over the members if an instance is given. No allocation.
 #[tactic(auto, unfolding(crate::specs::Beating::beat_held, crate::specs::Beating::beat_reply, cg_member::specs::Membership::hearing))]
 pub fn beat_in<'a>(
     now: Moment,
