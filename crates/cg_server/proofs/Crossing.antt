@@ -5,16 +5,16 @@ use denote.Param.Send.{IsSend, IsSync, sendable, shr_sync, struct_sync, recorded
 use denote.Struct.Declared.{shape}
 use Rattle.std.proofs.Crossing as one
 use Rattle.std.proofs.alloc.Global.TheSendSync as global
-use Rattle.std.proofs.sync.Mutex.TheSendSync as mutex
 use Rattle.std.specs.declared.sync.ledger.Ledger as ledger
 use Rattle.cg_disk.specs.declared.disk.SectorDisk as disk
 use Rattle.cg_engine.proofs.Crossing.{engine_shared}
-use Rattle.cg_engine.proofs.pass.SessionPass.TheSendSync as pass
 use Rattle.cg_server.specs.contracts.server.Server as Server
 use Rattle.cg_server.proofs.bell.Bell.TheSendSync as bell
 use Rattle.cg_server.proofs.moments.Moments.TheSendSync as moments
 use Rattle.cg_server.proofs.options.Options.TheSendSync as options
 use Rattle.cg_server.proofs.inbox.Inbox.TheSendSync as inbox
+use Rattle.cg_server.proofs.room.Room.TheSendSync as room
+use Rattle.cg_server.proofs.passes.Passes.TheSendSync as passes
 
 module _ (n : NamedLft) (D : RattleType) (L : RattleType) (k : disk.Ghosts D.Denot) (l : ledger.Ghosts L.Denot) (s : IsSend D) where
   pub server_shared : IsSync (Server.the_row n D L k l)
@@ -33,11 +33,11 @@ module _ (n : NamedLft) (D : RattleType) (L : RattleType) (k : disk.Ghosts D.Den
               (
                 bell.the_field_sync,
                 (
-                  bell.the_field_sync,
+                  room.the_field_sync,
                   (
-                    search (sendable, one.crosses) depth 20,
+                    passes.the_field_sync L l,
                     (
-                      search (sendable, one.crosses, mutex.the_sync, pass.the_send) depth 20,
+                      search (sendable, one.crosses) depth 20,
                       (
                         search (sendable, one.crosses) depth 10,
                         (
@@ -46,22 +46,7 @@ module _ (n : NamedLft) (D : RattleType) (L : RattleType) (k : disk.Ghosts D.Den
                             search (sendable, one.crosses) depth 10,
                             (
                               search (sendable, one.crosses) depth 10,
-                              (
-                                search (sendable, one.crosses) depth 10,
-                                (
-                                  search (sendable, one.crosses) depth 10,
-                                  (
-                                    search (sendable, one.crosses) depth 10,
-                                    (
-                                      search (sendable, one.crosses) depth 10,
-                                      (
-                                        search (sendable, one.crosses) depth 10,
-                                        (search (sendable, one.crosses) depth 10, tt),
-                                      ),
-                                    ),
-                                  ),
-                                ),
-                              ),
+                              (search (sendable, one.crosses) depth 10, tt),
                             ),
                           ),
                         ),
