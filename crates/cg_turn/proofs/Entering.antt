@@ -34,7 +34,7 @@ join_entered now r id ticket g preparing behind =
     ∙ ap (λ b. if is_preparing g.phase && b then completed now (turn_of after) else turn_of after) still
     ∙ ap (λ b. if b && false then completed now (turn_of after) else turn_of after) preparing
 
-is_none : {X : Type 0} (o : Option X) → is_some o ≡ false → o ≡ None
+pub is_none : {X : Type 0} (o : Option X) → is_some o ≡ false → o ≡ None
 is_none None h = refl
 is_none (Some x) h = absurd (false≢true (sym h))
 

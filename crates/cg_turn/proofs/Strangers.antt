@@ -1,5 +1,5 @@
 -- A BEAT with an id that no member has.
-use Rattle.std.proofs.Common.{◌≡◌, ℕ, true, false, not, List, [], ◌∷◌, cond, Option, Some, None, is_some, option_map, Ok, ok_or, refl, ap, ◌∙◌}
+use Rattle.std.proofs.Common.{◌≡◌, ℕ, true, false, not, List, [], ◌∷◌, cond, Some, None, is_some, option_map, Ok, ok_or, refl, ap, ◌∙◌}
 use Rattle.std.specs.Ordering.{int_eq}
 use Rattle.std.specs.Prelude.{pos, if◌then◌else◌}
 use Rattle.cg_names.specs.declared.code.Code.TheVariants.{IllegalGeneration, UnknownMemberId}
@@ -10,11 +10,9 @@ use Rattle.cg_member.specs.Membership.{find_member, has_id, heard, with_member}
 use Rattle.cg_member.specs.Refusing.{◌>>=◌, refused_if}
 use Rattle.cg_request.specs.declared.request.BeatRequest.{BeatRequest}
 use Rattle.cg_turn.specs.Beating.{IsBeatRefused, beat_held, beat_taken}
+use Rattle.cg_turn.proofs.Entering.{is_none}
 
-none_is : (o : Option Member) → is_some o ≡ false → o ≡ None
-none_is None e = refl
-none_is (Some m) e = absurd (cc)
-
+-- a change of a member that the group has not changes nothing
 unfound : (id : List ℕ) (change : Member → Member) (ms : List Member) → find_member id ms ≡ None → with_member id change ms ≡ ms
 unfolding find_member with_member
 unfound id change [] e = refl
@@ -30,8 +28,8 @@ module _ (r : BeatRequest) (g : Group) (id : List ℕ) (missing : is_some (find_
   unfolding beat_held
   beat_stranger check now ticket =
       ap (λ o. o >>= λ who. refused_if (not (int_eq r.generation (pos g.generation))) IllegalGeneration >>= λ _. Ok (beat_taken now who.0 ticket g))
-      (check ∙ ap (λ o. ok_or (option_map (λ m. (id, m)) o) UnknownMemberId) (none_is (find_member id g.members) missing))
+      (check ∙ ap (λ o. ok_or (option_map (λ m. (id, m)) o) UnknownMemberId) (is_none (find_member id g.members) missing))
 
   -- no member is heard
   pub unheard : (now : ℕ) (after : List Member) → after ≡ with_member id (heard now) g.members → after ≡ g.members
-  unheard now after e = e ∙ unfound id (heard now) g.members (none_is (find_member id g.members) missing)
+  unheard now after e = e ∙ unfound id (heard now) g.members (is_none (find_member id g.members) missing)
