@@ -1,8 +1,8 @@
 //! Offsets in stored commands and in COMMIT requests.
-use crate::values::{metadata, name, offset, partition};
+use crate::values::{metadata, offset, partition};
 use anyhow::{Result, bail};
 use cg_group::{CommitEntry, CommitRequest, Commits, Listed};
-use cg_names::{GroupId, MemberId};
+use cg_names::{GroupId, MemberId, Topic};
 use cg_record::{Command, Committed, Entries, Entry};
 use std::alloc::Global;
 
@@ -19,7 +19,7 @@ pub fn stored_entry(
 ) -> Result<Entry> {
     let partition = partition(number)?;
     let offset = offset(stored)?;
-    let topic = name(alloc, topic)?;
+    let topic = Topic::parse(alloc, topic)?;
     let metadata = metadata(alloc, 0, metadata_bytes)?;
     Ok(Entry {
         topic,
@@ -46,7 +46,7 @@ pub fn commit_entry(
 ) -> Result<CommitEntry> {
     let partition = partition(0)?;
     let offset = offset(stored)?;
-    let topic = name(alloc, topic)?;
+    let topic = Topic::parse(alloc, topic)?;
     let metadata = vec![in alloc; 0; metadata_bytes]?;
     Ok(CommitEntry {
         topic,

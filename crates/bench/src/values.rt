@@ -28,7 +28,7 @@ pub fn member_id(alloc: Global, number: u32) -> Result<MemberId> {
 /// Returns the id of the client with this number.
 pub fn client_id(alloc: Global, number: u64) -> Result<ClientId> {
     let text = format!(in alloc; "client-{number}")?;
-    name(alloc, &text)
+    Ok(ClientId::parse(alloc, &text)?)
 }
 
 pub fn partition(number: u32) -> Result<Partition> {

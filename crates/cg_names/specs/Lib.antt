@@ -1,3 +1,4 @@
 pub mod Codes
 pub mod Generations
 pub mod Grammar
+pub mod Storage

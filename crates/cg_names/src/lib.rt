@@ -7,6 +7,8 @@ mod fault;
 mod generation;
 mod moment;
 mod name;
+mod short_name;
+mod small_bytes;
 #[cfg(test)]
 mod tests;
 
@@ -15,6 +17,7 @@ pub use fault::NameFault;
 pub use generation::{GENERATION_MAX, Generation};
 pub use moment::Moment;
 pub use name::{
-    ClientId, GroupId, InstanceId, MEMBER_ID_BYTES_MAX, MemberId, NAME_BYTES_MAX, Name,
-    ProtocolName, Topic,
+    GroupId, InstanceId, MEMBER_ID_BYTES_MAX, MemberId, NAME_BYTES_MAX, Name, ProtocolName,
 };
+pub use short_name::{ClientId, SHORT_NAME_ROOM, ShortName, Topic};
+pub use small_bytes::SmallBytes;

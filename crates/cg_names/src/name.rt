@@ -1,4 +1,4 @@
-//! The names of groups, members, instances, clients, topics and protocols.
+//! The names of groups, members, instances and protocols.
 ghost use Rattle.std.specs.Prelude.{◌≡◌, ℕ, List, IfOk, IfErr, Some, length, string_bytes};
 ghost use Rattle.std.specs.List.{list_all};
 ghost use Rattle.cg_names.specs.Grammar.{IsName, fault_of, told, is_name_byte, is_dash};
@@ -40,12 +40,6 @@ pub type MemberId = Name<MEMBER_ID_BYTES_MAX, 1>;
 
 /// The id that a static member gives itself (KIP-345, `group.instance.id`).
 pub type InstanceId = Name<NAME_BYTES_MAX, 2>;
-
-/// The id that a client gives itself.
-pub type ClientId = Name<NAME_BYTES_MAX, 3>;
-
-/// The name of a topic.
-pub type Topic = Name<NAME_BYTES_MAX, 4>;
 
 /// The name of an assignment protocol, or the protocol type of a group.
 pub type ProtocolName = Name<NAME_BYTES_MAX, 5>;

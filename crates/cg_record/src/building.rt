@@ -20,7 +20,7 @@ use crate::grouping::{assigned_at, deleted_at, emptied_at, replaced_at};
 use crate::metadata::Metadata;
 use crate::offset::Offset;
 use crate::partition::Partition;
-use cg_names::{NAME_BYTES_MAX, Name};
+use cg_names::{NAME_BYTES_MAX, Name, Topic};
 use std::alloc::{AllocError, Global};
 
 // The preconditions make both `unwrap` calls safe.
@@ -36,7 +36,7 @@ fn entry_of(
 {
     let partition = Partition::new(key.partition).unwrap();
     let offset = Offset::new(kept.offset).unwrap();
-    let topic = Name::from_lawful(alloc, key.topic)?;
+    let topic = Topic::from_lawful(alloc, key.topic)?;
     let metadata = Metadata::from_bytes_in(alloc, room, kept.metadata)?;
     Ok(Entry {
         topic,

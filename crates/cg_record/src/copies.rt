@@ -9,7 +9,7 @@ use crate::member::Member;
 use crate::millis::{RebalanceTimeout, SessionTimeout};
 use crate::opaque::Opaque;
 use crate::profile::Fields;
-use cg_names::{InstanceId, MEMBER_ID_BYTES_MAX, NAME_BYTES_MAX, Name};
+use cg_names::{ClientId, InstanceId, MEMBER_ID_BYTES_MAX, NAME_BYTES_MAX, Name};
 use std::alloc::{AllocError, Global};
 
 fn instance_of(alloc: Global, instance: Option<&[u8]>) -> Result<Option<InstanceId>, AllocError>
@@ -41,7 +41,7 @@ pub fn member_of(
     let rebalance = RebalanceTimeout::new(fields.rebalance).unwrap();
     let id = Name::from_lawful(alloc, id)?;
     let instance = instance_of(alloc, instance)?;
-    let client = Name::from_lawful(alloc, fields.client)?;
+    let client = ClientId::from_lawful(alloc, fields.client)?;
     let subscription = Opaque::from_bytes(alloc, fields.subscription)?;
     let assignment = Opaque::from_bytes(alloc, fields.assignment)?;
     Ok(Member {

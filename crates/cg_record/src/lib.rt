@@ -49,7 +49,7 @@ pub use fault::RecordFault;
 pub use format::format_has_these_bytes;
 pub use generation::CompletedGeneration;
 pub use member::Member;
-pub use metadata::{METADATA_BYTES_MAX, Metadata};
+pub use metadata::{METADATA_BYTES_MAX, METADATA_ROOM, Metadata};
 pub use millis::{
     Millis, REBALANCE_MS_MAX, RebalanceTimeout, SESSION_MS_MAX, SESSION_MS_MIN, SessionTimeout,
 };

@@ -2,11 +2,15 @@
 ghost use Rattle.std.specs.Prelude.{◌≡◌, ℕ, ◌<◌, ◌≤◌, List, length, IfOk, MatchResult};
 ghost use Rattle.cg_record.specs.declared.metadata.TheConstants.{METADATA_BYTES_MAX};
 
+use cg_names::SmallBytes;
 use std::alloc::{AllocError, Global};
 use std::marker::Model;
 
 /// Maximum size of the metadata of one committed offset, in bytes.
 pub const METADATA_BYTES_MAX: usize = 4_096;
+
+/// Bytes of metadata that are stored without an allocation.
+pub const METADATA_ROOM: usize = 30;
 
 // Memory of this many bytes or fewer is used again for any metadata that fit it.
 const SMALL_BYTES: usize = 64;
@@ -16,18 +20,27 @@ fn is_fit(capacity: usize, bytes: usize) -> bool {
     bytes <= capacity && (capacity <= SMALL_BYTES || capacity / 2 <= bytes)
 }
 
+// Overwrites a vector by other bytes.
+fn rewritten(mut memory: Vec<u8>, bytes: &[u8]) -> Result<SmallBytes<METADATA_ROOM>, AllocError>
+    ensures { IfOk result (λ after. after ≡ bytes.now) }
+{
+    memory.clear();
+    memory.extend_from_slice(bytes)?;
+    Ok(SmallBytes::from_vec(memory))
+}
+
 /// The metadata of a committed offset: bytes that only clients read. Contracts see a list.
 #[derive(Debug, Drop)]
 pub struct Metadata {
-    bytes: Vec<u8>,
+    bytes: SmallBytes<METADATA_ROOM>,
 }
 
 impl Model for Metadata {
     ghost Value = { List ℕ };
 
-    ghost view = { λ m. m.bytes.items };
+    ghost view = { λ m. m.bytes };
 
-    ghost invariant = { λ m. length m.bytes.items ≤ METADATA_BYTES_MAX };
+    ghost invariant = { λ m. length m.bytes ≤ METADATA_BYTES_MAX };
 }
 
 impl Metadata {
@@ -37,7 +50,7 @@ impl Metadata {
         ensures { IfOk result (λ metadata. metadata ≡ bytes.now) }
     {
         Ok(Metadata {
-            bytes: Vec::from_slice(alloc, bytes)?,
+            bytes: SmallBytes::from_slice(alloc, bytes)?,
         })
     }
 
@@ -67,23 +80,28 @@ impl Metadata {
         requires { length bytes.now ≤ METADATA_BYTES_MAX }
         ensures { IfOk result (λ metadata. metadata ≡ bytes.now) }
     {
-        let Metadata { bytes: mut memory } = self;
-        if !is_fit(memory.capacity(), bytes.len()) {
-            let metadata = Metadata::from_bytes(alloc, bytes)?;
-            return Ok(metadata);
+        let Metadata { bytes: spent } = self;
+        match spent.into_vec() {
+            Some(memory) if METADATA_ROOM < bytes.len() && is_fit(memory.capacity(), bytes.len()) =>
+                {
+                    let bytes = rewritten(memory, bytes)?;
+                    Ok(Metadata { bytes })
+                }
+            _ => {
+                let metadata = Metadata::from_bytes(alloc, bytes)?;
+                Ok(metadata)
+            }
         }
-        memory.clear();
-        memory.extend_from_slice(bytes)?;
-        Ok(Metadata { bytes: memory })
     }
 
-    /// Wraps the bytes without a copy. Returns them unchanged if they are too long.
+    /// Wraps the bytes, without an allocation. Returns them unchanged if they are too long.
     pub fn from_vec(bytes: Vec<u8>) -> Result<Self, Vec<u8>>
         ensures cases { MatchResult result
             (λ metadata. (length bytes.items ≤ METADATA_BYTES_MAX) × (metadata ≡ bytes.items))
             (λ back. (METADATA_BYTES_MAX < length bytes.items) × (back ≡ bytes)) }
     {
         if bytes.len() <= METADATA_BYTES_MAX {
+            let bytes = SmallBytes::from_vec(bytes);
             Ok(Metadata { bytes })
         } else {
             Err(bytes)

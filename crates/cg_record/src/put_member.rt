@@ -10,7 +10,7 @@ ghost use Rattle.cg_record.specs.Members.{IsMember, IsProfile, profile_text, pro
 use crate::member::Member;
 use crate::opaque::Opaque;
 use crate::roster::Roster;
-use crate::writing::{put_four, put_name};
+use crate::writing::{put_four, put_name, put_short_name};
 use cg_names::{InstanceId, NAME_BYTES_MAX};
 use std::alloc::AllocError;
 
@@ -44,7 +44,7 @@ fn put_profile(out: &mut Vec<u8>, member: &Member) -> Result<(), AllocError>
     ensures ok { OnOk result (out.new.items ≡ out.old.items ++ profile_text (profile_of member.now)) }
     ensures lawful { OnOk result (IsProfile (profile_of member.now)) }
 {
-    put_name(out, &member.client)?;
+    put_short_name(out, &member.client)?;
     put_four(out, member.session.get())?;
     put_four(out, member.rebalance.get())?;
     put_opaque(out, &member.subscription)?;

@@ -19,7 +19,7 @@ use crate::metadata::{METADATA_BYTES_MAX, Metadata};
 use crate::put_member::{put_member, put_roster};
 use crate::replaced::Replaced;
 use crate::sizes::size;
-use cg_names::Name;
+use cg_names::{NAME_BYTES_MAX, Name, ShortName};
 use std::alloc::{AllocError, Global};
 
 /// Appends a big-endian number of four bytes.
@@ -37,6 +37,16 @@ fn put_eight(out: &mut Vec<u8>, n: u64) -> Result<(), AllocError>
     out.extend_from_slice(&n.to_be_bytes())
 }
 
+// Appends the bytes of a name, with their length byte.
+fn put_bytes_of_name(out: &mut Vec<u8>, bytes: &[u8]) -> Result<(), AllocError>
+    requires { length bytes.now < 256 }
+    ensures { OnOk result (out.new.items ≡ out.old.items ++ name_text bytes.now) }
+{
+    out.push(bytes.len() as u8)?;
+    out.extend_from_slice(bytes)?;
+    Ok(())
+}
+
 /// Appends a name, with its length byte.
 #[tactic(auto, using(cg_names::proofs::Names::length_from_name))]
 pub fn put_name<const MAX: usize, const SORT: u8>(
@@ -47,9 +57,20 @@ pub fn put_name<const MAX: usize, const SORT: u8>(
     ensures ok { OnOk result (out.new.items ≡ out.old.items ++ name_text name.now) }
     ensures lawful { IsName MAX name.now }
 {
-    let bytes = name.as_bytes();
-    out.push(bytes.len() as u8)?;
-    out.extend_from_slice(bytes)?;
+    put_bytes_of_name(out, name.as_bytes())?;
+    Ok(())
+}
+
+/// Appends the name of a client or a topic, with its length byte.
+#[tactic(auto, using(cg_names::proofs::Names::length_from_name))]
+pub fn put_short_name<const SORT: u8>(
+    out: &mut Vec<u8>,
+    name: &ShortName<SORT>,
+) -> Result<(), AllocError>
+    ensures ok { OnOk result (out.new.items ≡ out.old.items ++ name_text name.now) }
+    ensures lawful { IsName NAME_BYTES_MAX name.now }
+{
+    put_bytes_of_name(out, name.as_bytes())?;
     Ok(())
 }
 
@@ -69,7 +90,7 @@ fn put_entry(out: &mut Vec<u8>, entry: &Entry) -> Result<(), AllocError>
     ensures lawful { OnOk result (IsEntry entry.now) }
 {
     let metadata = &entry.metadata;
-    put_name(out, &entry.topic)?;
+    put_short_name(out, &entry.topic)?;
     put_four(out, entry.partition.get())?;
     put_eight(out, entry.offset.get())?;
     put_metadata(out, metadata)?;

@@ -2,7 +2,7 @@
 ghost use Rattle.std.specs.Prelude.{◌≡◌, ◌↔◌, IsTrue, take, length};
 
 use cg_member::few::Few;
-use cg_names::{Code, Name};
+use cg_names::{Code, Name, ShortName};
 use cg_record::{Metadata, Opaque};
 use cg_request::listed::Listed;
 use cg_request::ticket::Ticket;
@@ -34,6 +34,12 @@ pub fn are_same<T: Same>(a: &[T], b: &[T]) -> bool
 }
 
 impl<const MAX: usize, const SORT: u8> Same for Name<MAX, SORT> {
+    fn is_same(&self, other: &Self) -> bool {
+        self.as_bytes() == other.as_bytes()
+    }
+}
+
+impl<const SORT: u8> Same for ShortName<SORT> {
     fn is_same(&self, other: &Self) -> bool {
         self.as_bytes() == other.as_bytes()
     }

@@ -5,7 +5,7 @@ use cg_group::{
     Boxed, CommitEntry, CommitRequest, Commits, Few, JoinRequest, Joined, JoinedMember, Listed,
     Protocol, Protocols, Reply, Request, Ticket,
 };
-use cg_names::{Code, Generation, Moment, Name};
+use cg_names::{ClientId, Code, Generation, Moment, Name, Topic};
 use cg_record::{
     Command, CompletedGeneration, Emptied, Offset, Partition, RebalanceTimeout, Subscription,
 };
@@ -78,7 +78,7 @@ fn protocols(alloc: Global) -> Result<Protocols, Fail> {
 fn join(alloc: Global) -> Result<JoinRequest, Fail> {
     let rebalance = RebalanceTimeout::new(20_000).ok_or("no timeout")?;
     let group = name(alloc, "g")?;
-    let client = name(alloc, "c1")?;
+    let client = ClientId::parse(alloc, "c1")?;
     let kind = name(alloc, "consumer")?;
     let protocols = protocols(alloc)?;
     Ok(JoinRequest {
@@ -128,7 +128,7 @@ fn commits(alloc: Global) -> Result<Commits, Fail> {
     let partition = Partition::new(0).ok_or("no partition")?;
     let offset = Offset::new(7).ok_or("no offset")?;
     let entry = CommitEntry {
-        topic: name(alloc, "t")?,
+        topic: Topic::parse(alloc, "t")?,
         partition,
         offset,
         metadata: Listed::new(alloc),

@@ -6,7 +6,7 @@ use cg_group::{
     FetchRequest, JoinRequest, Partitions, Protocol, Protocols, Request, SyncEntries, SyncRequest,
     Ticket, TopicPartition,
 };
-use cg_names::{Code, MemberId, Moment, Name};
+use cg_names::{ClientId, Code, MemberId, Moment, Name, Topic};
 use cg_record::{Partition, RebalanceTimeout, Subscription};
 use cg_store::{Batch, Receipt, Store, format};
 use std::alloc::Global;
@@ -37,7 +37,7 @@ fn name<const MAX: usize, const SORT: u8>(
 // Makes `FETCH g t:0`.
 fn fetch(alloc: Global) -> Result<Request, Fail> {
     let group = name(alloc, "g")?;
-    let topic = name(alloc, "t")?;
+    let topic = Topic::parse(alloc, "t")?;
     let partition = Partition::new(0).ok_or("no partition")?;
     let partitions = vec![in alloc; TopicPartition { topic, partition }]?;
     let partitions = Partitions::from_vec(partitions).map_err(|_| "no fetch")?;
@@ -58,7 +58,7 @@ fn protocols(alloc: Global) -> Result<Protocols, Fail> {
 fn join(alloc: Global, member: Option<MemberId>, client: &str) -> Result<Request, Fail> {
     let rebalance = RebalanceTimeout::new(20_000).ok_or("no timeout")?;
     let group = name(alloc, "h")?;
-    let client = name(alloc, client)?;
+    let client = ClientId::parse(alloc, client)?;
     let kind = name(alloc, "consumer")?;
     let protocols = protocols(alloc)?;
     Ok(Request::Join(JoinRequest {

@@ -8,7 +8,7 @@ ghost use Rattle.cg_record.specs.declared.offset.TheConstants.{OFFSET_MAX};
 ghost use Rattle.cg_record.specs.declared.partition.TheConstants.{PARTITION_MAX};
 
 use crate::parsing::bytes::{bytes_in, is_bytes};
-use crate::parsing::names::name_in;
+use crate::parsing::names::short_name_in;
 use crate::parsing::numbers::{is_number, number_in};
 use crate::parsing::places::{have_own_places, is_place, partition_field, topic_field};
 use crate::parsing::splitting::{before, behind};
@@ -91,7 +91,7 @@ fn commit_in(alloc: Global, word: &[u8]) -> Result<CommitEntry, AllocError>
 {
     let partition = partition_number_in(partition_field(word));
     let offset = offset_in(offset_field(word));
-    let topic = name_in(alloc, topic_field(word))?;
+    let topic = short_name_in(alloc, topic_field(word))?;
     let metadata = Listed::from_vec(bytes_in(alloc, metadata_field(word))?);
     Ok(CommitEntry {
         topic,

@@ -6,7 +6,7 @@ ghost use Rattle.cg_record.specs.declared.millis.TheConstants.{REBALANCE_MS_MAX}
 
 use crate::line_fault::LineFault::{self, Malformed};
 use crate::parsing::SESSION_LINE_MS_MAX;
-use crate::parsing::names::{is_name, is_optional, name_in, optional_in};
+use crate::parsing::names::{is_name, is_optional, name_in, optional_in, short_name_in};
 use crate::parsing::numbers::{is_number, number_in};
 use crate::parsing::protocols::{are_protocols, protocols_in};
 use cg_group::JoinRequest;
@@ -79,7 +79,7 @@ pub fn join(alloc: Global, words: &[&[u8]]) -> Result<JoinRequest, LineFault>
     let group = optional_in(alloc, group)?;
     let member = optional_in(alloc, member)?;
     let instance = optional_in(alloc, instance)?;
-    let client = name_in(alloc, client)?;
+    let client = short_name_in(alloc, client)?;
     let kind = name_in(alloc, kind)?;
     let protocols = protocols_in(alloc, protocols)?;
     Ok(JoinRequest {

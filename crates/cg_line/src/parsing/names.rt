@@ -3,7 +3,7 @@ ghost use Rattle.std.specs.Prelude.{◌≡◌, ℕ, List, Option, IsTrue, IfOk};
 ghost use Rattle.cg_names.specs.Grammar.{is_dash};
 ghost use Rattle.cg_line.specs.Fields.{is_name, is_optional, optional_in};
 
-use cg_names::Name;
+use cg_names::{NAME_BYTES_MAX, Name, ShortName};
 use std::alloc::{AllocError, Global};
 
 /// Returns whether the word is a name of at most `MAX` bytes.
@@ -40,6 +40,17 @@ pub fn name_in<const MAX: usize, const SORT: u8>(
     ensures { IfOk result (λ name. name ≡ word.now) }
 {
     Name::from_bytes(alloc, word).map_err(|_| AllocError)
+}
+
+/// Copies a checked word into the name of a client or a topic.
+pub fn short_name_in<const SORT: u8>(
+    alloc: Global,
+    word: &[u8],
+) -> Result<ShortName<SORT>, AllocError>
+    requires { IsTrue (is_name NAME_BYTES_MAX word.now) }
+    ensures { IfOk result (λ name. name ≡ word.now) }
+{
+    ShortName::from_bytes(alloc, word).map_err(|_| AllocError)
 }
 
 /// Copies a checked word into a name. Returns `None` for `-`.

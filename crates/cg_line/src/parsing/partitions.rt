@@ -4,7 +4,7 @@ ghost use Rattle.std.specs.List.{list_all};
 ghost use Rattle.cg_line.specs.Parsing.{are_partitions, is_partition, partition_in};
 
 use crate::parsing::commits::partition_number_in;
-use crate::parsing::names::{is_name, name_in};
+use crate::parsing::names::{is_name, short_name_in};
 use crate::parsing::numbers::is_number;
 use crate::parsing::places::{have_own_places, topic_field};
 use crate::parsing::splitting::behind;
@@ -48,7 +48,7 @@ fn partition_in(alloc: Global, word: &[u8]) -> Result<TopicPartition, AllocError
     ensures { IfOk result (λ partition. partition ≡ partition_in word.now) }
 {
     let partition = partition_number_in(behind(word, b':'));
-    let topic = name_in(alloc, topic_field(word))?;
+    let topic = short_name_in(alloc, topic_field(word))?;
     Ok(TopicPartition { topic, partition })
 }
 
