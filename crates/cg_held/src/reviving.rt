@@ -8,6 +8,7 @@ use cg_fold::{Durable, GroupRecord};
 use cg_member::group::{Group, Phase};
 use cg_member::member::{Member, Waits};
 use cg_member::members::Members;
+use cg_member::sharing::sharing;
 use cg_names::{GroupId, Moment, ProtocolName};
 use cg_record::{Member as KeptMember, Roster};
 use cg_request::protocol::Protocol;
@@ -44,6 +45,14 @@ fn revived_member(
     })
 }
 
+// Shares the protocol list of the last of these members, if it is equal. The cost is linear, whatever the lists are.
+fn sharing_last(members: &[Member], member: Member) -> Member
+    ensures { result ≡ member }
+{
+    let last = members.len().saturating_sub(1);
+    sharing(&members[last..], member)
+}
+
 fn revived_items(
     alloc: Global,
     now: Moment,
@@ -54,7 +63,9 @@ fn revived_items(
 {
     let mut revived = Vec::with_capacity(alloc, members.len())?;
     for member in members {
-        revived.push(revived_member(alloc, now, protocol, member)?)?;
+        let member = revived_member(alloc, now, protocol, member)?;
+        let member = sharing_last(revived.as_slice(), member);
+        revived.push(member)?;
     }
     Ok(revived)
 }

@@ -1,4 +1,5 @@
-//! Deep copies of names, members and groups. Each fails only if an allocation fails.
+//! Copies of names, members and groups. A copied member shares its protocol list. Each fails only if an allocation
+//! fails, or if a list has too many owners to count.
 ghost use Rattle.std.specs.Prelude.{◌≡◌, IfOk};
 
 use crate::group::Group;

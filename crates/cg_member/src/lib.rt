@@ -17,6 +17,7 @@ pub mod group;
 pub mod member;
 pub mod members;
 pub mod reply;
+pub mod sharing;
 mod tags;
 pub mod turn;
 pub mod vote;

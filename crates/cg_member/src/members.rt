@@ -19,6 +19,7 @@ use crate::assignments::{Index, indexed, noted};
 use crate::calls::{Calls, is_waiting};
 use crate::checked::CheckedJoin;
 use crate::member::{Member, Waits};
+use crate::sharing::{sharing, sharing_join};
 use crate::tags::{place_of, retag, tag_of, tagged};
 use cg_names::{InstanceId, MemberId, Moment};
 use cg_request::request::SyncEntry;
@@ -150,6 +151,7 @@ fn update_one(members: &mut Vec<Member>, tags: &[u32], id: &MemberId, join: Chec
     ensures { members.new.items ≡ with_member id.now (updated join) members.old.items }
 {
     if let Some(place) = place_of(id, tags, members.as_slice()) {
+        let join = sharing_join(members.as_slice(), join);
         take_over(&mut members[place], join);
     }
 }
@@ -313,6 +315,7 @@ impl Members {
     {
         let tag = tag_of(&member.id);
         self.tags.reserve(1)?;
+        let member = sharing(self.items.as_slice(), member);
         self.items.push(member)?;
         self.tags.push_reserved(tag);
         Ok(())
@@ -324,6 +327,7 @@ impl Members {
         requires own_id { is_some (find_member member.id self.old) ≡ false }
         ensures { self.new ≡ seating member self.old }
     {
+        let member = sharing(self.items.as_slice(), member);
         seat_one(&mut self.items, member);
         retag(&mut self.tags, self.items.as_slice());
     }

@@ -1,5 +1,5 @@
 //! The protocol list of a JOIN, checked for number and duplicate names.
-ghost use Rattle.std.specs.Prelude.{◌≡◌, ◌↔◌, [], ◌∷◌, map, true, IsTrue, IfOk, MatchResult};
+ghost use Rattle.std.specs.Prelude.{◌≡◌, ◌↔◌, [], ◌∷◌, map, true, IsTrue, IfOk, MatchOption};
 ghost use Rattle.std.specs.List.{list_any};
 ghost use Rattle.cg_request.specs.Offers.{AreProtocols};
 ghost use Rattle.cg_request.specs.Names.{are_distinct, is_same};
@@ -8,12 +8,13 @@ use crate::protocol::{PROTOCOLS_MAX, Protocol};
 use cg_names::ProtocolName;
 use std::alloc::{AllocError, Global};
 use std::marker::Model;
+use std::sync::Arc;
 
 /// The protocols that a member supports, in order of preference: 1 to `PROTOCOLS_MAX`, with different names. Contracts
-/// see the list.
+/// see the list. A clone shares the list and does not copy it.
 #[derive(Debug, Drop)]
 pub struct Protocols {
-    items: Vec<Protocol>,
+    items: Arc<Vec<Protocol>>,
 }
 
 impl Model for Protocols {
@@ -23,9 +24,9 @@ impl Model for Protocols {
 
     ghost Value = { List Protocol };
 
-    ghost view = { λ p. p.items.items };
+    ghost view = { λ p. p.items.value.items };
 
-    ghost invariant = { λ p. AreProtocols p.items.items };
+    ghost invariant = { λ p. AreProtocols p.items.value.items };
 }
 
 fn is_offered(name: &ProtocolName, protocols: &[Protocol]) -> bool
@@ -58,37 +59,17 @@ fn are_protocols(protocols: &[Protocol]) -> bool
     !protocols.is_empty() && protocols.len() <= PROTOCOLS_MAX && have_own_names(protocols)
 }
 
-fn copied(protocol: &Protocol) -> Result<Protocol, AllocError>
-    ensures { IfOk result (λ copy. copy ≡ protocol.now) }
-{
-    let name = protocol.name.clone()?;
-    let subscription = protocol.subscription.clone()?;
-    Ok(Protocol { name, subscription })
-}
-
-fn copied_all(alloc: Global, protocols: &[Protocol]) -> Result<Vec<Protocol>, AllocError>
-    ensures { IfOk result (λ copies. copies.items ≡ protocols.now) }
-{
-    let mut copies = Vec::with_capacity(alloc, protocols.len())?;
-    for protocol in protocols {
-        copies.push(copied(protocol)?)?;
-    }
-    Ok(copies)
-}
-
 impl Protocols {
-    /// Builds the protocol list without a copy. Returns the vector unchanged if it is empty, too long or repeats a
-    /// name.
-    pub fn from_vec(items: Vec<Protocol>) -> Result<Self, Vec<Protocol>>
-        ensures { MatchResult result
-            (λ protocols. AreProtocols items.items × (protocols ≡ items.items))
-            (λ back. (¬ AreProtocols items.items) × (back ≡ items)) }
+    /// Wraps the protocols, without a copy. Returns `None` if the vector is empty, too long or repeats a name.
+    pub fn from_vec(alloc: Global, items: Vec<Protocol>) -> Result<Option<Self>, AllocError>
+        ensures { IfOk result (λ made. MatchOption made (¬ AreProtocols items.items)
+            (λ protocols. AreProtocols items.items × (protocols ≡ items.items))) }
     {
-        if are_protocols(items.as_slice()) {
-            Ok(Protocols { items })
-        } else {
-            Err(items)
+        if !are_protocols(items.as_slice()) {
+            return Ok(None);
         }
+        let items = Arc::new(alloc, items)?;
+        Ok(Some(Protocols { items }))
     }
 
     /// Creates a list of one protocol.
@@ -98,6 +79,7 @@ impl Protocols {
     {
         let mut items = Vec::with_capacity(alloc, 1)?;
         items.push(protocol)?;
+        let items = Arc::new(alloc, items)?;
         Ok(Protocols { items })
     }
 
@@ -114,7 +96,7 @@ impl Clone for Protocols {
     ghost is_clone = { λ protocols copy. copy ≡ protocols };
 
     fn clone(&self) -> Result<Self, AllocError> {
-        let items = copied_all(*self.items.allocator(), self.items.as_slice())?;
+        let items = self.items.clone()?;
         Ok(Protocols { items })
     }
 }

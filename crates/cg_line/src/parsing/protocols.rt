@@ -78,8 +78,8 @@ pub fn protocols_in(alloc: Global, words: &[&[u8]]) -> Result<Protocols, AllocEr
     requires { IsTrue (are_protocols (map (λ w. w.now) words.now)) }
     ensures { IfOk result (λ protocols. protocols ≡ map protocol_in (map (λ w. w.now) words.now)) }
 {
-    match Protocols::from_vec(each_in(alloc, words)?) {
-        Ok(protocols) => Ok(protocols),
-        Err(_) => unreachable!(),
+    match Protocols::from_vec(alloc, each_in(alloc, words)?)? {
+        Some(protocols) => Ok(protocols),
+        None => unreachable!(),
     }
 }

@@ -8,4 +8,4 @@ use Rattle.cg_member.proofs.members.update_one.Goals as goal
 pub returns-in-Some : goal.returns-in-Some
 returns-in-Some c =
     let at : position (has_id c.args.id.now) c.args.members.now.items ≡ Some c.in-Some.place = sym (rw c.as_slice.ensures.value at c.place_of.ensures) ∙ c.in-Some.is in
-    (with_member_from_place c.args.id.now (updated c.args.join) c.args.members.now.items c.in-Some.place c.index_mut.result.now _ at c.index_mut.ensures.value c.take_over.ensures)
+    (with_member_from_place c.args.id.now (updated c.args.join) c.args.members.now.items c.in-Some.place c.index_mut.result.now _ at c.index_mut.ensures.value (rw c.sharing_join-join.ensures at c.take_over.ensures))
