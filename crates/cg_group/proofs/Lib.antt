@@ -29,3 +29,4 @@ pub mod Committers
 pub mod Departures
 pub mod Displacing
 pub mod Newcomers
+pub mod NewGroups

@@ -68,6 +68,9 @@ pub fn entering<'a>(r: &'a CheckedJoin, fresh: Uuid, groups: &Held) -> Option<&'
     requires lawful { is_session_refused r.now ≡ false }
     ensures { MatchOption result ⊤ (λ own. IsEntering r.now fresh groups.now own.now) }
 {
+    if r.request.member.is_some() {
+        return None;
+    }
     let Ok((own, group)) = named(groups, &r.request.group) else {
         return None;
     };

@@ -6,6 +6,7 @@ ghost use Rattle.cg_held.specs.Held.{at_moment, outcome};
 ghost use Rattle.cg_held.specs.Sessions.{AreKnown, IsTight, is_home};
 ghost use Rattle.cg_member.specs.Joining.{is_session_refused};
 
+use crate::creating::{create_in, creating};
 use crate::entering::{enter_in, entering};
 use crate::in_place::reply_alone;
 use crate::parking::park;
@@ -56,7 +57,8 @@ fn join_checked(
     }
 }
 
-// Processes a JOIN that may change something. If it is only parked, its group is changed in place.
+// Processes a JOIN that may change something. If it is only parked, its group is changed in place; if it makes its group, no
+// call is parked.
 fn meet_join_changing(
     now: Moment,
     held: &mut Held,
@@ -75,6 +77,16 @@ fn meet_join_changing(
     ensures err { OnErr result (held.new ≡ held.old) }
     ensures taken { OnErr result (is_ok (join now r fresh ticket held.old) ≡ true) }
 {
+    let context = RequestContext {
+        alloc: held.allocator(),
+        now,
+        ticket,
+    };
+    if let Some(own) = creating(&r, held) {
+        let id = own.clone()?;
+        let effects = create_in(context, held, r, fresh, id)?;
+        return Ok(effects);
+    }
     if let Some((own, id, older)) = parking_join(&r, held) {
         let group = own.clone()?;
         let member = id.clone()?;
@@ -89,19 +101,9 @@ fn meet_join_changing(
     }
     if let Some(own) = entering(&r, fresh, held) {
         let group = own.clone()?;
-        let context = RequestContext {
-            alloc: held.allocator(),
-            now,
-            ticket,
-        };
         let effects = enter_in(context, held, homes, &group, r, fresh)?;
         return Ok(effects);
     }
-    let context = RequestContext {
-        alloc: held.allocator(),
-        now,
-        ticket,
-    };
     let concluding = join_checked(context, r, fresh, held)?;
     let effects = park(now, held, homes, ticket, concluding)?;
     Ok(effects)

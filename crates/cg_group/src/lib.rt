@@ -4,6 +4,7 @@
 #![tactic(auto)]
 
 mod concluding;
+mod creating;
 mod entering;
 mod groups;
 mod in_place;

@@ -34,6 +34,9 @@ pub fn rejoining<'a>(
     ensures ok { IfOk result (λ o. MatchOption o ⊤ (λ p. IsJoinIn r.now groups.now p.0.now p.1.now p.2)) }
     ensures taken { OnErr result ((now : ℕ) (fresh : List ℕ) (ticket : Ticket) → is_ok (join now r.now fresh ticket groups.now) ≡ true) }
 {
+    if r.request.member.is_none() {
+        return Ok(None);
+    }
     let Ok((own, group)) = named(groups, &r.request.group) else {
         return Ok(None);
     };
@@ -105,6 +108,9 @@ pub fn parking_join<'a>(
     requires lawful { is_session_refused r.now ≡ false }
     ensures { MatchOption result ⊤ (λ p. IsJoinParked r.now groups.now p.0.now p.1.now p.2) }
 {
+    if r.request.member.is_none() {
+        return None;
+    }
     let Ok((own, group)) = named(groups, &r.request.group) else {
         return None;
     };

@@ -1,7 +1,5 @@
-use Rattle.std.proofs.Common.{◌≡◌, ℕ, List, Option, Some, None, Result, Ok, Err, MatchResult, ok_or, refl, sym, ap, subst, ◌∙◌}
-use Rattle.cg_names.specs.declared.code.Code.{Code}
+use Rattle.std.proofs.Common.{◌≡◌, ℕ, Some, None, Result, Ok, Err, MatchResult, ok_or, refl, sym, ap, subst, ◌∙◌}
 use Rattle.cg_names.specs.declared.code.Code.TheVariants.{InvalidGroupId, UnknownMemberId}
-use Rattle.cg_member.specs.declared.group.Group.{Group}
 use Rattle.cg_request.specs.declared.ticket.Ticket.{Ticket}
 use Rattle.cg_held.specs.Held.{find_group}
 use Rattle.cg_held.proofs.Beaten.{match-more}
