@@ -76,8 +76,10 @@ fold)
     ;;
 groups)
     out/bench groups
-    # The memory of the machine, with small and with large subscriptions and assignments; each in a process of its own.
+    # The memory of the machine, with small and with large subscriptions and assignments, and with small ones that differ from
+    # member to member; each in a process of its own.
     out/bench groups small
+    out/bench groups different
     out/bench groups large
     ;;
 *)

@@ -2,9 +2,10 @@
 use crate::groups::scene::{Scene, Sizes};
 use crate::offsets::METADATA_BYTES;
 use crate::tally::hundredths;
-use crate::values::{name, offset, partition};
+use crate::values::{offset, partition};
 use anyhow::{Context, Result, bail};
 use cg_group::{CommitEntry, Commits, GROUPS_MAX, Group, Groups, Listed, Member};
+use cg_names::Topic;
 use std::alloc::Global;
 use std::fs;
 use std::rt::Files;
@@ -31,7 +32,7 @@ const TIMES_BYTES: u64 = 16;
 const PAGE_BYTES: u64 = 4_096;
 
 /// Names on the command line of the sizes that are measured.
-pub static NAMES: [&str; 2] = ["small", "large"];
+pub static NAMES: [&str; 3] = ["small", "large", "different"];
 
 /// Returns the sizes with this name.
 pub fn named(word: &str) -> Option<Sizes> {
@@ -39,10 +40,17 @@ pub fn named(word: &str) -> Option<Sizes> {
         "small" => Some(Sizes {
             subscription: 32,
             assignment: 64,
+            differ: false,
         }),
         "large" => Some(Sizes {
             subscription: 256,
             assignment: 256,
+            differ: false,
+        }),
+        "different" => Some(Sizes {
+            subscription: 32,
+            assignment: 64,
+            differ: true,
         }),
         _ => None,
     }
@@ -61,7 +69,7 @@ fn resident<R: Files + Alloc<A = Global>>(rt: &R) -> Result<u64> {
 
 fn entry(alloc: Global, number: u32) -> Result<CommitEntry> {
     let topic = format!(in alloc; "topic-{}", number / PARTITIONS)?;
-    let topic = name(alloc, &topic)?;
+    let topic = Topic::parse(alloc, &topic)?;
     let metadata = vec![in alloc; 0; METADATA_BYTES]?;
     Ok(CommitEntry {
         topic,

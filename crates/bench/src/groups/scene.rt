@@ -27,6 +27,7 @@ const WAITING_SESSION: u64 = 3;
 const RATE_SIZES: Sizes = Sizes {
     subscription: 0,
     assignment: 11,
+    differ: false,
 };
 
 /// Kind of event that leaves the groups stable, so that many can share a group.
@@ -64,6 +65,8 @@ pub enum GroupEvent {
 pub struct Sizes {
     pub subscription: usize,
     pub assignment: usize,
+    /// Whether the members of a group have different subscriptions.
+    pub differ: bool,
 }
 
 /// Loaded groups, with a follower of each.
@@ -77,10 +80,11 @@ pub struct Scene {
     followers: Vec<(GroupId, MemberId)>,
 }
 
-fn protocols(alloc: Global, sizes: Sizes) -> Result<Protocols> {
+fn protocols(alloc: Global, client: u64, sizes: Sizes) -> Result<Protocols> {
+    let byte = if sizes.differ { client as u8 } else { 0 };
     let protocol = Protocol {
         name: name(alloc, "range")?,
-        subscription: subscription(alloc, 0, sizes.subscription)?,
+        subscription: subscription(alloc, byte, sizes.subscription)?,
     };
     let protocols = Protocols::only(alloc, protocol)?;
     Ok(protocols)
@@ -94,7 +98,7 @@ fn join_request(
     sizes: Sizes,
 ) -> Result<JoinRequest> {
     let rebalance = rebalance_timeout()?;
-    let protocols = protocols(alloc, sizes)?;
+    let protocols = protocols(alloc, client, sizes)?;
     let client = client_id(alloc, client)?;
     let kind = name(alloc, "consumer")?;
     Ok(JoinRequest {
