@@ -5,7 +5,7 @@ ghost use Rattle.cg_disk.specs.Mem.{mem_size};
 use super::*;
 use cg_disk::{Crash, FuseDisk, MemDisk, SectorDisk};
 use cg_gate::{FIRST_SEGMENT_SECTOR, SEGMENT_SECTORS};
-use cg_names::Name;
+use cg_names::{Name, Topic};
 use cg_record::{
     Command, Committed, Entries, Entry, METADATA_BYTES_MAX, Metadata, Offset, Partition,
 };
@@ -180,7 +180,7 @@ fn damaged_roots_are_reported(rt: HostRuntime) -> Result<(), Fail> {
 fn entry(alloc: Global, number: u32, offset: u64) -> Result<Entry, Fail> {
     let metadata = Metadata::from_vec(vec![in alloc; 0; METADATA_BYTES_MAX]?);
     Ok(Entry {
-        topic: Name::parse(alloc, "t")?,
+        topic: Topic::parse(alloc, "t")?,
         partition: Partition::new(number).ok_or("a partition")?,
         offset: Offset::new(offset).ok_or("an offset")?,
         metadata: metadata.map_err(|_| "metadata")?,
@@ -411,7 +411,7 @@ fn found_on(alloc: Global, disk: MemDisk) -> Result<(u64, u64), Fail> {
     let partition = Partition::new(0).ok_or("a partition")?;
     let stored = durable.offset(
         &Name::parse(alloc, "g")?,
-        &Name::parse(alloc, "t")?,
+        &Topic::parse(alloc, "t")?,
         partition,
     );
     Ok((number, stored.map_or(0, |stored| stored.offset.get())))
