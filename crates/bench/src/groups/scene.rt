@@ -81,7 +81,11 @@ pub struct Scene {
 }
 
 fn protocols(alloc: Global, client: u64, sizes: Sizes) -> Result<Protocols> {
-    let byte = if sizes.differ { client as u8 } else { 0 };
+    let byte = if sizes.differ {
+        u8::try_from(client).unwrap_or(0)
+    } else {
+        0
+    };
     let protocol = Protocol {
         name: name(alloc, "range")?,
         subscription: subscription(alloc, byte, sizes.subscription)?,
