@@ -1,5 +1,5 @@
-//! JOIN (JoinGroup request): one that changes nothing or is only parked changes its group in place; any other that is not
-//! refused replaces it.
+//! JOIN (JoinGroup request): one that changes nothing or is only parked changes its group in place, one in a group that is not
+//! loaded makes it; any other that is not refused replaces it.
 ghost use Rattle.std.specs.Prelude.{◌≡◌, true, false, is_ok, IfOk, OnErr};
 ghost use Rattle.cg_group.specs.Machine.{concluded, join};
 ghost use Rattle.cg_held.specs.Held.{at_moment, outcome};
@@ -138,8 +138,8 @@ fn meet_join_checked(
     }
 }
 
-/// Processes a JOIN. Copies the group, unless the JOIN is refused, changes nothing, or is only parked. Only a JOIN that is not
-/// refused needs an allocation.
+/// Processes a JOIN. Copies the group, unless the JOIN is refused, changes nothing, is only parked, or makes the group. Only a
+/// JOIN that is not refused needs an allocation.
 #[tactic(auto, unfolding(crate::specs::Machine::join))]
 pub fn meet_join(
     now: Moment,
