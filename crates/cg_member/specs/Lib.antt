@@ -6,6 +6,7 @@ pub mod Members
 pub mod Membership
 pub mod Fencing
 pub mod Vote
+pub mod Tally
 pub mod Rebalance
 pub mod Joining
 pub mod Syncing

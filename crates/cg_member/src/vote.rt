@@ -1,8 +1,9 @@
 //! The vote for the assignment protocol.
 ghost use Rattle.std.specs.Prelude.{◌≡◌, IfOk, map, find, not};
-ghost use Rattle.std.specs.List.{position};
+ghost use Rattle.std.specs.List.{list_any, position};
 ghost use Rattle.std.specs.Option.{option_copied};
-ghost use Rattle.cg_member.specs.Vote.{is_among, offers, is_common, candidates, ballot, votes, beats, is_beaten, elected};
+ghost use Rattle.cg_member.specs.Vote.{is_among, offers, is_common, candidates, ballot, votes, elected};
+ghost use Rattle.cg_member.specs.Tally.{outvotes, tally};
 ghost use Rattle.cg_member.specs.Membership.{is_named};
 
 use crate::member::Member;
@@ -73,39 +74,61 @@ fn votes(names: &[ProtocolName], members: &[Member], name: &ProtocolName) -> usi
     members.iter().filter(|m| votes_for(names, m, name)).count()
 }
 
-#[tactic(auto, unfolding(crate::specs::Vote::beats))]
-fn beats(names: &[ProtocolName], members: &[Member], a: &ProtocolName, b: &ProtocolName) -> bool
-    ensures { result ≡ beats names.now members.now a.now b.now }
-{
-    let for_a = votes(names, members, a);
-    let for_b = votes(names, members, b);
-    for_b < for_a || (for_a == for_b && *a < *b)
+/// A protocol that every member supports, and the number of members that vote for it.
+#[derive(Clone, Copy)]
+pub struct Candidate<'a> {
+    name: &'a ProtocolName,
+    votes: usize,
 }
 
-#[tactic(auto, unfolding(crate::specs::Vote::is_beaten))]
-fn is_beaten(names: &[ProtocolName], members: &[Member], name: &ProtocolName) -> bool
-    ensures { result ≡ is_beaten names.now members.now name.now }
+// Counts the votes for each candidate, once.
+fn counted<'a>(
+    alloc: Global,
+    names: &'a [ProtocolName],
+    members: &[Member],
+) -> Result<Vec<Candidate<'a>>, AllocError>
+    ensures { IfOk result (λ counted. map tally counted.items ≡ map (λ name. (name, votes names.now members.now name)) names.now) }
 {
-    names.iter().any(|other| beats(names, members, other, name))
+    let mut counted = Vec::with_capacity(alloc, names.len())?;
+    for name in names {
+        counted.push(Candidate {
+            name,
+            votes: votes(names, members, name),
+        })?;
+    }
+    Ok(counted)
+}
+
+fn beats(a: &Candidate, b: &Candidate) -> bool
+    ensures { result ≡ outvotes (tally a.now) (tally b.now) }
+{
+    b.votes < a.votes || (a.votes == b.votes && *a.name < *b.name)
+}
+
+fn is_beaten(counted: &[Candidate], candidate: &Candidate) -> bool
+    ensures { result ≡ list_any (λ other. outvotes (tally other) (tally candidate.now)) counted.now }
+{
+    counted.iter().any(|other| beats(other, candidate))
 }
 
 // Returns the index of the winner: no candidate has more votes, or as many votes and a lesser name.
-fn unbeaten(names: &[ProtocolName], members: &[Member]) -> Option<usize>
-    ensures { result ≡ position (λ name. not (is_beaten names.now members.now name)) names.now }
+fn unbeaten(counted: &[Candidate]) -> Option<usize>
+    ensures { result ≡ position (λ candidate. not (list_any (λ other. outvotes (tally other) (tally candidate)) counted.now)) counted.now }
 {
-    names
+    counted
         .iter()
-        .position(|name| !is_beaten(names, members, name))
+        .position(|candidate| !is_beaten(counted, candidate))
 }
 
-/// Returns the protocol that wins the vote, or `None` if there are no members or no common protocol. Linear in the
-/// members.
+/// Returns the protocol that wins the vote, or `None` if there are no members or no common protocol. Linear in the members; counts
+/// each candidate once.
 #[tactic(auto, unfolding(crate::specs::Vote::elected))]
 pub fn elected(alloc: Global, members: &[Member]) -> Result<Option<ProtocolName>, AllocError>
     ensures { IfOk result (λ name. name ≡ elected members.now) }
 {
     let names = candidates(alloc, members)?;
-    match unbeaten(names.as_slice(), members) {
+    let counted = counted(alloc, names.as_slice(), members)?;
+    match unbeaten(counted.as_slice()) {
         None => Ok(None),
         Some(place) => {
             let name = names.as_slice()[place].clone()?;
