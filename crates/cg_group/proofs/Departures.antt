@@ -33,7 +33,7 @@ unfolding keeping
 keeps_without id g = refl
 
 -- the LEAVE of a member in a loaded group is that of the group
-leave_here : (r : LeaveRequest) (groups : List Group) (own : List ℕ) (g : Group) → IsNamed r.group groups own g → (now : ℕ) (ticket : Ticket) → leave now r ticket groups ≡ leave_held now r ticket g
+pub leave_here : (r : LeaveRequest) (groups : List Group) (own : List ℕ) (g : Group) → IsNamed r.group groups own g → (now : ℕ) (ticket : Ticket) → leave now r ticket groups ≡ leave_held now r ticket g
 unfolding leave
 leave_here r groups own g named now ticket = ap (λ o. o >>= λ g. leave_held now r ticket g) (named_is r.group groups own g named)
 

@@ -14,7 +14,8 @@ use Rattle.cg_member.specs.declared.member.Waits.TheVariants.{Nothing, Join, Syn
 use Rattle.cg_request.specs.declared.request.JoinRequest.{JoinRequest}
 use Rattle.cg_request.specs.declared.request.SyncRequest.{SyncRequest}
 use Rattle.cg_request.specs.declared.ticket.Ticket.{Ticket}
-use Rattle.cg_group.specs.InPlace.{IsJoinParked, IsSyncParked, Parks, parking_effects, CameOn}
+use Rattle.cg_turn.specs.declared.syncing.SyncCase.TheVariants.{Parked}
+use Rattle.cg_group.specs.InPlace.{IsJoinParked, IsSync, Parks, parking_effects, CameOn}
 use Rattle.cg_group.specs.Machine.{concluded, join, sync}
 use Rattle.cg_held.specs.declared.sessions.Home.{Home}
 use Rattle.cg_held.specs.Changes.{ChangeKeepsId}
@@ -26,10 +27,8 @@ use Rattle.cg_held.proofs.KeptLists.{each-found, each-put}
 use Rattle.cg_member.specs.Joining.{displaced, updated, updating, waiting, waits_with}
 use Rattle.cg_member.specs.Membership.{find_member, has_id, heard, hearing, with_member}
 use Rattle.cg_member.specs.Rebalance.{turn_of}
-use Rattle.cg_member.specs.Refusing.{◌>>=◌}
-use Rattle.cg_member.specs.Syncing.{sync_held}
 use Rattle.cg_member.specs.Waiting.{called, is_waiting}
-use Rattle.cg_group.proofs.InPlace.{join_here, named_is}
+use Rattle.cg_group.proofs.InPlace.{join_here, sync_here}
 use Rattle.cg_group.proofs.KnownSessions.{known-parked_join, known-parked_sync}
 use Rattle.cg_group.proofs.TightIndex.{tight_parked}
 
@@ -169,16 +168,16 @@ join_displacing now r fresh ticket groups after own id older e at put made =
     ∙ ap (outcome (at_moment now after)) (sym made)
 
 -- the outcome of a SYNC that is parked
-pub sync_displacing : (now : ℕ) (r : SyncRequest) (ticket : Ticket) (groups after : List Group) (own id : List ℕ) (older : Option Ticket) (e : Effects) → IsSyncParked r groups own id older
+pub sync_displacing : (now : ℕ) (r : SyncRequest) (ticket : Ticket) (groups after : List Group) (own id : List ℕ) (older : Option Ticket) (e : Effects) → IsSync r groups own id (Parked older)
     → ((g : Group) → find_group own groups ≡ Some g → after ≡ with_group (waiting now id (Sync ticket) (turn_of (hearing now id g))).group groups) → e ≡ parking_effects older → concluded (at_moment now groups) ticket (sync now r ticket groups) ≡ outcome (at_moment now after) e
-unfolding concluded sync waiting hearing
+unfolding concluded waiting hearing
 sync_displacing now r ticket groups after own id older e at put made =
     let g : Group = at.group in
     let changed : find_member id (hearing now id g).members ≡ Some (heard now at.member) = find-with_member id (heard now) (λ x. refl) g.members at.member at.found in
-    ap (concluded (at_moment now groups) ticket) (ap (λ o. o >>= λ g. sync_held now r ticket g) (named_is r.group groups own g at.named) ∙ at.taken now ticket)
+    ap (concluded (at_moment now groups) ticket) (sync_here now r ticket groups own id (Parked older) at ∙ ap Ok (at.processed.1 now r id ticket))
     ∙ ap (λ o. outcome (at_moment now (with_group (waiting now id (Sync ticket) (turn_of (hearing now id g))).group groups)) (record { commands = []; replies = displaced o })) changed
     ∙ ap (λ gs. outcome (at_moment now gs) (parking_effects (called Any at.member.waits))) (sym (put g at.named.found))
-    ∙ ap (λ o. outcome (at_moment now after) (parking_effects o)) (sym at.called)
+    ∙ ap (λ o. outcome (at_moment now after) (parking_effects o)) (sym at.processed.0)
     ∙ ap (outcome (at_moment now after)) (sym made)
 
 -- the session index, where a call is parked in place
@@ -241,10 +240,6 @@ keeps_sync now id ticket g = refl
 pub join_taken : (r : JoinRequest) (groups : List Group) (own id : List ℕ) (older : Option Ticket) → IsJoinParked r groups own id older → (now : ℕ) (fresh : List ℕ) (ticket : Ticket) → is_ok (join now r fresh ticket groups) ≡ true
 join_taken r groups own id older at now fresh ticket = ap is_ok (join_here now r fresh ticket groups own at.group at.named at.session ∙ at.taken now fresh ticket)
 
-pub sync_taken : (r : SyncRequest) (groups : List Group) (own id : List ℕ) (older : Option Ticket) → IsSyncParked r groups own id older → (now : ℕ) (ticket : Ticket) → is_ok (sync now r ticket groups) ≡ true
-unfolding sync
-sync_taken r groups own id older at now ticket = ap is_ok (ap (λ o. o >>= λ g. sync_held now r ticket g) (named_is r.group groups own at.group at.named) ∙ at.taken now ticket)
-
 -- the loaded group with its id is the one that the request names
 pub parks_named_join : (now : ℕ) (r : JoinRequest) (ticket : Ticket) (groups : List Group) (own id : List ℕ) (older : Option Ticket) → IsJoinParked r groups own id older → (g : Group) → find_group own groups ≡ Some g → Parks ticket older g (waiting now id (Join ticket) (turn_of (updating r id g))).group
 parks_named_join now r ticket groups own id older at g found =
@@ -253,9 +248,9 @@ parks_named_join now r ticket groups own id older at g found =
     let P : Group → Type 0 = λ k. Parks ticket older k (waiting now id (Join ticket) (turn_of (updating r id k))).group in
     subst P same (parks_join now r id ticket older at.group at.member at.found at.called)
 
-pub parks_named_sync : (now : ℕ) (r : SyncRequest) (ticket : Ticket) (groups : List Group) (own id : List ℕ) (older : Option Ticket) → IsSyncParked r groups own id older → (g : Group) → find_group own groups ≡ Some g → Parks ticket older g (waiting now id (Sync ticket) (turn_of (hearing now id g))).group
+pub parks_named_sync : (now : ℕ) (r : SyncRequest) (ticket : Ticket) (groups : List Group) (own id : List ℕ) (older : Option Ticket) → IsSync r groups own id (Parked older) → (g : Group) → find_group own groups ≡ Some g → Parks ticket older g (waiting now id (Sync ticket) (turn_of (hearing now id g))).group
 parks_named_sync now r ticket groups own id older at g found =
     let is : Some at.group ≡ Some g = sym at.named.found ∙ found in
     let same : at.group ≡ g = cc in
     let P : Group → Type 0 = λ k. Parks ticket older k (waiting now id (Sync ticket) (turn_of (hearing now id k))).group in
-    subst P same (parks_sync now id ticket older at.group at.member at.found at.called)
+    subst P same (parks_sync now id ticket older at.group at.member at.found at.processed.0)

@@ -1,5 +1,5 @@
 -- The outcome of a request that changes a member in place, or is refused.
-use Rattle.std.proofs.Common.{◌≡◌, ℕ, true, false, List, map, Option, Some, None, is_some, Result, Ok, Err, OnErr, ok_or, refl, sym, ap, ◌∙◌}
+use Rattle.std.proofs.Common.{◌≡◌, ℕ, true, false, List, map, Option, Some, None, is_some, Result, Ok, Err, OnErr, is_ok, ok_or, refl, sym, ap, ◌∙◌}
 use Rattle.cg_names.specs.declared.code.Code.{Code}
 use Rattle.cg_names.specs.declared.code.Code.TheVariants.{InvalidGroupId, InvalidSessionTimeout, OffsetMetadataTooLarge, UnknownMemberId}
 use Rattle.cg_record.specs.declared.entry.Entry.{Entry}
@@ -16,16 +16,18 @@ use Rattle.cg_request.specs.declared.ticket.Ticket.{Ticket}
 use Rattle.cg_member.specs.declared.turn.Turn.{Turn}
 use Rattle.cg_turn.specs.Admission.{join_held}
 use Rattle.cg_turn.specs.Beating.{IsBeat, beat_held, beat_reply, beat_taken}
+use Rattle.cg_turn.specs.declared.syncing.SyncCase.{SyncCase}
+use Rattle.cg_turn.specs.declared.syncing.SyncCase.TheVariants.{Current}
 use Rattle.cg_request.specs.Commits.{is_too_large, kept_entry}
 use Rattle.cg_turn.specs.Committing.{commit_by, commit_effects, commit_held, committed, committer, hearing_committer, keeping_entries}
-use Rattle.cg_group.specs.InPlace.{IsBeatIn, IsCurrent, IsJoinIn, IsNamed, IsSyncIn}
+use Rattle.cg_group.specs.InPlace.{IsBeatIn, IsJoinIn, IsNamed, IsSync}
 use Rattle.cg_group.specs.Machine.{beat, commit, commit_in, concluded, join, join_in, named_group, reply_alone, sync}
 use Rattle.cg_held.specs.Held.{at_moment, find_group, outcome, with_group}
 use Rattle.cg_member.specs.Joining.{is_session_refused, join_current}
 use Rattle.cg_member.specs.Membership.{hearing}
 use Rattle.cg_member.specs.Rebalance.{joined_reply}
 use Rattle.cg_member.specs.Refusing.{◌>>=◌, refused_if}
-use Rattle.cg_member.specs.Syncing.{sync_current, sync_held}
+use Rattle.cg_member.specs.Syncing.{sync_current, sync_held, sync_taken}
 use Rattle.cg_held.proofs.InOrder.{found_named}
 
 id-hearing : (now : ℕ) (id : List ℕ) (g : Group) → (hearing now id g).id ≡ g.id
@@ -64,15 +66,22 @@ beat_in_place now r ticket groups after id answer e at made =
     ∙ ap (λ a. outcome (at_moment now after) (reply_alone ticket a)) (sym done.answered)
     ∙ ap (outcome (at_moment now after)) (sym made)
 
-pub sync_in_place : (now : ℕ) (r : SyncRequest) (ticket : Ticket) (groups after : List Group) (own id bytes : List ℕ) (e : Effects) → IsSyncIn r groups own id bytes
+-- a SYNC that is not refused is that of its group
+pub sync_here : (now : ℕ) (r : SyncRequest) (ticket : Ticket) (groups : List Group) (own id : List ℕ) (which : SyncCase) (at : IsSync r groups own id which) → sync now r ticket groups ≡ Ok (sync_taken now r id ticket at.member at.group at.group.phase)
+unfolding sync
+sync_here now r ticket groups own id which at = ap (λ o. o >>= λ g. sync_held now r ticket g) (named_is r.group groups own at.group at.named) ∙ at.taken now ticket
+
+pub sync_is_taken : (r : SyncRequest) (groups : List Group) (own id : List ℕ) (which : SyncCase) → IsSync r groups own id which → (now : ℕ) (ticket : Ticket) → is_ok (sync now r ticket groups) ≡ true
+sync_is_taken r groups own id which at now ticket = ap is_ok (sync_here now r ticket groups own id which at)
+
+pub sync_in_place : (now : ℕ) (r : SyncRequest) (ticket : Ticket) (groups after : List Group) (own id bytes : List ℕ) (e : Effects) → IsSync r groups own id (Current bytes)
     → ((g : Group) → find_group own groups ≡ Some g → after ≡ with_group (hearing now id g) groups) → e ≡ reply_alone ticket (reply.Synced bytes) → concluded (at_moment now groups) ticket (sync now r ticket groups) ≡ outcome (at_moment now after) e
-unfolding concluded sync sync_current
+unfolding concluded sync_current
 sync_in_place now r ticket groups after own id bytes e at put made =
     let g : Group = at.group in
-    let current : IsCurrent r g id bytes = at.current in
-    ap (concluded (at_moment now groups) ticket) (ap (λ o. o >>= λ g. sync_held now r ticket g) (named_is r.group groups own g at.named) ∙ current.taken now ticket)
-    ∙ ap (λ gs. outcome (at_moment now gs) (reply_alone ticket (reply.Synced current.member.assignment))) (sym (put g at.named.found))
-    ∙ ap (λ b. outcome (at_moment now after) (reply_alone ticket (reply.Synced b))) current.assignment
+    ap (concluded (at_moment now groups) ticket) (sync_here now r ticket groups own id (Current bytes) at ∙ ap Ok (at.processed.1 now r id ticket))
+    ∙ ap (λ gs. outcome (at_moment now gs) (reply_alone ticket (reply.Synced at.member.assignment))) (sym (put g at.named.found))
+    ∙ ap (λ b. outcome (at_moment now after) (reply_alone ticket (reply.Synced b))) at.processed.0
     ∙ ap (outcome (at_moment now after)) (sym made)
 
 -- a JOIN without a group, and one whose session timeout is outside its limits

@@ -18,6 +18,7 @@ use Rattle.cg_request.specs.declared.request.SyncRequest.{SyncRequest}
 use Rattle.cg_request.specs.declared.ticket.Ticket.{Ticket}
 use Rattle.cg_member.specs.declared.turn.Turn.{Turn}
 use Rattle.cg_turn.specs.Beating.{beat_taken}
+use Rattle.cg_turn.specs.Touching.{gone_touches}
 use Rattle.cg_member.specs.Joining.{admitted, in_join_phase, is_current, join_again, join_current, join_known, join_new, new_group, new_member, rejoined, updated, updating, waiting, waits_with}
 use Rattle.cg_held.specs.Kept.{Each, kept_in}
 use Rattle.cg_member.specs.Leaving.{after_removal, gone_in, has_joined, leave_taken, left}
@@ -40,7 +41,6 @@ use Rattle.cg_member.specs.Syncing.{assigning, distributed, kept_member, sync_cu
 use Rattle.cg_member.specs.Ticking.{at_deadline, can_complete, ended, expired, is_due, is_overdue, outstays, ticked}
 use Rattle.cg_member.specs.Waiting.{after_answers, answered, called, is_waiting}
 use Rattle.std.proofs.lemmas.Bool.{eqb-false, eqb-true, or_from}
-use Rattle.cg_held.proofs.Untouched.{calm_gone_in}
 use Rattle.cg_held.proofs.Framed.{Framed, framed-beat_taken, framed-committed, framed-gone_in, framed-join_known, framed-join_new, framed-join_replacing, framed-leave_taken, framed-sync_taken, framed-ticked}
 use Rattle.cg_group.proofs.Calling.{each-filter, waits-after_answers, waits-append, waits-assigned, waits-seated, waits-with_member}
 use Rattle.cg_held.proofs.KeptLists.{each-found, each-put, id-found, same_names}
@@ -407,13 +407,16 @@ module _ (sessions : ℕ → Bool) (session : ℕ) (idle : sessions session ≡ 
   idle_members [] h = refl
   idle_members (m ∷ ms) h = or_from (is_waiting (OfSession session) m) (list_any (is_waiting (OfSession session)) ms) (idle_waits m.waits h.0) (idle_members ms h.1)
 
-  idle_group : (now : ℕ) (g : Group) → Known sessions g → gone_in now session g ≡ turn_of g
-  idle_group now g h = calm_gone_in now session g (idle_members g.members h)
+-- no call of a session is parked in a group that the index does not have for it
+pub known-apart : (homes : ℕ → List ℕ → Bool) (session : ℕ) (groups : List Group) → AreKnown homes groups → Each (λ g. homes session g.id ≡ false → gone_touches session g ≡ false) groups
+known-apart homes session [] h = tt
+known-apart homes session (g ∷ gs) h = (λ apart. idle_members (at homes g.id) session apart g.members h.0, known-apart homes session gs h.1)
 
--- a closed session does not change a group that the index does not have for it
-pub known-apart : (homes : ℕ → List ℕ → Bool) (now session : ℕ) (groups : List Group) → AreKnown homes groups → Each (λ g. homes session g.id ≡ false → gone_in now session g ≡ turn_of g) groups
-known-apart homes now session [] h = tt
-known-apart homes now session (g ∷ gs) h = (λ apart. idle_group (at homes g.id) session apart now g h.0, known-apart homes now session gs h.1)
+-- the groups after the end of a session, and an index without it
+pub known-closed : (homes fewer : ℕ → List ℕ → Bool) (now session : ℕ) → ((q : ℕ) (x : List ℕ) → (Some session ≡ Some q → ⊥) → homes q x ≡ true → fewer q x ≡ true) → (groups : List Group) → AreKnown homes groups → AreKnown fewer (groups_after (gone_in now session) groups)
+unfolding gone_in
+known-closed homes fewer now session kept [] h = tt
+known-closed homes fewer now session kept (g ∷ gs) h = (left_group (at homes g.id) (at fewer g.id) now session (λ q. kept q g.id) g h.0, known-closed homes fewer now session kept gs h.1)
 
 -- after recovery no call is parked
 module _ (sessions : ℕ → Bool) (now : ℕ) where

@@ -30,3 +30,7 @@ pub mod Departures
 pub mod Displacing
 pub mod Newcomers
 pub mod NewGroups
+pub mod Stepped
+pub mod JoinSteps
+pub mod Handing
+pub mod LeaveSteps

@@ -103,7 +103,7 @@ module _ (P : Turn → Type 0) where
       placed None e free = new free (ap is_some e)
       placed (Some old) e free = replacing old free e
 
-  fine-join_held : (now : ℕ) (r : JoinRequest) (fresh : List ℕ) (ticket : Ticket) (member : Option (List ℕ)) (g : Group)
+  pub fine-join_held : (now : ℕ) (r : JoinRequest) (fresh : List ℕ) (ticket : Ticket) (member : Option (List ℕ)) (g : Group)
       → ((new : List ℕ) → is_some (find_member new g.members) ≡ false → is_some (find_instance r.instance g.members) ≡ false → is_inconsistent r g ≡ false → P (join_new now r new ticket g))
       → ((new : List ℕ) (old : Member) → is_some (find_member new g.members) ≡ false → find_instance r.instance g.members ≡ Some old → is_inconsistent r g ≡ false → P (join_replacing now r new ticket old g))
       → ((own : List ℕ) (m : Member) → find_member own g.members ≡ Some m → is_inconsistent r g ≡ false → P (join_known now r own ticket m g))
@@ -181,15 +181,17 @@ module _ (P : Turn → Type 0) where
       after_check r.instance r.member g.members dated
       (λ who _ _. after_test P (not (int_eq r.generation (pos g.generation))) IllegalGeneration (taken who) (λ _. k i who.0 g e)))
 
+  pub fine-leave_held : (now : ℕ) (r : LeaveRequest) (ticket : Ticket) (g : Group) → ((m : Member) → leaver r.instance r.member g.members ≡ Ok m → P (leave_taken now m.id ticket m g)) → Fine P (leave_held now r ticket g)
+  unfolding leave_held
+  fine-leave_held now r ticket g k = after_checked P (leaver r.instance r.member g.members) (λ m. Ok (leave_taken now m.id ticket m g)) k
+
   pub fine-leave : (now : ℕ) (r : LeaveRequest) (ticket : Ticket) (groups : List Group)
       → ((id : List ℕ) (g : Group) (m : Member) → find_group id groups ≡ Some g → is_empty g.members ≡ false → P (leave_taken now m.id ticket m g))
       → Fine P (leave now r ticket groups)
-  unfolding leave leave_held
+  unfolding leave
   fine-leave now r ticket groups k =
       after_named r.group groups (λ g. leave_held now r ticket g)
-      (λ i g named e.
-      after_checked P (leaver r.instance r.member g.members) (λ m. Ok (leave_taken now m.id ticket m g))
-      (λ m from. k i g m e (leaver_is_there r.instance r.member g.members m from)))
+      (λ i g named e. fine-leave_held now r ticket g (λ m from. k i g m e (leaver_is_there r.instance r.member g.members m from)))
 
   fine-commit_in : (now : ℕ) (r : CommitRequest) (ticket : Ticket) (groups : List Group) (id : List ℕ) (o : Option Group)
       → (o ≡ None → P (committed r.entries ticket (new_group id)))

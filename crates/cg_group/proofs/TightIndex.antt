@@ -1,19 +1,27 @@
 -- The session index after an event has no more than the parked calls.
-use Rattle.std.proofs.Common.{◌≡◌, ℕ, true, List, inl, inr, Option, Some, None, Result, Ok, Err, refl, sym, ap, ◌∙◌, subst}
-use Rattle.std.specs.Prelude.{◌⊎◌}
-use Rattle.std.proofs.lemmas.Bool.{false≢true}
+use Rattle.std.proofs.Common.{◌≡◌, ℕ, Bool, true, false, cond, List, [], ◌∷◌, inl, inr, Option, Some, None, Result, Ok, Err, refl, sym, ap, ◌∙◌, subst}
+use Rattle.std.specs.Prelude.{◌⊎◌, ◌||◌, ◌==◌, if◌then◌else◌, is_some}
+use Rattle.std.specs.List.{list_any}
+use Rattle.std.proofs.lemmas.Bool.{eqb-false, eqb-true, false≢true, or_left, or_right}
 use Rattle.std.specs.BTreeMap.{BTreeMap, get}
 use Rattle.std.specs.Ordering.{nat_cmp}
 use Rattle.cg_names.specs.declared.code.Code.{Code}
+use Rattle.cg_member.specs.declared.calls.Calls.TheVariants.{OfSession}
 use Rattle.cg_member.specs.declared.group.Group.{Group}
+use Rattle.cg_member.specs.declared.member.Member.{Member}
+use Rattle.cg_member.specs.declared.member.Waits.{Waits}
+use Rattle.cg_member.specs.declared.member.Waits.TheVariants.{Nothing, Join, Sync}
 use Rattle.cg_member.specs.declared.turn.Turn.{Turn}
+use Rattle.cg_member.specs.Leaving.{gone_in}
+use Rattle.cg_member.specs.Membership.{is_same}
+use Rattle.cg_member.specs.Waiting.{after_answer, after_answers, answered, called, is_waiting}
 use Rattle.cg_group.specs.InPlace.{group_of, groups_of, replaced_by}
 use Rattle.cg_held.specs.declared.sessions.Home.{Home}
-use Rattle.cg_held.specs.Held.{find_group, with_group}
+use Rattle.cg_held.specs.Held.{find_group, groups_after, with_group}
 use Rattle.cg_held.specs.Kept.{Each}
-use Rattle.cg_held.specs.Sessions.{IsFilled, IsLetGo, IsTight, is_home, is_parked, were_parked}
+use Rattle.cg_held.specs.Sessions.{IsFilled, IsLetGo, IsTight, is_home, is_noted, is_parked, were_parked}
 use Rattle.cg_held.proofs.InOrder.{found_named}
-use Rattle.cg_held.proofs.Tight.{tight_put, were_in}
+use Rattle.cg_held.proofs.Tight.{at_call, tight_put, were_in}
 
 -- an index that got one session with a group got it with the group of this id
 pub noted_named : (homes0 homes1 : BTreeMap ℕ (BTreeMap (List ℕ) Home)) (session : ℕ) (id own : List ℕ) → id ≡ own
@@ -112,3 +120,57 @@ module _ (homes final : BTreeMap ℕ (BTreeMap (List ℕ) Home)) (held0 held1 : 
     ],
     λ q. filled q (tight.1 q),
   )
+
+-- the end of a session
+module _ (now session : ℕ) where
+  -- the calls of other sessions stay parked
+  module _ (q : ℕ) (apart : Some session ≡ Some q → ⊥) where
+    stays_one : (m : Member) (w : Waits) → is_some (called (OfSession q) w) ≡ true
+        → is_some (called (OfSession q) (if is_some (called (OfSession session) w) then answered now m else record m { waits = w }).waits) ≡ true
+    stays_one m Nothing h = h
+    stays_one m (Join t) h =
+        (elim (t.session == session) as (λ b. (t.session == session) ≡ b → is_some (called (OfSession q) (if is_some (if b then Some t else None) then answered now m else record m { waits = Join t }).waits) ≡ true) [
+          | true ↦ λ e. absurd (apart (ap Some (sym (eqb-true t.session session e) ∙ at_call (λ r. t.session ≡ r) q (Join t) refl h)))
+          | false ↦ λ e. h
+        ]) refl
+    stays_one m (Sync t) h =
+        (elim (t.session == session) as (λ b. (t.session == session) ≡ b → is_some (called (OfSession q) (if is_some (if b then Some t else None) then answered now m else record m { waits = Sync t }).waits) ≡ true) [
+          | true ↦ λ e. absurd (apart (ap Some (sym (eqb-true t.session session e) ∙ at_call (λ r. t.session ≡ r) q (Sync t) refl h)))
+          | false ↦ λ e. h
+        ]) refl
+
+    stays_among : (ms : List Member) → list_any (is_waiting (OfSession q)) ms ≡ true → list_any (is_waiting (OfSession q)) (after_answers (OfSession session) now ms) ≡ true
+    unfolding after_answers
+    stays_among [] h = h
+    stays_among (m ∷ ms) h =
+        (elim (is_waiting (OfSession q) m) as (λ b. is_waiting (OfSession q) m ≡ b → (b || list_any (is_waiting (OfSession q)) ms) ≡ true → list_any (is_waiting (OfSession q)) (after_answers (OfSession session) now (m ∷ ms)) ≡ true) [
+          | true ↦ λ w _. or_left (is_waiting (OfSession q) (after_answer (OfSession session) now m)) (list_any (is_waiting (OfSession q)) (after_answers (OfSession session) now ms)) (stays_one m m.waits w)
+          | false ↦ λ _ more. or_right (is_waiting (OfSession q) (after_answer (OfSession session) now m)) (list_any (is_waiting (OfSession q)) (after_answers (OfSession session) now ms)) (stays_among ms more)
+        ]) refl h
+
+    stays_there : (x : List ℕ) (gs : List Group) → is_parked q (find_group x gs) ≡ true → is_parked q (find_group x (groups_after (gone_in now session) gs)) ≡ true
+    unfolding find_group gone_in
+    stays_there x [] h = h
+    stays_there x (g ∷ gs) h =
+        (elim (is_same g.id x) as (λ b. is_parked q (cond b (Some g) (find_group x gs)) ≡ true → is_parked q (cond b (Some ((gone_in now session g).group)) (find_group x (groups_after (gone_in now session) gs))) ≡ true) [
+          | true ↦ λ p. stays_among g.members p
+          | false ↦ λ p. stays_there x gs p
+        ]) h
+
+  pub tight_closed : (homes final : BTreeMap ℕ (BTreeMap (List ℕ) Home)) (groups : List Group) → get nat_cmp final session ≡ None
+      → ((q : ℕ) → (Some session ≡ Some q → ⊥) → get nat_cmp final q ≡ get nat_cmp homes q) → IsTight homes groups → IsTight final (groups_after (gone_in now session) groups)
+  tight_closed homes final groups gone apart tight = (λ q x. parked q x (session == q) refl, λ q. filled q (session == q) refl)
+    where
+      none : (q : ℕ) → (session == q) ≡ true → get nat_cmp final q ≡ None
+      none q e = ap (get nat_cmp final) (sym (eqb-true session q e)) ∙ gone
+
+      other : (q : ℕ) → (session == q) ≡ false → Some session ≡ Some q → ⊥
+      other q e same = eqb-false session q e (cc)
+
+      parked : (q : ℕ) (x : List ℕ) (b : Bool) → (session == q) ≡ b → is_home final q x ≡ true → is_parked q (find_group x (groups_after (gone_in now session) groups)) ≡ true
+      parked q x true e here = absurd (false≢true (sym (ap (is_noted x) (none q e)) ∙ here))
+      parked q x false e here = stays_there q (other q e) x groups (tight.0 q x (sym (ap (is_noted x) (apart q (other q e))) ∙ here))
+
+      filled : (q : ℕ) (b : Bool) → (session == q) ≡ b → IsFilled (get nat_cmp final q)
+      filled q true e = let P : Option (BTreeMap (List ℕ) Home) → Type 0 = λ o. IsFilled o in subst P (sym (none q e)) tt
+      filled q false e = let P : Option (BTreeMap (List ℕ) Home) → Type 0 = λ o. IsFilled o in subst P (sym (apart q (other q e))) (tight.1 q)

@@ -1,12 +1,12 @@
--- Requests that change, add or remove one member alone: they change their group in place. Others replace it.
-use Rattle.std.specs.Prelude.{◌≡◌, ◌⊎◌, ℕ, Bool, true, false, not, List, [], ◌∷◌, ◌++◌, Option, Some, None, option_map, Result, Ok, Err}
+-- Requests that change their group in place.
+use Rattle.std.specs.Prelude.{◌≡◌, ◌⊎◌, ℕ, Bool, true, false, not, List, [], ◌∷◌, ◌++◌, Option, Some, None, option_map, Result, Ok, Err, is_ok, length}
 use Rattle.std.specs.Option.{option_to_list}
 use Rattle.cg_names.specs.declared.code.Code.{Code}
 use Rattle.cg_names.specs.declared.code.Code.TheVariants.{RebalanceInProgress, UnknownMemberId}
 use Rattle.cg_member.specs.declared.calls.Calls.TheVariants.{Any, OfSession}
 use Rattle.cg_member.specs.declared.group.Group.{Group}
 use Rattle.cg_member.specs.declared.member.Member.{Member}
-use Rattle.cg_member.specs.declared.member.Waits.TheVariants.{Join, Sync}
+use Rattle.cg_member.specs.declared.member.Waits.TheVariants.{Join}
 use Rattle.cg_member.specs.declared.reply.Reply.{Reply}
 use Rattle.cg_member.specs.declared.reply.Reply.TheVariants.{Done, Refused}
 use Rattle.cg_request.specs.declared.request.BeatRequest.{BeatRequest}
@@ -15,9 +15,13 @@ use Rattle.cg_request.specs.declared.request.LeaveRequest.{LeaveRequest}
 use Rattle.cg_request.specs.declared.request.SyncRequest.{SyncRequest}
 use Rattle.cg_request.specs.declared.ticket.Ticket.{Ticket}
 use Rattle.cg_member.specs.declared.turn.Turn.{Turn}
-use Rattle.cg_turn.specs.Admission.{join_held}
+use Rattle.cg_group.specs.declared.ways.Way.{Way}
+use Rattle.cg_group.specs.declared.ways.Way.TheVariants.{Makes, Finds}
+use Rattle.cg_turn.specs.Admission.{join_held, join_unheld}
 use Rattle.cg_turn.specs.Entering.{HasPlace, entered}
 use Rattle.cg_turn.specs.Beating.{IsBeat}
+use Rattle.cg_turn.specs.Distributing.{IsSyncCase}
+use Rattle.cg_turn.specs.declared.syncing.SyncCase.{SyncCase}
 use Rattle.cg_group.specs.Machine.{concluded}
 use Rattle.cg_held.specs.Held.{at_moment, find_group, outcome, with_group}
 use Rattle.cg_held.specs.Sessions.{AreKnown, Known, is_parked}
@@ -26,7 +30,7 @@ use Rattle.cg_member.specs.Joining.{drawn, is_session_refused, join_current, own
 use Rattle.cg_member.specs.Leaving.{leave_held, left}
 use Rattle.cg_member.specs.Membership.{find_member, has_id, hearing, keeping}
 use Rattle.cg_member.specs.Rebalance.{joined_reply, turn_of}
-use Rattle.cg_member.specs.Syncing.{sync_current, sync_held}
+use Rattle.cg_member.specs.Syncing.{sync_held, sync_taken}
 use Rattle.cg_member.specs.Waiting.{called, is_waiting}
 
 -- the request names this group, and it is loaded
@@ -42,17 +46,14 @@ pub record IsBeatIn (now : ℕ) (r : BeatRequest) (groups after : List Group) (i
   pub beat : IsBeat r group id reply
   pub heard : after ≡ with_group (hearing now id group) groups
 
--- a SYNC of the member gets this assignment at once
-pub record IsCurrent (r : SyncRequest) (g : Group) (id bytes : List ℕ) : Type 0 where
-  pub member : Member
-  pub assignment : member.assignment ≡ bytes
-  pub taken : (now : ℕ) (ticket : Ticket) → sync_held now r ticket g ≡ Ok (sync_current now id ticket member g)
-
--- the SYNC gets its reply at once, from this member, in the group with this id
-pub record IsSyncIn (r : SyncRequest) (groups : List Group) (own id bytes : List ℕ) : Type 0 where
+-- the SYNC is not refused; it is of this member, in the group with this id, and processed in this way
+pub record IsSync (r : SyncRequest) (groups : List Group) (own id : List ℕ) (which : SyncCase) : Type 0 where
   pub group : Group
+  pub member : Member
   pub named : IsNamed r.group groups own group
-  pub current : IsCurrent r group id bytes
+  pub found : find_member id group.members ≡ Some member
+  pub taken : (now : ℕ) (ticket : Ticket) → sync_held now r ticket group ≡ Ok (sync_taken now r id ticket member group group.phase)
+  pub processed : IsSyncCase group member which
 
 -- the JOIN changes nothing and gets its reply at once, from this member, in the group with this id
 pub record IsJoinIn (r : JoinRequest) (groups : List Group) (own id : List ℕ) (reply : Reply) : Type 0 where
@@ -81,14 +82,41 @@ pub record IsEntering (r : JoinRequest) (fresh : List ℕ) (groups : List Group)
   pub place : HasPlace (drawn (own_name r) fresh) r.instance group.members
   pub taken : (now : ℕ) (ticket : Ticket) → join_held now r fresh ticket r.member group ≡ Ok (turn_of (entered now r (drawn (own_name r) fresh) ticket group))
 
--- the SYNC of this follower, in the group with this id, is only parked, in place of its older call
-pub record IsSyncParked (r : SyncRequest) (groups : List Group) (own id : List ℕ) (older : Option Ticket) : Type 0 where
+-- the group of the JOIN is loaded, and its session timeout is within its limits
+pub record IsFound (r : JoinRequest) (groups : List Group) : Type 0 where
+  pub own : List ℕ
   pub group : Group
-  pub member : Member
   pub named : IsNamed r.group groups own group
-  pub found : find_member id group.members ≡ Some member
-  pub taken : (now : ℕ) (ticket : Ticket) → sync_held now r ticket group ≡ Ok (waiting now id (Sync ticket) (turn_of (hearing now id group)))
-  pub called : older ≡ called Any member.waits
+  pub session : is_session_refused r ≡ false
+
+-- the JOIN is not refused, in the group with this id
+pub record IsJoining (r : JoinRequest) (fresh : List ℕ) (groups : List Group) (own : List ℕ) : Type 0 where
+  pub group : Group
+  pub named : IsNamed r.group groups own group
+  pub session : is_session_refused r ≡ false
+  pub taken : (now : ℕ) (ticket : Ticket) → is_ok (join_held now r fresh ticket r.member group) ≡ true
+
+-- the JOIN is not refused, and makes the group with this id
+pub record IsMaking (r : JoinRequest) (groups : List Group) (own : List ℕ) : Type 0 where
+  pub named : r.group ≡ Some own
+  pub absent : find_group own groups ≡ None
+  pub taken : (now : ℕ) (fresh : List ℕ) (ticket : Ticket) (id : List ℕ) → is_ok (join_unheld now r fresh ticket (length groups) id) ≡ true
+
+-- where the JOIN is processed
+abbrev pub IsWay : JoinRequest → List Group → Way → Type 0
+IsWay r groups (Makes own) = IsMaking r groups own.now
+IsWay r groups Finds = IsFound r groups
+
+-- the step of a request, or that of an event that changes nothing
+abbrev pub turn_or : Group → Result Turn Code → Turn
+turn_or g (Err code) = turn_of g
+turn_or g (Ok t) = t
+
+-- the LEAVE is not refused, in the group with this id
+pub record IsLeaving (r : LeaveRequest) (groups : List Group) (own : List ℕ) : Type 0 where
+  pub group : Group
+  pub named : IsNamed r.group groups own group
+  pub taken : (now : ℕ) (ticket : Ticket) → is_ok (leave_held now r ticket group) ≡ true
 
 -- the LEAVE of this member, in the group with this id, only removes it: others have still to join. A session with a parked call
 -- in the group has one afterwards, or the member's call came on it
@@ -139,3 +167,11 @@ abbrev pub ParksKnown : ℕ → List Group → Ticket → Result Turn Code → T
 ParksKnown now groups ticket o =
     (homes : ℕ → List ℕ → Bool) (after : List Group) (made : Effects) → ((x : List ℕ) → group_of o ≡ Some x → homes ticket.session x ≡ true)
     → concluded (at_moment now groups) ticket o ≡ outcome (at_moment now after) made → AreKnown homes groups → AreKnown homes after
+
+-- if the index has the group of the step for the session of the request, it has every call that is parked after the step
+abbrev pub StepParks : List Group → Ticket → Turn → Type 0
+StepParks groups ticket t = (homes : ℕ → List ℕ → Bool) → homes ticket.session t.group.id ≡ true → AreKnown homes groups → AreKnown homes (with_group t.group groups)
+
+-- the index has every call that is parked after the step: the step parks none
+abbrev pub StepKnown : List Group → Turn → Type 0
+StepKnown groups t = (homes : ℕ → List ℕ → Bool) → AreKnown homes groups → AreKnown homes (with_group t.group groups)

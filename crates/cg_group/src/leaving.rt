@@ -1,33 +1,29 @@
-//! LEAVE (LeaveGroup request): one that only removes its member changes the group in place; any other that is not refused
-//! replaces it.
-ghost use Rattle.std.specs.Prelude.{◌≡◌, ℕ, List, Some, true, is_ok, IfOk, OnErr, MatchOption, ⊤};
-ghost use Rattle.std.specs.BTreeMap.{get};
-ghost use Rattle.std.specs.Ordering.{nat_cmp};
-ghost use Rattle.cg_group.specs.InPlace.{IsDeparture, departing_effects};
+//! LEAVE (LeaveGroup request): one that is not refused changes its group in place.
+ghost use Rattle.std.specs.Prelude.{◌≡◌, ℕ, Err, true, is_ok, IfOk, OnErr, MatchOption, MatchResult, ⊤};
+ghost use Rattle.cg_group.specs.InPlace.{IsDeparture, IsLeaving, departing_effects};
 ghost use Rattle.cg_group.specs.Machine.{concluded, leave};
 ghost use Rattle.cg_held.specs.Held.{at_moment, outcome};
-ghost use Rattle.cg_held.specs.Sessions.{AreKnown, IsFilled, IsLetGo, IsTight, is_home, is_parked};
-ghost use Rattle.cg_member.specs.declared.group.Group.{Group};
+ghost use Rattle.cg_held.specs.Sessions.{AreKnown, IsTight, is_home};
 ghost use Rattle.cg_request.specs.declared.ticket.Ticket.{Ticket};
 
-use crate::concluding::{Concluded, conclude};
+use crate::in_place::reply_alone;
 use crate::naming::named;
 use crate::parking_in_place::settle_older;
+use crate::stepping::step_leaving;
 use cg_held::altering::Altering;
 use cg_held::held::Held;
 use cg_held::sessions::Homes;
-use cg_held::settling::settle;
+use cg_held::stepping::Stepping;
 use cg_member::calls::Calls;
 use cg_member::effects::Effects;
 use cg_member::few::Few;
 use cg_member::group::Group;
 use cg_member::reply::Reply;
-use cg_member::turn::Outcome;
 use cg_names::{Code, GroupId, MemberId, Moment};
 use cg_request::request::LeaveRequest;
 use cg_request::ticket::Ticket;
 use cg_turn::context::RequestContext;
-use cg_turn::leaving::{departing, leave_held, remove_member};
+use cg_turn::leaving::{departing, leave_in, leave_refusal, remove_member};
 use std::alloc::{AllocError, Global};
 
 /// The change of a group by a LEAVE that only removes its member.
@@ -90,35 +86,45 @@ fn departing_effects(
     })
 }
 
-// Returns the step of a LEAVE, or its error code. Only a LEAVE that is not refused needs an allocation.
-#[tactic(auto, unfolding(crate::specs::Machine::leave))]
-fn leave(context: RequestContext, r: &LeaveRequest, groups: &Held) -> Result<Outcome, AllocError>
-    ensures ok { IfOk result (λ o. o ≡ leave context.now r.now context.ticket groups.now) }
-    ensures taken { OnErr result (is_ok (leave context.now r.now context.ticket groups.now) ≡ true) }
+/// The step of a LEAVE in its loaded group, which does not refuse it.
+#[derive(Drop)]
+struct LeaveStep<'a> {
+    context: RequestContext,
+    request: &'a LeaveRequest,
+}
+
+impl<'a> Stepping for LeaveStep<'a> {
+    ghost use Rattle.std.specs.Prelude.{◌≡◌, true, is_ok};
+    ghost use Rattle.cg_group.specs.InPlace.{turn_or};
+    ghost use Rattle.cg_member.specs.Leaving.{leave_held};
+
+    ghost Suits = { λ s g. is_ok (leave_held s.context.now s.request.now s.context.ticket g) ≡ true };
+
+    ghost steps = { λ s g. turn_or g (leave_held s.context.now s.request.now s.context.ticket g) };
+
+    fn step(self, group: &mut Group) -> Result<Effects, AllocError> {
+        let LeaveStep { context, request } = self;
+        let effects = leave_in(context, request, group)?;
+        Ok(effects)
+    }
+}
+
+// Returns the id of the group of a LEAVE that is not refused, or the error code. No allocation.
+fn leaving<'a>(r: &'a LeaveRequest, groups: &Held) -> Result<&'a GroupId, Code>
+    ensures { MatchResult result
+        (λ own. IsLeaving r.now groups.now own.now)
+        (λ code. (now : ℕ) (ticket : Ticket) → leave now r.now ticket groups.now ≡ Err code) }
 {
     match named(groups, &r.group) {
-        Err(code) => Ok(Err(code)),
-        Ok((_, group)) => {
-            let taken = leave_held(context, r, group)?;
-            Ok(taken)
-        }
+        Err(code) => Err(code),
+        Ok((own, group)) => match leave_refusal(r, group) {
+            Some(code) => Err(code),
+            None => Ok(own),
+        },
     }
 }
 
-// Updates the session index after a step that parks no call: `replaced` is its group as it was.
-fn settle_replaced(homes: &mut Homes, held: &Held, replaced: &Option<Group>)
-    ensures known { AreKnown (is_home homes.old) held.now → AreKnown (is_home homes.new) held.now }
-    ensures gone { (g : Group) → replaced.now ≡ Some g → (q : ℕ) → is_parked q (Some g) ≡ true → IsLetGo homes.new held.now g.id q }
-    ensures fewer { (q : ℕ) (x : List ℕ) → is_home homes.new q x ≡ true → is_home homes.old q x ≡ true }
-    ensures filled { (q : ℕ) → IsFilled (get nat_cmp homes.old q) → IsFilled (get nat_cmp homes.new q) }
-{
-    if let Some(group) = replaced {
-        settle(homes, held, &group.id, group.members.as_slice());
-    }
-}
-
-/// Processes a LEAVE. Copies the group, unless the LEAVE is refused or only removes its member. Only a LEAVE that is not refused
-/// needs an allocation.
+/// Processes a LEAVE, in place. One that only removes its member costs less. Only a LEAVE that is not refused needs an allocation.
 pub fn meet_leave(
     now: Moment,
     held: &mut Held,
@@ -142,8 +148,15 @@ pub fn meet_leave(
         settle_older(homes, held, own, parked);
         return Ok(effects);
     }
-    let concluding = leave(RequestContext { alloc, now, ticket }, r, held)?;
-    let Concluded { effects, replaced } = conclude(alloc, now, held, ticket, concluding)?;
-    settle_replaced(homes, held, &replaced);
-    Ok(effects)
+    match leaving(r, held) {
+        Err(code) => Ok(reply_alone(alloc, ticket, Reply::Refused(code))),
+        Ok(own) => {
+            let stepping = LeaveStep {
+                context: RequestContext { alloc, now, ticket },
+                request: r,
+            };
+            let effects = step_leaving(held, homes, own, stepping)?;
+            Ok(effects)
+        }
+    }
 }

@@ -3,7 +3,6 @@
 //! replies come from the crates below and are re-exported here.
 #![tactic(auto)]
 
-mod concluding;
 mod creating;
 mod entering;
 mod groups;
@@ -13,10 +12,11 @@ mod laws;
 mod leaving;
 mod meeting;
 mod naming;
-mod parking;
 mod parking_in_place;
 mod rejoining;
+mod stepping;
 mod syncing;
+mod ways;
 
 pub use groups::Groups;
 pub use laws::{

@@ -17,10 +17,10 @@ use cg_fold::Offsets;
 use cg_held::changes::{Changes, swap_all};
 use cg_held::describing::{description, listings};
 use cg_held::due::turn_due;
-use cg_held::everywhere::{Going, Ticking};
+use cg_held::everywhere::Ticking;
 use cg_held::held::Held;
-use cg_held::homes::turn_there;
-use cg_held::sessions::Homes;
+use cg_held::homes::end_session;
+use cg_held::sessions::{Homes, forget};
 use cg_held::settling::settle_all;
 use cg_member::boxed::Boxed;
 use cg_member::effects::Effects;
@@ -248,7 +248,7 @@ fn meet_tick(now: Moment, held: &mut Held, homes: &mut Homes) -> Result<Effects,
     Ok(effects)
 }
 
-// Processes the end of a session. Visits only the groups that the session index has for it.
+// Processes the end of a session in place. Visits only the groups that the session index has for it.
 #[tactic(auto, unfolding(cg_held::specs::Held::everywhere))]
 fn meet_gone(
     now: Moment,
@@ -264,15 +264,8 @@ fn meet_gone(
         (λ e. everywhere (gone_in now session) (at_moment now held.old) ≡ outcome (at_moment now held.new) e) }
     ensures err { OnErr result (held.new ≡ held.old) }
 {
-    let alloc = held.allocator();
-    let going = Going { now, session };
-    let Changes {
-        mut groups,
-        effects,
-    } = turn_there(alloc, &going, held, homes, session)?;
-    let left = groups.as_mut_slice();
-    swap_all(held, left);
-    settle_all(homes, held, left);
+    let effects = end_session(held, homes, session, now)?;
+    forget(homes, session);
     Ok(effects)
 }
 
@@ -302,7 +295,7 @@ pub fn met(
             Ok(effects)
         }
         Event::Sync(ticket, r) => {
-            let effects = meet_sync(now, held, homes, ticket, &r)?;
+            let effects = meet_sync(now, held, homes, ticket, r)?;
             Ok(effects)
         }
         Event::Beat(ticket, r) => Ok(meet_beat(now, held, ticket, &r)),

@@ -28,7 +28,7 @@ pub fn settle_older(homes: &mut Homes, held: &Held, own: &GroupId, older: Option
     ensures filled { (q : ℕ) → IsFilled (get nat_cmp homes.old q) → IsFilled (get nat_cmp homes.new q) }
 {
     if let Some(older) = older {
-        settle_request(homes, held, own, &[], older.session);
+        settle_request::<Ticket>(homes, held, own, &[], older.session);
     }
 }
 
@@ -77,7 +77,7 @@ pub fn park_in<A: Altering + Drop>(
             Ok(parking_effects(held, older))
         }
         Err(wanting) => {
-            settle_request(homes, held, own, &[], ticket.session);
+            settle_request::<Ticket>(homes, held, own, &[], ticket.session);
             Err(wanting)
         }
     }

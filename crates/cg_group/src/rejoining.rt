@@ -93,7 +93,7 @@ impl Altering for ParkedJoin {
             request,
             ticket,
         } = self;
-        group.members.update(&id, request);
+        let _before = group.members.exchange_terms(&id, request);
         group.members.wait(&id, Waits::Join(ticket), now);
         Ok(())
     }

@@ -2,16 +2,13 @@
 use Rattle.std.proofs.Common.{◌≡◌, ℕ, Bool, true, false, ◌||◌, List, [], ◌∷◌, ◌++◌, cond, is_some, Some, None, refl, sym, ap, ◌∙◌, subst}
 use Rattle.std.specs.Prelude.{if◌then◌else◌}
 use Rattle.std.specs.List.{flat_map}
-use Rattle.std.specs.BTreeMap.{is_at}
 use Rattle.std.specs.Cmp.Lexicographic.{slice_cmp}
-use Rattle.std.specs.Map.{keys_of, lookup}
 use Rattle.std.specs.Ordering.{nat_cmp, match_ordering}
 use Rattle.std.specs.declared.cmp.Ordering.TheVariants.{Less, Equal}
 use Rattle.std.proofs.lemmas.Bool.{or_from, or_left, or_right}
 use Rattle.std.proofs.lemmas.Cmp.{nat_list_cmp_total}
 use Rattle.std.proofs.lemmas.List.{append_assoc, append-nil}
 use Rattle.std.proofs.lemmas.List.Folds.{list_any-append}
-use Rattle.std.proofs.lemmas.Map.Text.{is_eq-slice_cmp}
 use Rattle.cg_held.specs.declared.changes.Changes.{Changes}
 use Rattle.cg_record.specs.declared.command.Command.{Command}
 use Rattle.cg_member.specs.declared.effects.Effects.{Effects}
@@ -21,11 +18,11 @@ use Rattle.cg_request.specs.declared.ticket.Ticket.{Ticket}
 use Rattle.cg_member.specs.declared.turn.Turn.{Turn}
 use Rattle.cg_held.specs.Changes.{AreHeld, HaveTurned, among, changed, is_one_of}
 use Rattle.cg_held.specs.Held.{IsHeld, InOrder, effects_of, find_group, groups_after, with_group}
-use Rattle.cg_held.specs.Kept.{Ascending, ComeBefore, ComesBefore, Each}
+use Rattle.cg_held.specs.Kept.{ComeBefore, ComesBefore, Each}
 use Rattle.cg_request.specs.Names.{is_same}
 use Rattle.cg_member.specs.Rebalance.{turn_of}
 use Rattle.cg_held.proofs.Framed.{each-append}
-use Rattle.cg_held.proofs.InOrder.{before_found, come_before, differs_behind, found_alone, less_greater, none_found, same_order}
+use Rattle.cg_held.proofs.InOrder.{before_found, differs_behind, found_alone, less_greater, none_found, same_order}
 use Rattle.cg_held.proofs.KeptLists.{found-with_group, group_ids, same_self}
 
 -- `changed` with a first change, and with no change
@@ -59,7 +56,7 @@ one_of-push ids x y apart = list_any-append (is_same y) ids (x ∷ []) ∙ last 
 one_of-last : (ids : List (List ℕ)) (x : List ℕ) → is_one_of (ids ++ x ∷ []) x ≡ true
 one_of-last ids x = list_any-append (is_same x) ids (x ∷ []) ∙ or_right (is_one_of ids x) (is_same x x || false) (or_left (is_same x x) false (same_self x))
 
-before_one_of : (ids : List (List ℕ)) (x : List ℕ) → ComeBefore ids x → is_one_of ids x ≡ false
+pub before_one_of : (ids : List (List ℕ)) (x : List ℕ) → ComeBefore ids x → is_one_of ids x ≡ false
 before_one_of [] x h = refl
 before_one_of (y ∷ ys) x h = or_from (is_same x y) (is_one_of ys x) (differs_behind y x h.0) (before_one_of ys x h.1)
 
@@ -77,11 +74,20 @@ none_behind-push ids x [] b h = tt
 none_behind-push ids x (g ∷ gs) b h =
     (one_of-push ids x g.id (differs_behind x g.id h.0) ∙ before_one_of ids g.id (come_before-trans ids x g.id h.0 b), none_behind-push ids x gs b h.1)
 
+-- the same step of each group
+pub same_groups : (turn more : Group → Turn) (gs : List Group) → Each (λ h. turn h ≡ more h) gs → groups_after turn gs ≡ groups_after more gs
+same_groups turn more [] h = refl
+same_groups turn more (g ∷ gs) h = ap (λ (t : Turn). t.group ∷ groups_after turn gs) h.0 ∙ ap (λ ys. (more g).group ∷ ys) (same_groups turn more gs h.1)
+
+pub same_made : {A : Type 0} (f : Turn → List A) (turn more : Group → Turn) (gs : List Group) → Each (λ h. turn h ≡ more h) gs → flat_map (λ g. f (turn g)) gs ≡ flat_map (λ g. f (more g)) gs
+same_made f turn more [] h = refl
+same_made f turn more (g ∷ gs) h = ap (λ t. f t ++ flat_map (λ g. f (turn g)) gs) h.0 ∙ ap (λ ys. f (more g) ++ ys) (same_made f turn more gs h.1)
+
 module _ (turn : Group → Turn) where
   took : (ids : List (List ℕ)) (g : Group) → is_one_of ids g.id ≡ true → among ids turn g ≡ turn g
   took ids g e = ap (λ b. if b then turn g else turn_of g) e
 
-  stayed : (ids : List (List ℕ)) (g : Group) → is_one_of ids g.id ≡ false → among ids turn g ≡ turn_of g
+  pub stayed : (ids : List (List ℕ)) (g : Group) → is_one_of ids g.id ≡ false → among ids turn g ≡ turn_of g
   stayed ids g e = ap (λ b. if b then turn g else turn_of g) e
 
   among-push : (ids : List (List ℕ)) (x : List ℕ) (g : Group) → is_same g.id x ≡ false → among (ids ++ x ∷ []) turn g ≡ among ids turn g
@@ -97,7 +103,7 @@ module _ (turn : Group → Turn) where
   quiet f none ids (g ∷ gs) h = ap (λ xs. xs ++ flat_map (λ g. f (among ids turn g)) gs) (ap f (stayed ids g h.0) ∙ none g) ∙ quiet f none ids gs h.1
 
   -- the step of one more group, which comes after all that had theirs
-  made_next : {A : Type 0} (f : Turn → List A) → ((g : Group) → f (turn_of g) ≡ []) → (ids : List (List ℕ)) (g : Group) (gs : List Group) → InOrder gs → find_group g.id gs ≡ Some g → ComeBefore ids g.id
+  pub made_next : {A : Type 0} (f : Turn → List A) → ((g : Group) → f (turn_of g) ≡ []) → (ids : List (List ℕ)) (g : Group) (gs : List Group) → InOrder gs → find_group g.id gs ≡ Some g → ComeBefore ids g.id
       → flat_map (λ h. f (among (ids ++ g.id ∷ []) turn h)) gs ≡ flat_map (λ h. f (among ids turn h)) gs ++ f (turn g)
   unfolding find_group
   made_next f none ids g [] o found b = cc
@@ -123,10 +129,10 @@ module _ (turn : Group → Turn) where
       ]) refl found
 
   module _ (stays : (g : Group) → (turn g).group.id ≡ g.id) where
-    id-among : (ids : List (List ℕ)) (g : Group) → (among ids turn g).group.id ≡ g.id
+    pub id-among : (ids : List (List ℕ)) (g : Group) → (among ids turn g).group.id ≡ g.id
     id-among ids g = elim (is_one_of ids g.id) as (λ b. (if b then turn g else turn_of g).group.id ≡ g.id) [ true ↦ stays g | false ↦ refl ]
 
-    put_next : (ids : List (List ℕ)) (g : Group) (gs : List Group) → InOrder gs → find_group g.id gs ≡ Some g → ComeBefore ids g.id
+    pub put_next : (ids : List (List ℕ)) (g : Group) (gs : List Group) → InOrder gs → find_group g.id gs ≡ Some g → ComeBefore ids g.id
         → with_group (turn g).group (groups_after (among ids turn) gs) ≡ groups_after (among (ids ++ g.id ∷ []) turn) gs
     unfolding find_group with_group
     put_next ids g [] o found b = cc
@@ -171,15 +177,6 @@ module _ (turn : Group → Turn) where
           replies = replies ∙ ap (λ xs. xs ++ t.replies) h.replies ∙ ap (λ (u : Turn). (effects_of (among ids turn) groups).replies ++ u.replies) is ∙ sym (made_next (λ u. u.replies) (λ g. refl) ids g groups o found b);
         }
 
-  -- the same step of each group
-  same_groups : (turn more : Group → Turn) (gs : List Group) → Each (λ h. turn h ≡ more h) gs → groups_after turn gs ≡ groups_after more gs
-  same_groups turn more [] h = refl
-  same_groups turn more (g ∷ gs) h = ap (λ (t : Turn). t.group ∷ groups_after turn gs) h.0 ∙ ap (λ ys. (more g).group ∷ ys) (same_groups turn more gs h.1)
-
-  same_made : {A : Type 0} (f : Turn → List A) (turn more : Group → Turn) (gs : List Group) → Each (λ h. turn h ≡ more h) gs → flat_map (λ g. f (turn g)) gs ≡ flat_map (λ g. f (more g)) gs
-  same_made f turn more [] h = refl
-  same_made f turn more (g ∷ gs) h = ap (λ t. f t ++ flat_map (λ g. f (turn g)) gs) h.0 ∙ ap (λ ys. f (more g) ++ ys) (same_made f turn more gs h.1)
-
   turned_same : (groups : List Group) (ids more : List (List ℕ)) (done : Changes) → Each (λ h. among ids turn h ≡ among more turn h) groups → HaveTurned turn groups ids done → HaveTurned turn groups more done
   turned_same groups ids more done same h = record {
     held = h.held;
@@ -189,12 +186,15 @@ module _ (turn : Group → Turn) where
   }
 
   -- no group has the id
-  pub turned_unheld : (groups : List Group) (ids : List (List ℕ)) (x : List ℕ) (done : Changes) → find_group x groups ≡ None → HaveTurned turn groups ids done → HaveTurned turn groups (ids ++ x ∷ []) done
-  turned_unheld groups ids x done none h = turned_same groups ids (ids ++ x ∷ []) done (each groups (none_found x groups none)) h
+  pub unheld_same : (groups : List Group) (ids : List (List ℕ)) (x : List ℕ) → find_group x groups ≡ None → Each (λ h. among ids turn h ≡ among (ids ++ x ∷ []) turn h) groups
+  unheld_same groups ids x none = each groups (none_found x groups none)
     where
       each : (gs : List Group) → Each (λ (h : Group). is_same h.id x ≡ false) gs → Each (λ h. among ids turn h ≡ among (ids ++ x ∷ []) turn h) gs
       each [] h = tt
       each (g ∷ gs) h = (sym (among-push ids x g h.0), each gs h.1)
+
+  pub turned_unheld : (groups : List Group) (ids : List (List ℕ)) (x : List ℕ) (done : Changes) → find_group x groups ≡ None → HaveTurned turn groups ids done → HaveTurned turn groups (ids ++ x ∷ []) done
+  turned_unheld groups ids x done none h = turned_same groups ids (ids ++ x ∷ []) done (unheld_same groups ids x none) h
 
   -- the event does not change the group with the id
   pub turned_untouched : (groups : List Group) (ids : List (List ℕ)) (g : Group) (done : Changes) → InOrder groups → find_group g.id groups ≡ Some g → turn g ≡ turn_of g → HaveTurned turn groups ids done → HaveTurned turn groups (ids ++ g.id ∷ []) done
@@ -220,19 +220,25 @@ module _ (turn : Group → Turn) where
       )
 
   -- before the first step
+  nobody : (gs : List Group) → Each (λ (h : Group). is_one_of [] h.id ≡ false) gs
+  nobody [] = tt
+  nobody (g ∷ gs) = (refl, nobody gs)
+
+  pub none_after : (groups : List Group) → groups_after (among [] turn) groups ≡ groups
+  none_after groups = still [] groups (nobody groups)
+
+  pub none_made : {A : Type 0} (f : Turn → List A) → ((g : Group) → f (turn_of g) ≡ []) → (groups : List Group) → flat_map (λ g. f (among [] turn g)) groups ≡ []
+  none_made f none groups = quiet f none [] groups (nobody groups)
+
   pub none_turned : (groups : List Group) (done : Changes) → done.groups.items ≡ [] → done.effects.commands ≡ [] → done.effects.replies ≡ [] → HaveTurned turn groups [] done
   none_turned groups done put commands replies =
       let P : List Group → Type 0 = λ cs. AreHeld groups cs in
       record {
         held = subst P (sym put) tt;
-        after = ap (λ cs. changed cs groups) put ∙ changed-nil groups ∙ sym (still [] groups (nobody groups));
-        commands = commands ∙ sym (quiet (λ t. t.commands) (λ g. refl) [] groups (nobody groups));
-        replies = replies ∙ sym (quiet (λ t. t.replies) (λ g. refl) [] groups (nobody groups));
+        after = ap (λ cs. changed cs groups) put ∙ changed-nil groups ∙ sym (none_after groups);
+        commands = commands ∙ sym (none_made (λ t. t.commands) (λ g. refl) groups);
+        replies = replies ∙ sym (none_made (λ t. t.replies) (λ g. refl) groups);
       }
-    where
-      nobody : (gs : List Group) → Each (λ (h : Group). is_one_of [] h.id ≡ false) gs
-      nobody [] = tt
-      nobody (g ∷ gs) = (refl, nobody gs)
 
   -- each group had its step, or the event does not change it
   abbrev pub Done : List Group → Changes → Type 0
@@ -251,55 +257,15 @@ module _ (turn : Group → Turn) where
           ap (λ cs. with_these cs e.replies) commands ∙ ap (with_these f.commands) replies
 
   -- the groups with these ids had their steps, and the event does not change the others
+  pub calm_among : (ids : List (List ℕ)) (gs : List Group) → Each (λ (g : Group). is_one_of ids g.id ≡ false → turn g ≡ turn_of g) gs → Each (λ h. among ids turn h ≡ turn h) gs
+  calm_among ids [] h = tt
+  calm_among ids (g ∷ gs) h = (
+    (elim (is_one_of ids g.id) as (λ b. is_one_of ids g.id ≡ b → (if b then turn g else turn_of g) ≡ turn g) [
+      | true ↦ λ e. refl
+      | false ↦ λ e. sym (h.0 e)
+    ]) refl,
+    calm_among ids gs h.1,
+  )
+
   pub these_turned : (groups : List Group) (ids : List (List ℕ)) (done : Changes) → Each (λ (g : Group). is_one_of ids g.id ≡ false → turn g ≡ turn_of g) groups → HaveTurned turn groups ids done → Done groups done
-  these_turned groups ids done calm h = all_turned groups ids done (each groups calm) h
-    where
-      each : (gs : List Group) → Each (λ (g : Group). is_one_of ids g.id ≡ false → turn g ≡ turn_of g) gs → Each (λ h. among ids turn h ≡ turn h) gs
-      each [] h = tt
-      each (g ∷ gs) h = (
-        (elim (is_one_of ids g.id) as (λ b. is_one_of ids g.id ≡ b → (if b then turn g else turn_of g) ≡ turn g) [
-          | true ↦ λ e. refl
-          | false ↦ λ e. sym (h.0 e)
-        ]) refl,
-        each gs h.1,
-      )
-
-  -- invariant of the loop over these ids: a prefix of them had its steps
-
-  abbrev pub Homeward : List Group → List (List ℕ) → List (List ℕ) → Changes → Type 0
-  Homeward groups all left done = (front : List (List ℕ)) × (all ≡ front ++ left) × HaveTurned turn groups front done
-
-  pub homeward_next : (groups : List Group) (all left rest : List (List ℕ)) (x : List ℕ) (was now : Changes) → Ascending all → left ≡ x ∷ rest
-      → ((ids : List (List ℕ)) → ComeBefore ids x → HaveTurned turn groups ids was → HaveTurned turn groups (ids ++ x ∷ []) now)
-      → Homeward groups all left was → Homeward groups all rest now
-  homeward_next groups all left rest x was now o first turned (front, split, h) =
-      let here : all ≡ front ++ x ∷ rest = split ∙ ap (λ ys. front ++ ys) first in
-      let B : List (List ℕ) → Type 0 = λ xs. Ascending xs in
-      (front ++ x ∷ [], here ∙ sym (append_assoc front (x ∷ []) rest), turned front (come_before front x rest (subst B here o)) h)
-
-  -- some entry has the id, or no entry does
-  keys_have : {X : Type 0} (x : List ℕ) (es : List (List ℕ × X)) → is_some (lookup (is_at (slice_cmp nat_cmp x)) es) ≡ is_one_of (keys_of es) x
-  keys_have x [] = refl
-  keys_have x (e ∷ es) =
-      ap (λ b. is_some (cond b (Some e.1) (lookup (is_at (slice_cmp nat_cmp x)) es))) (is_eq-slice_cmp x e.0)
-      ∙ (elim (is_same x e.0) as (λ b. is_some (cond b (Some e.1) (lookup (is_at (slice_cmp nat_cmp x)) es)) ≡ (b || is_one_of (keys_of es) x)) [ true ↦ refl | false ↦ keys_have x es ])
-
-  pub homeward_end : {X : Type 0} (groups : List Group) (es : List (List ℕ × X)) (left : List (List ℕ)) (done : Changes) → left ≡ []
-      → Each (λ (g : Group). is_some (lookup (is_at (slice_cmp nat_cmp g.id)) es) ≡ false → turn g ≡ turn_of g) groups
-      → Homeward groups (keys_of es) left done → Done groups done
-  homeward_end groups es left done none calm (front, split, h) =
-      let whole : keys_of es ≡ front = split ∙ ap (λ ys. front ++ ys) none ∙ append-nil front in
-      let P : List (List ℕ) → Type 0 = λ ids. HaveTurned turn groups ids done in
-      these_turned groups (keys_of es) done (each groups calm) (subst P (sym whole) h)
-    where
-      each : (gs : List Group) → Each (λ (g : Group). is_some (lookup (is_at (slice_cmp nat_cmp g.id)) es) ≡ false → turn g ≡ turn_of g) gs → Each (λ (g : Group). is_one_of (keys_of es) g.id ≡ false → turn g ≡ turn_of g) gs
-      each [] h = tt
-      each (g ∷ gs) h = (λ e. h.0 (keys_have g.id es ∙ e), each gs h.1)
-
-  -- the event changes no group
-  pub none_touched : (groups : List Group) (done : Changes) → Each (λ (g : Group). false ≡ false → turn g ≡ turn_of g) groups → HaveTurned turn groups [] done → Done groups done
-  none_touched groups done calm h = all_turned groups [] done (each groups calm) h
-    where
-      each : (gs : List Group) → Each (λ (g : Group). false ≡ false → turn g ≡ turn_of g) gs → Each (λ h. among [] turn h ≡ turn h) gs
-      each [] h = tt
-      each (g ∷ gs) h = (sym (h.0 refl), each gs h.1)
+  these_turned groups ids done calm h = all_turned groups ids done (calm_among ids groups calm) h

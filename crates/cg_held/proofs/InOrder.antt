@@ -1,5 +1,5 @@
 -- Groups in the order of the bytes of their ids.
-use Rattle.std.proofs.Common.{◌≡◌, ℕ, true, false, cond, List, [], ◌∷◌, ◌++◌, find, Some, None, refl, sym, ap, ◌∙◌, subst}
+use Rattle.std.proofs.Common.{◌≡◌, ℕ, true, false, cond, List, [], ◌∷◌, ◌++◌, find, is_some, Some, None, refl, sym, ap, ◌∙◌, subst}
 use Rattle.std.proofs.lemmas.Bool.{false≢true}
 use Rattle.std.proofs.lemmas.Cmp.{nat_list_cmp_total, nat_list_eq_equiv}
 use Rattle.std.proofs.lemmas.Map.Text.{is_eq-slice_cmp}
@@ -11,7 +11,7 @@ use Rattle.std.specs.declared.cmp.Ordering.{Ordering}
 use Rattle.std.specs.declared.cmp.Ordering.TheVariants.{Less, Equal, Greater}
 use Rattle.cg_member.specs.declared.group.Group.{Group}
 use Rattle.cg_held.specs.Kept.{Ascending, ComeBefore, ComesBefore, Each}
-use Rattle.cg_held.specs.Held.{InOrder, find_group, with_group}
+use Rattle.cg_held.specs.Held.{InOrder, IsHeld, find_group, with_group}
 use Rattle.cg_request.specs.Names.{is_same}
 use Rattle.cg_held.proofs.KeptLists.{differs_from_order, each-found, group_ids, id-found, same_names, same_self}
 
@@ -71,6 +71,10 @@ before_found x id gs g h e = each-found (λ g. slice_cmp nat_cmp x g.id ≡ Less
 
 pub found_named : (id : List ℕ) (gs : List Group) (g : Group) → find_group id gs ≡ Some g → g.id ≡ id
 found_named id gs g e = same_names g.id id (id-found id gs g e)
+
+-- a loaded group is found
+pub held_found : {C : Type 0} (id : List ℕ) (gs : List Group) → IsHeld gs id → find_group id gs ≡ None → C
+held_found id gs held none = absurd (false≢true (sym (ap is_some none) ∙ held))
 
 -- a group that is inserted in its own place changes nothing
 pub with_group-found : (id : List ℕ) (gs : List Group) (g : Group) → InOrder gs → find_group id gs ≡ Some g → with_group g gs ≡ gs

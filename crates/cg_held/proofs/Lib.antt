@@ -12,6 +12,7 @@ pub mod Untouched
 pub mod Finding
 pub mod Tight
 pub mod DueGroups
+pub mod Homeward
 pub mod Quiet
 pub mod Timed
 pub mod Beaten

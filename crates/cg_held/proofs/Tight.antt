@@ -1,29 +1,30 @@
 -- The session index has no more than the parked calls.
 use Rattle.std.proofs.Common.{◌≡◌, ℕ, zero, suc, ◌≤◌, Bool, true, false, List, [], ◌∷◌, ◌++◌, drop, take, length, inl, inr, Option, Some, None, refl, sym, ap, ◌∙◌, subst, arith}
-use Rattle.std.specs.Prelude.{◌⊎◌, ◌||◌, ◌==◌, ◌&&◌, if◌then◌else◌, is_some}
+use Rattle.std.specs.Prelude.{◌⊎◌, ◌||◌, ◌==◌, ◌&&◌, if◌then◌else◌, is_some, option_to_list}
 use Rattle.std.proofs.lemmas.Bool.{and_from, eqb-true, false≢true, or_left, or_right}
 use Rattle.std.proofs.lemmas.List.Folds.{list_any-append}
 use Rattle.std.specs.BTreeMap.{BTreeMap, get, is_at}
 use Rattle.std.specs.Map.{lookup}
 use Rattle.std.specs.Ordering.{nat_cmp}
 use Rattle.std.specs.List.{list_any}
-use Rattle.cg_member.specs.declared.calls.Calls.TheVariants.{OfSession}
+use Rattle.cg_member.specs.declared.calls.Calls.TheVariants.{Any, OfSession}
 use Rattle.cg_member.specs.declared.group.Group.{Group}
 use Rattle.cg_member.specs.declared.member.Member.{Member}
 use Rattle.cg_member.specs.declared.member.Waits.{Waits}
 use Rattle.cg_member.specs.declared.member.Waits.TheVariants.{Nothing, Join, Sync}
 use Rattle.cg_member.specs.Membership.{hearing, has_id, heard, is_same, with_member}
 use Rattle.cg_member.specs.Waiting.{called, is_waiting}
+use Rattle.cg_request.specs.declared.ticket.Ticket.{Ticket}
 use Rattle.cg_held.specs.declared.sessions.Home.{Home}
 use Rattle.cg_held.specs.Held.{find_group, with_group, without_group}
 use Rattle.cg_held.specs.Kept.{Each}
-use Rattle.cg_held.specs.Sessions.{IfParked, IsFilled, IsLetGo, IsSettled, IsTight, StayParked, is_certain, is_noted, is_parked, were_parked}
+use Rattle.cg_held.specs.Sessions.{IfParked, IsFilled, IsLetGo, IsSettled, IsTight, StayParked, is_certain, is_noted, is_parked, parked_calls, were_parked}
 use Rattle.cg_held.proofs.Finding.{find-other, find-own, find-without}
 use Rattle.cg_held.proofs.InOrder.{found_named}
 use Rattle.cg_held.proofs.KeptLists.{same_names, same_self}
 
 -- what holds of the sessions of all parked calls holds of the session of one
-pub at_call : (P : ℕ → Type 0) (q : ℕ) (w : Waits) → IfParked P w → is_some (called (OfSession q) w) ≡ true → P q
+pub at_call : (P : ℕ → Type 0) (q : ℕ) (w : Waits) → IfParked P (called Any w) → is_some (called (OfSession q) w) ≡ true → P q
 at_call P q Nothing h e = absurd (false≢true e)
 at_call P q (Join t) h e =
     (elim (t.session == q) as (λ b. (t.session == q) ≡ b → is_some (if b then Some t else None) ≡ true → P q) [
@@ -36,7 +37,7 @@ at_call P q (Sync t) h e =
       | false ↦ λ _ e. absurd (false≢true e)
     ]) refl e
 
-pub at_calls : (P : ℕ → Type 0) (q : ℕ) (ms : List Member) → Each (λ (m : Member). IfParked P m.waits) ms → list_any (is_waiting (OfSession q)) ms ≡ true → P q
+pub at_calls : (P : ℕ → Type 0) (q : ℕ) (ms : List Member) → Each (λ (m : Member). IfParked P (called Any m.waits)) ms → list_any (is_waiting (OfSession q)) ms ≡ true → P q
 at_calls P q [] h e = absurd (false≢true e)
 at_calls P q (m ∷ ms) h e =
     (elim (is_waiting (OfSession q) m) as (λ b. is_waiting (OfSession q) m ≡ b → (b || list_any (is_waiting (OfSession q)) ms) ≡ true → P q) [
@@ -44,16 +45,26 @@ at_calls P q (m ∷ ms) h e =
       | false ↦ λ _ e. at_calls P q ms h.1 e
     ]) refl e
 
--- what two facts about the session of a parked call give
-pub if_both : (P Q R : ℕ → Type 0) → ((q : ℕ) → P q → Q q → R q) → (w : Waits) → IfParked P w → IfParked Q w → IfParked R w
-if_both P Q R both Nothing p q = tt
-if_both P Q R both (Join t) p q = both t.session p q
-if_both P Q R both (Sync t) p q = both t.session p q
+-- the same, where it holds of the sessions of the calls by themselves
+each_call : (P : ℕ → Type 0) (ms : List Member) → Each (λ (t : Ticket). P t.session) (parked_calls ms) → Each (λ (m : Member). IfParked P (called Any m.waits)) ms
+each_call P [] h = tt
+each_call P (m ∷ ms) h = let both = first (called Any m.waits) h in (both.0, each_call P ms both.1)
+  where
+    first : (call : Option Ticket) → Each (λ (t : Ticket). P t.session) (option_to_list call ++ parked_calls ms) → IfParked P call × Each (λ (t : Ticket). P t.session) (parked_calls ms)
+    first None h = (tt, h)
+    first (Some t) h = h
 
-pub if_more : (P R : ℕ → Type 0) → ((q : ℕ) → P q → R q) → (w : Waits) → IfParked P w → IfParked R w
-if_more P R more Nothing p = tt
-if_more P R more (Join t) p = more t.session p
-if_more P R more (Sync t) p = more t.session p
+pub at_parked : (P : ℕ → Type 0) (q : ℕ) (ms : List Member) → Each (λ (t : Ticket). P t.session) (parked_calls ms) → list_any (is_waiting (OfSession q)) ms ≡ true → P q
+at_parked P q ms h e = at_calls P q ms (each_call P ms h) e
+
+-- what two facts about the session of a parked call give
+pub if_both : (P Q R : ℕ → Type 0) → ((q : ℕ) → P q → Q q → R q) → (call : Option Ticket) → IfParked P call → IfParked Q call → IfParked R call
+if_both P Q R both None p q = tt
+if_both P Q R both (Some t) p q = both t.session p q
+
+pub if_more : (P R : ℕ → Type 0) → ((q : ℕ) → P q → R q) → (call : Option Ticket) → IfParked P call → IfParked R call
+if_more P R more None p = tt
+if_more P R more (Some t) p = more t.session p
 
 -- after an update of the index: doubted sessions keep the group only if a call of them is parked in it
 pub let_go : (doubted sure final : BTreeMap ℕ (BTreeMap (List ℕ) Home)) (groups : List Group) (id : List ℕ)

@@ -2,6 +2,7 @@
 use Rattle.std.specs.Prelude.{◌≡◌, ℕ, Bool, List, [], ◌∷◌, if◌then◌else◌}
 use Rattle.std.specs.List.{list_any}
 use Rattle.cg_held.specs.declared.changes.Changes.{Changes}
+use Rattle.cg_member.specs.declared.effects.Effects.{Effects}
 use Rattle.cg_member.specs.declared.group.Group.{Group}
 use Rattle.cg_member.specs.declared.turn.Turn.{Turn}
 use Rattle.cg_held.specs.Held.{IsHeld, effects_of, groups_after, with_group}
@@ -21,6 +22,10 @@ AreHeld groups changes = Each (λ (c : Group). IsHeld groups c.id) changes
 -- a step keeps the id of its group
 abbrev pub KeepIds : (Group → Turn) → Type 0
 KeepIds turn = (g : Group) → (turn g).group.id ≡ g.id
+
+-- the effects of a step
+abbrev pub effects_in : Turn → Effects
+effects_in t = record { commands = t.commands; replies = t.replies }
 
 -- a change keeps the id of its group
 abbrev pub ChangeKeepsId : (Group → Group) → Type 0

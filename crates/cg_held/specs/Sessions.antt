@@ -1,6 +1,6 @@
 -- The session index: which groups may have a parked call of which session.
-use Rattle.std.specs.Prelude.{◌≡◌, ℕ, Bool, true, false, List, Option, Some, None, is_some, ◌&&◌}
-use Rattle.std.specs.List.{list_any}
+use Rattle.std.specs.Prelude.{◌≡◌, ℕ, Bool, true, false, List, Option, Some, None, is_some, option_to_list, ◌&&◌}
+use Rattle.std.specs.List.{flat_map, list_any}
 use Rattle.cg_member.specs.Membership.{is_same}
 use Rattle.std.specs.BTreeMap as map
 use Rattle.std.specs.BTreeMap.{BTreeMap}
@@ -8,9 +8,15 @@ use Rattle.std.specs.Ordering.{nat_cmp}
 use Rattle.std.specs.Cmp.Lexicographic.{slice_cmp}
 use Rattle.cg_request.specs.declared.event.Event.{Event}
 use Rattle.cg_request.specs.declared.event.Event.TheVariants as event
+use Rattle.cg_request.specs.declared.ticket.Ticket.{Ticket}
+use Rattle.cg_member.specs.declared.calls.Calls.TheVariants.{Any, OfSession}
 use Rattle.cg_member.specs.declared.group.Group.{Group}
+use Rattle.cg_member.specs.declared.member.Member.{Member}
 use Rattle.cg_member.specs.declared.member.Waits.{Waits}
 use Rattle.cg_member.specs.declared.member.Waits.TheVariants.{Nothing, Join, Sync}
+use Rattle.cg_member.specs.declared.reply.Reply.{Reply}
+use Rattle.cg_member.specs.Waiting.{answers, called, refusing}
+use Rattle.cg_names.specs.declared.code.Code.TheVariants.{CoordinatorNotAvailable}
 use Rattle.cg_held.specs.declared.sessions.Home.{Home}
 use Rattle.cg_held.specs.declared.sessions.Home.TheVariants.{Certain, Doubtful}
 use Rattle.cg_held.specs.Held.{find_group}
@@ -87,15 +93,18 @@ abbrev pub is_parked : ℕ → Option Group → Bool
 is_parked session None = false
 is_parked session (Some g) = gone_touches session g
 
+-- the parked calls of these members, in their order
+abbrev pub parked_calls : List Member → List Ticket
+parked_calls members = flat_map (λ m. option_to_list (called Any m.waits)) members
+
 -- if the index has the group for the session, a call of the session is parked there
 abbrev pub IsLetGo : BTreeMap ℕ (BTreeMap (List ℕ) Home) → List Group → List ℕ → ℕ → Type 0
 IsLetGo homes groups id session = is_home homes session id ≡ true → is_parked session (find_group id groups) ≡ true
 
 -- the session of the parked call, if there is one, has this property
-abbrev pub IfParked : (ℕ → Type 0) → Waits → Type 0
-IfParked P Nothing = Unit {0}
-IfParked P (Join t) = P t.session
-IfParked P (Sync t) = P t.session
+abbrev pub IfParked : (ℕ → Type 0) → Option Ticket → Type 0
+IfParked P None = Unit {0}
+IfParked P (Some t) = P t.session
 
 -- the index has no more than it needs: for each session the groups in which a call of it is parked, and only sessions
 -- with a group
@@ -109,3 +118,7 @@ StayParked groups others = (session : ℕ) (id : List ℕ) → is_parked session
 -- a call of the session is parked in a group with this id, among these
 abbrev pub were_parked : List Group → ℕ → List ℕ → Bool
 were_parked groups session id = list_any (λ (g : Group). is_same g.id id && gone_touches session g) groups
+
+-- the replies to the parked calls of a session that ends: each gets 15
+abbrev pub refusals : ℕ → List Group → List (Ticket × Reply)
+refusals session groups = flat_map (λ (g : Group). answers (OfSession session) (refusing CoordinatorNotAvailable) g.members) groups

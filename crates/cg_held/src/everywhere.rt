@@ -1,4 +1,4 @@
-//! Events that concern many groups: a tick, and a closed session. A group that the event does not change is not copied.
+//! Events that concern many groups, as steps on copies of them: ticks. A group that the event does not change is not copied.
 ghost use Rattle.std.specs.Prelude.{◌≡◌, ℕ, Some, List, [], ◌∷◌, ◌++◌, IfOk, OnOk};
 ghost use Rattle.cg_member.specs.declared.group.Group.{Group};
 ghost use Rattle.cg_held.specs.Changes.{HaveTurned, KeepIds};
@@ -10,7 +10,6 @@ use crate::held::Held;
 use cg_member::group::Group;
 use cg_member::turn::Turn;
 use cg_names::{GroupId, Moment};
-use cg_turn::leaving::{gone_in, gone_touches};
 use cg_turn::ticking::{tick_touches, ticked};
 use std::alloc::{AllocError, Global};
 
@@ -48,28 +47,6 @@ impl Turning for Ticking {
 
     fn turn(&self, alloc: Global, group: &Group) -> Result<Turn, AllocError> {
         ticked(alloc, self.0, group)
-    }
-}
-
-/// The end of a session at this moment.
-#[derive(Drop)]
-pub struct Going {
-    pub now: Moment,
-    pub session: u64,
-}
-
-impl Turning for Going {
-    ghost use Rattle.cg_member.specs.Leaving.{gone_in};
-
-    ghost turns = { λ t g. gone_in t.now t.session g };
-
-    #[tactic(auto, using(crate::proofs::Untouched::calm_gone_in))]
-    fn touches(&self, group: &Group) -> bool {
-        gone_touches(self.session, group)
-    }
-
-    fn turn(&self, alloc: Global, group: &Group) -> Result<Turn, AllocError> {
-        gone_in(alloc, self.now, self.session, group)
     }
 }
 

@@ -3,10 +3,11 @@ ghost use Rattle.std.specs.Prelude.{◌≡◌, ℕ, Err, MatchResult, ◌<◌, L
 ghost use Rattle.std.specs.Map.Iter.{ShowsInOrder, deref};
 ghost use Rattle.std.specs.Option.{option_copied};
 ghost use Rattle.cg_member.specs.declared.group.Group.{Group};
-ghost use Rattle.cg_held.specs.Changes.{ChangeKeepsId, is_one_of};
+ghost use Rattle.cg_held.specs.Changes.{ChangeKeepsId, KeepIds, effects_in, is_one_of};
 ghost use Rattle.cg_held.specs.Held.{IsHeld, InOrder, find_group, with_group, without_group};
 ghost use Rattle.cg_held.specs.Kept.{Ascending, Each};
 ghost use Rattle.cg_held.specs.Timed.{AreTimed};
+ghost use Rattle.cg_member.specs.Leaving.{gone_in};
 ghost use Rattle.cg_member.specs.Membership.{hearing};
 ghost use Rattle.cg_names.specs.declared.code.Code.TheVariants.{UnknownMemberId};
 ghost use Rattle.cg_turn.specs.Beating.{IsBeat, IsBeatRefused};
@@ -16,6 +17,8 @@ ghost use Rattle.cg_member.specs.Waiting.{waiting_calls};
 
 use crate::altering::Altering;
 use crate::loaded::Loaded;
+use crate::stepping::Stepping;
+use cg_member::effects::Effects;
 use cg_member::group::Group;
 use cg_member::reply::Reply;
 use cg_names::{Code, GroupId, MemberId, Moment};
@@ -60,6 +63,18 @@ fn hear_in_index(deadlines: &mut Deadlines<GroupId>, since: Moment, now: Moment,
     if now.as_millis() < since.as_millis() {
         let _found = deadlines.reschedule(own, Moment::from_millis(0));
     }
+}
+
+// Finds out the next moment at which a tick may change the group with this id, after it changed.
+fn renew_in_index(deadlines: &mut Deadlines<GroupId>, since: Moment, loaded: &Loaded, own: &GroupId)
+    ensures { (change : Group → Group) (groups : List Group) → ChangeKeepsId change → ((g : Group) → find_group own.now groups ≡ Some g → loaded.now ≡ with_group (change g) groups)
+        → (find_group own.now groups ≡ None → loaded.now ≡ groups) → AreTimed since deadlines.old.entries groups → AreTimed since deadlines.new.entries loaded.now }
+{
+    let Some(group) = loaded.find(own) else {
+        return;
+    };
+    let deadline = next_deadline(since, group);
+    let _found = deadlines.reschedule(own, deadline);
 }
 
 impl Held {
@@ -168,6 +183,17 @@ impl Held {
         self.loaded.hear(group, id, now);
     }
 
+    /// Clears the parked calls of the session in the group with this id, marks their members as heard, and finds out the next moment
+    /// of the group for ticks. Costs three look-ups and two passes over the members, no allocation.
+    pub fn answer(&mut self, group: &GroupId, session: u64, now: Moment)
+        ensures answered { (g : Group) → find_group group.now self.old ≡ Some g → self.new ≡ with_group (gone_in now session g).group self.old }
+        ensures absent { find_group group.now self.old ≡ None → self.new ≡ self.old }
+        ensures in_order { InOrder self.old }
+    {
+        self.loaded.answer(group, session, now);
+        renew_in_index(&mut self.deadlines, self.since, &self.loaded, group);
+    }
+
     /// Processes a BEAT in the group with this id: marks the calling member as heard, and returns its id and the reply.
     /// Reports 25 if the group is not loaded. Costs one look-up of the group, no allocation.
     pub fn beat<'a>(
@@ -200,12 +226,27 @@ impl Held {
         ensures err { OnErr result (self.new ≡ self.old) }
     {
         self.loaded.alter(group, altering)?;
-        let Some(altered) = self.loaded.find(group) else {
-            return Ok(());
-        };
-        let deadline = next_deadline(self.since, altered);
-        let _found = self.deadlines.reschedule(group, deadline);
+        renew_in_index(&mut self.deadlines, self.since, &self.loaded, group);
         Ok(())
+    }
+
+    /// Makes a step of the loaded group with this id in place, finds out its next moment for ticks, and returns the effects of the
+    /// step. Costs three look-ups and a pass over the members after it, beside the step. If an allocation fails, nothing changes.
+    pub fn step<S: Stepping + Drop>(
+        &mut self,
+        group: &GroupId,
+        stepping: S,
+    ) -> Result<Effects, AllocError>
+        requires loaded { IsHeld self.old group.now }
+        requires keeps { KeepIds (S.steps stepping) }
+        requires suits { (g : Group) → find_group group.now self.old ≡ Some g → S.Suits stepping g }
+        ensures stepped { OnOk result ((g : Group) → find_group group.now self.old ≡ Some g → self.new ≡ with_group (S.steps stepping g).group self.old) }
+        ensures effects { IfOk result (λ e. (g : Group) → find_group group.now self.old ≡ Some g → e ≡ effects_in (S.steps stepping g)) }
+        ensures err { OnErr result (self.new ≡ self.old) }
+    {
+        let effects = self.loaded.step(group, stepping)?;
+        renew_in_index(&mut self.deadlines, self.since, &self.loaded, group);
+        Ok(effects)
     }
 
     /// Returns the ids of the groups that a tick at this moment may change, in their order. Costs a logarithm for each

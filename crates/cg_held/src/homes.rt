@@ -1,60 +1,102 @@
-//! Closed sessions: only the groups that the session index has for the session are visited.
-ghost use Rattle.std.specs.Prelude.{◌≡◌, false, IfOk};
-ghost use Rattle.cg_held.specs.Changes.{AreHeld, KeepIds, changed};
+//! Closed sessions: only the groups that the session index has for the session are visited, and they change in place.
+ghost use Rattle.std.specs.Prelude.{◌≡◌, ◌++◌, Some, None, false, IfOk, OnErr, OnOk};
+ghost use Rattle.cg_held.specs.Held.{InOrder, effects_of, find_group, groups_after};
 ghost use Rattle.cg_held.specs.Kept.{Each};
-ghost use Rattle.cg_held.specs.Held.{effects_of, groups_after};
-ghost use Rattle.cg_member.specs.Rebalance.{turn_of};
-ghost use Rattle.cg_held.specs.Sessions.{is_home, is_noted};
-ghost use Rattle.std.specs.Prelude.{Some};
+ghost use Rattle.cg_held.specs.Sessions.{is_home, is_noted, refusals};
+ghost use Rattle.cg_member.specs.declared.calls.Calls.TheVariants.{OfSession};
+ghost use Rattle.cg_member.specs.declared.group.Group.{Group};
+ghost use Rattle.cg_member.specs.Leaving.{gone_in};
+ghost use Rattle.cg_member.specs.Waiting.{answers, refusing};
+ghost use Rattle.cg_names.specs.declared.code.Code.TheVariants.{CoordinatorNotAvailable};
+ghost use Rattle.cg_turn.specs.Touching.{gone_touches};
 
-use crate::changes::Changes;
-use crate::everywhere::{Turning, turn_named};
 use crate::held::Held;
 use crate::sessions::{Home, Homes};
-use cg_names::GroupId;
-use std::alloc::{AllocError, Global};
+use cg_member::answers::{Refusing, answer_all};
+use cg_member::calls::Calls;
+use cg_member::effects::Effects;
+use cg_member::few::Few;
+use cg_member::reply::Reply;
+use cg_names::{Code, GroupId, Moment};
+use cg_request::ticket::Ticket;
+use std::alloc::AllocError;
 use std::collections::BTreeMap;
 
-// Appends the steps of the groups with these ids, in order.
-fn turn_homes<T: Turning>(
-    alloc: Global,
-    turning: &T,
+// Appends the replies to the parked calls of the session in the group with this id, if it is loaded.
+fn refuse_named(
     groups: &Held,
-    ids: &BTreeMap<GroupId, Home>,
-) -> Result<Changes, AllocError>
-    requires ids { KeepIds (T.turns turning.now) }
-    requires others { Each (λ g. is_noted g.id (Some ids.now) ≡ false → T.turns turning.now g ≡ turn_of g) groups.now }
-    ensures held { IfOk result (λ c. AreHeld groups.now c.groups.items) }
-    ensures groups { IfOk result (λ c. changed c.groups.items groups.now ≡ groups_after (T.turns turning.now) groups.now) }
-    ensures effects { IfOk result (λ c. c.effects ≡ effects_of (T.turns turning.now) groups.now) }
+    id: &GroupId,
+    session: u64,
+    replies: &mut Few<(Ticket, Reply)>,
+) -> Result<(), AllocError>
+    ensures there { OnOk result
+        ((g : Group) → find_group id.now groups.now ≡ Some g → replies.new ≡ replies.old ++ answers (OfSession session) (refusing CoordinatorNotAvailable) g.members) }
+    ensures absent { OnOk result (find_group id.now groups.now ≡ None → replies.new ≡ replies.old) }
+    ensures in_order { InOrder groups.now }
 {
-    let mut done = Changes::new(alloc);
-    for id in ids.keys() {
-        turn_named(alloc, turning, groups, id, &mut done)?;
-    }
-    Ok(done)
+    let Some(group) = groups.find(id) else {
+        return Ok(());
+    };
+    let refusing = Refusing(Code::CoordinatorNotAvailable);
+    answer_all(
+        Calls::OfSession(session),
+        &refusing,
+        group.members.as_slice(),
+        replies,
+    )?;
+    Ok(())
 }
 
-/// Returns the changes of an event in the groups that the index has for the session. No group is replaced yet. Costs
-/// one look-up for each of them.
-pub fn turn_there<T: Turning>(
-    alloc: Global,
-    turning: &T,
+// Returns the replies to the parked calls of the session, all of which are in the groups with these ids.
+fn refused_homes(
     groups: &Held,
+    ids: &BTreeMap<GroupId, Home>,
+    session: u64,
+) -> Result<Few<(Ticket, Reply)>, AllocError>
+    requires { Each (λ g. is_noted g.id (Some ids.now) ≡ false → gone_touches session g ≡ false) groups.now }
+    ensures { IfOk result (λ replies. replies ≡ refusals session groups.now) }
+{
+    let mut replies = Few::new(groups.allocator());
+    for id in ids.keys() {
+        refuse_named(groups, id, session, &mut replies)?;
+    }
+    Ok(replies)
+}
+
+// Clears the parked calls of the session, all of which are in the groups with these ids.
+fn answer_homes(held: &mut Held, ids: &BTreeMap<GroupId, Home>, session: u64, now: Moment)
+    requires { Each (λ g. is_noted g.id (Some ids.now) ≡ false → gone_touches session g ≡ false) held.old }
+    ensures { held.new ≡ groups_after (gone_in now session) held.old }
+{
+    for id in ids.keys() {
+        held.answer(id, session, now);
+    }
+}
+
+/// Ends the session in the groups that the index has for it, in place: its parked calls get 15, and their members count as heard.
+/// Costs four look-ups for each of these groups, and three passes over its members. If an allocation fails, nothing changes.
+pub fn end_session(
+    held: &mut Held,
     homes: &Homes,
     session: u64,
-) -> Result<Changes, AllocError>
-    requires ids { KeepIds (T.turns turning.now) }
-    requires others { Each (λ g. is_home homes.now session g.id ≡ false → T.turns turning.now g ≡ turn_of g) groups.now }
-    ensures held { IfOk result (λ c. AreHeld groups.now c.groups.items) }
-    ensures groups { IfOk result (λ c. changed c.groups.items groups.now ≡ groups_after (T.turns turning.now) groups.now) }
-    ensures effects { IfOk result (λ c. c.effects ≡ effects_of (T.turns turning.now) groups.now) }
+    now: Moment,
+) -> Result<Effects, AllocError>
+    requires { Each (λ g. is_home homes.now session g.id ≡ false → gone_touches session g ≡ false) held.old }
+    ensures groups { OnOk result (held.new ≡ groups_after (gone_in now session) held.old) }
+    ensures effects { IfOk result (λ e. e ≡ effects_of (gone_in now session) held.old) }
+    ensures err { OnErr result (held.new ≡ held.old) }
 {
-    match homes.get(&session) {
-        None => Ok(Changes::new(alloc)),
-        Some(ids) => {
-            let changes = turn_homes(alloc, turning, groups, ids)?;
-            Ok(changes)
-        }
-    }
+    let alloc = held.allocator();
+    let Some(ids) = homes.get(&session) else {
+        return Ok(Effects {
+            commands: Few::new(alloc),
+            replies: Few::new(alloc),
+        });
+    };
+    let replies = refused_homes(held, ids, session)?;
+    answer_homes(held, ids, session, now);
+    Ok(Effects {
+        commands: Few::new(alloc),
+        replies,
+    })
 }

@@ -3,6 +3,7 @@
 #![tactic(auto)]
 
 pub mod altering;
+pub mod calling;
 pub mod changes;
 pub mod describing;
 pub mod due;
@@ -13,3 +14,4 @@ pub mod loaded;
 pub mod reviving;
 pub mod sessions;
 pub mod settling;
+pub mod stepping;

@@ -1,5 +1,5 @@
 //! A map of groups by their ids.
-ghost use Rattle.std.specs.Prelude.{◌≡◌, Err, MatchResult, Some, None, [], length, is_some, slice_get, true, OnErr, OnOk};
+ghost use Rattle.std.specs.Prelude.{◌≡◌, Err, MatchResult, Some, None, [], length, is_some, slice_get, true, IfOk, OnErr, OnOk};
 ghost use Rattle.std.specs.BTreeMap.{get, is_at};
 ghost use Rattle.std.specs.Cmp.Lexicographic.{slice_cmp};
 ghost use Rattle.std.specs.Map.{set_value};
@@ -7,15 +7,18 @@ ghost use Rattle.std.specs.Map.Iter.{ShowsInOrder, deref};
 ghost use Rattle.std.specs.Option.{option_copied};
 ghost use Rattle.std.specs.Ordering.{nat_cmp};
 ghost use Rattle.cg_member.specs.declared.group.Group.{Group};
-ghost use Rattle.cg_held.specs.Changes.{ChangeKeepsId};
+ghost use Rattle.cg_held.specs.Changes.{ChangeKeepsId, KeepIds, effects_in};
 ghost use Rattle.cg_held.specs.Held.{IsHeld, InOrder, find_group, with_group, without_group};
+ghost use Rattle.cg_member.specs.Leaving.{gone_in};
 ghost use Rattle.cg_member.specs.Membership.{hearing};
 ghost use Rattle.cg_names.specs.declared.code.Code.TheVariants.{UnknownMemberId};
 ghost use Rattle.cg_turn.specs.Beating.{IsBeat, IsBeatRefused};
 ghost use Rattle.cg_member.specs.Waiting.{waiting_calls};
 
 use crate::altering::Altering;
+use crate::stepping::Stepping;
 use cg_member::calls::Calls;
+use cg_member::effects::Effects;
 use cg_member::group::Group;
 use cg_member::reply::Reply;
 use cg_names::{Code, GroupId, MemberId, Moment};
@@ -55,6 +58,13 @@ fn hear_in(now: Moment, id: &MemberId, group: &mut Group)
     group.members.hear(id, now);
 }
 
+#[tactic(auto, unfolding(cg_member::specs::Leaving::gone_in))]
+fn answer_in(now: Moment, session: u64, group: &mut Group)
+    ensures { group.new ≡ (gone_in now session group.old).group }
+{
+    group.members.answer(Calls::OfSession(session), now);
+}
+
 // Exchanges the group with this id for the given one, which becomes the group as it was.
 fn swap_in(groups: &mut BTreeMap<GroupId, Group>, group: &mut Group)
     requires { is_some (get (slice_cmp nat_cmp) groups.old group.old.id) ≡ true }
@@ -72,6 +82,15 @@ fn hear_among(groups: &mut BTreeMap<GroupId, Group>, own: &GroupId, id: &MemberI
 {
     if let Some(group) = groups.get_mut(own) {
         hear_in(now, id, group);
+    }
+}
+
+fn answer_among(groups: &mut BTreeMap<GroupId, Group>, own: &GroupId, session: u64, now: Moment)
+    ensures some { (g : Group) → get (slice_cmp nat_cmp) groups.old own.now ≡ Some g → groups.new.entries ≡ set_value (is_at (slice_cmp nat_cmp own.now)) groups.old.entries (gone_in now session g).group }
+    ensures none { get (slice_cmp nat_cmp) groups.old own.now ≡ None → groups.new.entries ≡ groups.old.entries }
+{
+    if let Some(group) = groups.get_mut(own) {
+        answer_in(now, session, group);
     }
 }
 
@@ -107,6 +126,24 @@ fn alter_among<A: Altering + Drop>(
     match groups.get_mut(own) {
         None => Ok(()),
         Some(group) => altering.alter(group),
+    }
+}
+
+#[tactic(auto, using(std::proofs::lemmas::Map::Steps::set_value_same))]
+fn step_among<S: Stepping + Drop>(
+    groups: &mut BTreeMap<GroupId, Group>,
+    own: &GroupId,
+    stepping: S,
+) -> Result<Effects, AllocError>
+    requires loaded { is_some (get (slice_cmp nat_cmp) groups.old own.now) ≡ true }
+    requires suits { (g : Group) → get (slice_cmp nat_cmp) groups.old own.now ≡ Some g → S.Suits stepping g }
+    ensures stepped { OnOk result ((g : Group) → get (slice_cmp nat_cmp) groups.old own.now ≡ Some g → groups.new.entries ≡ set_value (is_at (slice_cmp nat_cmp own.now)) groups.old.entries (S.steps stepping g).group) }
+    ensures effects { IfOk result (λ e. (g : Group) → get (slice_cmp nat_cmp) groups.old own.now ≡ Some g → e ≡ effects_in (S.steps stepping g)) }
+    ensures err { OnErr result (groups.new.entries ≡ groups.old.entries) }
+{
+    match groups.get_mut(own) {
+        None => unreachable!(),
+        Some(group) => stepping.step(group),
     }
 }
 
@@ -198,6 +235,15 @@ impl Loaded {
         hear_among(&mut self.groups, group, id, now);
     }
 
+    /// Clears the parked calls of the session in the group with this id, and marks their members as heard. No allocation.
+    pub fn answer(&mut self, group: &GroupId, session: u64, now: Moment)
+        ensures answered { (g : Group) → find_group group.now self.old ≡ Some g → self.new ≡ with_group (gone_in now session g).group self.old }
+        ensures absent { find_group group.now self.old ≡ None → self.new ≡ self.old }
+        ensures in_order { InOrder self.old }
+    {
+        answer_among(&mut self.groups, group, session, now);
+    }
+
     /// Processes a BEAT in the group with this id. Costs one look-up, no allocation.
     pub fn beat<'a>(
         &mut self,
@@ -229,5 +275,22 @@ impl Loaded {
     {
         alter_among(&mut self.groups, group, altering)?;
         Ok(())
+    }
+    /// Makes a step of the loaded group with this id, and returns its effects. If an allocation fails, nothing changes.
+    pub fn step<S: Stepping + Drop>(
+        &mut self,
+        group: &GroupId,
+        stepping: S,
+    ) -> Result<Effects, AllocError>
+        requires loaded { IsHeld self.old group.now }
+        requires keeps { KeepIds (S.steps stepping) }
+        requires suits { (g : Group) → find_group group.now self.old ≡ Some g → S.Suits stepping g }
+        ensures stepped { OnOk result ((g : Group) → find_group group.now self.old ≡ Some g → self.new ≡ with_group (S.steps stepping g).group self.old) }
+        ensures effects { IfOk result (λ e. (g : Group) → find_group group.now self.old ≡ Some g → e ≡ effects_in (S.steps stepping g)) }
+        ensures err { OnErr result (self.new ≡ self.old) }
+        ensures in_order { InOrder self.old }
+    {
+        let effects = step_among(&mut self.groups, group, stepping)?;
+        Ok(effects)
     }
 }

@@ -170,3 +170,11 @@ pub fn leave(homes: &mut Homes, session: u64, id: &GroupId)
         let _left = homes.remove(&session);
     }
 }
+
+/// Removes the session from the index, with all its groups.
+pub fn forget(homes: &mut Homes, session: u64)
+    ensures gone { get nat_cmp homes.new session ≡ None }
+    ensures apart { (q : ℕ) → (Some session ≡ Some q → ⊥) → get nat_cmp homes.new q ≡ get nat_cmp homes.old q }
+{
+    let _left = homes.remove(&session);
+}

@@ -11,6 +11,7 @@ ghost use Rattle.cg_held.specs.Kept.{Each};
 ghost use Rattle.cg_held.specs.Sessions.{AreKnown, IfParked, IsFilled, IsLetGo, IsSettled, is_certain, is_home, is_known, is_parked};
 ghost use Rattle.cg_member.specs.Waiting.{is_waiting};
 
+use crate::calling::Calling;
 use crate::held::Held;
 use crate::sessions::{Homes, affirm, doubt, leave};
 use cg_member::calls::Calls;
@@ -18,29 +19,29 @@ use cg_member::group::Group;
 use cg_member::member::Member;
 use cg_names::GroupId;
 
-// Marks the group as doubtful for the session of the member's parked call, if it has one.
-fn doubt_one(homes: &mut Homes, id: &GroupId, member: &Member)
-    ensures here { IfParked (λ q. is_certain homes.new q id.now ≡ false) member.now.waits }
+// Marks the group as doubtful for the session of the parked call, if there is one.
+fn doubt_one<P: Calling>(homes: &mut Homes, id: &GroupId, parked: &P)
+    ensures here { IfParked (λ q. is_certain homes.new q id.now ≡ false) (P.call parked.now) }
     ensures doubtful { (q : ℕ) → is_certain homes.old q id.now ≡ false → is_certain homes.new q id.now ≡ false }
     ensures kept { (q : ℕ) (x : List ℕ) → is_home homes.old q x ≡ true → is_home homes.new q x ≡ true }
     ensures fewer { (q : ℕ) (x : List ℕ) → is_home homes.new q x ≡ true → is_home homes.old q x ≡ true }
     ensures filled { (q : ℕ) → IsFilled (get nat_cmp homes.old q) → IsFilled (get nat_cmp homes.new q) }
 {
-    if let Some(ticket) = Calls::Any.called(member.waits) {
+    if let Some(ticket) = parked.call() {
         doubt(homes, ticket.session, id);
     }
 }
 
-// Marks the group as doubtful for each session with a parked call among these members.
-fn doubt_all(homes: &mut Homes, id: &GroupId, members: &[Member])
-    ensures here { Each (λ (m : Member). IfParked (λ q. is_certain homes.new q id.now ≡ false) m.waits) members.now }
+// Marks the group as doubtful for each session with one of these parked calls.
+fn doubt_all<P: Calling>(homes: &mut Homes, id: &GroupId, parked: &[P])
+    ensures here { Each (λ p. IfParked (λ q. is_certain homes.new q id.now ≡ false) (P.call p)) parked.now }
     ensures doubtful { (q : ℕ) → is_certain homes.old q id.now ≡ false → is_certain homes.new q id.now ≡ false }
     ensures kept { (q : ℕ) (x : List ℕ) → is_home homes.old q x ≡ true → is_home homes.new q x ≡ true }
     ensures fewer { (q : ℕ) (x : List ℕ) → is_home homes.new q x ≡ true → is_home homes.old q x ≡ true }
     ensures filled { (q : ℕ) → IsFilled (get nat_cmp homes.old q) → IsFilled (get nat_cmp homes.new q) }
 {
-    for member in members {
-        doubt_one(homes, id, member);
+    for call in parked {
+        doubt_one(homes, id, call);
     }
 }
 
@@ -71,32 +72,32 @@ fn affirm_all(homes: &mut Homes, id: &GroupId, members: &[Member])
     }
 }
 
-// Removes the group, where it is doubtful, from the index of the session of the member's parked call.
-fn leave_one(homes: &mut Homes, id: &GroupId, member: &Member)
+// Removes the group, where it is doubtful, from the index of the session of the parked call, if there is one.
+fn leave_one<P: Calling>(homes: &mut Homes, id: &GroupId, parked: &P)
     ensures others { (q : ℕ) (x : List ℕ) → (x ≡ id.now → ⊥) → is_home homes.old q x ≡ true → is_home homes.new q x ≡ true }
     ensures certain { (q : ℕ) (x : List ℕ) → is_certain homes.old q x ≡ true → is_certain homes.new q x ≡ true }
     ensures sure { (q : ℕ) → is_certain homes.new q id.now ≡ true → is_certain homes.old q id.now ≡ true }
-    ensures settled { IfParked (λ q. IsSettled homes.new q id.now) member.now.waits }
+    ensures settled { IfParked (λ q. IsSettled homes.new q id.now) (P.call parked.now) }
     ensures calm { (q : ℕ) → IsSettled homes.old q id.now → IsSettled homes.new q id.now }
     ensures fewer { (q : ℕ) (x : List ℕ) → is_home homes.new q x ≡ true → is_home homes.old q x ≡ true }
     ensures filled { (q : ℕ) → IsFilled (get nat_cmp homes.old q) → IsFilled (get nat_cmp homes.new q) }
 {
-    if let Some(ticket) = Calls::Any.called(member.waits) {
+    if let Some(ticket) = parked.call() {
         leave(homes, ticket.session, id);
     }
 }
 
-// Removes the group, where it is doubtful, from the index of each session with a parked call among these members.
-fn leave_all(homes: &mut Homes, id: &GroupId, members: &[Member])
+// Removes the group, where it is doubtful, from the index of each session with one of these parked calls.
+fn leave_all<P: Calling>(homes: &mut Homes, id: &GroupId, parked: &[P])
     ensures others { (q : ℕ) (x : List ℕ) → (x ≡ id.now → ⊥) → is_home homes.old q x ≡ true → is_home homes.new q x ≡ true }
     ensures certain { (q : ℕ) (x : List ℕ) → is_certain homes.old q x ≡ true → is_certain homes.new q x ≡ true }
     ensures sure { (q : ℕ) → is_certain homes.new q id.now ≡ true → is_certain homes.old q id.now ≡ true }
-    ensures settled { Each (λ (m : Member). IfParked (λ q. IsSettled homes.new q id.now) m.waits) members.now }
+    ensures settled { Each (λ p. IfParked (λ q. IsSettled homes.new q id.now) (P.call p)) parked.now }
     ensures fewer { (q : ℕ) (x : List ℕ) → is_home homes.new q x ≡ true → is_home homes.old q x ≡ true }
     ensures filled { (q : ℕ) → IsFilled (get nat_cmp homes.old q) → IsFilled (get nat_cmp homes.new q) }
 {
-    for member in members {
-        leave_one(homes, id, member);
+    for call in parked {
+        leave_one(homes, id, call);
     }
 }
 
@@ -115,11 +116,11 @@ fn affirm_held(homes: &mut Homes, held: &Held, id: &GroupId)
     }
 }
 
-/// Updates the index after an event in the group: `before` are its members as they were. Costs a few look-ups for each
-/// call that was or is parked there, and a pass over the members before and after. No allocation.
-pub fn settle(homes: &mut Homes, held: &Held, id: &GroupId, before: &[Member])
+/// Updates the index after an event in the group: `before` are its members, or its parked calls, as they were. Costs a few look-ups
+/// for each call that was or is parked there, a pass over `before`, and one over the members. No allocation.
+pub fn settle<P: Calling>(homes: &mut Homes, held: &Held, id: &GroupId, before: &[P])
     ensures known { AreKnown (is_home homes.old) held.now → AreKnown (is_home homes.new) held.now }
-    ensures gone { Each (λ (m : Member). IfParked (λ q. IsLetGo homes.new held.now id.now q) m.waits) before.now }
+    ensures gone { Each (λ p. IfParked (λ q. IsLetGo homes.new held.now id.now q) (P.call p)) before.now }
     ensures fewer { (q : ℕ) (x : List ℕ) → is_home homes.new q x ≡ true → is_home homes.old q x ≡ true }
     ensures filled { (q : ℕ) → IsFilled (get nat_cmp homes.old q) → IsFilled (get nat_cmp homes.new q) }
 {
@@ -128,10 +129,17 @@ pub fn settle(homes: &mut Homes, held: &Held, id: &GroupId, before: &[Member])
     leave_all(homes, id, before);
 }
 
-/// Updates the index after a request of this session in the group: `before` are its members as they were. No allocation.
-pub fn settle_request(homes: &mut Homes, held: &Held, id: &GroupId, before: &[Member], session: u64)
+/// Updates the index after a request of this session in the group: `before` are its members, or its parked calls, as they were. No
+/// allocation.
+pub fn settle_request<P: Calling>(
+    homes: &mut Homes,
+    held: &Held,
+    id: &GroupId,
+    before: &[P],
+    session: u64,
+)
     ensures known { AreKnown (is_home homes.old) held.now → AreKnown (is_home homes.new) held.now }
-    ensures gone { Each (λ (m : Member). IfParked (λ q. IsLetGo homes.new held.now id.now q) m.waits) before.now }
+    ensures gone { Each (λ p. IfParked (λ q. IsLetGo homes.new held.now id.now q) (P.call p)) before.now }
     ensures asked { IsLetGo homes.new held.now id.now session }
     ensures fewer { (q : ℕ) (x : List ℕ) → is_home homes.new q x ≡ true → is_home homes.old q x ≡ true }
     ensures filled { (q : ℕ) → IsFilled (get nat_cmp homes.old q) → IsFilled (get nat_cmp homes.new q) }

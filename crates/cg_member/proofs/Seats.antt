@@ -1,5 +1,5 @@
 -- A member replaces the one with its instance: only that one is removed, and the members stay lawful.
-use Rattle.std.proofs.Common.{◌≡◌, ℕ, suc, ◌+◌, ◌<◌, ◌≤◌, Bool, true, false, cond, not, ◌||◌, List, [], ◌∷◌, ◌++◌, length, map, is_some, subst, Option, Some, None, refl, sym, ap, ◌∙◌, arith}
+use Rattle.std.proofs.Common.{◌≡◌, ℕ, suc, ◌+◌, ◌<◌, ◌≤◌, Bool, true, false, cond, find, not, ◌||◌, List, [], ◌∷◌, ◌++◌, length, map, is_some, subst, Option, Some, None, refl, sym, ap, ◌∙◌, arith}
 use Rattle.std.proofs.Math.ListN.{set}
 use Rattle.std.specs.Prelude.{if◌then◌else◌}
 use Rattle.std.specs.List.{list_any, flat_map, position, position_or_len}
@@ -166,3 +166,43 @@ after_seating new ms ns e own h = subst (λ (xs : List Member). AreMembers xs) (
   few = subst (λ (n : ℕ). n ≤ MEMBERS_MAX) (sym (as_many new ms)) h.few;
   distinct = distinct-seating new ms own h.distinct;
 }
+
+-- the member that an instance finds has that instance
+pub instance_of : (o : Option (List ℕ)) (ms : List Member) (m : Member) → find_instance o ms ≡ Some m → m.instance ≡ o
+unfolding find_instance
+instance_of o [] m e = cc
+instance_of o (x ∷ xs) m e =
+    (elim (has_instance o x) as (λ b. has_instance o x ≡ b → cond b (Some x) (find (has_instance o) xs) ≡ Some m → m.instance ≡ o) [
+      | true ↦ λ h f. let same : x ≡ m = cc in ap (λ (y : Member). y.instance) (sym same) ∙ found_instance o x h
+      | false ↦ λ h f. instance_of o xs m f
+    ]) refl e
+
+-- whether a member has an instance depends on its instance alone
+instance_alone : (o : Option (List ℕ)) (x y : Member) → x.instance ≡ y.instance → has_instance o x ≡ has_instance o y
+instance_alone None x y e = refl
+instance_alone (Some i) x y e = ap (λ j. is_named j i) e
+
+-- the old member, put back where the new one is
+module _ (new old : Member) (same : old.instance ≡ new.instance) where
+  alike : (m : Member) → has_instance old.instance m ≡ has_instance new.instance m
+  alike m = ap (λ o. has_instance o m) same
+
+  pub back_seated : (ms : List Member) → are_distinct (instances ms) ≡ true → find_instance new.instance ms ≡ Some old → seating old (seating new ms) ≡ ms
+  unfolding find_instance seating
+  back_seated [] d e = cc
+  back_seated (m ∷ ms) d e =
+      (elim (has_instance new.instance m) as (λ b. has_instance new.instance m ≡ b → cond b (Some m) (find (has_instance new.instance) ms) ≡ Some old → seated old (if b then new else m) ∷ map (seated old) (map (seated new) ms) ≡ m ∷ ms) [
+        | true ↦ λ h f.
+            let is : m ≡ old = cc in
+            let free : list_any (has_instance new.instance) ms ≡ false = others_free new.instance m ms h d in
+            let free_old : list_any (has_instance old.instance) ms ≡ false = ap (λ o. list_any (has_instance o) ms) same ∙ free in
+            let own : has_instance old.instance new ≡ true =
+            alike new ∙ instance_alone new.instance new m (sym (found_instance new.instance m h)) ∙ h in
+            ap (λ b. (if b then old else new) ∷ map (seated old) (map (seated new) ms)) own
+            ∙ ap (λ x. x ∷ map (seated old) (map (seated new) ms)) (sym is)
+            ∙ ap (λ xs. m ∷ map (seated old) xs) (seating_free new ms free)
+            ∙ ap (λ xs. m ∷ xs) (seating_free old ms free_old)
+        | false ↦ λ h f.
+            ap (λ b. (if b then old else m) ∷ map (seated old) (map (seated new) ms)) (alike m ∙ h)
+            ∙ ap (λ xs. m ∷ xs) (back_seated ms (rest_distinct m.instance (instances ms) d) f)
+      ]) refl e

@@ -11,14 +11,14 @@ use Rattle.cg_member.specs.declared.calls.Calls.{Calls}
 use Rattle.cg_member.specs.declared.member.Member.{Member}
 use Rattle.cg_member.specs.declared.member.Waits.{Waits}
 use Rattle.cg_request.specs.declared.request.JoinRequest.{JoinRequest}
-use Rattle.cg_request.specs.declared.request.SyncEntry.{SyncEntry}
 use Rattle.cg_member.specs.Joining.{updated, waits_with}
 use Rattle.cg_member.specs.Membership.{is_same, has_id, heard, with_member}
+use Rattle.cg_member.specs.Assignments.{with_assignments}
 use Rattle.cg_member.specs.Replacing.{seating}
-use Rattle.cg_member.specs.Syncing.{assigned}
 use Rattle.cg_member.specs.Tags.{tag_of, tags_of}
-use Rattle.cg_member.specs.Waiting.{after_answer, after_answers}
-use Rattle.cg_member.proofs.Keeping.{IsLasting, keep-after_answers, map-same, map-with_member}
+use Rattle.cg_member.specs.Waiting.{after_answer, after_answers, recalled}
+use Rattle.cg_member.proofs.Exchanges.{map-with_assignments}
+use Rattle.cg_member.proofs.Keeping.{IsLasting, keep-after_answers, map-with_member}
 use Rattle.cg_member.proofs.Seats.{as_many}
 use Rattle.cg_member.proofs.Together.{few-filter}
 
@@ -82,6 +82,9 @@ tags_after_hearing id now tags ms ns e t = unmoved tags ms ns (ap (λ xs. tags_o
 pub tags_after_waiting : (id : List ℕ) (waits : Waits) (now : ℕ) (tags : List ℕ) (ms ns : List Member) → ns ≡ with_member id (waits_with now waits) ms → tags ≡ tags_of ms → tags ≡ tags_of ns
 tags_after_waiting id waits now tags ms ns e t = unmoved tags ms ns (ap (λ xs. tags_of xs) e ∙ map-with_member (λ m. tag_of m.id) id (waits_with now waits) (λ m. refl) ms) t
 
+pub tags_after_recalling : (id : List ℕ) (moment : ℕ) (waits : Waits) (tags : List ℕ) (ms ns : List Member) → ns ≡ with_member id (recalled moment waits) ms → tags ≡ tags_of ms → tags ≡ tags_of ns
+tags_after_recalling id moment waits tags ms ns e t = unmoved tags ms ns (ap (λ xs. tags_of xs) e ∙ map-with_member (λ m. tag_of m.id) id (recalled moment waits) (λ m. refl) ms) t
+
 pub tags_after_update : (id : List ℕ) (r : JoinRequest) (tags : List ℕ) (ms ns : List Member) → ns ≡ with_member id (updated r) ms → tags ≡ tags_of ms → tags ≡ tags_of ns
 tags_after_update id r tags ms ns e t = unmoved tags ms ns (ap (λ xs. tags_of xs) e ∙ map-with_member (λ m. tag_of m.id) id (updated r) (λ m. refl) ms) t
 
@@ -92,8 +95,8 @@ pub tags_after_answers : (which : Calls) (now : ℕ) (tags : List ℕ) (ms ns : 
 unfolding after_answers
 tags_after_answers which now tags ms ns e t = unmoved tags ms ns (ap (λ xs. tags_of xs) e ∙ keep-after_answers (λ m. tag_of m.id) lasting_tag which now ms) t
 
-pub tags_after_assigning : (entries : List SyncEntry) (tags : List ℕ) (ms ns : List Member) → ns ≡ map (assigned entries) ms → tags ≡ tags_of ms → tags ≡ tags_of ns
-tags_after_assigning entries tags ms ns e t = unmoved tags ms ns (ap (λ xs. tags_of xs) e ∙ map-same (λ m. tag_of m.id) (assigned entries) (λ m. refl) ms) t
+pub tags_after_exchange : (list : List (List ℕ)) (tags : List ℕ) (ms ns : List Member) → ns ≡ with_assignments list ms → tags ≡ tags_of ms → tags ≡ tags_of ns
+tags_after_exchange list tags ms ns e t = unmoved tags ms ns (ap (λ xs. tags_of xs) e ∙ map-with_assignments (λ m. tag_of m.id) (λ m a. refl) list ms) t
 
 -- there is a tag for each member that stays
 pub enough_tags : (stays : Member → Bool) (tags : List ℕ) (ms ns : List Member) → ns ≡ filter stays ms → tags ≡ tags_of ms → length ns ≤ length tags

@@ -9,14 +9,14 @@ use Rattle.cg_member.specs.declared.calls.Calls.{Calls}
 use Rattle.cg_member.specs.declared.member.Member.{Member}
 use Rattle.cg_member.specs.declared.member.Waits.{Waits}
 use Rattle.cg_request.specs.declared.request.JoinRequest.{JoinRequest}
-use Rattle.cg_request.specs.declared.request.SyncEntry.{SyncEntry}
 use Rattle.cg_member.specs.Joining.{updated, waits_with}
 use Rattle.cg_request.specs.Names.{are_distinct}
 use Rattle.cg_member.specs.Members.{AreDistinct, AreMembers, ids, instances}
+use Rattle.cg_member.specs.Assignments.{with_assignments}
 use Rattle.cg_member.specs.Membership.{is_same, is_named, has_id, has_instance, find_member, find_instance, heard, with_member}
-use Rattle.cg_member.specs.Syncing.{assigned}
-use Rattle.cg_member.specs.Waiting.{after_answer, after_answers}
-use Rattle.cg_member.proofs.Keeping.{IsLasting, keep-after_answers, map-same, map-with_member}
+use Rattle.cg_member.specs.Waiting.{after_answer, after_answers, recalled}
+use Rattle.cg_member.proofs.Exchanges.{map-with_assignments}
+use Rattle.cg_member.proofs.Keeping.{IsLasting, keep-after_answers, map-with_member}
 
 false_from_not : (b : Bool) → not b ≡ true → b ≡ false
 false_from_not true e = sym e
@@ -165,9 +165,6 @@ few-of xs ys e h =
 pub members-names : (xs ys : List Member) → ids xs ≡ ids ys → map (λ m. option_to_list m.instance) xs ≡ map (λ m. option_to_list m.instance) ys → AreMembers ys → AreMembers xs
 members-names xs ys e f h = record { few = few-of xs ys e h.few; distinct = distinct-names xs ys e f h.distinct }
 
-pub members-map : (change : Member → Member) → ((m : Member) → (change m).id ≡ m.id) → ((m : Member) → option_to_list (change m).instance ≡ option_to_list m.instance) → (ms : List Member) → AreMembers ms → AreMembers (map change ms)
-members-map change same own ms h = members-names (map change ms) ms (map-same (λ m. m.id) change same ms) (map-same (λ m. option_to_list m.instance) change own ms) h
-
 pub members-with_member : (id : List ℕ) (change : Member → Member) → ((m : Member) → (change m).id ≡ m.id) → ((m : Member) → option_to_list (change m).instance ≡ option_to_list m.instance) → (ms : List Member) → AreMembers ms → AreMembers (with_member id change ms)
 members-with_member id change same own ms h =
     members-names (with_member id change ms) ms (map-with_member (λ m. m.id) id change same ms) (map-with_member (λ m. option_to_list m.instance) id change own ms) h
@@ -214,6 +211,9 @@ after_hearing id now ms ns e h = subst (λ (xs : List Member). AreMembers xs) (s
 pub after_waiting : (id : List ℕ) (waits : Waits) (now : ℕ) (ms ns : List Member) → ns ≡ with_member id (waits_with now waits) ms → AreMembers ms → AreMembers ns
 after_waiting id waits now ms ns e h = subst (λ (xs : List Member). AreMembers xs) (sym e) (members-with_member id (waits_with now waits) (λ m. refl) (λ m. refl) ms h)
 
+pub after_recalling : (id : List ℕ) (moment : ℕ) (waits : Waits) (ms ns : List Member) → ns ≡ with_member id (recalled moment waits) ms → AreMembers ms → AreMembers ns
+after_recalling id moment waits ms ns e h = subst (λ (xs : List Member). AreMembers xs) (sym e) (members-with_member id (recalled moment waits) (λ m. refl) (λ m. refl) ms h)
+
 pub after_update : (id : List ℕ) (r : JoinRequest) (ms ns : List Member) → ns ≡ with_member id (updated r) ms → AreMembers ms → AreMembers ns
 after_update id r ms ns e h = subst (λ (xs : List Member). AreMembers xs) (sym e) (members-with_member id (updated r) (λ m. refl) (λ m. refl) ms h)
 
@@ -223,8 +223,10 @@ after_all_answers which now ms ns e h =
     subst (λ (xs : List Member). AreMembers xs) (sym e)
     (members-names (after_answers which now ms) ms (keep-after_answers (λ m. m.id) lasting_id which now ms) (keep-after_answers (λ m. option_to_list m.instance) lasting_instance which now ms) h)
 
-pub after_assigning : (entries : List SyncEntry) (ms ns : List Member) → ns ≡ map (assigned entries) ms → AreMembers ms → AreMembers ns
-after_assigning entries ms ns e h = subst (λ (xs : List Member). AreMembers xs) (sym e) (members-map (assigned entries) (λ m. refl) (λ m. refl) ms h)
+pub after_exchange : (list : List (List ℕ)) (ms ns : List Member) → ns ≡ with_assignments list ms → AreMembers ms → AreMembers ns
+after_exchange list ms ns e h =
+    subst (λ (xs : List Member). AreMembers xs) (sym e)
+    (members-names (with_assignments list ms) ms (map-with_assignments (λ m. m.id) (λ m a. refl) list ms) (map-with_assignments (λ m. option_to_list m.instance) (λ m a. refl) list ms) h)
 
 pub after_removing : (stays : Member → Bool) (ms ns : List Member) → ns ≡ filter stays ms → AreMembers ms → AreMembers ns
 after_removing stays ms ns e h = subst (λ (xs : List Member). AreMembers xs) (sym e) (members-filter stays ms h)

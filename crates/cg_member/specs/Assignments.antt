@@ -1,9 +1,10 @@
--- An index over the entries of the leader's SYNC.
-use Rattle.std.specs.Prelude.{◌≡◌, ℕ, List, find, Option, Some, option_map, if◌then◌else◌}
+-- An index over the entries of the leader's SYNC, and the exchange of the members' assignments.
+use Rattle.std.specs.Prelude.{◌≡◌, ℕ, List, [], ◌∷◌, find, Option, Some, option_map, if◌then◌else◌}
 use Rattle.std.specs.BTreeMap.{BTreeMap, get}
 use Rattle.std.specs.Ordering.{nat_cmp}
 use Rattle.std.specs.Cmp.Lexicographic.{slice_cmp}
 use Rattle.cg_request.specs.declared.request.SyncEntry.{SyncEntry}
+use Rattle.cg_member.specs.declared.member.Member.{Member}
 use Rattle.cg_member.specs.Membership.{is_same}
 
 -- the index has for each member the assignment of its first entry
@@ -13,3 +14,14 @@ IsIndex entries index = (id : List ℕ) → get (slice_cmp nat_cmp) index id ≡
 -- the look-up of a member after the entry is added in front of the others
 abbrev pub after_note : SyncEntry → List ℕ → Option (List ℕ) → Option (List ℕ)
 after_note entry id noted = if is_same entry.member id then Some entry.assignment else noted
+
+-- the look-up of a member after the entries are added, from the last to the first
+abbrev pub after_notes : List SyncEntry → List ℕ → Option (List ℕ) → Option (List ℕ)
+after_notes [] id noted = noted
+after_notes (entry ∷ entries) id noted = after_note entry id (after_notes entries id noted)
+
+-- the members, each with the assignment at its place; past the end of the list they keep theirs
+unfoldable pub with_assignments : List (List ℕ) → List Member → List Member
+with_assignments [] members = members
+with_assignments (a ∷ rest) [] = []
+with_assignments (a ∷ rest) (m ∷ members) = record m { assignment = a } ∷ with_assignments rest members

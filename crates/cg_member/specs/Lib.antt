@@ -4,6 +4,7 @@ pub mod Fetching
 pub mod Waiting
 pub mod Members
 pub mod Membership
+pub mod Parting
 pub mod Fencing
 pub mod Vote
 pub mod Tally

@@ -6,6 +6,7 @@ use Rattle.cg_names.specs.declared.code.Code.TheVariants.{RebalanceInProgress}
 use Rattle.cg_member.specs.declared.calls.Calls.TheVariants.{Joins, Syncs}
 use Rattle.cg_record.specs.declared.command.Command.{Command}
 use Rattle.cg_record.specs.declared.command.Command.TheVariants as command
+use Rattle.cg_member.specs.declared.effects.Effects.{Effects}
 use Rattle.cg_member.specs.declared.group.Group.{Group}
 use Rattle.cg_member.specs.declared.group.Phase.TheVariants.{Empty, Preparing, Completing}
 use Rattle.cg_member.specs.declared.member.Member.{Member}
@@ -21,6 +22,14 @@ use Rattle.cg_member.specs.Waiting.{is_waiting, after_answers, answers, refusing
 -- the state at the start of an event: no replies and no commands yet
 abbrev pub turn_of : Group → Turn
 turn_of g = record { group = g; replies = []; commands = [] }
+
+-- the state of an event that has changed its group so far, and has these effects
+abbrev pub turned : Group → Effects → Turn
+turned g e = record { group = g; replies = e.replies; commands = e.commands }
+
+-- the group as a rebalance begins in it now, or as it is: a parked SYNC has its reply
+abbrev pub begun : Bool → ℕ → Group → Group
+begun begins now g = if begins then record g { phase = Preparing; started = now; members = after_answers Syncs now g.members } else g
 
 -- prepare: every parked SYNC gets 27, and a rebalance begins now
 unfoldable pub prepared : ℕ → Turn → Turn

@@ -39,6 +39,10 @@ is_waiting which m = is_some (called which m.waits)
 abbrev pub answered : ℕ → Member → Member
 answered now m = record m { heard = now; waits = Nothing }
 
+-- the member as it was when it was last heard at this moment and had this parked call
+abbrev pub recalled : ℕ → Waits → Member → Member
+recalled heard waits m = record m { heard = heard; waits = waits }
+
 -- the member after these calls got their replies
 abbrev pub after_answer : Calls → ℕ → Member → Member
 after_answer which now m = if is_waiting which m then answered now m else m

@@ -3,7 +3,6 @@
 #![tactic(auto)]
 
 pub mod answers;
-pub mod assignments;
 pub mod boxed;
 pub mod calls;
 pub mod checked;
@@ -14,8 +13,10 @@ pub mod fencing;
 pub mod fetching;
 pub mod few;
 pub mod group;
+pub mod handing;
 pub mod member;
 pub mod members;
+pub mod parted;
 pub mod reply;
 pub mod sharing;
 mod tags;

@@ -7,24 +7,23 @@ ghost use Rattle.cg_request.specs.Names.{are_distinct};
 ghost use Rattle.cg_member.specs.Members.{AreMembers, instances};
 ghost use Rattle.cg_member.specs.Membership.{has_id, has_instance, find_member, find_instance, with_member, heard};
 ghost use Rattle.cg_member.specs.Replacing.{seating};
-ghost use Rattle.cg_member.specs.Waiting.{after_answer, after_answers, is_waiting};
+ghost use Rattle.cg_member.specs.Waiting.{after_answer, after_answers, is_waiting, recalled};
 ghost use Rattle.cg_member.specs.Joining.{updated, waits_with};
-ghost use Rattle.cg_member.specs.Assignments.{IsIndex};
-ghost use Rattle.cg_member.specs.Syncing.{assigned};
-ghost use Rattle.cg_request.specs.declared.request.SyncEntry.{SyncEntry};
+ghost use Rattle.cg_member.specs.Assignments.{with_assignments};
 ghost use Rattle.cg_member.specs.Tags.{tags_of};
 ghost use Rattle.cg_member.specs.Ticking.{is_overdue, outstays};
 
-use crate::assignments::{Index, indexed, noted};
 use crate::calls::{Calls, is_waiting};
 use crate::checked::CheckedJoin;
 use crate::member::{Member, Waits};
 use crate::sharing::{sharing, sharing_join};
 use crate::tags::{place_of, retag, tag_of, tagged};
 use cg_names::{InstanceId, MemberId, Moment};
-use cg_request::request::SyncEntry;
+use cg_record::Assignment;
+use cg_request::request::JoinRequest;
 use std::alloc::{AllocError, Global};
 use std::marker::Model;
+use std::mem;
 
 /// The members of a group in joining order: at most `MEMBERS_MAX`, with different ids and different instances.
 /// Contracts see the list. A look-up by id reads four bytes for each member and few ids; one by instance reads each
@@ -111,13 +110,11 @@ fn begin_to_wait(member: &mut Member, waits: Waits, now: Moment)
     member.waits = waits;
 }
 
-fn take_over(member: &mut Member, join: CheckedJoin)
-    ensures { member.new ≡ updated join member.old }
+fn recall(member: &mut Member, heard: Moment, waits: Waits)
+    ensures { member.new ≡ recalled heard waits member.old }
 {
-    let CheckedJoin { request, session } = join;
-    member.session = session;
-    member.rebalance = request.rebalance;
-    member.protocols = request.protocols;
+    member.heard = heard;
+    member.waits = waits;
 }
 
 #[tactic(auto, using(crate::proofs::Places::placing))]
@@ -146,37 +143,72 @@ fn wait_one(members: &mut Vec<Member>, tags: &[u32], id: &MemberId, waits: Waits
 }
 
 #[tactic(auto, using(crate::proofs::Places::placing))]
-fn update_one(members: &mut Vec<Member>, tags: &[u32], id: &MemberId, join: CheckedJoin)
+fn recall_one(members: &mut Vec<Member>, tags: &[u32], id: &MemberId, heard: Moment, waits: Waits)
     requires { tags.now ≡ tags_of members.old.items }
-    ensures { members.new.items ≡ with_member id.now (updated join) members.old.items }
+    ensures { members.new.items ≡ with_member id.now (recalled heard waits) members.old.items }
 {
     if let Some(place) = place_of(id, tags, members.as_slice()) {
-        let join = sharing_join(members.as_slice(), join);
-        take_over(&mut members[place], join);
+        recall(&mut members[place], heard, waits);
     }
 }
 
-#[tactic(auto, unfolding(crate::specs::Syncing::assignment_for))]
-fn assign_one(alloc: Global, index: &Index, member: &mut Member) -> Result<(), AllocError>
-    ensures { (entries : List SyncEntry) → IsIndex entries index.now → OnOk result (member.new ≡ assigned entries member.old) }
+// Returns a JOIN that brings what the member had before.
+fn exchange_terms(member: &mut Member, join: CheckedJoin) -> CheckedJoin
+    ensures given { member.new ≡ updated join member.old }
+    ensures back { updated result member.new ≡ member.old }
 {
-    let assignment = noted(alloc, index, &member.id)?;
-    member.assignment = assignment;
-    Ok(())
+    let CheckedJoin { request, session } = join;
+    let before = member.session;
+    member.session = session;
+    let rebalance = mem::replace(&mut member.rebalance, request.rebalance);
+    let protocols = mem::replace(&mut member.protocols, request.protocols);
+    let request = JoinRequest {
+        session_ms: before.get(),
+        rebalance,
+        protocols,
+        ..request
+    };
+    CheckedJoin {
+        request,
+        session: before,
+    }
 }
 
-fn assign_each(
-    alloc: Global,
-    entries: &[SyncEntry],
-    members: &mut [Member],
-) -> Result<(), AllocError>
-    ensures { OnOk result (members.new ≡ map (assigned entries.now) members.old) }
+#[tactic(auto, using(crate::proofs::Places::placing))]
+fn exchange_terms_of(
+    members: &mut Vec<Member>,
+    tags: &[u32],
+    id: &MemberId,
+    join: CheckedJoin,
+) -> CheckedJoin
+    requires { tags.now ≡ tags_of members.old.items }
+    ensures given { members.new.items ≡ with_member id.now (updated join) members.old.items }
+    ensures back { with_member id.now (updated result) members.new.items ≡ members.old.items }
 {
-    let index = indexed(alloc, entries)?;
-    for member in members.iter_mut() {
-        assign_one(alloc, &index, member)?;
+    match place_of(id, tags, members.as_slice()) {
+        None => join,
+        Some(place) => {
+            let join = sharing_join(members.as_slice(), join);
+            exchange_terms(&mut members[place], join)
+        }
     }
-    Ok(())
+}
+
+fn exchange_one(member: &mut Member, assignment: &mut Assignment)
+    ensures member { member.new ≡ record member.old { assignment = assignment.old } }
+    ensures assignment { assignment.new ≡ member.old.assignment }
+{
+    mem::swap(&mut member.assignment, assignment);
+}
+
+fn exchange_each(members: &mut [Member], assignments: &mut [Assignment])
+    requires { length assignments.old ≡ length members.old }
+    ensures members { members.new ≡ with_assignments assignments.old members.old }
+    ensures assignments { assignments.new ≡ map (λ m. m.assignment) members.old }
+{
+    for i in 0..members.len() {
+        exchange_one(&mut members[i], &mut assignments[i]);
+    }
 }
 
 fn answer_each(members: &mut [Member], which: Calls, now: Moment)
@@ -193,15 +225,12 @@ fn answer_in(members: &mut Vec<Member>, which: Calls, now: Moment)
     answer_each(members.as_mut_slice(), which, now);
 }
 
-fn assign_in(
-    alloc: Global,
-    entries: &[SyncEntry],
-    mut members: Vec<Member>,
-) -> Result<Vec<Member>, AllocError>
-    ensures { IfOk result (λ after. after.items ≡ map (assigned entries.now) members.items) }
+fn exchange_in(members: &mut Vec<Member>, assignments: &mut [Assignment])
+    requires { length assignments.old ≡ length members.old.items }
+    ensures members { members.new.items ≡ with_assignments assignments.old members.old.items }
+    ensures assignments { assignments.new ≡ map (λ m. m.assignment) members.old.items }
 {
-    assign_each(alloc, entries, members.as_mut_slice())?;
-    Ok(members)
+    exchange_each(members.as_mut_slice(), assignments);
 }
 
 fn keep_others(members: &mut Vec<Member>, id: &MemberId)
@@ -222,14 +251,15 @@ fn keep_outstaying(members: &mut Vec<Member>)
     members.retain(|m| outstays(m));
 }
 
-// Overwrites the member that has the new member's instance, if there is one.
-#[tactic(auto, unfolding(crate::specs::Replacing::seating))]
-fn seat_one(members: &mut Vec<Member>, member: Member)
+// Exchanges the member that has the new member's instance for the new one, which is returned if there is none.
+fn seat_one(members: &mut Vec<Member>, member: Member) -> Member
     requires { are_distinct (instances members.old.items) ≡ true }
-    ensures { members.new.items ≡ seating member members.old.items }
+    ensures seated { members.new.items ≡ seating member members.old.items }
+    ensures back { seating result members.new.items ≡ members.old.items }
 {
-    if let Some(place) = seat_of(&member.instance, members.as_slice()) {
-        members[place] = member;
+    match seat_of(&member.instance, members.as_slice()) {
+        None => member,
+        Some(place) => mem::replace(&mut members[place], member),
     }
 }
 
@@ -252,6 +282,25 @@ impl Members {
     {
         let tags = tagged(alloc, items.as_slice())?;
         Ok(Members { items, tags })
+    }
+
+    /// Returns the members and the tags of their ids.
+    pub(crate) fn into_parts(self) -> (Vec<Member>, Vec<u32>)
+        ensures members { result.0.items ≡ self }
+        ensures lawful { AreMembers result.0.items }
+        ensures tags { result.1.items ≡ tags_of result.0.items }
+    {
+        let Members { items, tags } = self;
+        (items, tags)
+    }
+
+    /// Wraps the members and the tags of their ids.
+    pub(crate) fn from_parts(items: Vec<Member>, tags: Vec<u32>) -> Self
+        requires lawful { AreMembers items.items }
+        requires tags { tags.items ≡ tags_of items.items }
+        ensures { result ≡ items.items }
+    {
+        Members { items, tags }
     }
 
     /// Returns the members in joining order.
@@ -321,15 +370,18 @@ impl Members {
         Ok(())
     }
 
-    /// Replaces the member that has this member's instance; the position in joining order stays (KIP-345).
-    #[tactic(auto, using(crate::proofs::Seats::after_seating, crate::proofs::Tagging::seated_tags))]
-    pub fn replace(&mut self, member: Member)
-        requires own_id { is_some (find_member member.id self.old) ≡ false }
-        ensures { self.new ≡ seating member self.old }
+    /// Replaces the member that has this member's instance; the position in joining order stays (KIP-345). Returns the member that
+    /// was there, which brings back the list as it was.
+    #[tactic(auto, using(crate::proofs::Tagging::seated_tags))]
+    pub fn replace(&mut self, member: Member) -> Member
+        requires { AreMembers (seating member self.old) }
+        ensures seated { self.new ≡ seating member self.old }
+        ensures back { seating result self.new ≡ self.old }
     {
         let member = sharing(self.items.as_slice(), member);
-        seat_one(&mut self.items, member);
+        let before = seat_one(&mut self.items, member);
         retag(&mut self.tags, self.items.as_slice());
+        before
     }
 
     /// Sets the moment at which the member was last heard. Returns whether there is such a member.
@@ -350,12 +402,22 @@ impl Members {
         wait_one(&mut self.items, self.tags.as_slice(), id, waits, now);
     }
 
-    /// Replaces the member's timeouts and protocols by those of the JOIN. Its client stays.
-    #[tactic(auto, using(crate::proofs::Together::after_update, crate::proofs::Tagging::tags_after_update))]
-    pub fn update(&mut self, id: &MemberId, join: CheckedJoin)
-        ensures { self.new ≡ with_member id.now (updated join) self.old }
+    /// Sets the moment at which the member was last heard and its parked call, as they were before `hear` and `wait`.
+    #[tactic(auto, using(crate::proofs::Together::after_recalling, crate::proofs::Tagging::tags_after_recalling))]
+    pub fn recall(&mut self, id: &MemberId, heard: Moment, waits: Waits)
+        ensures { self.new ≡ with_member id.now (recalled heard waits) self.old }
     {
-        update_one(&mut self.items, self.tags.as_slice(), id, join);
+        recall_one(&mut self.items, self.tags.as_slice(), id, heard, waits);
+    }
+
+    /// Replaces the member's timeouts and protocols by those of the JOIN. Its client stays. Returns a JOIN that brings back what
+    /// the member had.
+    #[tactic(auto, using(crate::proofs::Together::after_update, crate::proofs::Tagging::tags_after_update))]
+    pub fn exchange_terms(&mut self, id: &MemberId, join: CheckedJoin) -> CheckedJoin
+        ensures given { self.new ≡ with_member id.now (updated join) self.old }
+        ensures back { with_member id.now (updated result) self.new ≡ self.old }
+    {
+        exchange_terms_of(&mut self.items, self.tags.as_slice(), id, join)
     }
 
     /// Clears these parked calls, and marks their members as heard now.
@@ -414,14 +476,13 @@ impl Members {
         self.items.as_slice().iter().all(|m| is_waiting(which, m))
     }
 
-    /// Sets the assignment of each member to that of its entry, or to no bytes. Indexes the entries once, so the cost
-    /// is n log n.
-    #[tactic(auto, using(crate::proofs::Together::after_assigning, crate::proofs::Tagging::tags_after_assigning))]
-    pub fn assigned(self, alloc: Global, entries: &[SyncEntry]) -> Result<Self, AllocError>
-        ensures { IfOk result (λ members. members ≡ map (assigned entries.now) self) }
+    /// Exchanges the assignment of each member with the one at its place in the list. No allocation.
+    #[tactic(auto, using(crate::proofs::Together::after_exchange, crate::proofs::Tagging::tags_after_exchange))]
+    pub fn exchange_assignments(&mut self, assignments: &mut [Assignment])
+        requires { length assignments.old ≡ length self.old }
+        ensures members { self.new ≡ with_assignments assignments.old self.old }
+        ensures assignments { assignments.new ≡ map (λ m. m.assignment) self.old }
     {
-        let Members { items, tags } = self;
-        let items = assign_in(alloc, entries, items)?;
-        Ok(Members { items, tags })
+        exchange_in(&mut self.items, assignments);
     }
 }

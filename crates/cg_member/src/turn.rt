@@ -2,7 +2,6 @@
 use crate::few::Few;
 use crate::group::Group;
 use crate::reply::Reply;
-use cg_names::Code;
 use cg_record::Command;
 use cg_request::ticket::Ticket;
 
@@ -13,6 +12,3 @@ pub struct Turn {
     pub replies: Few<(Ticket, Reply)>,
     pub commands: Few<Command>,
 }
-
-/// What a request comes to in its group: its step, or the error code with which it is refused.
-pub type Outcome = Result<Turn, Code>;

@@ -90,4 +90,12 @@ impl SyncEntries {
     {
         self.items.as_slice()
     }
+
+    /// Returns the entries in request order, without a copy.
+    pub fn into_vec(self) -> Vec<SyncEntry>
+        ensures { result.items ≡ self }
+    {
+        let SyncEntries { items } = self;
+        items
+    }
 }

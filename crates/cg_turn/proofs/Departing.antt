@@ -1,9 +1,10 @@
 -- A member leaves while a rebalance waits for others: it alone goes, and the rebalance goes on.
-use Rattle.std.proofs.Common.{◌≡◌, ℕ, Bool, true, false, cond, not, ◌&&◌, ◌||◌, List, [], ◌∷◌, find, filter, inl, inr, Option, Some, None, Ok, ok_or, refl, sym, ap, ◌∙◌, subst}
+use Rattle.std.proofs.Common.{◌≡◌, ℕ, Bool, true, false, cond, not, ◌&&◌, ◌||◌, List, [], ◌∷◌, find, filter, inl, inr, Option, Some, None, Ok, Err, ok_or, refl, sym, ap, ◌∙◌, subst}
 use Rattle.std.specs.Prelude.{◌⊎◌, if◌then◌else◌}
 use Rattle.std.specs.List.{list_all, list_any}
 use Rattle.std.proofs.lemmas.Bool.{and_parts, false≢true, not-true, or_left, or_parts, or_right}
 use Rattle.std.proofs.lemmas.Cmp.{nat_list_eq_equiv}
+use Rattle.cg_names.specs.declared.code.Code.{Code}
 use Rattle.cg_names.specs.declared.code.Code.TheVariants.{FencedInstanceId, UnknownMemberId}
 use Rattle.cg_member.specs.declared.calls.Calls.TheVariants.{Joins}
 use Rattle.cg_member.specs.declared.group.Group.{Group}
@@ -11,14 +12,16 @@ use Rattle.cg_member.specs.declared.group.Phase.{Phase}
 use Rattle.cg_member.specs.declared.group.Phase.TheVariants.{Empty, Preparing, Completing, Stable}
 use Rattle.cg_member.specs.declared.member.Member.{Member}
 use Rattle.cg_member.specs.declared.turn.Turn.{Turn}
+use Rattle.cg_request.specs.declared.request.LeaveRequest.{LeaveRequest}
 use Rattle.cg_request.specs.declared.ticket.Ticket.{Ticket}
 use Rattle.cg_request.specs.Names.{are_distinct}
-use Rattle.cg_member.specs.Leaving.{after_removal, has_joined, leave_taken, leaver, left, may_be}
+use Rattle.cg_member.specs.Leaving.{after_removal, has_joined, leave_held, leave_taken, leaver, left, may_be}
 use Rattle.cg_member.specs.Members.{ids}
 use Rattle.cg_member.specs.Membership.{find_instance, find_member, has_id, has_instance, is_preparing, is_same, keeping}
 use Rattle.cg_member.specs.Rebalance.{completed, is_ready, prepared, tried}
 use Rattle.cg_member.specs.Refusing.{◌>>=◌, refused_if}
 use Rattle.cg_member.specs.Waiting.{is_waiting}
+use Rattle.cg_turn.specs.Leaving.{IsLeaver}
 use Rattle.cg_turn.proofs.Lagging.{lags, lags-not_all}
 
 -- an id that no member has is not that of a member who was found
@@ -67,30 +70,64 @@ others_after w p (x ∷ xs) m d e h =
           ]) refl h
     ] e
 
--- the member that leaves was found by a test
-module _ (w : Member → Bool) (ms : List Member) (m : Member) (d : are_distinct (ids ms) ≡ true) (h : list_any w ms ≡ true) where
-  abbrev Left : Type 0
-  Left = (list_any w (filter (λ x. not (has_id m.id x)) ms) ≡ true) ⊎ (w m ≡ true)
+-- a member that is found by a test is found by its id
+found_own : (p : Member → Bool) (ms : List Member) (m : Member) → are_distinct (ids ms) ≡ true → find p ms ≡ Some m → find (has_id m.id) ms ≡ Some m
+unfolding are_distinct
+found_own p [] m d e = cc
+found_own p (x ∷ xs) m d e =
+    let parts = and_parts (not (list_any (is_same x.id) (ids xs))) (are_distinct (ids xs)) d in
+    let apart : list_any (is_same x.id) (ids xs) ≡ false = not-true (list_any (is_same x.id) (ids xs)) parts.0 in
+    elim (p x) as (λ b. cond b (Some x) (find p xs) ≡ Some m → find (has_id m.id) (x ∷ xs) ≡ Some m) [
+      | true ↦ λ e.
+          let same : x ≡ m = cc in
+          let P : Member → Type 0 = λ y. find (has_id y.id) (x ∷ xs) ≡ Some y in
+          subst P same (ap (λ b. cond b (Some x) (find (has_id x.id) xs)) (nat_list_eq_equiv.refl x.id))
+      | false ↦ λ e. ap (λ b. cond b (Some x) (find (has_id m.id) xs)) (found_id p xs m x.id e apart) ∙ found_own p xs m parts.1 e
+    ] e
 
-  by_id : (id : List ℕ) (o : Option Member) → find_member id ms ≡ o → ok_or o UnknownMemberId ≡ Ok m → Left
+-- the member that leaves was found by a test
+module _ (ms : List Member) (m : Member) where
+  by_id : (id : List ℕ) (o : Option Member) → find_member id ms ≡ o → ok_or o UnknownMemberId ≡ Ok m → (p : Member → Bool) × (find p ms ≡ Some m)
   unfolding find_member
   by_id id None found e = cc
-  by_id id (Some x) found e = let same : Some x ≡ Some m = cc in others_after w (has_id id) ms m d (found ∙ same) h
+  by_id id (Some x) found e = let same : Some x ≡ Some m = cc in (has_id id, found ∙ same)
 
-  by_instance : (i : List ℕ) (member : Option (List ℕ)) (o : Option Member) → find_instance (Some i) ms ≡ o → (ok_or o UnknownMemberId >>= λ x. refused_if (not (may_be member x.id)) FencedInstanceId >>= λ _. Ok x) ≡ Ok m → Left
+  by_instance : (i : List ℕ) (member : Option (List ℕ)) (o : Option Member) → find_instance (Some i) ms ≡ o → (ok_or o UnknownMemberId >>= λ x. refused_if (not (may_be member x.id)) FencedInstanceId >>= λ _. Ok x) ≡ Ok m
+      → (p : Member → Bool) × (find p ms ≡ Some m)
   unfolding find_instance
   by_instance i member None found e = cc
   by_instance i member (Some x) found e =
-      (elim (may_be member x.id) as (λ b. (refused_if (not b) FencedInstanceId >>= λ _. Ok x) ≡ Ok m → Left) [
-        | true ↦ λ e. let same : Some x ≡ Some m = cc in others_after w (has_instance (Some i)) ms m d (found ∙ same) h
+      (elim (may_be member x.id) as (λ b. (refused_if (not b) FencedInstanceId >>= λ _. Ok x) ≡ Ok m → (p : Member → Bool) × (find p ms ≡ Some m)) [
+        | true ↦ λ e. let same : Some x ≡ Some m = cc in (has_instance (Some i), found ∙ same)
         | false ↦ λ e. cc
       ]) e
 
-  pub others_left : (instance member : Option (List ℕ)) → leaver instance member ms ≡ Ok m → Left
+  found_by : (instance member : Option (List ℕ)) → leaver instance member ms ≡ Ok m → (p : Member → Bool) × (find p ms ≡ Some m)
   unfolding leaver
-  others_left None None e = cc
-  others_left None (Some id) e = by_id id (find_member id ms) refl e
-  others_left (Some i) member e = by_instance i member (find_instance (Some i) ms) refl e
+  found_by None None e = cc
+  found_by None (Some id) e = by_id id (find_member id ms) refl e
+  found_by (Some i) member e = by_instance i member (find_instance (Some i) ms) refl e
+
+  pub others_left : (w : Member → Bool) → are_distinct (ids ms) ≡ true → list_any w ms ≡ true → (instance member : Option (List ℕ)) → leaver instance member ms ≡ Ok m
+      → (list_any w (filter (λ x. not (has_id m.id x)) ms) ≡ true) ⊎ (w m ≡ true)
+  others_left w d h instance member e = let by = found_by instance member e in others_after w by.0 ms m d by.1 h
+
+  pub leaver_found : are_distinct (ids ms) ≡ true → (instance member : Option (List ℕ)) → leaver instance member ms ≡ Ok m → find_member m.id ms ≡ Some m
+  unfolding find_member
+  leaver_found d instance member e = let by = found_by instance member e in found_own by.0 ms m d by.1
+
+-- a LEAVE that is not refused
+module _ (r : LeaveRequest) (g : Group) where
+  pub leaves_by : (m : Member) → are_distinct (ids g.members) ≡ true → leaver r.instance r.member g.members ≡ Ok m → IsLeaver r g m
+  unfolding leave_held
+  leaves_by m d e = record {
+    found = leaver_found g.members m d r.instance r.member e;
+    taken = λ now ticket. ap (λ o. o >>= λ m. Ok (leave_taken now m.id ticket m g)) e;
+  }
+
+  pub leave_refused : (code : Code) → leaver r.instance r.member g.members ≡ Err code → (now : ℕ) (ticket : Ticket) → leave_held now r ticket g ≡ Err code
+  unfolding leave_held
+  leave_refused code e now ticket = ap (λ o. o >>= λ m. Ok (leave_taken now m.id ticket m g)) e
 
 -- those who have not joined yet are still there without the one that leaves
 lags-removed : (id : List ℕ) (ms : List Member) → list_any (lags id) ms ≡ true → list_any (lags id) (filter (λ x. not (has_id id x)) ms) ≡ true

@@ -6,6 +6,7 @@ ghost use Rattle.cg_record.specs.declared.roster.TheConstants.{MEMBERS_MAX};
 ghost use Rattle.cg_member.specs.Membership.{is_named, find_member, find_instance};
 ghost use Rattle.cg_member.specs.Vote.{is_common};
 ghost use Rattle.cg_member.specs.Joining.{drawn, is_inconsistent, join_current, join_known, own_name};
+ghost use Rattle.cg_member.specs.Rebalance.{turned};
 ghost use Rattle.cg_turn.specs.Admission.{is_full, join_placed, join_held, join_unheld};
 
 use crate::bounds::GROUPS_MAX;
@@ -13,13 +14,13 @@ use crate::context::RequestContext;
 use crate::joining::{is_current, join_known, join_new, new_group};
 use crate::replacing::join_replacing;
 use cg_member::checked::CheckedJoin;
-use cg_member::copies::copied_group;
 use cg_member::drawing::{drawn, is_drawn_held};
+use cg_member::effects::Effects;
 use cg_member::fencing::checked_member;
 use cg_member::group::Group;
 use cg_member::member::Member;
 use cg_member::members::Members;
-use cg_member::turn::{Outcome, Turn};
+use cg_member::turn::Turn;
 use cg_member::vote::is_common;
 use cg_names::{Code, GroupId, MemberId, ProtocolName};
 use cg_record::MEMBERS_MAX;
@@ -69,18 +70,17 @@ fn join_placed(
     context: RequestContext,
     r: CheckedJoin,
     id: MemberId,
-    group: &Group,
-) -> Result<Turn, AllocError>
-    requires room { is_full (find_instance r.instance group.now.members) group.now.members ≡ false }
-    requires own_id { is_some (find_member id group.now.members) ≡ false }
-    ensures { IfOk result (λ t. t ≡ join_placed context.now r id context.ticket group.now (find_instance r.instance group.now.members)) }
+    group: &mut Group,
+) -> Result<Effects, AllocError>
+    requires room { is_full (find_instance r.instance group.old.members) group.old.members ≡ false }
+    requires own_id { is_some (find_member id group.old.members) ≡ false }
+    ensures ok { IfOk result (λ e. turned group.new e ≡ join_placed context.now r id context.ticket group.old (find_instance r.instance group.old.members)) }
+    ensures err { OnErr result (group.new ≡ group.old) }
 {
-    match group.members.find_instance(&r.request.instance) {
-        None => {
-            let own = copied_group(context.alloc, group)?;
-            join_new(context, r, id, own)
-        }
-        Some(old) => join_replacing(context, r, id, old, group),
+    if group.members.find_instance(&r.request.instance).is_some() {
+        join_replacing(context, r, id, group)
+    } else {
+        join_new(context, r, id, group)
     }
 }
 
@@ -106,22 +106,21 @@ pub fn stranger_refusal(r: &JoinRequest, fresh: Uuid, group: &Group) -> Option<C
     None
 }
 
-// The refusals come before the first allocation.
 fn join_stranger(
     context: RequestContext,
     r: CheckedJoin,
     fresh: Uuid,
-    group: &Group,
-) -> Result<Outcome, AllocError>
-    ensures ok { IfOk result (λ o. o ≡ join_held context.now r fresh context.ticket None group.now) }
-    ensures err { OnErr result (is_ok (join_held context.now r fresh context.ticket None group.now) ≡ true) }
+    group: &mut Group,
+) -> Result<Effects, AllocError>
+    requires { is_ok (join_held context.now r fresh context.ticket None group.old) ≡ true }
+    ensures ok { IfOk result (λ e. join_held context.now r fresh context.ticket None group.old ≡ Ok (turned group.new e)) }
+    ensures err { OnErr result (group.new ≡ group.old) }
 {
-    if let Some(code) = stranger_refusal(&r.request, fresh, group) {
-        return Ok(Err(code));
+    if stranger_refusal(&r.request, fresh, group).is_some() {
+        unreachable!()
     }
     let id = drawn(context.alloc, &r.request, fresh)?;
-    let turn = join_placed(context, r, id, group)?;
-    Ok(Ok(turn))
+    join_placed(context, r, id, group)
 }
 
 // Returns the member that joins again, with the id that it gives.
@@ -177,28 +176,38 @@ pub fn current_joiner<'a, 'b>(
     }
 }
 
-/// Returns the step of a JOIN in a loaded group, or its error code. Copies the group. Only a JOIN that is not refused
-/// needs an allocation.
-pub fn join_held(
+/// Returns the error code of a JOIN in a loaded group, if it is refused. No allocation.
+pub fn join_refusal(r: &JoinRequest, fresh: Uuid, group: &Group) -> Option<Code>
+    ensures { MatchOption result
+        ((now : ℕ) (ticket : Ticket) → is_ok (join_held now r.now fresh ticket r.now.member group.now) ≡ true)
+        (λ code. (now : ℕ) (ticket : Ticket) → join_held now r.now fresh ticket r.now.member group.now ≡ Err code) }
+{
+    match &r.member {
+        None => stranger_refusal(r, fresh, group),
+        Some(_) => known_joiner(r, group).err(),
+    }
+}
+
+/// Processes a JOIN in a loaded group that does not refuse it (`join_refusal`), in place. If an allocation fails, the group is as it
+/// was.
+pub fn join_in(
     context: RequestContext,
     r: CheckedJoin,
     fresh: Uuid,
-    group: &Group,
-) -> Result<Outcome, AllocError>
-    ensures ok { IfOk result (λ o. o ≡ join_held context.now r fresh context.ticket r.member group.now) }
-    ensures err { OnErr result (is_ok (join_held context.now r fresh context.ticket r.member group.now) ≡ true) }
+    group: &mut Group,
+) -> Result<Effects, AllocError>
+    requires { is_ok (join_held context.now r fresh context.ticket r.member group.old) ≡ true }
+    ensures ok { IfOk result (λ e. join_held context.now r fresh context.ticket r.member group.old ≡ Ok (turned group.new e)) }
+    ensures err { OnErr result (group.new ≡ group.old) }
 {
-    match &r.request.member {
-        None => join_stranger(context, r, fresh, group),
-        Some(_) => match known_joiner(&r.request, group) {
-            Err(code) => Ok(Err(code)),
-            Ok((id, member)) => {
-                let id = id.clone()?;
-                let turn = join_known(context, r, &id, member, group)?;
-                Ok(Ok(turn))
-            }
-        },
+    if r.request.member.is_none() {
+        return join_stranger(context, r, fresh, group);
     }
+    let Ok((id, _)) = known_joiner(&r.request, group) else {
+        unreachable!()
+    };
+    let id = id.clone()?;
+    join_known(context, r, &id, group)
 }
 
 /// Returns the error code of a JOIN in a group that is not loaded, if it is refused. No allocation.
@@ -217,7 +226,8 @@ pub fn unheld_refusal(r: &JoinRequest, loaded: usize) -> Option<Code>
     None
 }
 
-/// Returns the step of a JOIN in a group that is not loaded, or its error code. `loaded` is the number of loaded groups.
+/// Returns the step of a JOIN in a group that is not loaded and is not refused there (`unheld_refusal`). `loaded` is the number of
+/// loaded groups.
 #[tactic(auto, unfolding(crate::specs::Admission::join_unheld, cg_member::specs::Joining::new_group, cg_member::specs::Membership::find_member, cg_member::specs::Membership::find_instance))]
 pub fn join_unheld(
     context: RequestContext,
@@ -225,14 +235,19 @@ pub fn join_unheld(
     fresh: Uuid,
     loaded: usize,
     id: GroupId,
-) -> Result<Outcome, AllocError>
-    ensures ok { IfOk result (λ o. o ≡ join_unheld context.now r fresh context.ticket loaded id) }
-    ensures err { OnErr result (is_ok (join_unheld context.now r fresh context.ticket loaded id) ≡ true) }
+) -> Result<Turn, AllocError>
+    requires { is_ok (join_unheld context.now r fresh context.ticket loaded id) ≡ true }
+    ensures { IfOk result (λ t. join_unheld context.now r fresh context.ticket loaded id ≡ Ok t) }
 {
-    if let Some(code) = unheld_refusal(&r.request, loaded) {
-        return Ok(Err(code));
+    if unheld_refusal(&r.request, loaded).is_some() {
+        unreachable!()
     }
     let member = drawn(context.alloc, &r.request, fresh)?;
-    let turn = join_new(context, r, member, new_group(context.alloc, id))?;
-    Ok(Ok(turn))
+    let mut group = new_group(context.alloc, id);
+    let Effects { commands, replies } = join_new(context, r, member, &mut group)?;
+    Ok(Turn {
+        group,
+        replies,
+        commands,
+    })
 }

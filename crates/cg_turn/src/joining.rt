@@ -1,24 +1,40 @@
-//! JOIN (JoinGroup request) after its checks: a new member, or a known member.
-ghost use Rattle.std.specs.Prelude.{◌≡◌, ◌<◌, false, is_some, length, IfOk};
+//! JOIN (JoinGroup request) after its checks: a new member, or a known member. The group is changed in place.
+ghost use Rattle.std.specs.Prelude.{◌≡◌, ◌<◌, ◌++◌, ℕ, [], Some, false, true, not, filter, is_some, length, IfOk, IfSome, OnErr, OnOk, if◌then◌else◌};
+ghost use Rattle.cg_names.specs.declared.code.Code.TheVariants.{RebalanceInProgress};
 ghost use Rattle.cg_record.specs.declared.roster.TheConstants.{MEMBERS_MAX};
-ghost use Rattle.cg_member.specs.Membership.{find_member, find_instance};
-ghost use Rattle.cg_member.specs.Joining.{new_group, new_member, admitted, in_join_phase, join_new, updating, waiting, rejoined, join_again, join_current, is_current, join_known};
-ghost use Rattle.cg_member.specs.declared.member.Waits.TheVariants.{Join};
+ghost use Rattle.cg_member.specs.Membership.{find_member, find_instance, has_id, with_member};
+ghost use Rattle.cg_member.specs.Joining.{new_group, new_member, admitted, displaced, in_join_phase, join_new, rejoined, join_again, join_current, is_current, join_known, waits_with};
+ghost use Rattle.cg_member.specs.Rebalance.{joined_reply, tried, turn_of, turned};
+ghost use Rattle.cg_member.specs.Waiting.{after_answers, answers, recalled, refusing};
+ghost use Rattle.cg_member.specs.declared.calls.Calls.TheVariants.{Syncs};
+ghost use Rattle.cg_member.specs.declared.member.Member.{Member};
+ghost use Rattle.cg_member.specs.declared.member.Waits.{Waits};
+ghost use Rattle.cg_turn.specs.Entering.{refused_call, with_header};
 
 use crate::context::RequestContext;
-use crate::rebalance::{joined_reply, leads, prepared, tried, turn_of};
+use crate::rebalance::{advance, is_preparing, joined_reply, leads, refuse_syncs};
 use cg_member::answers::{Refusing, answer_one};
 use cg_member::calls::Calls;
 use cg_member::checked::CheckedJoin;
-use cg_member::copies::copied_group;
+use cg_member::effects::Effects;
+use cg_member::few::Few;
 use cg_member::group::{Group, Phase};
 use cg_member::member::{Member, Waits};
 use cg_member::members::Members;
-use cg_member::turn::Turn;
+use cg_member::reply::Reply;
 use cg_names::{Code, Generation, GroupId, MemberId, Moment, ProtocolName};
 use cg_record::{Assignment, MEMBERS_MAX};
 use cg_request::request::JoinRequest;
+use cg_request::ticket::Ticket;
 use std::alloc::{AllocError, Global};
+use std::mem;
+
+/// The protocol type and the leader of a group.
+#[derive(Drop)]
+pub struct Header {
+    kind: Option<ProtocolName>,
+    leader: Option<MemberId>,
+}
 
 /// Creates a group without members, without an allocation.
 #[tactic(auto, unfolding(cg_member::specs::Joining::new_group))]
@@ -64,45 +80,74 @@ pub fn new_member(
     (member, request.kind)
 }
 
-// Appends the member; in a group without members it leads, and its type is the group's.
+// Appends the member; in a group without members it leads, and its type is the group's. Returns the type and the leader that the
+// group had, where they changed.
 #[tactic(auto, unfolding(cg_member::specs::Joining::admitted))]
-fn admitted(member: Member, kind: ProtocolName, mut group: Group) -> Result<Group, AllocError>
-    requires room { length group.members < MEMBERS_MAX }
-    requires own_id { is_some (find_member member.id group.members) ≡ false }
-    requires own_instance { is_some (find_instance member.instance group.members) ≡ false }
-    ensures { IfOk result (λ g. g ≡ admitted member kind group) }
+fn admit(
+    member: Member,
+    kind: ProtocolName,
+    group: &mut Group,
+) -> Result<Option<Header>, AllocError>
+    requires room { length group.old.members < MEMBERS_MAX }
+    requires own_id { is_some (find_member member.id group.old.members) ≡ false }
+    requires own_instance { is_some (find_instance member.instance group.old.members) ≡ false }
+    ensures ok { OnOk result (group.new ≡ admitted member kind group.old) }
+    ensures before { IfOk result (λ h. with_header h group.new ≡ record group.old { members = group.new.members }) }
+    ensures err { OnErr result (group.new ≡ group.old) }
 {
-    if group.members.len() == 0 {
-        let leader = member.id.clone()?;
-        group.leader = Some(leader);
-        group.kind = Some(kind);
+    if group.members.len() != 0 {
+        group.members.push(member)?;
+        return Ok(None);
     }
+    let leader = member.id.clone()?;
     group.members.push(member)?;
-    Ok(group)
+    let kind = mem::replace(&mut group.kind, Some(kind));
+    let leader = mem::replace(&mut group.leader, Some(leader));
+    Ok(Some(Header { kind, leader }))
 }
 
-fn in_join_phase(now: Moment, turn: Turn) -> Result<Turn, AllocError>
-    ensures { IfOk result (λ t. t ≡ in_join_phase now turn) }
+// Removes the member again, and puts the type and the leader back.
+fn expel(id: &MemberId, header: Option<Header>, group: &mut Group)
+    ensures { group.new ≡ with_header header (record group.old { members = filter (λ m. not (has_id id.now m)) group.old.members }) }
 {
-    match turn.group.phase {
-        Phase::Preparing => Ok(turn),
-        _ => prepared(now, turn),
+    group.members.remove(id);
+    if let Some(Header { kind, leader }) = header {
+        group.kind = kind;
+        group.leader = leader;
     }
 }
 
-/// Returns the step of a JOIN by a new member.
+// Carries on the rebalance that the new member has joined, which begins if none is under way.
+#[tactic(auto, unfolding(cg_member::specs::Rebalance::prepared))]
+fn carry_on(context: RequestContext, group: &mut Group) -> Result<Effects, AllocError>
+    ensures ok { IfOk result (λ e. turned group.new e ≡ tried context.now (in_join_phase context.now (turn_of group.old))) }
+    ensures err { OnErr result (group.new ≡ group.old) }
+{
+    let RequestContext { alloc, now, .. } = context;
+    let mut effects = Effects::new(alloc);
+    let begins = !is_preparing(group.phase);
+    if begins {
+        refuse_syncs(group.members.as_slice(), &mut effects.replies)?;
+    }
+    advance(alloc, now, begins, group, &mut effects)?;
+    Ok(effects)
+}
+
+/// Processes a JOIN of a new member, in place. If an allocation fails, the group is as it was.
 #[tactic(auto, unfolding(cg_member::specs::Joining::join_new, cg_member::specs::Joining::new_member))]
 pub fn join_new(
     context: RequestContext,
     r: CheckedJoin,
     id: MemberId,
-    group: Group,
-) -> Result<Turn, AllocError>
-    requires room { length group.members < MEMBERS_MAX }
-    requires own_id { is_some (find_member id group.members) ≡ false }
-    requires own_instance { is_some (find_instance r.instance group.members) ≡ false }
-    ensures { IfOk result (λ t. t ≡ join_new context.now r id context.ticket group) }
+    group: &mut Group,
+) -> Result<Effects, AllocError>
+    requires room { length group.old.members < MEMBERS_MAX }
+    requires own_id { is_some (find_member id group.old.members) ≡ false }
+    requires own_instance { is_some (find_instance r.instance group.old.members) ≡ false }
+    ensures ok { IfOk result (λ e. turned group.new e ≡ join_new context.now r id context.ticket group.old) }
+    ensures err { OnErr result (group.new ≡ group.old) }
 {
+    let own = id.clone()?;
     let (member, kind) = new_member(
         context.now,
         r,
@@ -110,70 +155,119 @@ pub fn join_new(
         Assignment::empty(context.alloc),
         Waits::Join(context.ticket),
     );
-    let group = admitted(member, kind, group)?;
-    let turn = in_join_phase(context.now, turn_of(context.alloc, group))?;
-    tried(context.alloc, context.now, turn)
-}
-
-#[tactic(auto, unfolding(cg_member::specs::Joining::updating))]
-fn updating(r: CheckedJoin, id: &MemberId, mut group: Group) -> Group
-    ensures { result ≡ updating r id.now group }
-{
-    group.members.update(id, r);
-    group
-}
-
-/// Parks a call of the member. An older parked call gets 27.
-#[tactic(auto, unfolding(cg_member::specs::Joining::waiting))]
-pub fn waiting(now: Moment, id: &MemberId, waits: Waits, mut turn: Turn) -> Result<Turn, AllocError>
-    ensures { IfOk result (λ t. t ≡ waiting now id.now waits turn) }
-{
-    if let Some(member) = turn.group.members.find(id) {
-        let refusing = Refusing(Code::RebalanceInProgress);
-        answer_one(Calls::Any, &refusing, member, &mut turn.replies)?;
+    let header = admit(member, kind, group)?;
+    match carry_on(context, group) {
+        Ok(effects) => Ok(effects),
+        Err(wanting) => {
+            expel(&own, header, group);
+            Err(wanting)
+        }
     }
-    turn.group.members.wait(id, waits, now);
-    Ok(turn)
 }
 
-/// Parks the JOIN in the rebalance, which begins if none is under way and completes if all members have joined.
-#[tactic(auto, unfolding(cg_member::specs::Joining::rejoined))]
-pub fn rejoined(context: RequestContext, id: &MemberId, turn: Turn) -> Result<Turn, AllocError>
-    ensures { IfOk result (λ t. t ≡ rejoined context.now id.now context.ticket turn) }
+// Appends the refusal of the member's parked call, if it is one of these.
+fn refuse_call(
+    which: Calls,
+    id: &MemberId,
+    members: &Members,
+    replies: &mut Few<(Ticket, Reply)>,
+) -> Result<(), AllocError>
+    ensures { OnOk result (replies.new ≡ replies.old ++ refused_call which (find_member id.now members.now)) }
 {
-    let turn = in_join_phase(context.now, turn)?;
-    let turn = waiting(context.now, id, Waits::Join(context.ticket), turn)?;
-    tried(context.alloc, context.now, turn)
+    if let Some(member) = members.find(id) {
+        let refusing = Refusing(Code::RebalanceInProgress);
+        answer_one(which, &refusing, member, replies)?;
+    }
+    Ok(())
 }
 
-#[tactic(auto, unfolding(cg_member::specs::Joining::join_again))]
+// Appends the refusals by a JOIN of the member that is parked: of every parked SYNC if a rebalance begins, then of an older call of
+// the member.
+fn refuse_older(
+    begins: bool,
+    id: &MemberId,
+    members: &Members,
+    replies: &mut Few<(Ticket, Reply)>,
+) -> Result<(), AllocError>
+    ensures { OnOk result ((now : ℕ) → replies.new ≡ (replies.old ++ (if begins then answers Syncs (refusing RebalanceInProgress) members.now else []))
+        ++ displaced (find_member id.now (if begins then after_answers Syncs now members.now else members.now))) }
+{
+    if begins {
+        refuse_syncs(members.as_slice(), replies)?;
+        refuse_call(Calls::Joins, id, members, replies)?;
+    } else {
+        refuse_call(Calls::Any, id, members, replies)?;
+    }
+    Ok(())
+}
+
+// Returns the moment at which the member was last heard, and its parked call.
+fn call_of(id: &MemberId, members: &Members) -> (Moment, Waits)
+    ensures { (now : ℕ) (w : Waits) → with_member id.now (recalled result.0 result.1) (with_member id.now (waits_with now w) members.now) ≡ members.now }
+{
+    match members.find(id) {
+        None => (Moment::from_millis(0), Waits::Nothing),
+        Some(member) => (member.heard, member.waits),
+    }
+}
+
+/// Parks the JOIN in the rebalance, which begins if none is under way and completes if all members have joined, in place. If an
+/// allocation fails, the group is as it was.
+#[tactic(auto, unfolding(cg_member::specs::Joining::rejoined))]
+pub fn rejoin(
+    context: RequestContext,
+    id: &MemberId,
+    group: &mut Group,
+    effects: &mut Effects,
+) -> Result<(), AllocError>
+    ensures ok { OnOk result (turned group.new effects.new ≡ rejoined context.now id.now context.ticket (turned group.old effects.old)) }
+    ensures err { OnErr result (group.new ≡ group.old) }
+{
+    let RequestContext { alloc, now, ticket } = context;
+    let begins = !is_preparing(group.phase);
+    refuse_older(begins, id, &group.members, &mut effects.replies)?;
+    let (heard, waits) = call_of(id, &group.members);
+    group.members.wait(id, Waits::Join(ticket), now);
+    match advance(alloc, now, begins, group, effects) {
+        Ok(()) => Ok(()),
+        Err(wanting) => {
+            group.members.recall(id, heard, waits);
+            Err(wanting)
+        }
+    }
+}
+
+#[tactic(auto, unfolding(cg_member::specs::Joining::join_again, cg_member::specs::Joining::updating))]
 fn join_again(
     context: RequestContext,
     r: CheckedJoin,
     id: &MemberId,
-    group: Group,
-) -> Result<Turn, AllocError>
-    ensures { IfOk result (λ t. t ≡ join_again context.now r id.now context.ticket group) }
+    group: &mut Group,
+) -> Result<Effects, AllocError>
+    ensures ok { IfOk result (λ e. turned group.new e ≡ join_again context.now r id.now context.ticket group.old) }
+    ensures err { OnErr result (group.new ≡ group.old) }
 {
-    let turn = turn_of(context.alloc, updating(r, id, group));
-    rejoined(context, id, turn)
+    let before = group.members.exchange_terms(id, r);
+    let mut effects = Effects::new(context.alloc);
+    match rejoin(context, id, group, &mut effects) {
+        Ok(()) => Ok(effects),
+        Err(wanting) => {
+            let _again = group.members.exchange_terms(id, before);
+            Err(wanting)
+        }
+    }
 }
 
-// The machine answers such a JOIN without a copy of the group (`current_joiner`); the contract of `join_held` has every JOIN.
+// The machine answers such a JOIN before (`current_joiner`); the contract of `join_in` has every JOIN.
 #[tactic(auto, unfolding(cg_member::specs::Joining::join_current, cg_member::specs::Membership::hearing))]
-fn join_current(
-    context: RequestContext,
-    id: &MemberId,
-    member: &Member,
-    group: &Group,
-) -> Result<Turn, AllocError>
-    ensures { IfOk result (λ t. t ≡ join_current context.now id.now context.ticket member.now group.now) }
+fn join_current(context: RequestContext, id: &MemberId, reply: Reply, group: &mut Group) -> Effects
+    ensures { (m : Member) → reply ≡ joined_reply group.old m → turned group.new result ≡ join_current context.now id.now context.ticket m group.old }
 {
-    let reply = joined_reply(context.alloc, group, member)?;
-    let mut turn = turn_of(context.alloc, copied_group(context.alloc, group)?);
-    turn.group.members.hear(id, context.now);
-    turn.replies.push((context.ticket, reply))?;
-    Ok(turn)
+    group.members.hear(id, context.now);
+    Effects {
+        commands: Few::new(context.alloc),
+        replies: Few::one(context.alloc, (context.ticket, reply)),
+    }
 }
 
 /// Returns whether a known member's JOIN changes nothing, so that it gets the current generation at once.
@@ -190,20 +284,41 @@ pub fn is_current(r: &JoinRequest, member: &Member, group: &Group) -> bool
     }
 }
 
-/// Returns the step of a JOIN by a known member. Copies the group.
+// Returns the reply to a JOIN of the member that changes nothing, or `None` if it changes something.
+fn current_reply(
+    alloc: Global,
+    r: &JoinRequest,
+    id: &MemberId,
+    group: &Group,
+) -> Result<Option<Reply>, AllocError>
+    requires { is_some (find_member id.now group.now.members) ≡ true }
+    ensures current { IfOk result (λ o. (m : Member) → find_member id.now group.now.members ≡ Some m → is_some o ≡ is_current r.now m group.now group.now.phase) }
+    ensures reply { IfOk result (λ o. IfSome o (λ reply. (m : Member) → find_member id.now group.now.members ≡ Some m → reply ≡ joined_reply group.now m)) }
+{
+    let Some(member) = group.members.find(id) else {
+        return Ok(None);
+    };
+    if !is_current(r, member, group) {
+        return Ok(None);
+    }
+    let reply = joined_reply(alloc, group, member)?;
+    Ok(Some(reply))
+}
+
+/// Processes a JOIN of a known member, in place. If an allocation fails, the group is as it was.
 #[tactic(auto, unfolding(cg_member::specs::Joining::join_known))]
 pub fn join_known(
     context: RequestContext,
     r: CheckedJoin,
     id: &MemberId,
-    member: &Member,
-    group: &Group,
-) -> Result<Turn, AllocError>
-    ensures { IfOk result (λ t. t ≡ join_known context.now r id.now context.ticket member.now group.now) }
+    group: &mut Group,
+) -> Result<Effects, AllocError>
+    requires { is_some (find_member id.now group.old.members) ≡ true }
+    ensures ok { IfOk result (λ e. (m : Member) → find_member id.now group.old.members ≡ Some m → turned group.new e ≡ join_known context.now r id.now context.ticket m group.old) }
+    ensures err { OnErr result (group.new ≡ group.old) }
 {
-    if is_current(&r.request, member, group) {
-        join_current(context, id, member, group)
-    } else {
-        join_again(context, r, id, copied_group(context.alloc, group)?)
+    match current_reply(context.alloc, &r.request, id, group)? {
+        Some(reply) => Ok(join_current(context, id, reply, group)),
+        None => join_again(context, r, id, group),
     }
 }

@@ -1,28 +1,32 @@
 //! LEAVE (LeaveGroup request), and closed sessions.
-ghost use Rattle.std.specs.Prelude.{◌≡◌, ◌⊎◌, ℕ, Bool, Ok, Err, Some, true, not, filter, is_ok, IfOk, OnErr, MatchOption, MatchResult, ⊤};
-ghost use Rattle.cg_member.specs.Leaving.{after_removal, left, leave_taken, may_be, leaver, leave_held, gone_in};
+ghost use Rattle.std.specs.Prelude.{◌≡◌, ◌⊎◌, ℕ, Bool, is_some, Ok, Err, Some, true, not, filter, is_ok, IfOk, OnErr, MatchOption, MatchResult, ⊤};
+ghost use Rattle.cg_member.specs.Leaving.{has_joined, left, leave_taken, may_be, leaver, leave_held};
 ghost use Rattle.cg_turn.specs.Touching.{gone_touches};
-ghost use Rattle.cg_member.specs.Membership.{has_id, is_named, keeping, leader_among};
+ghost use Rattle.cg_member.specs.Membership.{find_member, has_id, is_named, keeping, leader_among};
+ghost use Rattle.cg_member.specs.Rebalance.{begun, tried, turned};
+ghost use Rattle.cg_turn.specs.Leaving.{IsLeaver, left_effects, left_replies};
+ghost use Rattle.cg_turn.specs.Rounds.{IsPlan, among};
 ghost use Rattle.std.specs.List.{list_any};
 ghost use Rattle.cg_member.specs.declared.member.Member.{Member};
 ghost use Rattle.cg_request.specs.declared.ticket.Ticket.{Ticket};
 
 use crate::context::RequestContext;
 use crate::parking::waits_for_others;
-use crate::rebalance::{is_preparing, leads, prepared, tried, turn_of};
-use cg_member::answers::{Refusing, answer_all, answer_one};
+use crate::rebalance::{Round, carry_out, is_preparing, leads, planned, refuse_syncs};
+use cg_member::answers::{Refusing, answer_one};
 use cg_member::calls::{Calls, is_waiting};
-use cg_member::copies::copied_group;
+use cg_member::effects::Effects;
 use cg_member::few::Few;
 use cg_member::group::{Group, Phase};
 use cg_member::member::Member;
 use cg_member::members::Members;
+use cg_member::parted::Parted;
 use cg_member::reply::Reply;
-use cg_member::turn::{Outcome, Turn};
 use cg_names::{Code, InstanceId, MemberId, Moment};
 use cg_request::request::LeaveRequest;
 use cg_request::ticket::Ticket;
 use std::alloc::{AllocError, Global};
+use std::mem;
 
 fn has_leader(group: &Group) -> bool
     ensures { result ≡ list_any (λ m. is_named group.now.leader m.id) group.now.members }
@@ -48,60 +52,112 @@ pub fn remove_member(id: &MemberId, group: &mut Group)
     check_leader(group);
 }
 
-/// Starts a rebalance if the members had joined, and completes it if all remaining members have joined.
-#[tactic(auto, unfolding(cg_member::specs::Leaving::after_removal))]
-pub fn after_removal(alloc: Global, now: Moment, turn: Turn) -> Result<Turn, AllocError>
-    ensures { IfOk result (λ t. t ≡ after_removal now turn) }
-{
-    let turn = match turn.group.phase {
-        Phase::Completing | Phase::Stable => prepared(now, turn)?,
-        _ => turn,
-    };
-    tried(alloc, now, turn)
-}
-
-fn without(alloc: Global, id: &MemberId, group: &Group) -> Result<Group, AllocError>
-    ensures { IfOk result (λ g. g ≡ keeping (λ other. not (has_id id.now other)) group.now) }
-{
-    let mut own = copied_group(alloc, group)?;
-    remove_member(id, &mut own);
-    Ok(own)
-}
-
-#[tactic(auto, unfolding(cg_member::specs::Leaving::left))]
-fn left(
+// Returns the replies of a LEAVE: 25 to the parked call of the member, if there is one, and OK.
+fn left_replies(
     alloc: Global,
-    id: &MemberId,
     ticket: Ticket,
     member: &Member,
-    group: &Group,
-) -> Result<Turn, AllocError>
-    ensures { IfOk result (λ t. t ≡ left id.now ticket member.now group.now) }
+) -> Result<Few<(Ticket, Reply)>, AllocError>
+    ensures { IfOk result (λ replies. replies ≡ left_replies ticket member.now) }
 {
-    let group = without(alloc, id, group)?;
     let mut replies = Few::new(alloc);
     let refusing = Refusing(Code::UnknownMemberId);
     answer_one(Calls::Any, &refusing, member, &mut replies)?;
     replies.push((ticket, Reply::Done))?;
-    Ok(Turn {
-        group,
-        replies,
+    Ok(replies)
+}
+
+/// Returns whether the removal of a member starts a rebalance.
+pub fn has_joined(phase: Phase) -> bool
+    ensures { result ≡ has_joined phase }
+{
+    matches!(phase, Phase::Completing | Phase::Stable)
+}
+
+// Returns the replies of a LEAVE, and those with which a rebalance begins, if it does.
+fn left_effects(
+    alloc: Global,
+    ticket: Ticket,
+    begins: bool,
+    parted: &Parted,
+) -> Result<Effects, AllocError>
+    ensures { IfOk result (λ e. e ≡ left_effects begins ticket parted.now.member parted.now.others) }
+{
+    let mut replies = left_replies(alloc, ticket, parted.member())?;
+    if begins {
+        refuse_syncs(parted.others(), &mut replies)?;
+    }
+    Ok(Effects {
         commands: Few::new(alloc),
+        replies,
     })
 }
 
-#[tactic(auto, unfolding(cg_member::specs::Leaving::leave_taken))]
+// Works out what follows from the LEAVE for the other members: the effects, and the round if the rebalance completes.
+fn plan_without(
+    alloc: Global,
+    ticket: Ticket,
+    begins: bool,
+    group: &Group,
+    parted: &Parted,
+) -> Result<(Effects, Option<Round>), AllocError>
+    ensures { IfOk result (λ p. IsPlan begins (among parted.now.others group.now)
+        (left_effects begins ticket parted.now.member parted.now.others) p.1 p.0) }
+{
+    let mut effects = left_effects(alloc, ticket, begins, parted)?;
+    let round = planned(alloc, begins, group, parted.others(), &mut effects)?;
+    Ok((effects, round))
+}
+
+// Removes the member that is out of the group, or puts it back if an allocation fails.
+#[tactic(auto, using(crate::proofs::Rounds::plan_holds, crate::proofs::Rounds::plan_unled))]
+fn leave_parted(
+    context: RequestContext,
+    parted: Parted,
+    group: &mut Group,
+) -> Result<Effects, AllocError>
+    ensures ok { IfOk result (λ e.
+        let begins : Bool = has_joined group.old.phase in
+        turned group.new e ≡ tried context.now (turned
+        (begun begins context.now (record group.old { members = parted.others; leader = leader_among parted.others group.old.leader }))
+        (left_effects begins context.ticket parted.member parted.others))) }
+    ensures err { OnErr result (group.new ≡ among parted.whole group.old) }
+{
+    let RequestContext { alloc, now, ticket } = context;
+    let begins = has_joined(group.phase);
+    match plan_without(alloc, ticket, begins, group, &parted) {
+        Err(error) => {
+            group.members = parted.whole();
+            Err(error)
+        }
+        Ok((effects, round)) => {
+            group.members = parted.rest();
+            check_leader(group);
+            carry_out(now, begins, round, group);
+            Ok(effects)
+        }
+    }
+}
+
+// Removes the member with this id: a rebalance begins or goes on without it. If an allocation fails, the group is as it was.
 fn leave_taken(
     context: RequestContext,
     id: &MemberId,
-    member: &Member,
-    group: &Group,
-) -> Result<Turn, AllocError>
-    ensures { IfOk result (λ t. t ≡ leave_taken context.now id.now context.ticket member.now group.now) }
+    group: &mut Group,
+) -> Result<Effects, AllocError>
+    requires { is_some (find_member id.now group.old.members) ≡ true }
+    ensures ok { IfOk result (λ e. (m : Member) → find_member id.now group.old.members ≡ Some m →
+        turned group.new e ≡ leave_taken context.now m.id context.ticket m group.old) }
+    ensures err { OnErr result (group.new ≡ group.old) }
 {
-    let turn = left(context.alloc, id, context.ticket, member, group)?;
-    let turn = after_removal(context.alloc, context.now, turn)?;
-    Ok(turn)
+    let members = mem::replace(&mut group.members, Members::new(context.alloc));
+    match Parted::new(members, id) {
+        Err(_) => unreachable!(),
+        Ok(parted) => {
+            let effects = leave_parted(context, parted, group)?;
+            Ok(effects)
+        }
+    }
 }
 
 // Returns whether no id is given, or this one.
@@ -154,24 +210,44 @@ fn leaver<'a>(r: &LeaveRequest, members: &'a Members) -> Result<&'a Member, Code
     }
 }
 
-/// Returns the step of a LEAVE in a loaded group, or its error code. Copies the group. Only a LEAVE that is not refused
-/// needs an allocation.
-#[tactic(auto, unfolding(cg_member::specs::Leaving::leave_held))]
-pub fn leave_held(
+// Returns the member that a LEAVE in the group removes, or the error code of the LEAVE. No allocation.
+fn leaving<'a>(r: &LeaveRequest, group: &'a Group) -> Result<&'a Member, Code>
+    ensures { MatchResult result
+        (λ m. IsLeaver r.now group.now m.now)
+        (λ code. (now : ℕ) (ticket : Ticket) → leave_held now r.now ticket group.now ≡ Err code) }
+{
+    let _members = group.members.as_slice();
+    match leaver(r, &group.members) {
+        Err(code) => Err(code),
+        Ok(member) => Ok(member),
+    }
+}
+
+/// Returns the error code of a LEAVE in a loaded group, if it is refused. No allocation.
+pub fn leave_refusal(r: &LeaveRequest, group: &Group) -> Option<Code>
+    ensures { MatchOption result
+        ((now : ℕ) (ticket : Ticket) → is_ok (leave_held now r.now ticket group.now) ≡ true)
+        (λ code. (now : ℕ) (ticket : Ticket) → leave_held now r.now ticket group.now ≡ Err code) }
+{
+    leaving(r, group).err()
+}
+
+/// Processes a LEAVE in a loaded group that does not refuse it (`leave_refusal`), in place. If an allocation fails, the group is as
+/// it was.
+pub fn leave_in(
     context: RequestContext,
     r: &LeaveRequest,
-    group: &Group,
-) -> Result<Outcome, AllocError>
-    ensures ok { IfOk result (λ o. o ≡ leave_held context.now r.now context.ticket group.now) }
-    ensures err { OnErr result (is_ok (leave_held context.now r.now context.ticket group.now) ≡ true) }
+    group: &mut Group,
+) -> Result<Effects, AllocError>
+    requires { is_ok (leave_held context.now r.now context.ticket group.old) ≡ true }
+    ensures ok { IfOk result (λ e. leave_held context.now r.now context.ticket group.old ≡ Ok (turned group.new e)) }
+    ensures err { OnErr result (group.new ≡ group.old) }
 {
-    match leaver(r, &group.members) {
-        Err(code) => Ok(Err(code)),
-        Ok(member) => {
-            let turn = leave_taken(context, &member.id, member, group)?;
-            Ok(Ok(turn))
-        }
-    }
+    let Ok(member) = leaving(r, group) else {
+        unreachable!()
+    };
+    let id = member.id.clone()?;
+    leave_taken(context, &id, group)
 }
 
 /// Returns the member that a LEAVE only removes: a rebalance is under way, and another member has not joined yet. `None` for
@@ -204,21 +280,4 @@ pub fn gone_touches(session: u64, group: &Group) -> bool
         .as_slice()
         .iter()
         .any(|m| is_waiting(which, m))
-}
-
-/// Returns the step of a closed session in one group: its parked calls get 15. Copies the group.
-#[tactic(auto, unfolding(cg_member::specs::Leaving::gone_in))]
-pub fn gone_in(alloc: Global, now: Moment, session: u64, group: &Group) -> Result<Turn, AllocError>
-    ensures { IfOk result (λ t. t ≡ gone_in now session group.now) }
-{
-    let mut turn = turn_of(alloc, copied_group(alloc, group)?);
-    let refusing = Refusing(Code::CoordinatorNotAvailable);
-    answer_all(
-        Calls::OfSession(session),
-        &refusing,
-        group.members.as_slice(),
-        &mut turn.replies,
-    )?;
-    turn.group.members.answer(Calls::OfSession(session), now);
-    Ok(turn)
 }

@@ -1,6 +1,6 @@
-//! The steps of one group: a JOIN, a LEAVE, a SYNC, a closed session or a tick returns the changed group with its replies
-//! and commands. Of a BEAT, a COMMIT, a SYNC that is only parked, and a JOIN or LEAVE that changes, adds or removes one
-//! member alone, the checks and the command are here, and `cg_group` changes the group in place.
+//! The steps of one group: a JOIN, a LEAVE or the SYNC of a leader changes the group in place, a tick a copy of it, and returns the
+//! replies and commands. Of a BEAT, a COMMIT, and a request that is only parked, the checks and the command are here, and `cg_group`
+//! changes the group.
 //! The functions implement the definitions in `specs/`, here and in `cg_member`.
 #![tactic(auto)]
 

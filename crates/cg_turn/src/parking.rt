@@ -1,53 +1,24 @@
-//! Requests that are only parked: they change or add one member, and no rebalance begins or ends with them.
+//! JOINs that are only parked: they change or add one member, and no rebalance begins or ends with them.
 ghost use Rattle.std.specs.Prelude.{◌≡◌, ◌&&◌, ℕ, List, Some, Ok, not, true, IfSome, MatchOption, ⊤};
 ghost use Rattle.std.specs.List.{list_any};
 ghost use Rattle.cg_member.specs.Joining.{drawn, own_name, updating, waiting};
-ghost use Rattle.cg_member.specs.Membership.{find_member, has_id, hearing};
+ghost use Rattle.cg_member.specs.Membership.{find_member, has_id};
 ghost use Rattle.cg_member.specs.Rebalance.{turn_of};
-ghost use Rattle.cg_member.specs.Syncing.{sync_held};
 ghost use Rattle.cg_member.specs.Waiting.{is_waiting};
 ghost use Rattle.cg_member.specs.declared.calls.Calls.TheVariants.{Joins};
-ghost use Rattle.cg_member.specs.declared.member.Waits.TheVariants.{Join, Sync};
+ghost use Rattle.cg_member.specs.declared.member.Waits.TheVariants.{Join};
 ghost use Rattle.cg_request.specs.declared.ticket.Ticket.{Ticket};
 ghost use Rattle.cg_turn.specs.Admission.{join_held};
 ghost use Rattle.cg_turn.specs.Entering.{HasPlace, entered};
 
 use crate::admission::{rejoiner, stranger_refusal};
-use crate::rebalance::{is_preparing, leads};
+use crate::rebalance::is_preparing;
 use cg_member::calls::{Calls, is_waiting};
-use cg_member::fencing::checked_member;
 use cg_member::group::{Group, Phase};
 use cg_member::member::Member;
 use cg_names::MemberId;
-use cg_request::request::{JoinRequest, SyncRequest};
+use cg_request::request::JoinRequest;
 use uuid::Uuid;
-
-/// Returns the member whose SYNC is only parked, with the id that the SYNC gives: a follower, before the SYNC of its leader.
-/// No allocation.
-#[tactic(auto, unfolding(cg_member::specs::Syncing::sync_held, cg_member::specs::Syncing::sync_taken, cg_member::specs::Syncing::sync_waits))]
-pub fn parking_syncer<'a, 'b>(
-    r: &'a SyncRequest,
-    group: &'b Group,
-) -> Option<(&'a MemberId, &'b Member)>
-    ensures parked { MatchOption result ⊤
-        (λ who. (now : ℕ) (ticket : Ticket) → sync_held now r.now ticket group.now ≡ Ok (waiting now who.0.now (Sync ticket) (turn_of (hearing now who.0.now group.now)))) }
-    ensures found { IfSome result (λ who. find_member who.0.now group.now.members ≡ Some who.1.now) }
-{
-    match group.phase {
-        Phase::Completing => {}
-        _ => return None,
-    }
-    let Ok((id, member)) = checked_member(&r.instance, &r.member, &group.members) else {
-        return None;
-    };
-    if i64::from(r.generation) != i64::from(group.generation.get()) {
-        return None;
-    }
-    if leads(group, member) {
-        return None;
-    }
-    Some((id, member))
-}
 
 /// Returns whether a member other than this one has not joined yet.
 pub fn waits_for_others(id: &MemberId, members: &[Member]) -> bool

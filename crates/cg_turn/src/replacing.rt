@@ -1,32 +1,47 @@
-//! JOIN that replaces the member with the same instance (KIP-345).
-ghost use Rattle.std.specs.Prelude.{◌≡◌, ◌++◌, ◌∷◌, [], Some, false, is_some, IfOk, IsSome, OnOk, if◌then◌else◌};
+//! JOIN that replaces the member with the same instance (KIP-345), in place.
+ghost use Rattle.std.specs.Prelude.{◌≡◌, ◌++◌, ◌∷◌, [], Some, None, true, false, is_some, unwrap_or, IfOk, IsSome, OnErr, OnOk, if◌then◌else◌};
 ghost use Rattle.std.specs.List.{list_any};
+ghost use Rattle.cg_names.specs.declared.code.Code.TheVariants.{FencedInstanceId};
 ghost use Rattle.cg_member.specs.Joining.{new_member, rejoined};
-ghost use Rattle.cg_member.specs.Membership.{find_member};
-ghost use Rattle.cg_member.specs.Replacing.{leads_and_goes, replacing, is_protocol, keeps_generation, successor, replaced, replaced_command, replaced_reply, replaced_in_place, join_replacing};
+ghost use Rattle.cg_member.specs.Members.{AreMembers};
+ghost use Rattle.cg_member.specs.Membership.{find_instance, find_member};
+ghost use Rattle.cg_member.specs.Rebalance.{turned};
+ghost use Rattle.cg_member.specs.Replacing.{leads_and_goes, replacing, seating, is_protocol, keeps_generation, successor, replaced_command, replaced_reply, replaced_in_place, join_replacing};
 ghost use Rattle.cg_member.specs.Syncing.{kept_member};
+ghost use Rattle.cg_member.specs.Waiting.{answer, refusing};
+ghost use Rattle.cg_member.specs.declared.calls.Calls.TheVariants.{Any};
+ghost use Rattle.cg_member.specs.declared.member.Member.{Member};
+ghost use Rattle.cg_turn.specs.Entering.{put_back};
 
 use crate::context::RequestContext;
-use crate::joining::{new_member, rejoined};
+use crate::joining::{new_member, rejoin};
 use crate::rebalance::leads;
 use crate::syncing::kept_member;
 use cg_member::answers::{Refusing, answer_one};
 use cg_member::boxed::Boxed;
 use cg_member::calls::Calls;
 use cg_member::checked::CheckedJoin;
-use cg_member::copies::{copied_group, copied_name};
+use cg_member::copies::copied_name;
+use cg_member::effects::Effects;
 use cg_member::few::Few;
 use cg_member::group::{Group, Phase};
 use cg_member::member::{Member, Waits};
 use cg_member::members::has_instance;
 use cg_member::reply::{Joined, Reply};
-use cg_member::turn::Turn;
 use cg_member::vote::elected;
 use cg_names::{Code, MemberId, Moment, ProtocolName};
 use cg_record::{Command, Replaced, StaticMember};
 use cg_request::listed::Listed;
 use cg_request::ticket::Ticket;
 use std::alloc::{AllocError, Global};
+use std::mem;
+
+/// What a replacement took from the group: the member, and the lead if the member led.
+#[derive(Drop)]
+struct Seat {
+    member: Member,
+    lead: Option<Option<MemberId>>,
+}
 
 // Returns whether the replaced member leads.
 fn leader_goes(new: &Member, group: &Group) -> bool
@@ -39,18 +54,48 @@ fn leader_goes(new: &Member, group: &Group) -> bool
         .any(|m| has_instance(&new.instance, m) && leads(group, m))
 }
 
-// Puts the new member into the position of the old one, with the lead if the old one led.
-#[tactic(auto, unfolding(cg_member::specs::Replacing::replacing))]
-fn replacing(new: Member, mut group: Group) -> Result<Group, AllocError>
-    requires own_id { is_some (find_member new.id group.members) ≡ false }
-    ensures { IfOk result (λ g. g ≡ replacing new group) }
+// Returns the id of the new member if it is to lead.
+fn heir(new: &Member, group: &Group) -> Result<Option<MemberId>, AllocError>
+    ensures { IfOk result (λ id. id ≡ if list_any (leads_and_goes new.now group.now) group.now.members then Some new.now.id else None) }
 {
-    if leader_goes(&new, &group) {
-        let leader = new.id.clone()?;
-        group.leader = Some(leader);
+    if leader_goes(new, group) {
+        let id = new.id.clone()?;
+        Ok(Some(id))
+    } else {
+        Ok(None)
     }
-    group.members.replace(new);
-    Ok(group)
+}
+
+// Puts the new member into the position of the old one, with the lead if the old one led. Returns what the group had there.
+#[tactic(auto, unfolding(cg_member::specs::Replacing::replacing))]
+fn replace_in(new: Member, group: &mut Group) -> Result<Seat, AllocError>
+    requires own_id { is_some (find_member new.id group.old.members) ≡ false }
+    ensures ok { OnOk result (group.new ≡ replacing new group.old) }
+    ensures before { IfOk result (λ seat. put_back seat group.new ≡ group.old) }
+    ensures lead { IfOk result (λ seat. unwrap_or seat.lead group.new.leader ≡ group.old.leader) }
+    ensures lawful { AreMembers group.old.members }
+    ensures err { OnErr result (group.new ≡ group.old) }
+{
+    let _members = group.members.as_slice();
+    let heir = heir(&new, group)?;
+    let member = group.members.replace(new);
+    let lead = match heir {
+        None => None,
+        Some(id) => Some(mem::replace(&mut group.leader, Some(id))),
+    };
+    Ok(Seat { member, lead })
+}
+
+// Puts the old member back, and the lead if it led.
+fn put_back(seat: Seat, group: &mut Group)
+    requires { AreMembers (seating seat.member group.old.members) }
+    ensures { group.new ≡ put_back seat group.old }
+{
+    let Seat { member, lead } = seat;
+    let _new = group.members.replace(member);
+    if let Some(leader) = lead {
+        group.leader = leader;
+    }
 }
 
 fn is_protocol(group: &Group, name: &Option<ProtocolName>) -> bool
@@ -76,35 +121,22 @@ fn keeps_generation(alloc: Global, group: &Group) -> Result<bool, AllocError>
     }
 }
 
-// The parked call of the old member gets 82.
-#[tactic(auto, unfolding(cg_member::specs::Replacing::replaced))]
-fn replaced(alloc: Global, new: Member, old: &Member, group: &Group) -> Result<Turn, AllocError>
-    requires own_id { is_some (find_member new.id group.now.members) ≡ false }
-    ensures { IfOk result (λ t. t ≡ replaced new old.now group.now) }
-{
-    let mut replies = Few::new(alloc);
-    let refusing = Refusing(Code::FencedInstanceId);
-    answer_one(Calls::Any, &refusing, old, &mut replies)?;
-    let own = copied_group(alloc, group)?;
-    let group = replacing(new, own)?;
-    Ok(Turn {
-        group,
-        replies,
-        commands: Few::new(alloc),
-    })
-}
-
 // The reply names the leader from before the replacement, and no members.
-fn replaced_reply(alloc: Global, id: MemberId, before: &Group) -> Result<Reply, AllocError>
-    ensures { IfOk result (λ reply. reply ≡ replaced_reply id before.now) }
+fn replaced_reply(
+    alloc: Global,
+    id: MemberId,
+    leader: &Option<MemberId>,
+    group: &Group,
+) -> Result<Reply, AllocError>
+    ensures { IfOk result (λ reply. reply ≡ replaced_reply id (record group.now { leader = leader.now })) }
 {
-    let kind = copied_name(&before.kind)?;
-    let protocol = copied_name(&before.protocol)?;
-    let leader = copied_name(&before.leader)?;
+    let kind = copied_name(&group.kind)?;
+    let protocol = copied_name(&group.protocol)?;
+    let leader = copied_name(leader)?;
     let joined = Boxed::new(
         alloc,
         Joined {
-            generation: before.generation,
+            generation: group.generation,
             kind,
             protocol,
             leader,
@@ -126,28 +158,28 @@ fn kept_successor(alloc: Global, new: &Member, group: &Group) -> Result<StaticMe
 
 // Appends the reply to the JOIN, with the current generation.
 fn push_reply(
-    alloc: Global,
-    ticket: Ticket,
+    context: RequestContext,
     kept: &StaticMember,
-    before: &Group,
+    leader: &Option<MemberId>,
+    group: &Group,
     replies: &mut Few<(Ticket, Reply)>,
 ) -> Result<(), AllocError>
-    ensures { OnOk result (replies.new ≡ replies.old ++ (ticket, replaced_reply kept.now.id before.now) ∷ []) }
+    ensures { OnOk result (replies.new ≡ replies.old ++ (context.ticket, replaced_reply kept.now.id (record group.now { leader = leader.now })) ∷ []) }
 {
     let id = kept.member().id.clone()?;
-    let reply = replaced_reply(alloc, id, before)?;
-    replies.push((ticket, reply))
+    let reply = replaced_reply(context.alloc, id, leader, group)?;
+    replies.push((context.ticket, reply))
 }
 
 // Appends the command that stores the replacement.
 fn push_command(
     kept: StaticMember,
-    before: &Group,
+    group: &Group,
     commands: &mut Few<Command>,
 ) -> Result<(), AllocError>
-    ensures { OnOk result (commands.new ≡ commands.old ++ replaced_command kept before.now ∷ []) }
+    ensures { OnOk result (commands.new ≡ commands.old ++ replaced_command kept group.now ∷ []) }
 {
-    let group = before.id.clone()?;
+    let group = group.id.clone()?;
     commands.push(Command::Replaced(Replaced {
         group,
         member: kept,
@@ -155,37 +187,19 @@ fn push_command(
 }
 
 // Appends the reply and the command of a replacement that needs no rebalance.
-#[tactic(auto, unfolding(cg_member::specs::Replacing::replaced_in_place))]
-fn replace_in_place(
-    alloc: Global,
-    ticket: Ticket,
+fn replace_alone(
+    context: RequestContext,
     kept: StaticMember,
-    before: &Group,
-    turn: &mut Turn,
+    leader: &Option<MemberId>,
+    group: &Group,
+    effects: &mut Effects,
 ) -> Result<(), AllocError>
-    ensures { OnOk result (turn.new ≡ replaced_in_place ticket kept before.now turn.old) }
+    ensures replies { OnOk result (effects.new.replies ≡ effects.old.replies ++ (context.ticket, replaced_reply kept.id (record group.now { leader = leader.now })) ∷ []) }
+    ensures commands { OnOk result (effects.new.commands ≡ effects.old.commands ++ replaced_command kept group.now ∷ []) }
 {
-    push_reply(alloc, ticket, &kept, before, &mut turn.replies)?;
-    push_command(kept, before, &mut turn.commands)?;
+    push_reply(context, &kept, leader, group, &mut effects.replies)?;
+    push_command(kept, group, &mut effects.commands)?;
     Ok(())
-}
-
-// Keeps the generation if the vote gives the group's protocol. Returns whether it does.
-fn keep_generation(
-    alloc: Global,
-    ticket: Ticket,
-    kept: StaticMember,
-    before: &Group,
-    turn: &mut Turn,
-) -> Result<bool, AllocError>
-    ensures keeps { IfOk result (λ b. b ≡ keeps_generation turn.old.group) }
-    ensures turn { IfOk result (λ b. turn.new ≡ if b then replaced_in_place ticket kept before.now turn.old else turn.old) }
-{
-    let keeps = keeps_generation(alloc, &turn.group)?;
-    if keeps {
-        replace_in_place(alloc, ticket, kept, before, turn)?;
-    }
-    Ok(keeps)
 }
 
 // Creates the new member, and the member that the command stores.
@@ -208,38 +222,86 @@ fn successor(
     Ok((new, kept))
 }
 
-// Ends a replacement: the generation continues with the new member, or that member joins a rebalance.
-fn continued(
-    context: RequestContext,
-    own: &MemberId,
-    kept: StaticMember,
-    before: &Group,
-    mut turn: Turn,
-) -> Result<Turn, AllocError>
-    ensures { IfOk result (λ t. t ≡ if keeps_generation turn.group then replaced_in_place context.ticket kept before.now turn else rejoined context.now own.now context.ticket turn) }
+// Creates the new member, and the member that the command stores, and appends 82 to the parked call of the old one.
+#[tactic(auto, using(cg_member::proofs::Seats::instance_given))]
+fn succeed(
+    alloc: Global,
+    now: Moment,
+    r: CheckedJoin,
+    id: MemberId,
+    group: &Group,
+    replies: &mut Few<(Ticket, Reply)>,
+) -> Result<(Member, StaticMember), AllocError>
+    requires { is_some (find_instance r.instance group.now.members) ≡ true }
+    ensures new { IfOk result (λ p. (old : Member) → find_instance r.instance group.now.members ≡ Some old → p.0 ≡ successor now r id old) }
+    ensures kept { IfOk result (λ p. (old : Member) → find_instance r.instance group.now.members ≡ Some old → p.1 ≡ kept_member group.now.protocol (successor now r id old)) }
+    ensures replies { OnOk result ((old : Member) → find_instance r.instance group.now.members ≡ Some old → replies.new ≡ replies.old ++ answer Any (refusing FencedInstanceId) old) }
 {
-    if keep_generation(context.alloc, context.ticket, kept, before, &mut turn)? {
-        Ok(turn)
-    } else {
-        rejoined(context, own, turn)
+    let Some(old) = group.members.find_instance(&r.request.instance) else {
+        unreachable!()
+    };
+    let refusing = Refusing(Code::FencedInstanceId);
+    answer_one(Calls::Any, &refusing, old, replies)?;
+    successor(alloc, now, r, id, old, group)
+}
+
+// Returns the leader from before the replacement.
+fn leader_before<'a>(seat: &'a Seat, group: &'a Group) -> &'a Option<MemberId>
+    ensures { result.now ≡ unwrap_or seat.now.lead group.now.leader }
+{
+    match &seat.lead {
+        None => &group.leader,
+        Some(leader) => leader,
     }
 }
 
-/// Returns the step of a JOIN that replaces the old member under the new id. Copies the group.
+// Ends a replacement: the generation continues with the new member, or that member joins a rebalance. `seat` is what the group had.
+#[tactic(auto, unfolding(cg_member::specs::Replacing::replaced_in_place))]
+fn go_on(
+    context: RequestContext,
+    own: &MemberId,
+    kept: StaticMember,
+    seat: &Seat,
+    group: &mut Group,
+    effects: &mut Effects,
+) -> Result<(), AllocError>
+    ensures ok { OnOk result (turned group.new effects.new ≡ if keeps_generation group.old
+        then replaced_in_place context.ticket kept (record group.old { leader = unwrap_or seat.now.lead group.old.leader }) (turned group.old effects.old)
+        else rejoined context.now own.now context.ticket (turned group.old effects.old)) }
+    ensures err { OnErr result (group.new ≡ group.old) }
+{
+    if !keeps_generation(context.alloc, group)? {
+        return rejoin(context, own, group, effects);
+    }
+    replace_alone(context, kept, leader_before(seat, group), group, effects)?;
+    Ok(())
+}
+
+/// Processes a JOIN that replaces the member with its instance under the new id, in place. If an allocation fails, the group is as
+/// it was.
 #[tactic(auto, unfolding(cg_member::specs::Replacing::join_replacing, cg_member::specs::Joining::new_member))]
 pub fn join_replacing(
     context: RequestContext,
     r: CheckedJoin,
     id: MemberId,
-    old: &Member,
-    group: &Group,
-) -> Result<Turn, AllocError>
-    requires own_id { is_some (find_member id group.now.members) ≡ false }
-    requires given { IsSome r.instance }
-    ensures { IfOk result (λ t. t ≡ join_replacing context.now r id context.ticket old.now group.now) }
+    group: &mut Group,
+) -> Result<Effects, AllocError>
+    requires own_id { is_some (find_member id group.old.members) ≡ false }
+    requires held { is_some (find_instance r.instance group.old.members) ≡ true }
+    ensures ok { IfOk result (λ e. (old : Member) → find_instance r.instance group.old.members ≡ Some old → turned group.new e ≡ join_replacing context.now r id context.ticket old group.old) }
+    ensures err { OnErr result (group.new ≡ group.old) }
 {
+    let RequestContext { alloc, now, ticket } = context;
     let own = id.clone()?;
-    let (new, kept) = successor(context.alloc, context.now, r, id, old, group)?;
-    let turn = replaced(context.alloc, new, old, group)?;
-    continued(context, &own, kept, group, turn)
+    let mut effects = Effects::new(alloc);
+    let (new, kept) = succeed(alloc, now, r, id, group, &mut effects.replies)?;
+    let seat = replace_in(new, group)?;
+    let context = RequestContext { alloc, now, ticket };
+    match go_on(context, &own, kept, &seat, group, &mut effects) {
+        Ok(()) => Ok(effects),
+        Err(wanting) => {
+            put_back(seat, group);
+            Err(wanting)
+        }
+    }
 }

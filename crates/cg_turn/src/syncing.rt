@@ -1,51 +1,31 @@
 //! SYNC (SyncGroup request): the leader sends the assignments, and each member gets its own.
-ghost use Rattle.std.specs.Prelude.{◌≡◌, ◌++◌, true, Some, is_ok, IfOk, OnErr, OnOk, map};
+ghost use Rattle.std.specs.Prelude.{◌≡◌, ◌++◌, ℕ, true, length, Some, Ok, Err, IfOk, MatchResult, OnErr, OnOk, map};
 ghost use Rattle.cg_member.specs.Membership.{find_member, has_member, is_led};
-ghost use Rattle.cg_member.specs.Syncing.{assigning, kept_member, kept_roster, assigned_command, synced_reply, told_to_syncs, distributed, sync_waits, sync_current, sync_taken, sync_held};
+ghost use Rattle.cg_member.specs.Rebalance.{turned};
+ghost use Rattle.cg_member.specs.Syncing.{kept_member, kept_roster, assigned_command, synced_reply, told_to_syncs, sync_taken, sync_held};
+ghost use Rattle.cg_member.specs.declared.group.Group.{Group};
+ghost use Rattle.cg_member.specs.declared.member.Member.{Member};
+ghost use Rattle.cg_request.specs.declared.ticket.Ticket.{Ticket};
+ghost use Rattle.cg_turn.specs.Distributing.{IsLeader, IsSyncCase, displacing, distributing, handed, handed_back, telling};
 
 use crate::context::RequestContext;
-use crate::joining::waiting;
-use crate::rebalance::{is_preparing, leads, subscription_for, turn_of};
+use crate::rebalance::{is_preparing, leads, subscription_for};
 use cg_member::answers::{Telling, answer_all};
 use cg_member::calls::Calls;
-use cg_member::copies::{copied_group, copied_name};
+use cg_member::copies::copied_name;
+use cg_member::effects::Effects;
 use cg_member::fencing::checked_member;
 use cg_member::few::Few;
 use cg_member::group::{Group, Phase};
+use cg_member::handing::handed_out;
 use cg_member::member::{Member, Waits};
 use cg_member::reply::Reply;
-use cg_member::turn::{Outcome, Turn};
 use cg_names::{Code, MemberId, Moment, ProtocolName};
-use cg_record::{Assigned, Command, CompletedGeneration, Member as KeptMember, Roster};
-use cg_request::request::{SyncEntry, SyncRequest};
+use cg_record::{Assigned, Assignment, Command, CompletedGeneration, Member as KeptMember, Roster};
+use cg_request::request::SyncRequest;
+use cg_request::sync_entries::SyncEntries;
+use cg_request::ticket::Ticket;
 use std::alloc::{AllocError, Global};
-
-#[tactic(auto, unfolding(cg_member::specs::Syncing::assigning))]
-fn assigning(alloc: Global, entries: &[SyncEntry], group: Group) -> Result<Group, AllocError>
-    ensures { IfOk result (λ g. g ≡ assigning entries.now group) }
-{
-    let Group {
-        id,
-        generation,
-        kind,
-        protocol,
-        leader,
-        members,
-        started,
-        ..
-    } = group;
-    let members = members.assigned(alloc, entries)?;
-    Ok(Group {
-        id,
-        phase: Phase::Stable,
-        generation,
-        kind,
-        protocol,
-        leader,
-        members,
-        started,
-    })
-}
 
 /// Copies the member into the form that a command stores.
 pub fn kept_member(
@@ -150,124 +130,167 @@ impl Telling for TellingSynced {
     }
 }
 
-#[tactic(auto, unfolding(cg_member::specs::Syncing::told_to_syncs))]
-fn told_to_syncs(now: Moment, mut turn: Turn) -> Result<Turn, AllocError>
-    ensures { IfOk result (λ t. t ≡ told_to_syncs now turn) }
-{
-    let telling = TellingSynced;
-    answer_all(
-        Calls::Syncs,
-        &telling,
-        turn.group.members.as_slice(),
-        &mut turn.replies,
-    )?;
-    turn.group.members.answer(Calls::Syncs, now);
-    Ok(turn)
+/// How a SYNC that is not refused is processed.
+#[derive(Drop)]
+pub enum SyncCase {
+    /// The member gets this assignment at once.
+    Current(Assignment),
+    /// The call is only parked, in place of this older call of the member.
+    Parked(Option<Ticket>),
+    /// The member leads, and hands the assignments in.
+    Leading,
 }
 
-#[tactic(auto, unfolding(cg_member::specs::Syncing::distributed), using(crate::proofs::Leading::led_assigning))]
-fn distributed(
-    alloc: Global,
-    now: Moment,
-    entries: &[SyncEntry],
-    turn: Turn,
-) -> Result<Turn, AllocError>
-    requires { is_led turn.group ≡ true }
-    ensures { IfOk result (λ t. t ≡ distributed now entries.now turn) }
-{
-    let Turn {
-        group,
-        replies,
-        mut commands,
-    } = turn;
-    let group = assigning(alloc, entries, group)?;
-    push_assigned(alloc, &group, &mut commands)?;
-    told_to_syncs(
-        now,
-        Turn {
-            group,
-            replies,
-            commands,
-        },
-    )
-}
-
-#[tactic(auto, unfolding(cg_member::specs::Syncing::sync_waits, cg_member::specs::Membership::hearing), using(crate::proofs::Leading::led_waiting))]
-fn sync_waits(
-    context: RequestContext,
-    r: &SyncRequest,
-    id: &MemberId,
-    member: &Member,
-    group: &Group,
-) -> Result<Turn, AllocError>
-    requires { find_member id.now group.now.members ≡ Some member.now }
-    ensures { IfOk result (λ t. t ≡ sync_waits context.now r.now id.now context.ticket member.now group.now) }
-{
-    let mut turn = turn_of(context.alloc, copied_group(context.alloc, group)?);
-    turn.group.members.hear(id, context.now);
-    let turn = waiting(context.now, id, Waits::Sync(context.ticket), turn)?;
-    if leads(group, member) {
-        distributed(context.alloc, context.now, r.entries.as_slice(), turn)
-    } else {
-        Ok(turn)
-    }
-}
-
-#[tactic(auto, unfolding(cg_member::specs::Syncing::sync_current, cg_member::specs::Membership::hearing))]
-fn sync_current(
-    context: RequestContext,
-    id: &MemberId,
-    member: &Member,
-    group: &Group,
-) -> Result<Turn, AllocError>
-    ensures { IfOk result (λ t. t ≡ sync_current context.now id.now context.ticket member.now group.now) }
-{
-    let assignment = member.assignment.clone()?;
-    let mut turn = turn_of(context.alloc, copied_group(context.alloc, group)?);
-    turn.group.members.hear(id, context.now);
-    turn.replies
-        .push((context.ticket, Reply::Synced(assignment)))?;
-    Ok(turn)
-}
-
-#[tactic(auto, unfolding(cg_member::specs::Syncing::sync_taken))]
-fn sync_taken(
-    context: RequestContext,
-    r: &SyncRequest,
-    id: &MemberId,
-    member: &Member,
-    group: &Group,
-) -> Result<Turn, AllocError>
-    requires { find_member id.now group.now.members ≡ Some member.now }
-    ensures { IfOk result (λ t. t ≡ sync_taken context.now r.now id.now context.ticket member.now group.now group.now.phase) }
-{
-    match group.phase {
-        Phase::Completing => sync_waits(context, r, id, member, group),
-        _ => sync_current(context, id, member, group),
-    }
-}
-
-/// Returns the step of a SYNC in a loaded group, or its error code. Copies the group. Only a SYNC that is not refused
-/// needs an allocation.
+/// Returns the member whose SYNC is not refused, with the id that the SYNC gives, or the error code. No allocation.
 #[tactic(auto, unfolding(cg_member::specs::Syncing::sync_held))]
-pub fn sync_held(
-    context: RequestContext,
-    r: &SyncRequest,
-    group: &Group,
-) -> Result<Outcome, AllocError>
-    ensures ok { IfOk result (λ o. o ≡ sync_held context.now r.now context.ticket group.now) }
-    ensures err { OnErr result (is_ok (sync_held context.now r.now context.ticket group.now) ≡ true) }
+pub fn syncer<'a, 'b>(
+    r: &'a SyncRequest,
+    group: &'b Group,
+) -> Result<(&'a MemberId, &'b Member), Code>
+    ensures taken { MatchResult result
+        (λ who. (now : ℕ) (ticket : Ticket) → sync_held now r.now ticket group.now ≡ Ok (sync_taken now r.now who.0.now ticket who.1.now group.now group.now.phase))
+        (λ code. (now : ℕ) (ticket : Ticket) → sync_held now r.now ticket group.now ≡ Err code) }
+    ensures found { IfOk result (λ who. find_member who.0.now group.now.members ≡ Some who.1.now) }
 {
-    let (id, member) = match checked_member(&r.instance, &r.member, &group.members) {
-        Ok(who) => who,
-        Err(code) => return Ok(Err(code)),
-    };
+    let (id, member) = checked_member(&r.instance, &r.member, &group.members)?;
     if i64::from(r.generation) != i64::from(group.generation.get()) {
-        return Ok(Err(Code::IllegalGeneration));
+        return Err(Code::IllegalGeneration);
     }
     if is_preparing(group.phase) {
-        return Ok(Err(Code::RebalanceInProgress));
+        return Err(Code::RebalanceInProgress);
     }
-    let turn = sync_taken(context, r, id, member, group)?;
-    Ok(Ok(turn))
+    Ok((id, member))
+}
+
+/// Returns how the SYNC of this member is processed, if it is not refused. Copies the assignment that the member gets at once.
+#[tactic(auto, unfolding(cg_member::specs::Syncing::sync_taken, cg_member::specs::Syncing::sync_waits))]
+pub fn case_of(group: &Group, member: &Member) -> Result<SyncCase, AllocError>
+    ensures { IfOk result (λ t. IsSyncCase group.now member.now t) }
+{
+    match group.phase {
+        Phase::Completing => {
+            if leads(group, member) {
+                return Ok(SyncCase::Leading);
+            }
+            Ok(SyncCase::Parked(Calls::Any.called(member.waits)))
+        }
+        _ => {
+            let assignment = member.assignment.clone()?;
+            Ok(SyncCase::Current(assignment))
+        }
+    }
+}
+
+// Builds the effects of a call that parks in the place of the member's older one: that call gets 27. No allocation.
+fn displacing(alloc: Global, member: &Member) -> Effects
+    ensures { result ≡ displacing member.now }
+{
+    Effects {
+        commands: Few::new(alloc),
+        replies: match Calls::Any.called(member.waits) {
+            None => Few::new(alloc),
+            Some(older) => Few::one(alloc, (older, Reply::Refused(Code::RebalanceInProgress))),
+        },
+    }
+}
+
+// Parks the leader's SYNC and exchanges the assignments, in Stable.
+fn hand_out(now: Moment, ticket: Ticket, id: &MemberId, list: &mut [Assignment], group: &mut Group)
+    requires { length list.old ≡ length group.old.members }
+    ensures group { group.new ≡ handed now id.now ticket list.old group.old }
+    ensures list { list.new ≡ map (λ m. m.assignment) group.old.members }
+{
+    group.members.hear(id, now);
+    group.members.wait(id, Waits::Sync(ticket), now);
+    group.members.exchange_assignments(list);
+    group.phase = Phase::Stable;
+}
+
+// Undoes that, with the assignments that the members had.
+#[tactic(auto, unfolding(crate::specs::Distributing::handed_back))]
+fn hand_back(
+    id: &MemberId,
+    heard: Moment,
+    waits: Waits,
+    phase: Phase,
+    list: &mut [Assignment],
+    group: &mut Group,
+)
+    requires { length list.old ≡ length group.old.members }
+    ensures { group.new ≡ handed_back id.now heard waits phase list.old group.old }
+{
+    group.members.exchange_assignments(list);
+    group.members.recall(id, heard, waits);
+    group.phase = phase;
+}
+
+// Appends the command that the generation has its assignments, and the replies to the parked SYNCs.
+fn tell(alloc: Global, group: &Group, effects: &mut Effects) -> Result<(), AllocError>
+    requires { is_led group.now ≡ true }
+    ensures { OnOk result (effects.new ≡ telling group.now effects.old) }
+{
+    let telling = TellingSynced;
+    let members = group.members.as_slice();
+    push_assigned(alloc, group, &mut effects.commands)?;
+    answer_all(Calls::Syncs, &telling, members, &mut effects.replies)?;
+    Ok(())
+}
+
+// Hands the assignments out, and tells of it. If an allocation fails, the group is as it was.
+fn hand_over(
+    context: RequestContext,
+    id: &MemberId,
+    leader: (Moment, Waits),
+    list: &mut [Assignment],
+    group: &mut Group,
+    effects: &mut Effects,
+) -> Result<(), AllocError>
+    requires many { length list.old ≡ length group.old.members }
+    requires leads { IsLeader id.now group.old }
+    requires leader { (m : Member) → find_member id.now group.old.members ≡ Some m → leader ≡ (m.heard, m.waits) }
+    ensures ok { OnOk result (let g : Group = handed context.now id.now context.ticket list.old group.old in turned group.new effects.new ≡ told_to_syncs context.now (record { group = g; replies = effects.old.replies; commands = effects.old.commands ++ assigned_command g })) }
+    ensures err { OnErr result (group.new ≡ group.old) }
+{
+    let phase = group.phase;
+    hand_out(context.now, context.ticket, id, list, group);
+    match tell(context.alloc, group, effects) {
+        Ok(()) => {
+            group.members.answer(Calls::Syncs, context.now);
+            Ok(())
+        }
+        Err(wanting) => {
+            let (heard, waits) = leader;
+            hand_back(id, heard, waits, phase, list, group);
+            Err(wanting)
+        }
+    }
+}
+
+/// Distributes the assignments that the leader hands in: its SYNC is parked, each member gets the assignment of its entry, moved
+/// out of the request, and the parked SYNCs get their replies. If an allocation fails, the group is as it was.
+pub fn distribute_in(
+    context: RequestContext,
+    entries: SyncEntries,
+    id: &MemberId,
+    group: &mut Group,
+) -> Result<Effects, AllocError>
+    requires { IsLeader id.now group.old }
+    ensures ok { IfOk result (λ e. turned group.new e ≡ distributing context.now id.now context.ticket entries group.old) }
+    ensures err { OnErr result (group.new ≡ group.old) }
+{
+    let mut list = handed_out(context.alloc, entries, &group.members)?;
+    let Some(member) = group.members.find(id) else {
+        unreachable!();
+    };
+    let leader = (member.heard, member.waits);
+    let mut effects = displacing(context.alloc, member);
+    hand_over(
+        context,
+        id,
+        leader,
+        list.as_mut_slice(),
+        group,
+        &mut effects,
+    )?;
+    Ok(effects)
 }

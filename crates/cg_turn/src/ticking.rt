@@ -1,12 +1,16 @@
 //! Ticks: expired sessions, and the deadline of a rebalance (KIP-62).
-ghost use Rattle.std.specs.Prelude.{◌≡◌, IfOk};
+ghost use Rattle.std.specs.Prelude.{◌≡◌, IfOk, OnOk};
+ghost use Rattle.cg_member.specs.Leaving.{after_removal};
+ghost use Rattle.cg_member.specs.Rebalance.{turned};
 ghost use Rattle.cg_member.specs.Ticking.{can_complete, expired, greatest_rebalance, is_due, ended, at_deadline, ticked};
 ghost use Rattle.cg_turn.specs.Touching.{earliest_expiry, expiry, next_deadline, rebalance_deadline, tick_touches};
 
-use crate::leaving::{after_removal, check_leader};
-use crate::rebalance::{completed, is_preparing, is_ready, tried, turn_of};
+use crate::leaving::{check_leader, has_joined};
+use crate::rebalance::{advance, complete, is_preparing, is_ready, refuse_syncs};
 use cg_member::calls::{Calls, is_waiting};
 use cg_member::copies::copied_group;
+use cg_member::effects::Effects;
+use cg_member::few::Few;
 use cg_member::group::Group;
 use cg_member::member::Member;
 use cg_member::members::Members;
@@ -14,16 +18,42 @@ use cg_member::turn::Turn;
 use cg_names::Moment;
 use std::alloc::{AllocError, Global};
 
-#[tactic(auto, unfolding(cg_member::specs::Ticking::expired, cg_member::specs::Membership::keeping))]
-fn expired(alloc: Global, now: Moment, mut turn: Turn) -> Result<Turn, AllocError>
-    ensures { IfOk result (λ t. t ≡ expired now turn) }
+// Begins a rebalance if the members had joined, and completes it if all remaining members have joined.
+#[tactic(auto, unfolding(cg_member::specs::Leaving::after_removal, cg_member::specs::Rebalance::prepared))]
+fn after_removal(
+    alloc: Global,
+    now: Moment,
+    group: &mut Group,
+    effects: &mut Effects,
+) -> Result<(), AllocError>
+    ensures { OnOk result (turned group.new effects.new ≡ after_removal now (turned group.old effects.old)) }
 {
-    if !turn.group.members.has_overdue(now) {
-        return tried(alloc, now, turn);
+    if !has_joined(group.phase) {
+        advance(alloc, now, false, group, effects)?;
+        return Ok(());
     }
-    turn.group.members.remove_overdue(now);
-    check_leader(&mut turn.group);
-    after_removal(alloc, now, turn)
+    refuse_syncs(group.members.as_slice(), &mut effects.replies)?;
+    advance(alloc, now, true, group, effects)?;
+    Ok(())
+}
+
+#[tactic(auto, unfolding(cg_member::specs::Ticking::expired, cg_member::specs::Membership::keeping))]
+fn expired(
+    alloc: Global,
+    now: Moment,
+    group: &mut Group,
+    effects: &mut Effects,
+) -> Result<(), AllocError>
+    ensures { OnOk result (turned group.new effects.new ≡ expired now (turned group.old effects.old)) }
+{
+    if !group.members.has_overdue(now) {
+        advance(alloc, now, false, group, effects)?;
+        return Ok(());
+    }
+    group.members.remove_overdue(now);
+    check_leader(group);
+    after_removal(alloc, now, group, effects)?;
+    Ok(())
 }
 
 #[tactic(auto, unfolding(cg_member::specs::Ticking::greatest_rebalance))]
@@ -51,26 +81,38 @@ fn can_complete(members: &Members) -> bool
 }
 
 #[tactic(auto, unfolding(cg_member::specs::Ticking::ended))]
-fn ended(alloc: Global, now: Moment, mut turn: Turn) -> Result<Turn, AllocError>
-    ensures { IfOk result (λ t. t ≡ ended now turn) }
+fn ended(
+    alloc: Global,
+    now: Moment,
+    group: &mut Group,
+    effects: &mut Effects,
+) -> Result<(), AllocError>
+    ensures { OnOk result (turned group.new effects.new ≡ ended now (turned group.old effects.old)) }
 {
-    if can_complete(&turn.group.members) {
-        return completed(alloc, now, turn);
+    if can_complete(&group.members) {
+        complete(alloc, now, group, effects)?;
+        return Ok(());
     }
-    turn.group.started = now;
-    Ok(turn)
+    group.started = now;
+    Ok(())
 }
 
 #[tactic(auto, unfolding(cg_member::specs::Ticking::at_deadline, cg_member::specs::Membership::keeping))]
-fn at_deadline(alloc: Global, now: Moment, mut turn: Turn) -> Result<Turn, AllocError>
-    ensures { IfOk result (λ t. t ≡ at_deadline now turn) }
+fn at_deadline(
+    alloc: Global,
+    now: Moment,
+    group: &mut Group,
+    effects: &mut Effects,
+) -> Result<(), AllocError>
+    ensures { OnOk result (turned group.new effects.new ≡ at_deadline now (turned group.old effects.old)) }
 {
-    if !is_due(now, &turn.group) {
-        return Ok(turn);
+    if !is_due(now, group) {
+        return Ok(());
     }
-    turn.group.members.remove_idle();
-    check_leader(&mut turn.group);
-    ended(alloc, now, turn)
+    group.members.remove_idle();
+    check_leader(group);
+    ended(alloc, now, group, effects)?;
+    Ok(())
 }
 
 /// Returns whether a tick changes the group. Linear in the members, no allocation.
@@ -132,7 +174,17 @@ pub fn next_deadline(since: Moment, group: &Group) -> Moment
 pub fn ticked(alloc: Global, now: Moment, group: &Group) -> Result<Turn, AllocError>
     ensures { IfOk result (λ t. t ≡ ticked now group.now) }
 {
-    let turn = turn_of(alloc, copied_group(alloc, group)?);
-    let turn = expired(alloc, now, turn)?;
-    at_deadline(alloc, now, turn)
+    let mut group = copied_group(alloc, group)?;
+    let mut effects = Effects {
+        commands: Few::new(alloc),
+        replies: Few::new(alloc),
+    };
+    expired(alloc, now, &mut group, &mut effects)?;
+    at_deadline(alloc, now, &mut group, &mut effects)?;
+    let Effects { commands, replies } = effects;
+    Ok(Turn {
+        group,
+        replies,
+        commands,
+    })
 }

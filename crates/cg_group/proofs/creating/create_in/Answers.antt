@@ -8,11 +8,11 @@ use Rattle.cg_group.proofs.creating.create_in.Goals as goal
 pub returns-clause-known : goal.returns-clause-known
 returns-clause-known c = λ homes h.
     let P : List Group → Type 0 = λ gs. AreKnown homes gs in
-    let after = c.in_ok-effects.ensures.after ∙ ap (λ o. groups_of o c.args.held.now) c.in_ok-concluding.ensures.ok in
+    let after = c.in_ok-_none.ensures.ok ∙ ap (λ o. groups_of o c.args.held.now) (sym c.in_ok-group.ensures) in
     subst P (sym after) (known_created c.args.context.now c.args.r c.args.fresh c.args.context.ticket c.len-loaded.result c.args.id homes c.args.held.now h)
 
 pub returns-clause-parked : goal.returns-clause-parked
 returns-clause-parked c =
     let P : List Group → Type 0 = λ gs. StayParked c.args.held.now gs in
-    let after = c.in_ok-effects.ensures.after ∙ ap (λ o. groups_of o c.args.held.now) c.in_ok-concluding.ensures.ok in
-    subst P (sym after) (stay_created c.args.context.now c.args.r c.args.fresh c.args.context.ticket c.len-loaded.result c.args.id c.args.held.now c.requires)
+    let after = c.in_ok-_none.ensures.ok ∙ ap (λ o. groups_of o c.args.held.now) (sym c.in_ok-group.ensures) in
+    subst P (sym after) (stay_created c.args.context.now c.args.r c.args.fresh c.args.context.ticket c.len-loaded.result c.args.id c.args.held.now c.requires.absent)

@@ -1,13 +1,13 @@
-use Rattle.std.proofs.Common.{rules, ap, sym, ◌∙◌}
+use Rattle.std.proofs.Common.{rules, ap, ◌∙◌}
 use Rattle.cg_request.specs.declared.event.Event.TheVariants as event
 use Rattle.cg_group.specs.InPlace.{IsDeparture}
-use Rattle.cg_group.specs.Machine.{concluded, met}
+use Rattle.cg_group.specs.Machine.{concluded, leave, met}
 use Rattle.cg_held.specs.Held.{at_moment}
 use Rattle.cg_held.specs.Sessions.{is_home}
 use Rattle.cg_group.proofs.Departures.{departed, departure_taken, keeps_without, tight_departed}
-use Rattle.cg_group.proofs.InPlace.{on_err}
+use Rattle.cg_group.proofs.InPlace.{concluded_refused, on_err}
 use Rattle.cg_group.proofs.KnownSessions.{known-after}
-use Rattle.cg_group.proofs.TightIndex.{tight_left}
+use Rattle.cg_group.proofs.LeaveSteps.{keeps_left, known_left, left_is, loaded_left, suits_leaving, taken_left}
 use Rattle.cg_group.proofs.leaving.meet_leave.Goals as goal
 
 -- a LEAVE that only removes its member
@@ -45,13 +45,27 @@ returns-in-Some-clause-ok c =
 
 -- any other LEAVE
 
-pub returns-clause-known : goal.returns-clause-known
-unfolding met
-returns-clause-known c =
-    c.settle_replaced.ensures.known
-    (known-after (is_home c.args.homes.now) c.args.now c.args.held.now c.conclude.new.held (event.Leave c.args.ticket c.args.r.now) c.in_ok-effects-2.field-0.effects tt
-    (ap (concluded (at_moment c.args.now c.args.held.now) c.args.ticket) (sym c.in_ok-concluding.ensures.ok) ∙ c.in_ok-effects-2.ensures.ok) c.requires.known)
+pub returns-in-Err-clause-ok : goal.returns-in-Err-clause-ok
+returns-in-Err-clause-ok c =
+    concluded_refused c.args.now c.args.held.now c.args.ticket (leave c.args.now c.args.r.now c.args.ticket c.args.held.now) c.in-Err.code c.reply_alone.result (c.in-Err.ensures c.args.now c.args.ticket) c.reply_alone.ensures
 
-pub returns-clause-tight : goal.returns-clause-tight
-returns-clause-tight c =
-    tight_left c.args.homes.now c.settle_replaced.new.homes c.args.held.now c.conclude.new.held c.settle_replaced.ensures.fewer c.settle_replaced.ensures.filled c.requires.tight c.in_ok-concluding.concluding c.in_ok-effects-2.field-0.replaced c.in_ok-effects-2.ensures.after c.in_ok-effects-2.ensures.before c.settle_replaced.ensures.gone
+pub step_leaving-requires-clause-loaded : goal.step_leaving-requires-clause-loaded
+step_leaving-requires-clause-loaded c = loaded_left c.args.now c.args.r.now c.args.ticket c.args.held.now c.in-Ok.own.now c.in-Ok.ensures
+
+pub step_leaving-requires-clause-keeps : goal.step_leaving-requires-clause-keeps
+step_leaving-requires-clause-keeps c = λ g. keeps_left c.args.now c.args.r.now c.args.ticket g
+
+pub step_leaving-requires-clause-suits : goal.step_leaving-requires-clause-suits
+step_leaving-requires-clause-suits c = λ g found. suits_leaving c.args.now c.args.r.now c.args.ticket c.args.held.now c.in-Ok.own.now c.in-Ok.ensures g found
+
+pub step_leaving-requires-clause-leaves : goal.step_leaving-requires-clause-leaves
+step_leaving-requires-clause-leaves c = λ g found. known_left c.args.now c.args.r.now c.args.ticket c.args.held.now c.in-Ok.own.now c.in-Ok.ensures g found
+
+pub returns-in_ok-effects-in-Ok-clause-ok : goal.returns-in_ok-effects-in-Ok-clause-ok
+returns-in_ok-effects-in-Ok-clause-ok c =
+    let at = c.in-Ok.ensures in
+    ap (concluded (at_moment c.args.now c.args.held.now) c.args.ticket) (left_is c.args.now c.args.r.now c.args.ticket c.args.held.now c.in-Ok.own.now at at.group at.named.found)
+    ∙ c.in_ok-effects-in-Ok.ensures.ok c.args.now c.args.ticket at.group at.named.found
+
+pub returns-in_err-effects-in-Ok-clause-taken : goal.returns-in_err-effects-in-Ok-clause-taken
+returns-in_err-effects-in-Ok-clause-taken c = on_err _ _ (taken_left c.args.now c.args.r.now c.args.ticket c.args.held.now c.in-Ok.own.now c.in-Ok.ensures)

@@ -1,27 +1,19 @@
 use Rattle.std.proofs.Common.{List, ap, sym, subst, ◌∙◌}
-use Rattle.cg_request.specs.declared.event.Event.TheVariants as event
 use Rattle.cg_member.specs.declared.group.Group.{Group}
-use Rattle.cg_group.specs.Machine.{met}
-use Rattle.cg_held.specs.Changes.{changed}
-use Rattle.cg_held.specs.Held.{at_moment, everywhere}
-use Rattle.cg_held.specs.Sessions.{AreKnown, is_home}
-use Rattle.cg_held.proofs.Framed.{framed-gone_in}
-use Rattle.cg_group.proofs.KnownSessions.{known-apart, known-met}
-use Rattle.cg_group.proofs.TightIndex.{tight_everywhere}
+use Rattle.cg_held.specs.Sessions.{AreKnown, IsTight, is_home, is_noted}
+use Rattle.cg_group.proofs.KnownSessions.{known-apart, known-closed}
+use Rattle.cg_group.proofs.TightIndex.{tight_closed}
 use Rattle.cg_group.proofs.meeting.meet_gone.Goals as goal
 
-pub turn_there-requires-clause-ids : goal.turn_there-requires-clause-ids
-turn_there-requires-clause-ids c = λ g. (framed-gone_in c.args.now c.args.session g).0
-
-pub turn_there-requires-clause-others : goal.turn_there-requires-clause-others
-turn_there-requires-clause-others c = known-apart (is_home c.args.homes.now) c.args.now c.args.session c.args.held.now c.requires.known
+pub end_session-requires : goal.end_session-requires
+end_session-requires c = known-apart (is_home c.args.homes.now) c.args.session c.args.held.now c.requires.known
 
 pub returns-clause-known : goal.returns-clause-known
-unfolding everywhere met
 returns-clause-known c =
-    let P : List Group → Type 0 = λ gs. AreKnown (is_home c.args.homes.now) gs in
-    c.settle_all.ensures.known (subst P (sym (c.swap_all.ensures.after ∙ ap (λ gs. changed gs c.args.held.now) c.as_mut_slice-left.ensures.value ∙ c.in_ok-groups.ensures.groups)) (known-met (is_home c.args.homes.now) (at_moment c.args.now c.args.held.now) (event.Gone c.args.session) tt c.requires.known))
+    let P : List Group → Type 0 = λ gs. AreKnown (is_home c.forget.new.homes) gs in
+    subst P (sym c.in_ok-effects.ensures.groups) (known-closed (is_home c.args.homes.now) (is_home c.forget.new.homes) c.args.now c.args.session (λ q x apart h. ap (is_noted x) (c.forget.ensures.apart q apart) ∙ h) c.args.held.now c.requires.known)
 
 pub returns-clause-tight : goal.returns-clause-tight
 returns-clause-tight c =
-    tight_everywhere c.args.homes.now c.settle_all.new.homes c.args.held.now c.swap_all.new.held c.settle_all.ensures.fewer c.settle_all.ensures.filled c.requires.tight c.swap_all.new.groups c.swap_all.ensures.before c.settle_all.ensures.gone
+    let P : List Group → Type 0 = λ gs. IsTight c.forget.new.homes gs in
+    subst P (sym c.in_ok-effects.ensures.groups) (tight_closed c.args.now c.args.session c.args.homes.now c.forget.new.homes c.args.held.now c.forget.ensures.gone c.forget.ensures.apart c.requires.tight)

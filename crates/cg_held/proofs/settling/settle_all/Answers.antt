@@ -1,6 +1,8 @@
 use Rattle.std.proofs.Common.{◌≡◌, ℕ, List, Some, true, get_or, subst, arith}
 use Rattle.cg_member.specs.declared.group.Group.{Group}
 use Rattle.cg_member.specs.declared.member.Member.{Member}
+use Rattle.cg_member.specs.declared.calls.Calls.TheVariants.{Any}
+use Rattle.cg_member.specs.Waiting.{called}
 use Rattle.cg_held.specs.Kept.{Each}
 use Rattle.cg_held.specs.Sessions.{IfParked, IsLetGo, is_parked}
 use Rattle.cg_held.proofs.Homing.{each_from_place, each_more}
@@ -13,7 +15,7 @@ loop-group-preserved c =
     let g = c.group-item.result in
     let held = c.args.held.now in
     let final = c.settle.new.homes in
-    let P : List Member → Type 0 = λ ms. Each (λ (m : Member). IfParked (λ q. IsLetGo final held g.id q) m.waits) ms in (
+    let P : List Member → Type 0 = λ ms. Each (λ (m : Member). IfParked (λ q. IsLetGo final held g.id q) (called Any m.waits)) ms in (
       λ h. c.settle.ensures.known (l.invariant.0 h),
       each_more (λ (g : Group). (q : ℕ) → is_parked q (Some g) ≡ true → IsLetGo final held g.id q) c.args.before.now l.group-index g (omega arith) c.group-item.is
           (λ q waits. at_calls (λ q. IsLetGo final held g.id q) q g.members (subst P c.as_slice.ensures.value c.settle.ensures.gone) waits)

@@ -16,4 +16,4 @@ returns-clause-left c =
     ap (λ o. o >>= λ m. Ok (leave_taken now m.id ticket m g)) c.in-Ok.ensures ∙ ap Ok (leave_left now m.id ticket m g (search rules) behind)
 
 pub returns-clause-others : goal.returns-clause-others
-returns-clause-others c = λ passes h. others_left passes c.args.group.now.members c.in-Ok.member.now (search rules) h c.args.r.now.instance c.args.r.now.member c.in-Ok.ensures
+returns-clause-others c = λ passes h. others_left c.args.group.now.members c.in-Ok.member.now passes (search rules) h c.args.r.now.instance c.args.r.now.member c.in-Ok.ensures

@@ -3,4 +3,4 @@ use Rattle.cg_member.specs.Rebalance.{joined_member}
 use Rattle.cg_turn.proofs.rebalance.joined_members.Given as goal
 
 abbrev pub invariant-loop-m : goal.invariant-loop-m
-invariant-loop-m l = l.members ≡ map (joined_member l.group.protocol) (take l.m-index l.m-items)
+invariant-loop-m l = l.members ≡ map (joined_member l.told.protocol.now) (take l.m-index l.m-items)

@@ -1,0 +1,39 @@
+-- The SYNC of a leader, which hands the assignments in.
+use Rattle.std.proofs.Common.{◌≡◌, ℕ, List, Some, Ok, refl, sym, ap, ◌∙◌, subst}
+use Rattle.cg_member.specs.declared.effects.Effects.{Effects}
+use Rattle.cg_member.specs.declared.group.Group.{Group}
+use Rattle.cg_request.specs.declared.request.SyncRequest.{SyncRequest}
+use Rattle.cg_request.specs.declared.ticket.Ticket.{Ticket}
+use Rattle.cg_turn.specs.declared.syncing.SyncCase.TheVariants.{Leading}
+use Rattle.cg_turn.specs.Distributing.{IsLeader, distributing}
+use Rattle.cg_group.specs.InPlace.{IsSync, StepParks}
+use Rattle.cg_group.specs.Machine.{concluded, sync}
+use Rattle.cg_held.specs.Changes.{KeepIds}
+use Rattle.cg_held.specs.Held.{at_moment, find_group, outcome}
+use Rattle.cg_member.specs.Joining.{waiting}
+use Rattle.cg_member.specs.Membership.{hearing}
+use Rattle.cg_member.specs.Syncing.{assigning, distributed, told_to_syncs}
+use Rattle.cg_request.specs.declared.request.SyncEntry.{SyncEntry}
+use Rattle.cg_group.proofs.InPlace.{sync_here}
+use Rattle.cg_group.proofs.Stepped.{sync_parks}
+
+pub keeps_leading : (now : ℕ) (id : List ℕ) (ticket : Ticket) (entries : List SyncEntry) → KeepIds (distributing now id ticket entries)
+unfolding distributed told_to_syncs assigning waiting hearing
+keeps_leading now id ticket entries g = refl
+
+module _ (r : SyncRequest) (groups : List Group) (own id : List ℕ) (at : IsSync r groups own id Leading) (g : Group) (found : find_group own groups ≡ Some g) where
+  -- the loaded group with its id is the one that the request names
+  same : at.group ≡ g
+  same = let is : Some at.group ≡ Some g = sym at.named.found ∙ found in cc
+
+  pub leads_named : IsLeader id g
+  leads_named = let P : Group → Type 0 = λ k. IsLeader id k in subst P same (at.member, at.found, at.processed.0)
+
+  sync_is : (now : ℕ) (ticket : Ticket) → sync now r ticket groups ≡ Ok (distributing now id ticket r.entries g)
+  sync_is now ticket = sync_here now r ticket groups own id Leading at ∙ ap Ok (at.processed.1 now r id ticket) ∙ ap (λ k. Ok (distributing now id ticket r.entries k)) same
+
+  pub parks_leading : (now : ℕ) (ticket : Ticket) → StepParks groups ticket (distributing now id ticket r.entries g)
+  parks_leading now ticket = sync_parks now r ticket groups (distributing now id ticket r.entries g) (sync_is now ticket)
+
+  pub leading_is : (now : ℕ) (ticket : Ticket) (after : List Group) (e : Effects) → concluded (at_moment now groups) ticket (Ok (distributing now id ticket r.entries g)) ≡ outcome (at_moment now after) e → concluded (at_moment now groups) ticket (sync now r ticket groups) ≡ outcome (at_moment now after) e
+  leading_is now ticket after e is = ap (concluded (at_moment now groups) ticket) (sync_is now ticket) ∙ is

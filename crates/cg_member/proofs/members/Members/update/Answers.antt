@@ -1,9 +1,0 @@
-use Rattle.cg_member.proofs.Tagging.{tags_after_update}
-use Rattle.cg_member.proofs.Together.{after_update}
-use Rattle.cg_member.proofs.members.Members.update.Goals as goal
-
-pub invariant_of-self : goal.invariant_of-self
-invariant_of-self c = (
-  after_update c.args.id.now c.args.join c.self.inside.items.items c.update_one.new.members.items c.update_one.ensures c.self.invariant.0,
-  tags_after_update c.args.id.now c.args.join c.self.inside.tags.items c.self.inside.items.items c.update_one.new.members.items c.update_one.ensures c.self.invariant.1,
-)

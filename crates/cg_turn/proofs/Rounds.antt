@@ -1,0 +1,159 @@
+-- A rebalance that begins and completes in one step: what is worked out before it begins holds then.
+use Rattle.std.proofs.Common.{◌≡◌, ℕ, Bool, true, false, ◌&&◌, ◌||◌, List, [], ◌∷◌, ◌++◌, length, map, Some, refl, sym, ap, ◌∙◌, arith}
+use Rattle.std.specs.Prelude.{◌==◌, Option, None, find, option_map, if◌then◌else◌}
+use Rattle.std.specs.List.{list_all, list_any}
+use Rattle.std.proofs.lemmas.Bool.{and_parts, false≢true, or_parts}
+use Rattle.std.proofs.lemmas.Grind.{common_steps}
+use Rattle.cg_names.specs.Generations.{next_generation}
+use Rattle.cg_record.specs.declared.command.Command.{Command}
+use Rattle.cg_request.specs.declared.ticket.Ticket.{Ticket}
+use Rattle.cg_member.specs.declared.calls.Calls.TheVariants.{Joins, Syncs}
+use Rattle.cg_member.specs.declared.effects.Effects.{Effects}
+use Rattle.cg_member.specs.declared.group.Group.{Group}
+use Rattle.cg_member.specs.declared.group.Phase.TheVariants.{Empty, Preparing}
+use Rattle.cg_member.specs.declared.member.Member.{Member}
+use Rattle.cg_member.specs.declared.member.Waits.{Waits}
+use Rattle.cg_member.specs.declared.member.Waits.TheVariants.{Nothing, Join, Sync}
+use Rattle.cg_member.specs.declared.reply.Reply.{Reply}
+use Rattle.cg_member.specs.declared.turn.Turn.{Turn}
+use Rattle.cg_member.specs.Membership.{is_empty, is_named, is_preparing, leader_among}
+use Rattle.cg_member.specs.Rebalance.{begun, completed, emptied, emptied_command, is_ready, joined_members, joined_reply, next_leader, next_round, told_to_joins, tried, turned}
+use Rattle.cg_member.specs.Waiting.{after_answer, after_answers, answered, answers, is_waiting}
+use Rattle.cg_turn.specs.declared.rebalance.Round.{Round}
+use Rattle.cg_turn.specs.Rounds.{IsPlan, is_complete, in_round, rounded}
+
+-- a reply to a SYNC leaves a member with a parked JOIN as it is
+sync_of_joined : (now : ℕ) (m : Member) → is_waiting Joins m ≡ true → after_answer Syncs now m ≡ m
+sync_of_joined now m h = go m.waits refl h
+  where
+    go : (w : Waits) → m.waits ≡ w → is_waiting Joins (record m { waits = w }) ≡ true → after_answer Syncs now m ≡ m
+    go (Join t) e h = ap (λ w. if is_waiting Syncs (record m { waits = w }) then answered now m else m) e
+    go Nothing e h = absurd (false≢true h)
+    go (Sync t) e h = absurd (false≢true h)
+
+-- where every member has a parked JOIN, a rebalance that begins changes no member
+pub syncs_of_joined : (now : ℕ) (ms : List Member) → list_all (is_waiting Joins) ms ≡ true → after_answers Syncs now ms ≡ ms
+unfolding after_answers
+syncs_of_joined now [] h = refl
+syncs_of_joined now (m ∷ ms) h =
+    let parts = and_parts (is_waiting Joins m) (list_all (is_waiting Joins) ms) h in
+    ap (λ x. x ∷ map (after_answer Syncs now) ms) (sync_of_joined now m parts.0) ∙ ap (λ xs. m ∷ xs) (syncs_of_joined now ms parts.1)
+
+-- a reply to a SYNC leaves no member with a parked JOIN
+joins_after_sync : (now : ℕ) (m : Member) → is_waiting Joins (after_answer Syncs now m) ≡ is_waiting Joins m
+joins_after_sync now m = go m.waits refl
+  where
+    go : (w : Waits) → m.waits ≡ w → is_waiting Joins (after_answer Syncs now m) ≡ is_waiting Joins m
+    go (Join t) e = ap (λ w. is_waiting Joins (if is_waiting Syncs (record m { waits = w }) then answered now m else m)) e
+    go Nothing e = ap (λ w. is_waiting Joins (if is_waiting Syncs (record m { waits = w }) then answered now m else m)) e
+    go (Sync t) e = ap (λ w. is_waiting Joins (if is_waiting Syncs (record m { waits = w }) then answered now m else m)) e ∙ ap (λ w. is_waiting Joins (record m { waits = w })) (sym e)
+
+joined_after_syncs : (now : ℕ) (ms : List Member) → list_all (is_waiting Joins) (after_answers Syncs now ms) ≡ list_all (is_waiting Joins) ms
+unfolding after_answers
+joined_after_syncs now [] = refl
+joined_after_syncs now (m ∷ ms) =
+    ap (λ b. b && list_all (is_waiting Joins) (map (after_answer Syncs now) ms)) (joins_after_sync now m) ∙ ap (λ b. is_waiting Joins m && b) (joined_after_syncs now ms)
+
+-- whether a rebalance that begins or is under way is ready
+begun_ready : (begins : Bool) (now : ℕ) (g : Group) → is_ready (begun begins now g) ≡ is_complete begins g
+unfolding is_ready
+begun_ready true now g = joined_after_syncs now g.members
+begun_ready false now g = refl
+
+unready_stays : (begins : Bool) (now : ℕ) (g : Group) (e : Effects) → is_complete begins g ≡ false → tried now (turned (begun begins now g) e) ≡ turned (begun begins now g) e
+unfolding tried
+unready_stays begins now g e h = ap (λ b. if b then completed now (turned (begun begins now g) e) else turned (begun begins now g) e) (begun_ready begins now g ∙ h)
+
+pub empty_by_length : (ms : List Member) → is_empty ms ≡ (length ms == 0)
+empty_by_length [] = refl
+empty_by_length (m ∷ ms) = grind (arith, common_steps)
+
+module _ (now : ℕ) (g : Group) (e : Effects) (r : Round) where
+  -- a rebalance without members completes
+  pub completed_empty : (commands : List Command) → is_empty g.members ≡ true → r ≡ record { phase = Empty; generation = next_generation g.generation; protocol = None; leader = None }
+      → commands ≡ e.commands ++ emptied_command (record g { generation = next_generation g.generation })
+      → completed now (turned g e) ≡ turned (rounded now (Some r) g) (record { commands = commands; replies = e.replies })
+  unfolding completed emptied emptied_command after_answers
+  completed_empty commands none is by = go g.members refl none
+    where
+      go : (ms : List Member) → g.members ≡ ms → is_empty ms ≡ true → completed now (turned g e) ≡ turned (rounded now (Some r) g) (record { commands = commands; replies = e.replies })
+      go [] f h = rw (f, is, by) refl
+      go (m ∷ ms) f h = absurd (false≢true h)
+
+  -- a rebalance of members completes
+  pub completed_told : (replies : List (Ticket × Reply)) → is_empty g.members ≡ false → in_round r g ≡ next_round g
+      → replies ≡ e.replies ++ answers Joins (joined_reply (next_round g)) g.members
+      → completed now (turned g e) ≡ turned (rounded now (Some r) g) (record { commands = e.commands; replies = replies })
+  unfolding completed told_to_joins next_round
+  completed_told replies some is by =
+      ap (λ b. if b then emptied (turned g e) else told_to_joins now (record (turned g e) { group = next_round g })) some
+      ∙ ap (λ (x : Group). turned (record x { members = after_answers Joins now g.members }) (record { commands = e.commands; replies = e.replies ++ answers Joins (joined_reply (next_round g)) g.members })) (sym is)
+      ∙ ap (λ rs. turned (rounded now (Some r) g) (record { commands = e.commands; replies = rs })) (sym by)
+
+  -- the moment at which a rebalance begins goes into nothing that completes it
+  completed_started : completed now (turned (record g { phase = Preparing; started = now }) e) ≡ record (completed now (turned g e)) { group = record (completed now (turned g e)).group { started = now } }
+  unfolding completed emptied emptied_command told_to_joins next_round next_leader joined_reply joined_members
+  completed_started =
+      elim (is_empty g.members) as (λ b. (if b then emptied (turned (record g { phase = Preparing; started = now }) e) else told_to_joins now (turned (next_round (record g { phase = Preparing; started = now })) e))
+      ≡ record (if b then emptied (turned g e) else told_to_joins now (turned (next_round g) e)) { group = record (if b then emptied (turned g e) else told_to_joins now (turned (next_round g) e)).group { started = now } }) [
+        | true ↦ refl
+        | false ↦ refl
+      ]
+
+  -- a rebalance that begins completes in the round that was worked out before
+  ready_completes : (begins : Bool) (after : Effects) → is_complete begins g ≡ true → completed now (turned g e) ≡ turned (rounded now (Some r) g) after
+      → tried now (turned (begun begins now g) e) ≡ turned (rounded now (Some r) (begun begins now g)) after
+  unfolding tried
+  ready_completes begins after h by =
+      let joined = and_parts (begins || is_preparing g.phase) (list_all (is_waiting Joins) g.members) h in
+      ap (λ b. if b then completed now (turned (begun begins now g) e) else turned (begun begins now g) e) (begun_ready begins now g ∙ h) ∙ go begins joined.1
+    where
+      go : (b : Bool) → list_all (is_waiting Joins) g.members ≡ true → completed now (turned (begun b now g) e) ≡ turned (rounded now (Some r) (begun b now g)) after
+      go false j = by
+      go true j =
+          ap (λ ms. completed now (turned (record g { phase = Preparing; started = now; members = ms }) e)) (syncs_of_joined now g.members j)
+          ∙ completed_started
+          ∙ ap (λ (t : Turn). record t { group = record t.group { started = now } }) by
+          ∙ ap (λ ms. turned (in_round r (record g { started = now; members = after_answers Joins now ms })) after) (sym (syncs_of_joined now g.members j))
+
+-- what was planned is what the rebalance comes to
+pub plan_holds : (begins : Bool) (now : ℕ) (g : Group) (before : Effects) (round : Option Round) (after : Effects) → IsPlan begins g before round after
+    → tried now (turned (begun begins now g) before) ≡ turned (rounded now round (begun begins now g)) after
+plan_holds begins now g before None after h = unready_stays begins now g before h.0 ∙ ap (λ e. turned (begun begins now g) e) (sym h.1)
+plan_holds begins now g before (Some r) after h = ready_completes now g before r begins after h.0 (h.1 now)
+
+-- nobody is chosen where nobody leads
+unled : (p q : Member → Bool) (ms : List Member) → list_any p ms ≡ false → list_any (λ m. p m && q m) ms ≡ false
+unled p q [] h = refl
+unled p q (m ∷ ms) h =
+    let parts = or_parts (p m) (list_any p ms) h in
+    ap (λ b. (b && q m) || list_any (λ x. p x && q x) ms) parts.0 ∙ unled p q ms parts.1
+
+nobody : (ms : List Member) → list_any (λ m. is_named None m.id) ms ≡ false
+nobody [] = refl
+nobody (m ∷ ms) = nobody ms
+
+-- a leader that is no member leads no round
+next_leader_unled : (g : Group) → next_leader (record g { leader = leader_among g.members g.leader }) ≡ next_leader g
+unfolding next_leader
+next_leader_unled g =
+    (elim (list_any (λ m. is_named g.leader m.id) g.members) as (λ b. list_any (λ m. is_named g.leader m.id) g.members ≡ b → next_leader (record g { leader = if b then g.leader else None }) ≡ next_leader g) [
+      | true ↦ λ _. refl
+      | false ↦ λ e.
+          ap (λ b. if b then None else option_map (λ m. m.id) (find (is_waiting Joins) g.members)) (unled (λ m. is_named None m.id) (is_waiting Joins) g.members (nobody g.members))
+          ∙ sym (ap (λ b. if b then g.leader else option_map (λ m. m.id) (find (is_waiting Joins) g.members)) (unled (λ m. is_named g.leader m.id) (is_waiting Joins) g.members e))
+    ]) refl
+
+completed_unled : (now : ℕ) (g : Group) (e : Effects) → completed now (turned (record g { leader = leader_among g.members g.leader }) e) ≡ completed now (turned g e)
+unfolding completed emptied emptied_command next_round
+completed_unled now g e =
+    elim (is_empty g.members) as (λ b. (if b then emptied (turned (record g { leader = leader_among g.members g.leader }) e) else told_to_joins now (turned (next_round (record g { leader = leader_among g.members g.leader })) e))
+    ≡ (if b then emptied (turned g e) else told_to_joins now (turned (next_round g) e))) [
+      | true ↦ refl
+      | false ↦ ap (λ leader. told_to_joins now (turned (record (next_round g) { leader = leader }) e)) (next_leader_unled g)
+    ]
+
+-- so what was planned with it holds without it
+pub plan_unled : (begins : Bool) (g : Group) (before : Effects) (round : Option Round) (after : Effects) → IsPlan begins g before round after → IsPlan begins (record g { leader = leader_among g.members g.leader }) before round after
+plan_unled begins g before None after h = h
+plan_unled begins g before (Some r) after h = (h.0, λ now. completed_unled now g before ∙ h.1 now)

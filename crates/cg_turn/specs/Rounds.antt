@@ -1,0 +1,48 @@
+-- A rebalance of some members of a group, as its outcome is worked out before the group changes.
+use Rattle.std.specs.Prelude.{◌≡◌, ℕ, Bool, true, false, ◌&&◌, ◌||◌, List, [], Option, Some, None}
+use Rattle.std.specs.List.{list_all}
+use Rattle.cg_member.specs.declared.calls.Calls.TheVariants.{Joins}
+use Rattle.cg_member.specs.declared.effects.Effects.{Effects}
+use Rattle.cg_member.specs.declared.group.Group.{Group}
+use Rattle.cg_member.specs.declared.group.Phase.TheVariants.{Completing}
+use Rattle.cg_member.specs.declared.member.Member.{Member}
+use Rattle.cg_member.specs.Membership.{is_preparing}
+use Rattle.cg_member.specs.Rebalance.{completed, turned}
+use Rattle.cg_member.specs.Waiting.{after_answers, is_waiting}
+use Rattle.cg_turn.specs.declared.rebalance.Round.{Round}
+use Rattle.cg_turn.specs.declared.rebalance.Told.{Told}
+
+-- the group with these members
+abbrev pub among : List Member → Group → Group
+among members g = record g { members = members }
+
+-- the group in this round
+abbrev pub in_round : Round → Group → Group
+in_round r g = record g { phase = r.phase; generation = r.generation; protocol = r.protocol; leader = r.leader }
+
+-- the group as its rebalance completes with the round, if there is one: every parked JOIN has its reply
+abbrev pub rounded : ℕ → Option Round → Group → Group
+rounded now None g = g
+rounded now (Some r) g = in_round r (record g { members = after_answers Joins now g.members })
+
+-- a rebalance begins in the group or is under way, and every member has a parked JOIN
+abbrev pub is_complete : Bool → Group → Bool
+is_complete begins g = (begins || is_preparing g.phase) && list_all (is_waiting Joins) g.members
+
+-- the round with which a rebalance of the group completes, if it does, and the effects before and after that
+abbrev pub IsPlan : Bool → Group → Effects → Option Round → Effects → Type 0
+IsPlan begins g before None after = (is_complete begins g ≡ false) × (after ≡ before)
+IsPlan begins g before (Some r) after = (is_complete begins g ≡ true) × ((now : ℕ) → completed now (turned g before) ≡ turned (rounded now (Some r) g) after)
+
+-- a group of which the replies tell this; they tell neither its id nor its phase, nor when it began
+abbrev pub told_group : Told → Group
+told_group t = record {
+  id = [];
+  phase = Completing;
+  generation = t.generation;
+  kind = t.kind.now;
+  protocol = t.protocol.now;
+  leader = t.leader.now;
+  members = t.members.now;
+  started = 0;
+}
