@@ -1,7 +1,6 @@
-//! LEAVE (LeaveGroup request), and closed sessions.
+//! LEAVE (LeaveGroup request).
 ghost use Rattle.std.specs.Prelude.{◌≡◌, ◌⊎◌, ℕ, Bool, is_some, Ok, Err, Some, true, not, filter, is_ok, IfOk, OnErr, MatchOption, MatchResult, ⊤};
 ghost use Rattle.cg_member.specs.Leaving.{has_joined, left, leave_taken, may_be, leaver, leave_held};
-ghost use Rattle.cg_turn.specs.Touching.{gone_touches};
 ghost use Rattle.cg_member.specs.Membership.{find_member, has_id, is_named, keeping, leader_among};
 ghost use Rattle.cg_member.specs.Rebalance.{begun, tried, turned};
 ghost use Rattle.cg_turn.specs.Leaving.{IsLeaver, left_effects, left_replies};
@@ -14,7 +13,7 @@ use crate::context::RequestContext;
 use crate::parking::waits_for_others;
 use crate::rebalance::{Round, carry_out, is_preparing, leads, planned, refuse_syncs};
 use cg_member::answers::{Refusing, answer_one};
-use cg_member::calls::{Calls, is_waiting};
+use cg_member::calls::Calls;
 use cg_member::effects::Effects;
 use cg_member::few::Few;
 use cg_member::group::{Group, Phase};
@@ -268,16 +267,4 @@ pub fn departing<'a>(r: &LeaveRequest, group: &'a Group) -> Option<&'a Member>
         return None;
     }
     Some(member)
-}
-
-/// Returns whether a call of the session is parked in the group. Linear in the members, no allocation.
-pub fn gone_touches(session: u64, group: &Group) -> bool
-    ensures { result ≡ gone_touches session group.now }
-{
-    let which = Calls::OfSession(session);
-    group
-        .members
-        .as_slice()
-        .iter()
-        .any(|m| is_waiting(which, m))
 }
