@@ -5,6 +5,7 @@
 pub mod answers;
 pub mod boxed;
 pub mod calls;
+mod changes;
 pub mod checked;
 pub mod copies;
 pub mod drawing;

@@ -1,6 +1,6 @@
 use Rattle.std.proofs.Common.{◌≡◌, ◌++◌, map, take, drop}
 use Rattle.cg_member.specs.Assignments.{with_assignments}
-use Rattle.cg_member.proofs.members.exchange_each.Given as goal
+use Rattle.cg_member.proofs.changes.exchange_each.Given as goal
 
 abbrev pub invariant-loop-i : goal.invariant-loop-i
 invariant-loop-i l = record {

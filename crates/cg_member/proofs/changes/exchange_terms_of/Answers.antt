@@ -5,7 +5,7 @@ use Rattle.cg_member.specs.Membership.{find_member, has_id, with_member}
 use Rattle.cg_member.specs.Joining.{updated}
 use Rattle.cg_member.proofs.Places.{find_from_position, with_member_from_place}
 use Rattle.cg_member.proofs.Recalling.{taken_back}
-use Rattle.cg_member.proofs.members.exchange_terms_of.Goals as goal
+use Rattle.cg_member.proofs.changes.exchange_terms_of.Goals as goal
 
 pub returns-in-Some-clause-given : goal.returns-in-Some-clause-given
 returns-in-Some-clause-given c =

@@ -1,6 +1,6 @@
 use Rattle.std.proofs.lemmas.List.Edits.{map_over_more}
 use Rattle.cg_member.specs.Waiting.{after_answer}
-use Rattle.cg_member.proofs.members.answer_each.Goals as goal
+use Rattle.cg_member.proofs.changes.answer_each.Goals as goal
 
 pub loop-member-preserved : goal.loop-member-preserved
 loop-member-preserved c =

@@ -1,6 +1,6 @@
 use Rattle.std.proofs.Common.{◌≡◌, ◌++◌, map, take, drop}
 use Rattle.cg_member.specs.Waiting.{after_answer}
-use Rattle.cg_member.proofs.members.answer_each.Given as goal
+use Rattle.cg_member.proofs.changes.answer_each.Given as goal
 
 abbrev pub invariant-loop-member : goal.invariant-loop-member
 invariant-loop-member l =

@@ -1,7 +1,7 @@
 use Rattle.std.proofs.Common.{refl, arith}
 use Rattle.cg_member.specs.Assignments.{with_assignments}
 use Rattle.cg_member.proofs.Exchanges.{IsHalfway, member_exchanged, assignment_exchanged}
-use Rattle.cg_member.proofs.members.exchange_each.Goals as goal
+use Rattle.cg_member.proofs.changes.exchange_each.Goals as goal
 
 pub loop-i-init : goal.loop-i-init
 unfolding with_assignments

@@ -5,7 +5,7 @@ use Rattle.cg_member.specs.Membership.{find_instance, has_instance}
 use Rattle.cg_member.specs.Replacing.{seating}
 use Rattle.cg_member.proofs.Places.{find_from_position}
 use Rattle.cg_member.proofs.Seats.{back_seated, instance_of, seating_no_place, seating_place}
-use Rattle.cg_member.proofs.members.seat_one.Goals as goal
+use Rattle.cg_member.proofs.changes.seat_one.Goals as goal
 
 pub returns-in-Some-clause-seated : goal.returns-in-Some-clause-seated
 returns-in-Some-clause-seated c =

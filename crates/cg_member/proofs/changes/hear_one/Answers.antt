@@ -2,7 +2,7 @@ use Rattle.std.proofs.Common.{◌≡◌, Some, is_some, sym, ap, refl, ◌∙◌
 use Rattle.std.specs.List.{position}
 use Rattle.cg_member.specs.Membership.{find_member, has_id, heard}
 use Rattle.cg_member.proofs.Places.{find_from_no_position, find_from_position, with_member_from_place}
-use Rattle.cg_member.proofs.members.hear_one.Goals as goal
+use Rattle.cg_member.proofs.changes.hear_one.Goals as goal
 
 pub returns-in-Some-clause-heard : goal.returns-in-Some-clause-heard
 returns-in-Some-clause-heard c =
