@@ -62,7 +62,7 @@ fn copied_members(alloc: Global, members: &Members) -> Result<Members, AllocErro
     Ok(copies)
 }
 
-/// Copies the group with its members. Linear in the size of all protocols and assignments.
+/// Copies the group with its members. Linear in the size of all ids and assignments; the copy shares the protocol lists.
 pub fn copied_group(alloc: Global, group: &Group) -> Result<Group, AllocError>
     ensures { IfOk result (λ copy. copy ≡ group.now) }
 {
