@@ -25,7 +25,7 @@ use Rattle.cg_member.specs.Leaving.{after_removal, gone_in, has_joined, leave_ta
 use Rattle.cg_request.specs.declared.commit_entry.CommitEntry.{CommitEntry}
 use Rattle.cg_turn.specs.Committing.{committed, hearing_committer, keeping_entries}
 use Rattle.cg_member.specs.declared.effects.Effects.{Effects}
-use Rattle.cg_group.specs.InPlace.{ParksKnown}
+use Rattle.cg_group.specs.InPlace.{ParksKnown, StepKnown}
 use Rattle.cg_group.specs.Machine.{beat, commit, concluded, deleted, deleting, join, leave, met, sync}
 use Rattle.cg_held.specs.Held.{Machine, Outcome, at_moment, everywhere, find_group, groups_after, outcome, with_group}
 use Rattle.cg_member.specs.Membership.{has_id, heard, hearing, is_empty, is_preparing, keeping, leads}
@@ -377,6 +377,13 @@ known-after homes now groups after e made own is h =
 pub known-through : {E : Type 0} (homes : ℕ → List ℕ → Bool) (now : ℕ) (groups after : List Group) (e : Event) (r : Result Effects E) → Owns homes e → IfOk r (λ made. met (at_moment now groups) e ≡ outcome (at_moment now after) made) → OnErr r (after ≡ groups) → AreKnown homes groups → AreKnown homes after
 known-through homes now groups after e (Ok made) own ok err h = known-after homes now groups after e made own ok h
 known-through homes now groups after e (Err x) own ok err h = let P : List Group → Type 0 = λ gs. AreKnown homes gs in subst P (sym err) h
+
+ticked_home : (homes : ℕ → List ℕ → Bool) (now : ℕ) (g : Group) → Home homes g → Home homes (ticked now g).group
+ticked_home homes now g k = stays homes g.id (ticked now g) (framed-ticked now g) (known-ticked (at homes g.id) now g k)
+
+-- a tick parks no call
+pub tick_known : (now : ℕ) (own : List ℕ) (groups : List Group) (g : Group) → find_group own groups ≡ Some g → StepKnown groups (ticked now g)
+tick_known now own groups g found homes h = each-put (Home homes) (ticked now g).group groups (ticked_home homes now g (each-found (Home homes) own groups g found h)) h
 
 heard_home : (homes : ℕ → List ℕ → Bool) (now : ℕ) (id : List ℕ) (g : Group) → Home homes g → Home homes (hearing now id g)
 unfolding hearing

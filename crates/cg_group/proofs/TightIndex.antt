@@ -18,10 +18,9 @@ use Rattle.cg_member.specs.Waiting.{after_answer, after_answers, answered, calle
 use Rattle.cg_group.specs.InPlace.{group_of, groups_of, replaced_by}
 use Rattle.cg_held.specs.declared.sessions.Home.{Home}
 use Rattle.cg_held.specs.Held.{find_group, groups_after, with_group}
-use Rattle.cg_held.specs.Kept.{Each}
-use Rattle.cg_held.specs.Sessions.{IsFilled, IsLetGo, IsTight, is_home, is_noted, is_parked, were_parked}
+use Rattle.cg_held.specs.Sessions.{IsFilled, IsLetGo, IsTight, is_home, is_noted, is_parked}
 use Rattle.cg_held.proofs.InOrder.{found_named}
-use Rattle.cg_held.proofs.Tight.{at_call, tight_put, were_in}
+use Rattle.cg_held.proofs.Tight.{at_call, tight_put}
 
 -- an index that got one session with a group got it with the group of this id
 pub noted_named : (homes0 homes1 : BTreeMap ℕ (BTreeMap (List ℕ) Home)) (session : ℕ) (id own : List ℕ) → id ≡ own
@@ -103,23 +102,6 @@ module _ (homes final : BTreeMap ℕ (BTreeMap (List ℕ) Home)) (held0 held1 : 
           let A : List ℕ → Type 0 = λ i. is_home final q i ≡ true in
           let B : List ℕ → Type 0 = λ i. is_parked q (find_group i held1) ≡ true in
           subst B own (gone g (was ∙ e) q p (subst A (sym own) h))
-
-  -- an event in several groups
-  pub tight_everywhere : (before : List Group)
-      → ((q : ℕ) (x : List ℕ) → is_parked q (find_group x held0) ≡ true → (is_parked q (find_group x held1) ≡ true) ⊎ (were_parked before q x ≡ true))
-      → Each (λ (g : Group). (q : ℕ) → is_parked q (Some g) ≡ true → IsLetGo final held1 g.id q) before → IsTight final held1
-  tight_everywhere before stays gone = (
-    λ q x here. elim (stays q x (tight.0 q x (fewer q x here))) as (λ _. is_parked q (find_group x held1) ≡ true) [
-      | inl p ↦ p
-      | inr w ↦
-          were_in (λ (g : Group). (q : ℕ) → is_parked q (Some g) ≡ true → IsLetGo final held1 g.id q) before q x (is_parked q (find_group x held1) ≡ true) gone w
-          (λ g own same waits.
-          let A : List ℕ → Type 0 = λ i. is_home final q i ≡ true in
-          let B : List ℕ → Type 0 = λ i. is_parked q (find_group i held1) ≡ true in
-          subst B same (own q waits (subst A (sym same) here)))
-    ],
-    λ q. filled q (tight.1 q),
-  )
 
 -- the end of a session
 module _ (now session : ℕ) where

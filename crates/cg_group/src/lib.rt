@@ -16,6 +16,7 @@ mod parking_in_place;
 mod rejoining;
 mod stepping;
 mod syncing;
+mod ticking;
 mod ways;
 
 pub use groups::Groups;

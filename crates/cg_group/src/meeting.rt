@@ -5,7 +5,6 @@ ghost use Rattle.cg_turn.specs.Committing.{commit_unheld, keeping_entries};
 ghost use Rattle.cg_member.specs.Joining.{new_group};
 ghost use Rattle.cg_member.specs.Offsets.{offsets_after};
 ghost use Rattle.cg_held.specs.Sessions.{AreKnown, IsTight, StayParked, is_home, is_parked};
-ghost use Rattle.cg_member.specs.Ticking.{ticked};
 ghost use Rattle.cg_group.specs.Machine.{concluded, commit, deleting, deleted, deleted_alone, describe, is_taken, met};
 ghost use Rattle.cg_held.specs.Held.{at_moment, everywhere, find_group, outcome, standing};
 
@@ -13,15 +12,12 @@ use crate::in_place::{commit_in, meet_beat, reply_alone};
 use crate::joining::meet_join;
 use crate::leaving::meet_leave;
 use crate::syncing::meet_sync;
+use crate::ticking::meet_tick;
 use cg_fold::Offsets;
-use cg_held::changes::{Changes, swap_all};
 use cg_held::describing::{description, listings};
-use cg_held::due::turn_due;
-use cg_held::everywhere::Ticking;
 use cg_held::held::Held;
 use cg_held::homes::end_session;
 use cg_held::sessions::{Homes, forget};
-use cg_held::settling::settle_all;
 use cg_member::boxed::Boxed;
 use cg_member::effects::Effects;
 use cg_member::fetching::fetched;
@@ -221,31 +217,6 @@ fn meet_delete(
             Ok(effects)
         }
     }
-}
-
-// Processes a tick. Visits only the groups that are due, and copies only those that it changes.
-#[tactic(auto, unfolding(cg_held::specs::Held::everywhere))]
-fn meet_tick(now: Moment, held: &mut Held, homes: &mut Homes) -> Result<Effects, AllocError>
-    requires known { AreKnown (is_home homes.old) held.old }
-    requires tight { IsTight homes.old held.old }
-    ensures known { AreKnown (is_home homes.new) held.new }
-    ensures tight { IsTight homes.new held.new }
-    ensures ok { IfOk result
-        (λ e. everywhere (ticked now) (at_moment now held.old) ≡ outcome (at_moment now held.new) e) }
-    ensures err { OnErr result (held.new ≡ held.old) }
-{
-    let alloc = held.allocator();
-    let due = held.due(now)?;
-    let ids = due.as_slice();
-    let Changes {
-        mut groups,
-        effects,
-    } = turn_due(alloc, &Ticking(now), held, ids)?;
-    let changed = groups.as_mut_slice();
-    swap_all(held, changed);
-    settle_all(homes, held, changed);
-    held.renew_all(now, ids);
-    Ok(effects)
 }
 
 // Processes the end of a session in place. Visits only the groups that the session index has for it.

@@ -21,7 +21,7 @@ use cg_names::{GroupId, MemberId, Moment};
 use cg_request::ticket::Ticket;
 use cg_turn::admission::current_joiner;
 use cg_turn::parking::parking_joiner;
-use cg_turn::rebalance::joined_reply;
+use cg_turn::telling::joined_reply;
 use std::alloc::AllocError;
 
 /// Returns the group, the member and the reply of a JOIN that changes nothing, or `None` for any other JOIN. Copies what

@@ -1,5 +1,5 @@
--- The steps of groups in their order, and the replacement of the changed groups.
-use Rattle.std.proofs.Common.{◌≡◌, ℕ, Bool, true, false, ◌||◌, List, [], ◌∷◌, ◌++◌, cond, is_some, Some, None, refl, sym, ap, ◌∙◌, subst}
+-- The steps of groups in their order.
+use Rattle.std.proofs.Common.{◌≡◌, ℕ, Bool, true, false, ◌||◌, List, [], ◌∷◌, ◌++◌, cond, Some, None, refl, sym, ap, ◌∙◌, subst}
 use Rattle.std.specs.Prelude.{if◌then◌else◌}
 use Rattle.std.specs.List.{flat_map}
 use Rattle.std.specs.Cmp.Lexicographic.{slice_cmp}
@@ -9,40 +9,19 @@ use Rattle.std.proofs.lemmas.Bool.{or_from, or_left, or_right}
 use Rattle.std.proofs.lemmas.Cmp.{nat_list_cmp_total}
 use Rattle.std.proofs.lemmas.List.{append_assoc, append-nil}
 use Rattle.std.proofs.lemmas.List.Folds.{list_any-append}
-use Rattle.cg_held.specs.declared.changes.Changes.{Changes}
 use Rattle.cg_record.specs.declared.command.Command.{Command}
 use Rattle.cg_member.specs.declared.effects.Effects.{Effects}
 use Rattle.cg_member.specs.declared.group.Group.{Group}
 use Rattle.cg_member.specs.declared.reply.Reply.{Reply}
 use Rattle.cg_request.specs.declared.ticket.Ticket.{Ticket}
 use Rattle.cg_member.specs.declared.turn.Turn.{Turn}
-use Rattle.cg_held.specs.Changes.{AreHeld, HaveTurned, among, changed, is_one_of}
-use Rattle.cg_held.specs.Held.{IsHeld, InOrder, effects_of, find_group, groups_after, with_group}
+use Rattle.cg_held.specs.Changes.{among, is_one_of}
+use Rattle.cg_held.specs.Held.{InOrder, find_group, groups_after, with_group}
 use Rattle.cg_held.specs.Kept.{ComeBefore, ComesBefore, Each}
 use Rattle.cg_request.specs.Names.{is_same}
 use Rattle.cg_member.specs.Rebalance.{turn_of}
-use Rattle.cg_held.proofs.Framed.{each-append}
 use Rattle.cg_held.proofs.InOrder.{before_found, differs_behind, found_alone, less_greater, none_found, same_order}
-use Rattle.cg_held.proofs.KeptLists.{found-with_group, group_ids, same_self}
-
--- `changed` with a first change, and with no change
-pub changed-cons : (c : Group) (cs groups : List Group) → changed (c ∷ cs) groups ≡ changed cs (with_group c groups)
-unfolding changed
-changed-cons c cs groups = refl
-
-pub changed-nil : (groups : List Group) → changed [] groups ≡ groups
-unfolding changed
-changed-nil groups = refl
-
-changed-push : (cs : List Group) (c : Group) (groups : List Group) → changed (cs ++ c ∷ []) groups ≡ with_group c (changed cs groups)
-unfolding changed
-changed-push [] c groups = refl
-changed-push (x ∷ cs) c groups = changed-push cs c (with_group x groups)
-
--- a loaded group stays loaded
-pub held-with_group : (c : Group) (cs groups : List Group) → AreHeld groups cs → AreHeld (with_group c groups) cs
-held-with_group c [] groups h = tt
-held-with_group c (x ∷ xs) groups h = (found-with_group x.id c groups (or_right (is_same c.id x.id) (is_some (find_group x.id groups)) h.0), held-with_group c xs groups h.1)
+use Rattle.cg_held.proofs.KeptLists.{group_ids, same_names, same_self}
 
 -- an id among others
 
@@ -55,6 +34,9 @@ one_of-push ids x y apart = list_any-append (is_same y) ids (x ∷ []) ∙ last 
 
 one_of-last : (ids : List (List ℕ)) (x : List ℕ) → is_one_of (ids ++ x ∷ []) x ≡ true
 one_of-last ids x = list_any-append (is_same x) ids (x ∷ []) ∙ or_right (is_one_of ids x) (is_same x x || false) (or_left (is_same x x) false (same_self x))
+
+one_of_named : (ids : List (List ℕ)) (y x : List ℕ) → is_same y x ≡ true → is_one_of (ids ++ x ∷ []) y ≡ true
+one_of_named ids y x same = ap (is_one_of (ids ++ x ∷ [])) (same_names y x same) ∙ one_of-last ids x
 
 pub before_one_of : (ids : List (List ℕ)) (x : List ℕ) → ComeBefore ids x → is_one_of ids x ≡ false
 before_one_of [] x h = refl
@@ -161,30 +143,6 @@ module _ (turn : Group → Turn) where
               ∙ ap (λ (z : Turn). z.group ∷ groups_after (among more turn) xs) (sym (among-push ids g.id x t))
         ]) refl found
 
-    pub turned_touched : (groups : List Group) (ids : List (List ℕ)) (g : Group) (was now : Changes) (t : Turn) → InOrder groups → find_group g.id groups ≡ Some g → ComeBefore ids g.id → HaveTurned turn groups ids was → t ≡ turn g
-        → now.groups.items ≡ was.groups.items ++ t.group ∷ []
-        → now.effects.commands ≡ was.effects.commands ++ t.commands
-        → now.effects.replies ≡ was.effects.replies ++ t.replies
-        → HaveTurned turn groups (ids ++ g.id ∷ []) now
-    turned_touched groups ids g was now t o found b h is put commands replies =
-        let P : List Group → Type 0 = λ cs. AreHeld groups cs in
-        let own : t.group.id ≡ g.id = ap (λ (u : Turn). u.group.id) is ∙ stays g in
-        let there : is_some (find_group t.group.id groups) ≡ true = ap (λ x. is_some (find_group x groups)) own ∙ ap is_some found in
-        record {
-          held = subst P (sym put) (each-append (λ (c : Group). IsHeld groups c.id) was.groups.items (t.group ∷ []) h.held (there, tt));
-          after = ap (λ cs. changed cs groups) put ∙ changed-push was.groups.items t.group groups ∙ ap (λ (u : Turn). with_group u.group (changed was.groups.items groups)) is ∙ ap (with_group (turn g).group) h.after ∙ put_next ids g groups o found b;
-          commands = commands ∙ ap (λ xs. xs ++ t.commands) h.commands ∙ ap (λ (u : Turn). (effects_of (among ids turn) groups).commands ++ u.commands) is ∙ sym (made_next (λ u. u.commands) (λ g. refl) ids g groups o found b);
-          replies = replies ∙ ap (λ xs. xs ++ t.replies) h.replies ∙ ap (λ (u : Turn). (effects_of (among ids turn) groups).replies ++ u.replies) is ∙ sym (made_next (λ u. u.replies) (λ g. refl) ids g groups o found b);
-        }
-
-  turned_same : (groups : List Group) (ids more : List (List ℕ)) (done : Changes) → Each (λ h. among ids turn h ≡ among more turn h) groups → HaveTurned turn groups ids done → HaveTurned turn groups more done
-  turned_same groups ids more done same h = record {
-    held = h.held;
-    after = h.after ∙ same_groups (among ids turn) (among more turn) groups same;
-    commands = h.commands ∙ same_made (λ t. t.commands) (among ids turn) (among more turn) groups same;
-    replies = h.replies ∙ same_made (λ t. t.replies) (among ids turn) (among more turn) groups same;
-  }
-
   -- no group has the id
   pub unheld_same : (groups : List Group) (ids : List (List ℕ)) (x : List ℕ) → find_group x groups ≡ None → Each (λ h. among ids turn h ≡ among (ids ++ x ∷ []) turn h) groups
   unheld_same groups ids x none = each groups (none_found x groups none)
@@ -193,12 +151,9 @@ module _ (turn : Group → Turn) where
       each [] h = tt
       each (g ∷ gs) h = (sym (among-push ids x g h.0), each gs h.1)
 
-  pub turned_unheld : (groups : List Group) (ids : List (List ℕ)) (x : List ℕ) (done : Changes) → find_group x groups ≡ None → HaveTurned turn groups ids done → HaveTurned turn groups (ids ++ x ∷ []) done
-  turned_unheld groups ids x done none h = turned_same groups ids (ids ++ x ∷ []) done (unheld_same groups ids x none) h
-
   -- the event does not change the group with the id
-  pub turned_untouched : (groups : List Group) (ids : List (List ℕ)) (g : Group) (done : Changes) → InOrder groups → find_group g.id groups ≡ Some g → turn g ≡ turn_of g → HaveTurned turn groups ids done → HaveTurned turn groups (ids ++ g.id ∷ []) done
-  turned_untouched groups ids g done o found calm h = turned_same groups ids (ids ++ g.id ∷ []) done (each groups (found_alone g.id groups g o found)) h
+  pub calm_same : (groups : List Group) (ids : List (List ℕ)) (g : Group) → InOrder groups → find_group g.id groups ≡ Some g → turn g ≡ turn_of g → Each (λ h. among ids turn h ≡ among (ids ++ g.id ∷ []) turn h) groups
+  calm_same groups ids g o found calm = each groups (found_alone g.id groups g o found)
     where
       calm_here : (x : Group) → x ≡ g → (i j : Bool) → (if i then turn x else turn_of x) ≡ (if j then turn x else turn_of x)
       calm_here x e =
@@ -230,32 +185,6 @@ module _ (turn : Group → Turn) where
   pub none_made : {A : Type 0} (f : Turn → List A) → ((g : Group) → f (turn_of g) ≡ []) → (groups : List Group) → flat_map (λ g. f (among [] turn g)) groups ≡ []
   none_made f none groups = quiet f none [] groups (nobody groups)
 
-  pub none_turned : (groups : List Group) (done : Changes) → done.groups.items ≡ [] → done.effects.commands ≡ [] → done.effects.replies ≡ [] → HaveTurned turn groups [] done
-  none_turned groups done put commands replies =
-      let P : List Group → Type 0 = λ cs. AreHeld groups cs in
-      record {
-        held = subst P (sym put) tt;
-        after = ap (λ cs. changed cs groups) put ∙ changed-nil groups ∙ sym (none_after groups);
-        commands = commands ∙ sym (none_made (λ t. t.commands) (λ g. refl) groups);
-        replies = replies ∙ sym (none_made (λ t. t.replies) (λ g. refl) groups);
-      }
-
-  -- each group had its step, or the event does not change it
-  abbrev pub Done : List Group → Changes → Type 0
-  Done groups done = AreHeld groups done.groups.items × (changed done.groups.items groups ≡ groups_after turn groups) × (done.effects ≡ effects_of turn groups)
-
-  pub all_turned : (groups : List Group) (ids : List (List ℕ)) (done : Changes) → Each (λ h. among ids turn h ≡ turn h) groups → HaveTurned turn groups ids done → Done groups done
-  all_turned groups ids done same h = (
-    h.held,
-    h.after ∙ same_groups (among ids turn) turn groups same,
-    same_effects done.effects (effects_of turn groups) (h.commands ∙ same_made (λ t. t.commands) (among ids turn) turn groups same) (h.replies ∙ same_made (λ t. t.replies) (among ids turn) turn groups same),
-  )
-    where
-      same_effects : (e f : Effects) → e.commands ≡ f.commands → e.replies ≡ f.replies → e ≡ f
-      same_effects e f commands replies =
-          let with_these : List Command → List (Ticket × Reply) → Effects = λ cs rs. record { commands = cs; replies = rs } in
-          ap (λ cs. with_these cs e.replies) commands ∙ ap (with_these f.commands) replies
-
   -- the groups with these ids had their steps, and the event does not change the others
   pub calm_among : (ids : List (List ℕ)) (gs : List Group) → Each (λ (g : Group). is_one_of ids g.id ≡ false → turn g ≡ turn_of g) gs → Each (λ h. among ids turn h ≡ turn h) gs
   calm_among ids [] h = tt
@@ -267,5 +196,19 @@ module _ (turn : Group → Turn) where
     calm_among ids gs h.1,
   )
 
-  pub these_turned : (groups : List Group) (ids : List (List ℕ)) (done : Changes) → Each (λ (g : Group). is_one_of ids g.id ≡ false → turn g ≡ turn_of g) groups → HaveTurned turn groups ids done → Done groups done
-  these_turned groups ids done calm h = all_turned groups ids done (calm_among ids groups calm) h
+  -- the group with the id is one more in both
+  pub same_push : (groups : List Group) (ids more : List (List ℕ)) (x : List ℕ) → Each (λ h. among ids turn h ≡ among more turn h) groups → Each (λ h. among (ids ++ x ∷ []) turn h ≡ among (more ++ x ∷ []) turn h) groups
+  same_push [] ids more x h = tt
+  same_push (g ∷ gs) ids more x h = (
+    (elim (is_same g.id x) as (λ b. is_same g.id x ≡ b → among (ids ++ x ∷ []) turn g ≡ among (more ++ x ∷ []) turn g) [
+      | true ↦ λ t. took (ids ++ x ∷ []) g (one_of_named ids g.id x t) ∙ sym (took (more ++ x ∷ []) g (one_of_named more g.id x t))
+      | false ↦ λ t. among-push ids x g t ∙ h.0 ∙ sym (among-push more x g t)
+    ]) refl,
+    same_push gs ids more x h.1,
+  )
+
+-- effects with the same commands and replies
+pub same_effects : (e f : Effects) → e.commands ≡ f.commands → e.replies ≡ f.replies → e ≡ f
+same_effects e f commands replies =
+    let with_these : List Command → List (Ticket × Reply) → Effects = λ cs rs. record { commands = cs; replies = rs } in
+    ap (λ cs. with_these cs e.replies) commands ∙ ap (with_these f.commands) replies

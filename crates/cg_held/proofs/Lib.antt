@@ -13,6 +13,7 @@ pub mod Finding
 pub mod Tight
 pub mod DueGroups
 pub mod Homeward
+pub mod Successive
 pub mod Quiet
 pub mod Timed
 pub mod Beaten

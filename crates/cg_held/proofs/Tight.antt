@@ -1,8 +1,7 @@
 -- The session index has no more than the parked calls.
-use Rattle.std.proofs.Common.{◌≡◌, ℕ, zero, suc, ◌≤◌, Bool, true, false, List, [], ◌∷◌, ◌++◌, drop, take, length, inl, inr, Option, Some, None, refl, sym, ap, ◌∙◌, subst, arith}
-use Rattle.std.specs.Prelude.{◌⊎◌, ◌||◌, ◌==◌, ◌&&◌, if◌then◌else◌, is_some, option_to_list}
-use Rattle.std.proofs.lemmas.Bool.{and_from, eqb-true, false≢true, or_left, or_right}
-use Rattle.std.proofs.lemmas.List.Folds.{list_any-append}
+use Rattle.std.proofs.Common.{◌≡◌, ℕ, Bool, true, false, List, [], ◌∷◌, ◌++◌, inl, inr, Option, Some, None, refl, sym, ap, ◌∙◌, subst}
+use Rattle.std.specs.Prelude.{◌⊎◌, ◌||◌, ◌==◌, if◌then◌else◌, is_some, option_to_list}
+use Rattle.std.proofs.lemmas.Bool.{eqb-true, false≢true}
 use Rattle.std.specs.BTreeMap.{BTreeMap, get, is_at}
 use Rattle.std.specs.Map.{lookup}
 use Rattle.std.specs.Ordering.{nat_cmp}
@@ -18,7 +17,7 @@ use Rattle.cg_request.specs.declared.ticket.Ticket.{Ticket}
 use Rattle.cg_held.specs.declared.sessions.Home.{Home}
 use Rattle.cg_held.specs.Held.{find_group, with_group, without_group}
 use Rattle.cg_held.specs.Kept.{Each}
-use Rattle.cg_held.specs.Sessions.{IfParked, IsFilled, IsLetGo, IsSettled, IsTight, StayParked, is_certain, is_noted, is_parked, parked_calls, were_parked}
+use Rattle.cg_held.specs.Sessions.{IfParked, IsFilled, IsLetGo, IsSettled, IsTight, StayParked, is_certain, is_noted, is_parked, parked_calls}
 use Rattle.cg_held.proofs.Finding.{find-other, find-own, find-without}
 use Rattle.cg_held.proofs.InOrder.{found_named}
 use Rattle.cg_held.proofs.KeptLists.{same_names, same_self}
@@ -76,19 +75,6 @@ let_go doubted sure final groups id stays waits q doubtful settled here = choose
     choose : (is_certain doubted q id ≡ true) ⊎ (is_parked q (find_group id groups) ≡ true) → is_parked q (find_group id groups) ≡ true
     choose (inl before) = absurd (false≢true (sym doubtful ∙ before))
     choose (inr waits) = waits
-
--- one of the groups as they were
-pub were_in : (P : Group → Type 0) (gs : List Group) (q : ℕ) (x : List ℕ) (C : Type 0) → Each P gs → were_parked gs q x ≡ true → ((g : Group) → P g → g.id ≡ x → is_parked q (Some g) ≡ true → C) → C
-were_in P [] q x C h e k = absurd (false≢true e)
-were_in P (g ∷ gs) q x C h e k =
-    (elim (is_same g.id x) as (λ b. is_same g.id x ≡ b → ((b && is_parked q (Some g)) || were_parked gs q x) ≡ true → C) [
-      | true ↦ λ s f.
-          (elim (is_parked q (Some g)) as (λ b. is_parked q (Some g) ≡ b → (b || were_parked gs q x) ≡ true → C) [
-            | true ↦ λ w _. k g h.0 (same_names g.id x s) w
-            | false ↦ λ _ f. were_in P gs q x C h.1 f k
-          ]) refl f
-      | false ↦ λ _ f. were_in P gs q x C h.1 f k
-    ]) refl e
 
 -- the index after a group took the place of the one with its id
 pub tight_put : (g : Group) (gs : List Group) (before after : ℕ → List ℕ → Bool) (noted : ℕ → Type 0)
@@ -170,35 +156,6 @@ stay_removed id groups idle q y parked =
       | true ↦ λ s. absurd (false≢true (sym (ap (λ i. is_parked q (find_group i groups)) (sym (same_names id y s)) ∙ idle q) ∙ parked))
       | false ↦ λ d. ap (is_parked q) (find-without id y groups d) ∙ parked
     ]) refl
-
--- the whole of a list
-pub all_dropped : (n : ℕ) (gs : List Group) → length gs ≤ n → drop n gs ≡ []
-all_dropped zero [] h = refl
-all_dropped (suc n) [] h = refl
-all_dropped zero (g ∷ gs) h = absurd (omega arith)
-all_dropped (suc n) (g ∷ gs) h = all_dropped n gs (omega arith)
-
-pub all_taken : (n : ℕ) (gs : List Group) → length gs ≤ n → take n gs ≡ gs
-all_taken zero [] h = refl
-all_taken (suc n) [] h = refl
-all_taken zero (g ∷ gs) h = absurd (omega arith)
-all_taken (suc n) (g ∷ gs) h = ap (λ xs. g ∷ xs) (all_taken n gs (omega arith))
-
--- one more group was exchanged
-pub swapped : (q : ℕ) (x : List ℕ) (gs after : List Group) (g old : Group) (before more : List Group) → after ≡ with_group g gs → find_group g.id gs ≡ Some old → more ≡ before ++ old ∷ []
-    → (is_parked q (find_group x gs) ≡ true) ⊎ (were_parked before q x ≡ true) → (is_parked q (find_group x after) ≡ true) ⊎ (were_parked more q x ≡ true)
-swapped q x gs after g old before more put found is h = elim h as (λ _. (is_parked q (find_group x after) ≡ true) ⊎ (were_parked more q x ≡ true)) [
-  | inl p ↦
-      (elim (is_same g.id x) as (λ b. is_same g.id x ≡ b → (is_parked q (find_group x after) ≡ true) ⊎ (were_parked more q x ≡ true)) [
-        | true ↦ λ s.
-            let own : is_same old.id x ≡ true = ap (λ i. is_same i x) (found_named g.id gs old found) ∙ s in
-            let waits : is_parked q (Some old) ≡ true = sym (ap (is_parked q) (ap (λ i. find_group i gs) (sym (same_names g.id x s)) ∙ found)) ∙ p in
-            inr (ap (λ os. were_parked os q x) is ∙ list_any-append (λ (o : Group). is_same o.id x && is_parked q (Some o)) before (old ∷ [])
-            ∙ or_right (were_parked before q x) ((is_same old.id x && is_parked q (Some old)) || false) (or_left (is_same old.id x && is_parked q (Some old)) false (and_from (is_same old.id x) (is_parked q (Some old)) own waits)))
-        | false ↦ λ d. inl (ap (λ gs. is_parked q (find_group x gs)) put ∙ ap (is_parked q) (find-other x g gs d) ∙ p)
-      ]) refl
-  | inr w ↦ inr (ap (λ os. were_parked os q x) is ∙ list_any-append (λ (o : Group). is_same o.id x && is_parked q (Some o)) before (old ∷ []) ∙ or_left (were_parked before q x) (were_parked (old ∷ []) q x) w)
-]
 
 -- an empty index
 pub tight_empty : (homes : BTreeMap ℕ (BTreeMap (List ℕ) Home)) (groups : List Group) → homes.entries ≡ [] → IsTight homes groups

@@ -4,5 +4,6 @@ pub mod Sessions
 pub mod Held
 pub mod Timed
 pub mod Changes
+pub mod DueGroups
 pub mod Reviving
 pub mod Props

@@ -1,7 +1,6 @@
 -- The session index: which groups may have a parked call of which session.
-use Rattle.std.specs.Prelude.{◌≡◌, ℕ, Bool, true, false, List, Option, Some, None, is_some, option_to_list, ◌&&◌}
-use Rattle.std.specs.List.{flat_map, list_any}
-use Rattle.cg_member.specs.Membership.{is_same}
+use Rattle.std.specs.Prelude.{◌≡◌, ℕ, Bool, true, false, List, Option, Some, None, is_some, option_to_list}
+use Rattle.std.specs.List.{flat_map}
 use Rattle.std.specs.BTreeMap as map
 use Rattle.std.specs.BTreeMap.{BTreeMap}
 use Rattle.std.specs.Ordering.{nat_cmp}
@@ -114,10 +113,6 @@ IsTight homes groups = ((session : ℕ) (id : List ℕ) → IsLetGo homes groups
 -- each call that was parked in one of these groups is parked in it in the others too
 abbrev pub StayParked : List Group → List Group → Type 0
 StayParked groups others = (session : ℕ) (id : List ℕ) → is_parked session (find_group id groups) ≡ true → is_parked session (find_group id others) ≡ true
-
--- a call of the session is parked in a group with this id, among these
-abbrev pub were_parked : List Group → ℕ → List ℕ → Bool
-were_parked groups session id = list_any (λ (g : Group). is_same g.id id && gone_touches session g) groups
 
 -- the replies to the parked calls of a session that ends: each gets 15
 abbrev pub refusals : ℕ → List Group → List (Ticket × Reply)

@@ -12,7 +12,7 @@ use cg_member::reply::{Described, DescribedMember, Listing};
 use cg_names::ProtocolName;
 use cg_record::{Assignment, Subscription};
 use cg_request::listed::Listed;
-use cg_turn::rebalance::subscription_for;
+use cg_turn::telling::subscription_for;
 use std::alloc::{AllocError, Global};
 
 fn shown_subscription(

@@ -7,7 +7,6 @@ ghost use Rattle.cg_held.specs.Changes.{ChangeKeepsId, KeepIds, effects_in, is_o
 ghost use Rattle.cg_held.specs.Held.{IsHeld, InOrder, find_group, with_group, without_group};
 ghost use Rattle.cg_held.specs.Kept.{Ascending, Each};
 ghost use Rattle.cg_held.specs.Timed.{AreTimed};
-ghost use Rattle.cg_member.specs.Leaving.{gone_in};
 ghost use Rattle.cg_member.specs.Membership.{hearing};
 ghost use Rattle.cg_names.specs.declared.code.Code.TheVariants.{UnknownMemberId};
 ghost use Rattle.cg_turn.specs.Beating.{IsBeat, IsBeatRefused};
@@ -16,6 +15,7 @@ ghost use Rattle.cg_member.specs.Ticking.{ticked};
 ghost use Rattle.cg_member.specs.Waiting.{waiting_calls};
 
 use crate::altering::Altering;
+use crate::changing::Changing;
 use crate::loaded::Loaded;
 use crate::stepping::Stepping;
 use cg_member::effects::Effects;
@@ -25,7 +25,7 @@ use cg_names::{Code, GroupId, MemberId, Moment};
 use cg_request::request::BeatRequest;
 use cg_request::ticket::Ticket;
 use cg_time::Deadlines;
-use cg_turn::ticking::next_deadline;
+use cg_turn::touching::next_deadline;
 use std::alloc::{AllocError, Global};
 use std::collections::btree_map::Values;
 use std::marker::Model;
@@ -155,8 +155,8 @@ impl Held {
         Ok(None)
     }
 
-    /// Exchanges the group with this id for the given one, which becomes the group as it was. No allocation.
-    pub fn swap(&mut self, group: &mut Group)
+    // Exchanges the group with this id for the given one, which becomes the group as it was.
+    fn swap(&mut self, group: &mut Group)
         requires { IsHeld self.old group.old.id }
         ensures after { self.new ≡ with_group group.old self.old }
         ensures before { find_group group.old.id self.old ≡ Some group.new }
@@ -183,14 +183,15 @@ impl Held {
         self.loaded.hear(group, id, now);
     }
 
-    /// Clears the parked calls of the session in the group with this id, marks their members as heard, and finds out the next moment
-    /// of the group for ticks. Costs three look-ups and two passes over the members, no allocation.
-    pub fn answer(&mut self, group: &GroupId, session: u64, now: Moment)
-        ensures answered { (g : Group) → find_group group.now self.old ≡ Some g → self.new ≡ with_group (gone_in now session g).group self.old }
+    /// Changes the group with this id in place, if it is loaded, and finds out its next moment for ticks. Costs three look-ups
+    /// and a pass over its members, beside the change. No allocation.
+    pub fn change<C: Changing + Drop>(&mut self, group: &GroupId, changing: C)
+        requires keeps { ChangeKeepsId (C.changes changing) }
+        ensures changed { (g : Group) → find_group group.now self.old ≡ Some g → self.new ≡ with_group (C.changes changing g) self.old }
         ensures absent { find_group group.now self.old ≡ None → self.new ≡ self.old }
         ensures in_order { InOrder self.old }
     {
-        self.loaded.answer(group, session, now);
+        self.loaded.change(group, changing);
         renew_in_index(&mut self.deadlines, self.since, &self.loaded, group);
     }
 
@@ -258,15 +259,17 @@ impl Held {
         self.deadlines.due(now)
     }
 
-    // Notes that members are heard at this moment or later from now on.
-    fn advance(&mut self, now: Moment)
+    /// Notes that members are heard at this moment or later from now on: moments that are found out after this are as late as
+    /// they can be.
+    pub fn advance(&mut self, now: Moment)
         ensures { self.new ≡ self.old }
     {
         self.since = self.since.max(now);
     }
 
-    // Finds out the next moment at which a tick may change the group.
-    fn renew(&mut self, id: &GroupId)
+    /// Finds out the next moment at which a tick may change the group with this id, if it is loaded. Costs two look-ups and a
+    /// pass over its members, no allocation.
+    pub fn renew(&mut self, id: &GroupId)
         ensures { self.new ≡ self.old }
     {
         let Some(group) = self.loaded.find(id) else {
@@ -274,15 +277,5 @@ impl Held {
         };
         let deadline = next_deadline(self.since, group);
         let _found = self.deadlines.reschedule(id, deadline);
-    }
-
-    /// Finds out the next moments at which ticks may change these groups, after a tick at `now`. No allocation.
-    pub fn renew_all(&mut self, now: Moment, ids: &[GroupId])
-        ensures { self.new ≡ self.old }
-    {
-        self.advance(now);
-        for id in ids {
-            self.renew(id);
-        }
     }
 }

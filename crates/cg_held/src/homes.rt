@@ -10,12 +10,14 @@ ghost use Rattle.cg_member.specs.Waiting.{answers, refusing};
 ghost use Rattle.cg_names.specs.declared.code.Code.TheVariants.{CoordinatorNotAvailable};
 ghost use Rattle.cg_turn.specs.Touching.{gone_touches};
 
+use crate::changing::Changing;
 use crate::held::Held;
 use crate::sessions::{Home, Homes};
 use cg_member::answers::{Refusing, answer_all};
 use cg_member::calls::Calls;
 use cg_member::effects::Effects;
 use cg_member::few::Few;
+use cg_member::group::Group;
 use cg_member::reply::Reply;
 use cg_names::{Code, GroupId, Moment};
 use cg_request::ticket::Ticket;
@@ -63,13 +65,33 @@ fn refused_homes(
     Ok(replies)
 }
 
+/// The change of a group at the end of a session: its parked calls are cleared, and their members count as heard.
+#[derive(Drop)]
+struct Answering {
+    session: u64,
+    now: Moment,
+}
+
+impl Changing for Answering {
+    ghost use Rattle.cg_member.specs.Leaving.{gone_in};
+
+    ghost changes = { λ a g. (gone_in a.now a.session g).group };
+
+    #[tactic(auto, unfolding(cg_member::specs::Leaving::gone_in))]
+    fn change(self, group: &mut Group) {
+        group
+            .members
+            .answer(Calls::OfSession(self.session), self.now);
+    }
+}
+
 // Clears the parked calls of the session, all of which are in the groups with these ids.
 fn answer_homes(held: &mut Held, ids: &BTreeMap<GroupId, Home>, session: u64, now: Moment)
     requires { Each (λ g. is_noted g.id (Some ids.now) ≡ false → gone_touches session g ≡ false) held.old }
     ensures { held.new ≡ groups_after (gone_in now session) held.old }
 {
     for id in ids.keys() {
-        held.answer(id, session, now);
+        held.change(id, Answering { session, now });
     }
 }
 

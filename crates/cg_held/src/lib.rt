@@ -4,10 +4,9 @@
 
 pub mod altering;
 pub mod calling;
-pub mod changes;
+pub mod changing;
 pub mod describing;
 pub mod due;
-pub mod everywhere;
 pub mod held;
 pub mod homes;
 pub mod loaded;

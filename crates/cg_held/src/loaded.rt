@@ -9,13 +9,13 @@ ghost use Rattle.std.specs.Ordering.{nat_cmp};
 ghost use Rattle.cg_member.specs.declared.group.Group.{Group};
 ghost use Rattle.cg_held.specs.Changes.{ChangeKeepsId, KeepIds, effects_in};
 ghost use Rattle.cg_held.specs.Held.{IsHeld, InOrder, find_group, with_group, without_group};
-ghost use Rattle.cg_member.specs.Leaving.{gone_in};
 ghost use Rattle.cg_member.specs.Membership.{hearing};
 ghost use Rattle.cg_names.specs.declared.code.Code.TheVariants.{UnknownMemberId};
 ghost use Rattle.cg_turn.specs.Beating.{IsBeat, IsBeatRefused};
 ghost use Rattle.cg_member.specs.Waiting.{waiting_calls};
 
 use crate::altering::Altering;
+use crate::changing::Changing;
 use crate::stepping::Stepping;
 use cg_member::calls::Calls;
 use cg_member::effects::Effects;
@@ -58,13 +58,6 @@ fn hear_in(now: Moment, id: &MemberId, group: &mut Group)
     group.members.hear(id, now);
 }
 
-#[tactic(auto, unfolding(cg_member::specs::Leaving::gone_in))]
-fn answer_in(now: Moment, session: u64, group: &mut Group)
-    ensures { group.new ≡ (gone_in now session group.old).group }
-{
-    group.members.answer(Calls::OfSession(session), now);
-}
-
 // Exchanges the group with this id for the given one, which becomes the group as it was.
 fn swap_in(groups: &mut BTreeMap<GroupId, Group>, group: &mut Group)
     requires { is_some (get (slice_cmp nat_cmp) groups.old group.old.id) ≡ true }
@@ -85,12 +78,16 @@ fn hear_among(groups: &mut BTreeMap<GroupId, Group>, own: &GroupId, id: &MemberI
     }
 }
 
-fn answer_among(groups: &mut BTreeMap<GroupId, Group>, own: &GroupId, session: u64, now: Moment)
-    ensures some { (g : Group) → get (slice_cmp nat_cmp) groups.old own.now ≡ Some g → groups.new.entries ≡ set_value (is_at (slice_cmp nat_cmp own.now)) groups.old.entries (gone_in now session g).group }
+fn change_among<C: Changing + Drop>(
+    groups: &mut BTreeMap<GroupId, Group>,
+    own: &GroupId,
+    changing: C,
+)
+    ensures some { (g : Group) → get (slice_cmp nat_cmp) groups.old own.now ≡ Some g → groups.new.entries ≡ set_value (is_at (slice_cmp nat_cmp own.now)) groups.old.entries (C.changes changing g) }
     ensures none { get (slice_cmp nat_cmp) groups.old own.now ≡ None → groups.new.entries ≡ groups.old.entries }
 {
     if let Some(group) = groups.get_mut(own) {
-        answer_in(now, session, group);
+        changing.change(group);
     }
 }
 
@@ -235,13 +232,14 @@ impl Loaded {
         hear_among(&mut self.groups, group, id, now);
     }
 
-    /// Clears the parked calls of the session in the group with this id, and marks their members as heard. No allocation.
-    pub fn answer(&mut self, group: &GroupId, session: u64, now: Moment)
-        ensures answered { (g : Group) → find_group group.now self.old ≡ Some g → self.new ≡ with_group (gone_in now session g).group self.old }
+    /// Changes the group with this id, if it is loaded. Costs one look-up beside the change, no allocation.
+    pub fn change<C: Changing + Drop>(&mut self, group: &GroupId, changing: C)
+        requires keeps { ChangeKeepsId (C.changes changing) }
+        ensures changed { (g : Group) → find_group group.now self.old ≡ Some g → self.new ≡ with_group (C.changes changing g) self.old }
         ensures absent { find_group group.now self.old ≡ None → self.new ≡ self.old }
         ensures in_order { InOrder self.old }
     {
-        answer_among(&mut self.groups, group, session, now);
+        change_among(&mut self.groups, group, changing);
     }
 
     /// Processes a BEAT in the group with this id. Costs one look-up, no allocation.

@@ -150,15 +150,3 @@ pub fn settle_request<P: Calling>(
     leave_all(homes, id, before);
     leave(homes, session, id);
 }
-
-/// Updates the index after an event in several groups: `before` are the groups as they were.
-pub fn settle_all(homes: &mut Homes, held: &Held, before: &[Group])
-    ensures known { AreKnown (is_home homes.old) held.now → AreKnown (is_home homes.new) held.now }
-    ensures gone { Each (λ (g : Group). (q : ℕ) → is_parked q (Some g) ≡ true → IsLetGo homes.new held.now g.id q) before.now }
-    ensures fewer { (q : ℕ) (x : List ℕ) → is_home homes.new q x ≡ true → is_home homes.old q x ≡ true }
-    ensures filled { (q : ℕ) → IsFilled (get nat_cmp homes.old q) → IsFilled (get nat_cmp homes.new q) }
-{
-    for group in before {
-        settle(homes, held, &group.id, group.members.as_slice());
-    }
-}

@@ -2,10 +2,10 @@ pub mod Together
 pub mod Drawn
 pub mod Keeping
 pub mod Places
-pub mod Parting
 pub mod Seats
 pub mod SameLists
 pub mod Tagging
 pub mod Votes
 pub mod Recalling
 pub mod Exchanges
+pub mod Remaining

@@ -4,7 +4,6 @@ pub mod Fetching
 pub mod Waiting
 pub mod Members
 pub mod Membership
-pub mod Parting
 pub mod Fencing
 pub mod Vote
 pub mod Tally
@@ -17,3 +16,4 @@ pub mod Few
 pub mod Assignments
 pub mod Leaving
 pub mod Ticking
+pub mod Staying

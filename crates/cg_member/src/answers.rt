@@ -1,11 +1,13 @@
 //! Replies to parked calls, all of a kind in one pass.
 ghost use Rattle.std.specs.Prelude.{◌≡◌, ◌++◌, OnOk, IfOk};
+ghost use Rattle.cg_member.specs.Staying.{remaining};
 ghost use Rattle.cg_member.specs.Waiting.{answer, answers, refusing};
 
 use crate::calls::Calls;
 use crate::few::Few;
 use crate::member::Member;
 use crate::reply::Reply;
+use crate::staying::Staying;
 use cg_names::Code;
 use cg_request::ticket::Ticket;
 use std::alloc::AllocError;
@@ -50,8 +52,27 @@ pub fn answer_one<T: Telling>(
     Ok(())
 }
 
-/// Appends the replies to these parked calls, in joining order. Linear in the members.
+/// Appends the replies to these parked calls of the members that stay, in joining order. Linear in the members.
 #[tactic(auto, unfolding(crate::specs::Waiting::answers))]
+pub fn answer_staying<T: Telling>(
+    which: Calls,
+    teller: &T,
+    who: &Staying,
+    members: &[Member],
+    replies: &mut Few<(Ticket, Reply)>,
+) -> Result<(), AllocError>
+    ensures { OnOk result (replies.new ≡ replies.old ++ answers which (T.tells teller.now) (remaining who.now members.now)) }
+{
+    for member in members {
+        if who.keeps(member) {
+            answer_one(which, teller, member, replies)?;
+        }
+    }
+    Ok(())
+}
+
+/// Appends the replies to these parked calls, in joining order. Linear in the members.
+#[tactic(auto, using(crate::proofs::Remaining::all_stay))]
 pub fn answer_all<T: Telling>(
     which: Calls,
     teller: &T,
@@ -60,8 +81,6 @@ pub fn answer_all<T: Telling>(
 ) -> Result<(), AllocError>
     ensures { OnOk result (replies.new ≡ replies.old ++ answers which (T.tells teller.now) members.now) }
 {
-    for member in members {
-        answer_one(which, teller, member, replies)?;
-    }
+    answer_staying(which, teller, &Staying::All, members, replies)?;
     Ok(())
 }

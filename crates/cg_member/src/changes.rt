@@ -34,7 +34,7 @@ fn outstays(member: &Member) -> bool
     member.instance.is_some() || is_waiting(Calls::Any, member)
 }
 
-fn has_id(member: &Member, id: &MemberId) -> bool
+pub(crate) fn has_id(member: &Member, id: &MemberId) -> bool
     ensures { result ≡ has_id id.now member.now }
 {
     member.id == *id

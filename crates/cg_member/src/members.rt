@@ -90,25 +90,6 @@ impl Members {
         Ok(Members { items, tags })
     }
 
-    /// Returns the members and the tags of their ids.
-    pub(crate) fn into_parts(self) -> (Vec<Member>, Vec<u32>)
-        ensures members { result.0.items ≡ self }
-        ensures lawful { AreMembers result.0.items }
-        ensures tags { result.1.items ≡ tags_of result.0.items }
-    {
-        let Members { items, tags } = self;
-        (items, tags)
-    }
-
-    /// Wraps the members and the tags of their ids.
-    pub(crate) fn from_parts(items: Vec<Member>, tags: Vec<u32>) -> Self
-        requires lawful { AreMembers items.items }
-        requires tags { tags.items ≡ tags_of items.items }
-        ensures { result ≡ items.items }
-    {
-        Members { items, tags }
-    }
-
     /// Returns the members in joining order.
     pub fn as_slice(&self) -> &[Member]
         ensures value { result.now ≡ self.now }
@@ -266,13 +247,6 @@ impl Members {
     {
         keep_outstaying(&mut self.items);
         retag(&mut self.tags, self.items.as_slice());
-    }
-
-    /// Returns whether a member has a parked call that is one of these.
-    pub fn has_waiting(&self, which: Calls) -> bool
-        ensures { result ≡ list_any (is_waiting which) self.now }
-    {
-        self.items.as_slice().iter().any(|m| is_waiting(which, m))
     }
 
     /// Returns whether every member has a parked call that is one of these.

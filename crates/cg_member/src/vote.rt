@@ -5,8 +5,10 @@ ghost use Rattle.std.specs.Option.{option_copied};
 ghost use Rattle.cg_member.specs.Vote.{is_among, offers, is_common, candidates, ballot, votes, elected};
 ghost use Rattle.cg_member.specs.Tally.{outvotes, tally};
 ghost use Rattle.cg_member.specs.Membership.{is_named};
+ghost use Rattle.cg_member.specs.Staying.{remaining, stays};
 
 use crate::member::Member;
+use crate::staying::Staying;
 use cg_names::ProtocolName;
 use cg_request::listed::Listed;
 use cg_request::protocol::Protocol;
@@ -33,17 +35,39 @@ pub fn is_common(members: &[Member], name: &ProtocolName) -> bool
     members.iter().all(|m| offers(name, m))
 }
 
+// Returns whether every member that stays supports the protocol.
+#[tactic(auto, unfolding(crate::specs::Vote::is_common))]
+fn is_common_among(who: &Staying, members: &[Member], name: &ProtocolName) -> bool
+    ensures { result ≡ is_common (remaining who.now members.now) name.now }
+{
+    members
+        .iter()
+        .filter(|m| who.keeps(m))
+        .all(|m| offers(name, m))
+}
+
+fn first_staying<'a>(who: &Staying, members: &'a [Member]) -> Option<&'a Member>
+    ensures { option_copied result ≡ find (stays who.now) members.now }
+{
+    members.iter().find(|m| who.keeps(m))
+}
+
 // Returns at most `PROTOCOLS_MAX` names, as they all come from the first member's list.
-#[tactic(auto, unfolding(crate::specs::Vote::candidates))]
-fn candidates(alloc: Global, members: &[Member]) -> Result<Listed<ProtocolName>, AllocError>
-    ensures { IfOk result (λ names. names ≡ candidates members.now) }
+#[tactic(auto, using(crate::proofs::Remaining::candidates_none, crate::proofs::Remaining::candidates_some))]
+fn candidates(
+    alloc: Global,
+    who: &Staying,
+    members: &[Member],
+) -> Result<Listed<ProtocolName>, AllocError>
+    ensures { IfOk result (λ names. names ≡ candidates (remaining who.now members.now)) }
 {
     let mut names = Listed::new(alloc);
-    if let Some(first) = members.first() {
-        for protocol in first.protocols.as_slice() {
-            if is_common(members, &protocol.name) {
-                names.push(protocol.name.clone()?)?;
-            }
+    let Some(first) = first_staying(who, members) else {
+        return Ok(names);
+    };
+    for protocol in first.protocols.as_slice() {
+        if is_common_among(who, members, &protocol.name) {
+            names.push(protocol.name.clone()?)?;
         }
     }
     Ok(names)
@@ -67,11 +91,14 @@ fn votes_for(names: &[ProtocolName], member: &Member, name: &ProtocolName) -> bo
     }
 }
 
-#[tactic(auto, unfolding(crate::specs::Vote::votes))]
-fn votes(names: &[ProtocolName], members: &[Member], name: &ProtocolName) -> usize
-    ensures { result ≡ votes names.now members.now name.now }
+#[tactic(auto, unfolding(crate::specs::Vote::votes), using(crate::proofs::Remaining::count_remaining))]
+fn votes(names: &[ProtocolName], who: &Staying, members: &[Member], name: &ProtocolName) -> usize
+    ensures { result ≡ votes names.now (remaining who.now members.now) name.now }
 {
-    members.iter().filter(|m| votes_for(names, m, name)).count()
+    members
+        .iter()
+        .filter(|m| who.keeps(m) && votes_for(names, m, name))
+        .count()
 }
 
 /// A protocol that every member supports, and the number of members that vote for it.
@@ -85,15 +112,16 @@ pub struct Candidate<'a> {
 fn counted<'a>(
     alloc: Global,
     names: &'a [ProtocolName],
+    who: &Staying,
     members: &[Member],
 ) -> Result<Vec<Candidate<'a>>, AllocError>
-    ensures { IfOk result (λ counted. map tally counted.items ≡ map (λ name. (name, votes names.now members.now name)) names.now) }
+    ensures { IfOk result (λ counted. map tally counted.items ≡ map (λ name. (name, votes names.now (remaining who.now members.now) name)) names.now) }
 {
     let mut counted = Vec::with_capacity(alloc, names.len())?;
     for name in names {
         counted.push(Candidate {
             name,
-            votes: votes(names, members, name),
+            votes: votes(names, who, members, name),
         })?;
     }
     Ok(counted)
@@ -120,14 +148,18 @@ fn unbeaten(counted: &[Candidate]) -> Option<usize>
         .position(|candidate| !is_beaten(counted, candidate))
 }
 
-/// Returns the protocol that wins the vote, or `None` if there are no members or no common protocol. Linear in the members; counts
-/// each candidate once.
+/// Returns the protocol that wins the vote of the members that stay, or `None` if none stays or they have no common protocol.
+/// Linear in the members; counts each candidate once.
 #[tactic(auto, unfolding(crate::specs::Vote::elected))]
-pub fn elected(alloc: Global, members: &[Member]) -> Result<Option<ProtocolName>, AllocError>
-    ensures { IfOk result (λ name. name ≡ elected members.now) }
+pub fn elected(
+    alloc: Global,
+    who: &Staying,
+    members: &[Member],
+) -> Result<Option<ProtocolName>, AllocError>
+    ensures { IfOk result (λ name. name ≡ elected (remaining who.now members.now)) }
 {
-    let names = candidates(alloc, members)?;
-    let counted = counted(alloc, names.as_slice(), members)?;
+    let names = candidates(alloc, who, members)?;
+    let counted = counted(alloc, names.as_slice(), who, members)?;
     match unbeaten(counted.as_slice()) {
         None => Ok(None),
         Some(place) => {

@@ -10,3 +10,6 @@ pub mod Entered
 pub mod Succession
 pub mod Distributing
 pub mod Without
+pub mod Ticks
+pub mod Alike
+pub mod Lasting

@@ -1,9 +1,8 @@
 -- A rebalance that begins and completes in one step: what is worked out before it begins holds then.
-use Rattle.std.proofs.Common.{◌≡◌, ℕ, Bool, true, false, ◌&&◌, ◌||◌, List, [], ◌∷◌, ◌++◌, length, map, Some, refl, sym, ap, ◌∙◌, arith}
-use Rattle.std.specs.Prelude.{◌==◌, Option, None, find, option_map, if◌then◌else◌}
+use Rattle.std.proofs.Common.{◌≡◌, ℕ, Bool, true, false, ◌&&◌, ◌||◌, List, [], ◌∷◌, ◌++◌, map, Some, refl, sym, ap, ◌∙◌}
+use Rattle.std.specs.Prelude.{Option, None, find, option_map, if◌then◌else◌}
 use Rattle.std.specs.List.{list_all, list_any}
 use Rattle.std.proofs.lemmas.Bool.{and_parts, false≢true, or_parts}
-use Rattle.std.proofs.lemmas.Grind.{common_steps}
 use Rattle.cg_names.specs.Generations.{next_generation}
 use Rattle.cg_record.specs.declared.command.Command.{Command}
 use Rattle.cg_request.specs.declared.ticket.Ticket.{Ticket}
@@ -64,10 +63,6 @@ unready_stays : (begins : Bool) (now : ℕ) (g : Group) (e : Effects) → is_com
 unfolding tried
 unready_stays begins now g e h = ap (λ b. if b then completed now (turned (begun begins now g) e) else turned (begun begins now g) e) (begun_ready begins now g ∙ h)
 
-pub empty_by_length : (ms : List Member) → is_empty ms ≡ (length ms == 0)
-empty_by_length [] = refl
-empty_by_length (m ∷ ms) = grind (arith, common_steps)
-
 module _ (now : ℕ) (g : Group) (e : Effects) (r : Round) where
   -- a rebalance without members completes
   pub completed_empty : (commands : List Command) → is_empty g.members ≡ true → r ≡ record { phase = Empty; generation = next_generation g.generation; protocol = None; leader = None }
@@ -123,13 +118,13 @@ plan_holds begins now g before None after h = unready_stays begins now g before 
 plan_holds begins now g before (Some r) after h = ready_completes now g before r begins after h.0 (h.1 now)
 
 -- nobody is chosen where nobody leads
-unled : (p q : Member → Bool) (ms : List Member) → list_any p ms ≡ false → list_any (λ m. p m && q m) ms ≡ false
+pub unled : (p q : Member → Bool) (ms : List Member) → list_any p ms ≡ false → list_any (λ m. p m && q m) ms ≡ false
 unled p q [] h = refl
 unled p q (m ∷ ms) h =
     let parts = or_parts (p m) (list_any p ms) h in
     ap (λ b. (b && q m) || list_any (λ x. p x && q x) ms) parts.0 ∙ unled p q ms parts.1
 
-nobody : (ms : List Member) → list_any (λ m. is_named None m.id) ms ≡ false
+pub nobody : (ms : List Member) → list_any (λ m. is_named None m.id) ms ≡ false
 nobody [] = refl
 nobody (m ∷ ms) = nobody ms
 

@@ -1,5 +1,5 @@
 -- LEAVE: who leaves, its replies, and those with which a rebalance begins.
-use Rattle.std.specs.Prelude.{◌≡◌, ℕ, Bool, List, [], ◌∷◌, ◌++◌, Some, Ok, if◌then◌else◌}
+use Rattle.std.specs.Prelude.{◌≡◌, ℕ, Bool, not, List, [], ◌∷◌, ◌++◌, filter, Some, Ok, if◌then◌else◌}
 use Rattle.cg_names.specs.declared.code.Code.TheVariants.{RebalanceInProgress, UnknownMemberId}
 use Rattle.cg_member.specs.declared.calls.Calls.TheVariants.{Any, Syncs}
 use Rattle.cg_member.specs.declared.effects.Effects.{Effects}
@@ -8,10 +8,18 @@ use Rattle.cg_member.specs.declared.member.Member.{Member}
 use Rattle.cg_member.specs.declared.reply.Reply.{Reply}
 use Rattle.cg_member.specs.declared.reply.Reply.TheVariants as reply
 use Rattle.cg_member.specs.Leaving.{leave_held, leave_taken}
-use Rattle.cg_member.specs.Membership.{find_member}
+use Rattle.cg_member.specs.Membership.{find_member, has_id}
 use Rattle.cg_member.specs.Waiting.{answer, answers, refusing}
 use Rattle.cg_request.specs.declared.request.LeaveRequest.{LeaveRequest}
 use Rattle.cg_request.specs.declared.ticket.Ticket.{Ticket}
+
+-- the members but the one with this id
+abbrev pub others_than : List ℕ → List Member → List Member
+others_than id members = filter (λ other. not (has_id id other)) members
+
+-- the group with them alone; its leader is still the one before
+abbrev pub without : List ℕ → Group → Group
+without id g = record g { members = others_than id g.members }
 
 -- the parked call of the member that leaves gets 25, and the LEAVE gets OK
 abbrev pub left_replies : Ticket → Member → List (Ticket × Reply)

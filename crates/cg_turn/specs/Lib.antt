@@ -6,3 +6,4 @@ pub mod Entering
 pub mod Leaving
 pub mod Rounds
 pub mod Touching
+pub mod Ticks

@@ -1,20 +1,21 @@
--- A rebalance of some members of a group, as its outcome is worked out before the group changes.
-use Rattle.std.specs.Prelude.{◌≡◌, ℕ, Bool, true, false, ◌&&◌, ◌||◌, List, [], Option, Some, None}
+-- A rebalance of the members that stay in a group, as its outcome is worked out before the group changes.
+use Rattle.std.specs.Prelude.{◌≡◌, ℕ, Bool, true, false, ◌&&◌, ◌||◌, [], Option, Some, None}
 use Rattle.std.specs.List.{list_all}
 use Rattle.cg_member.specs.declared.calls.Calls.TheVariants.{Joins}
 use Rattle.cg_member.specs.declared.effects.Effects.{Effects}
 use Rattle.cg_member.specs.declared.group.Group.{Group}
 use Rattle.cg_member.specs.declared.group.Phase.TheVariants.{Completing}
-use Rattle.cg_member.specs.declared.member.Member.{Member}
+use Rattle.cg_member.specs.declared.staying.Staying.{Staying}
 use Rattle.cg_member.specs.Membership.{is_preparing}
 use Rattle.cg_member.specs.Rebalance.{completed, turned}
+use Rattle.cg_member.specs.Staying.{remaining}
 use Rattle.cg_member.specs.Waiting.{after_answers, is_waiting}
 use Rattle.cg_turn.specs.declared.rebalance.Round.{Round}
-use Rattle.cg_turn.specs.declared.rebalance.Told.{Told}
+use Rattle.cg_turn.specs.declared.telling.Told.{Told}
 
--- the group with these members
-abbrev pub among : List Member → Group → Group
-among members g = record g { members = members }
+-- the group with those of its members that stay
+abbrev pub among : Staying → Group → Group
+among who g = record g { members = remaining who g.members }
 
 -- the group in this round
 abbrev pub in_round : Round → Group → Group
@@ -43,6 +44,6 @@ told_group t = record {
   kind = t.kind.now;
   protocol = t.protocol.now;
   leader = t.leader.now;
-  members = t.members.now;
+  members = remaining t.staying.now t.members.now;
   started = 0;
 }

@@ -12,7 +12,8 @@ ghost use Rattle.cg_member.specs.declared.member.Waits.{Waits};
 ghost use Rattle.cg_turn.specs.Entering.{refused_call, with_header};
 
 use crate::context::RequestContext;
-use crate::rebalance::{advance, is_preparing, joined_reply, leads, refuse_syncs};
+use crate::rebalance::{advance, is_preparing, leads, refuse_syncs};
+use crate::telling::joined_reply;
 use cg_member::answers::{Refusing, answer_one};
 use cg_member::calls::Calls;
 use cg_member::checked::CheckedJoin;

@@ -3,15 +3,15 @@ ghost use Rattle.std.specs.Prelude.{◌≡◌, ◌⊎◌, ℕ, Bool, is_some, Ok
 ghost use Rattle.cg_member.specs.Leaving.{has_joined, left, leave_taken, may_be, leaver, leave_held};
 ghost use Rattle.cg_member.specs.Membership.{find_member, has_id, is_named, keeping, leader_among};
 ghost use Rattle.cg_member.specs.Rebalance.{begun, tried, turned};
-ghost use Rattle.cg_turn.specs.Leaving.{IsLeaver, left_effects, left_replies};
-ghost use Rattle.cg_turn.specs.Rounds.{IsPlan, among};
+ghost use Rattle.cg_turn.specs.Leaving.{IsLeaver, left_effects, left_replies, others_than, without};
+ghost use Rattle.cg_turn.specs.Rounds.{IsPlan};
 ghost use Rattle.std.specs.List.{list_any};
 ghost use Rattle.cg_member.specs.declared.member.Member.{Member};
 ghost use Rattle.cg_request.specs.declared.ticket.Ticket.{Ticket};
 
 use crate::context::RequestContext;
 use crate::parking::waits_for_others;
-use crate::rebalance::{Round, carry_out, is_preparing, leads, planned, refuse_syncs};
+use crate::rebalance::{Round, carry_out, is_preparing, leads, planned, refuse_syncs_of};
 use cg_member::answers::{Refusing, answer_one};
 use cg_member::calls::Calls;
 use cg_member::effects::Effects;
@@ -19,13 +19,12 @@ use cg_member::few::Few;
 use cg_member::group::{Group, Phase};
 use cg_member::member::Member;
 use cg_member::members::Members;
-use cg_member::parted::Parted;
 use cg_member::reply::Reply;
+use cg_member::staying::Staying;
 use cg_names::{Code, InstanceId, MemberId, Moment};
 use cg_request::request::LeaveRequest;
 use cg_request::ticket::Ticket;
 use std::alloc::{AllocError, Global};
-use std::mem;
 
 fn has_leader(group: &Group) -> bool
     ensures { result ≡ list_any (λ m. is_named group.now.leader m.id) group.now.members }
@@ -78,13 +77,14 @@ fn left_effects(
     alloc: Global,
     ticket: Ticket,
     begins: bool,
-    parted: &Parted,
+    member: &Member,
+    members: &[Member],
 ) -> Result<Effects, AllocError>
-    ensures { IfOk result (λ e. e ≡ left_effects begins ticket parted.now.member parted.now.others) }
+    ensures { IfOk result (λ e. e ≡ left_effects begins ticket member.now (others_than member.now.id members.now)) }
 {
-    let mut replies = left_replies(alloc, ticket, parted.member())?;
+    let mut replies = left_replies(alloc, ticket, member)?;
     if begins {
-        refuse_syncs(parted.others(), &mut replies)?;
+        refuse_syncs_of(&Staying::Without(&member.id), members, &mut replies)?;
     }
     Ok(Effects {
         commands: Few::new(alloc),
@@ -92,71 +92,21 @@ fn left_effects(
     })
 }
 
-// Works out what follows from the LEAVE for the other members: the effects, and the round if the rebalance completes.
+// Works out what follows from the LEAVE of the member: the effects, and the round if the rebalance completes without it.
 fn plan_without(
     alloc: Global,
     ticket: Ticket,
     begins: bool,
+    member: &Member,
     group: &Group,
-    parted: &Parted,
 ) -> Result<(Effects, Option<Round>), AllocError>
-    ensures { IfOk result (λ p. IsPlan begins (among parted.now.others group.now)
-        (left_effects begins ticket parted.now.member parted.now.others) p.1 p.0) }
+    ensures { IfOk result (λ p. IsPlan begins (without member.now.id group.now)
+        (left_effects begins ticket member.now (others_than member.now.id group.now.members)) p.1 p.0) }
 {
-    let mut effects = left_effects(alloc, ticket, begins, parted)?;
-    let round = planned(alloc, begins, group, parted.others(), &mut effects)?;
+    let mut effects = left_effects(alloc, ticket, begins, member, group.members.as_slice())?;
+    let others = Staying::Without(&member.id);
+    let round = planned(alloc, begins, &others, group, &mut effects)?;
     Ok((effects, round))
-}
-
-// Removes the member that is out of the group, or puts it back if an allocation fails.
-#[tactic(auto, using(crate::proofs::Rounds::plan_holds, crate::proofs::Rounds::plan_unled))]
-fn leave_parted(
-    context: RequestContext,
-    parted: Parted,
-    group: &mut Group,
-) -> Result<Effects, AllocError>
-    ensures ok { IfOk result (λ e.
-        let begins : Bool = has_joined group.old.phase in
-        turned group.new e ≡ tried context.now (turned
-        (begun begins context.now (record group.old { members = parted.others; leader = leader_among parted.others group.old.leader }))
-        (left_effects begins context.ticket parted.member parted.others))) }
-    ensures err { OnErr result (group.new ≡ among parted.whole group.old) }
-{
-    let RequestContext { alloc, now, ticket } = context;
-    let begins = has_joined(group.phase);
-    match plan_without(alloc, ticket, begins, group, &parted) {
-        Err(error) => {
-            group.members = parted.whole();
-            Err(error)
-        }
-        Ok((effects, round)) => {
-            group.members = parted.rest();
-            check_leader(group);
-            carry_out(now, begins, round, group);
-            Ok(effects)
-        }
-    }
-}
-
-// Removes the member with this id: a rebalance begins or goes on without it. If an allocation fails, the group is as it was.
-fn leave_taken(
-    context: RequestContext,
-    id: &MemberId,
-    group: &mut Group,
-) -> Result<Effects, AllocError>
-    requires { is_some (find_member id.now group.old.members) ≡ true }
-    ensures ok { IfOk result (λ e. (m : Member) → find_member id.now group.old.members ≡ Some m →
-        turned group.new e ≡ leave_taken context.now m.id context.ticket m group.old) }
-    ensures err { OnErr result (group.new ≡ group.old) }
-{
-    let members = mem::replace(&mut group.members, Members::new(context.alloc));
-    match Parted::new(members, id) {
-        Err(_) => unreachable!(),
-        Ok(parted) => {
-            let effects = leave_parted(context, parted, group)?;
-            Ok(effects)
-        }
-    }
 }
 
 // Returns whether no id is given, or this one.
@@ -231,8 +181,8 @@ pub fn leave_refusal(r: &LeaveRequest, group: &Group) -> Option<Code>
     leaving(r, group).err()
 }
 
-/// Processes a LEAVE in a loaded group that does not refuse it (`leave_refusal`), in place. If an allocation fails, the group is as
-/// it was.
+/// Processes a LEAVE in a loaded group that does not refuse it (`leave_refusal`), in place: a rebalance begins or goes on without the
+/// member. If an allocation fails, nothing changes.
 pub fn leave_in(
     context: RequestContext,
     r: &LeaveRequest,
@@ -242,11 +192,16 @@ pub fn leave_in(
     ensures ok { IfOk result (λ e. leave_held context.now r.now context.ticket group.old ≡ Ok (turned group.new e)) }
     ensures err { OnErr result (group.new ≡ group.old) }
 {
+    let RequestContext { alloc, now, ticket } = context;
     let Ok(member) = leaving(r, group) else {
         unreachable!()
     };
+    let begins = has_joined(group.phase);
+    let (effects, round) = plan_without(alloc, ticket, begins, member, group)?;
     let id = member.id.clone()?;
-    leave_taken(context, &id, group)
+    remove_member(&id, group);
+    carry_out(now, begins, round, group);
+    Ok(effects)
 }
 
 /// Returns the member that a LEAVE only removes: a rebalance is under way, and another member has not joined yet. `None` for

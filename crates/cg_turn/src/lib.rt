@@ -15,4 +15,6 @@ pub mod parking;
 pub mod rebalance;
 pub mod replacing;
 pub mod syncing;
+pub mod telling;
 pub mod ticking;
+pub mod touching;

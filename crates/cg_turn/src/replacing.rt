@@ -28,6 +28,7 @@ use cg_member::group::{Group, Phase};
 use cg_member::member::{Member, Waits};
 use cg_member::members::has_instance;
 use cg_member::reply::{Joined, Reply};
+use cg_member::staying::Staying;
 use cg_member::vote::elected;
 use cg_names::{Code, MemberId, Moment, ProtocolName};
 use cg_record::{Command, Replaced, StaticMember};
@@ -108,13 +109,13 @@ fn is_protocol(group: &Group, name: &Option<ProtocolName>) -> bool
 }
 
 // Returns whether the group is stable and its vote still gives its protocol, so that no rebalance is needed.
-#[tactic(auto, unfolding(cg_member::specs::Replacing::keeps_generation))]
+#[tactic(auto, unfolding(cg_member::specs::Replacing::keeps_generation), using(cg_member::proofs::Remaining::all_stay))]
 fn keeps_generation(alloc: Global, group: &Group) -> Result<bool, AllocError>
     ensures { IfOk result (λ b. b ≡ keeps_generation group.now) }
 {
     match group.phase {
         Phase::Stable => {
-            let protocol = elected(alloc, group.members.as_slice())?;
+            let protocol = elected(alloc, &Staying::All, group.members.as_slice())?;
             Ok(is_protocol(group, &protocol))
         }
         _ => Ok(false),

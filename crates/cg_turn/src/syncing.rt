@@ -9,7 +9,8 @@ ghost use Rattle.cg_request.specs.declared.ticket.Ticket.{Ticket};
 ghost use Rattle.cg_turn.specs.Distributing.{IsLeader, IsSyncCase, displacing, distributing, handed, handed_back, telling};
 
 use crate::context::RequestContext;
-use crate::rebalance::{is_preparing, leads, subscription_for};
+use crate::rebalance::{is_preparing, leads};
+use crate::telling::subscription_for;
 use cg_member::answers::{Telling, answer_all};
 use cg_member::calls::Calls;
 use cg_member::copies::copied_name;

@@ -1,190 +1,202 @@
-//! Ticks: expired sessions, and the deadline of a rebalance (KIP-62).
-ghost use Rattle.std.specs.Prelude.{◌≡◌, IfOk, OnOk};
-ghost use Rattle.cg_member.specs.Leaving.{after_removal};
+//! Ticks: expired sessions, and the deadline of a rebalance (KIP-62). What a tick comes to is worked out before the group changes.
+ghost use Rattle.std.specs.Prelude.{◌≡◌, ◌||◌, max, IfOk, if◌then◌else◌};
+ghost use Rattle.std.specs.List.{list_any};
+ghost use Rattle.cg_member.specs.declared.calls.Calls.TheVariants.{Any, Joins};
+ghost use Rattle.cg_member.specs.Membership.{is_empty};
 ghost use Rattle.cg_member.specs.Rebalance.{turned};
-ghost use Rattle.cg_member.specs.Ticking.{can_complete, expired, greatest_rebalance, is_due, ended, at_deadline, ticked};
-ghost use Rattle.cg_turn.specs.Touching.{earliest_expiry, expiry, next_deadline, rebalance_deadline, tick_touches};
+ghost use Rattle.cg_member.specs.Staying.{remaining, stays};
+ghost use Rattle.cg_member.specs.Ticking.{greatest_rebalance, is_due, at_deadline, ticked};
+ghost use Rattle.cg_member.specs.Waiting.{is_waiting};
+ghost use Rattle.cg_turn.specs.Ticks.{at_end, begins_at, carried, first_effects, is_over, thinned};
 
 use crate::leaving::{check_leader, has_joined};
-use crate::rebalance::{advance, complete, is_preparing, is_ready, refuse_syncs};
+use crate::rebalance::{
+    Round, carry_out, completion, enter, is_preparing, is_ready, is_under_way, none_stays, planned,
+    refuse_syncs_of,
+};
 use cg_member::calls::{Calls, is_waiting};
-use cg_member::copies::copied_group;
 use cg_member::effects::Effects;
-use cg_member::few::Few;
 use cg_member::group::Group;
 use cg_member::member::Member;
-use cg_member::members::Members;
-use cg_member::turn::Turn;
+use cg_member::staying::Staying;
 use cg_names::Moment;
 use std::alloc::{AllocError, Global};
 
-// Begins a rebalance if the members had joined, and completes it if all remaining members have joined.
-#[tactic(auto, unfolding(cg_member::specs::Leaving::after_removal, cg_member::specs::Rebalance::prepared))]
-fn after_removal(
-    alloc: Global,
-    now: Moment,
-    group: &mut Group,
-    effects: &mut Effects,
-) -> Result<(), AllocError>
-    ensures { OnOk result (turned group.new effects.new ≡ after_removal now (turned group.old effects.old)) }
-{
-    if !has_joined(group.phase) {
-        advance(alloc, now, false, group, effects)?;
-        return Ok(());
-    }
-    refuse_syncs(group.members.as_slice(), &mut effects.replies)?;
-    advance(alloc, now, true, group, effects)?;
-    Ok(())
+/// What a tick comes to in a group: the round with which a rebalance completes, if one does.
+#[derive(Drop)]
+pub struct TickPlan {
+    round: Option<Round>,
 }
 
-#[tactic(auto, unfolding(cg_member::specs::Ticking::expired, cg_member::specs::Membership::keeping))]
-fn expired(
-    alloc: Global,
-    now: Moment,
-    group: &mut Group,
-    effects: &mut Effects,
-) -> Result<(), AllocError>
-    ensures { OnOk result (turned group.new effects.new ≡ expired now (turned group.old effects.old)) }
+// Returns whether a session has expired of members that had joined, so that a rebalance begins.
+fn begins_at(now: Moment, group: &Group) -> bool
+    ensures { result ≡ begins_at now group.now }
+{
+    group.members.has_overdue(now) && has_joined(group.phase)
+}
+
+// Removes the members whose session has expired. A rebalance begins if they had joined.
+#[tactic(auto, unfolding(cg_member::specs::Membership::keeping))]
+fn thin(now: Moment, group: &mut Group)
+    ensures { group.new ≡ thinned now group.old }
 {
     if !group.members.has_overdue(now) {
-        advance(alloc, now, false, group, effects)?;
-        return Ok(());
+        return;
     }
+    let begins = has_joined(group.phase);
     group.members.remove_overdue(now);
     check_leader(group);
-    after_removal(alloc, now, group, effects)?;
-    Ok(())
+    carry_out(now, begins, None, group);
 }
 
-#[tactic(auto, unfolding(cg_member::specs::Ticking::greatest_rebalance))]
-fn greatest_rebalance(members: &[Member]) -> u32
-    ensures { result ≡ greatest_rebalance members.now }
+// Returns the greater of this timeout and the member's, if the member stays.
+fn raised(who: &Staying, member: &Member, greatest: u32) -> u32
+    ensures { result ≡ if stays who.now member.now then max greatest member.now.rebalance else greatest }
+{
+    if who.keeps(member) {
+        greatest.max(member.rebalance.get())
+    } else {
+        greatest
+    }
+}
+
+pub(crate) fn greatest_rebalance(who: &Staying, members: &[Member]) -> u32
+    ensures { result ≡ greatest_rebalance (remaining who.now members.now) }
 {
     let mut greatest = 0;
     for member in members {
-        greatest = member.rebalance.get().max(greatest);
+        greatest = raised(who, member, greatest);
     }
     greatest
 }
 
-fn is_due(now: Moment, group: &Group) -> bool
+#[tactic(auto, using(cg_member::proofs::Remaining::all_stay))]
+pub(crate) fn is_due(now: Moment, group: &Group) -> bool
     ensures { result ≡ is_due now group.now }
 {
+    let members = group.members.as_slice();
     is_preparing(group.phase)
-        && now.is_past(group.started, greatest_rebalance(group.members.as_slice()))
+        && now.is_past(group.started, greatest_rebalance(&Staying::All, members))
 }
 
-fn can_complete(members: &Members) -> bool
-    ensures { result ≡ can_complete members.now }
-{
-    members.len() == 0 || members.has_waiting(Calls::Any)
-}
-
-#[tactic(auto, unfolding(cg_member::specs::Ticking::ended))]
-fn ended(
-    alloc: Global,
-    now: Moment,
-    group: &mut Group,
-    effects: &mut Effects,
-) -> Result<(), AllocError>
-    ensures { OnOk result (turned group.new effects.new ≡ ended now (turned group.old effects.old)) }
-{
-    if can_complete(&group.members) {
-        complete(alloc, now, group, effects)?;
-        return Ok(());
-    }
-    group.started = now;
-    Ok(())
-}
-
-#[tactic(auto, unfolding(cg_member::specs::Ticking::at_deadline, cg_member::specs::Membership::keeping))]
-fn at_deadline(
-    alloc: Global,
-    now: Moment,
-    group: &mut Group,
-    effects: &mut Effects,
-) -> Result<(), AllocError>
-    ensures { OnOk result (turned group.new effects.new ≡ at_deadline now (turned group.old effects.old)) }
+// Removes, if the rebalance has lasted its time, those who do not outstay that, and completes it with the round, or starts its
+// time again.
+#[tactic(auto, unfolding(cg_member::specs::Membership::keeping))]
+fn end(now: Moment, round: Option<Round>, group: &mut Group)
+    ensures { group.new ≡ at_end now round group.old }
 {
     if !is_due(now, group) {
-        return Ok(());
+        return;
     }
     group.members.remove_idle();
     check_leader(group);
-    ended(alloc, now, group, effects)?;
-    Ok(())
-}
-
-/// Returns whether a tick changes the group. Linear in the members, no allocation.
-pub fn tick_touches(now: Moment, group: &Group) -> bool
-    ensures { result ≡ tick_touches now group.now }
-{
-    group.members.has_overdue(now) || is_ready(group) || is_due(now, group)
-}
-
-fn expiry(since: Moment, member: &Member) -> Moment
-    ensures { result ≡ expiry since member.now }
-{
-    if is_waiting(Calls::Any, member) {
-        Moment::from_millis(u64::MAX)
-    } else {
-        let heard = member.heard.min(since);
-        heard.later_by(member.session.get())
+    match round {
+        None => group.started = now,
+        Some(round) => enter(now, round, group),
     }
 }
 
-#[tactic(auto, unfolding(crate::specs::Touching::earliest_expiry))]
-fn earliest_expiry(since: Moment, members: &[Member]) -> Moment
-    ensures { result ≡ earliest_expiry since members.now }
+/// Carries out a tick in the group for which it was planned. No allocation.
+pub fn carry_out_tick(now: Moment, plan: TickPlan, group: &mut Group)
+    ensures { group.new ≡ carried now plan group.old }
 {
-    let mut earliest = Moment::from_millis(u64::MAX);
-    for member in members {
-        earliest = earliest.min(expiry(since, member));
-    }
-    earliest
-}
-
-#[tactic(auto, unfolding(crate::specs::Touching::rebalance_deadline))]
-fn rebalance_deadline(group: &Group) -> Moment
-    ensures { result ≡ rebalance_deadline group.now }
-{
-    if is_preparing(group.phase) {
-        let greatest = greatest_rebalance(group.members.as_slice());
-        group.started.later_by(greatest)
-    } else {
-        Moment::from_millis(u64::MAX)
-    }
-}
-
-/// Returns a moment before which no tick changes the group, even if its members are heard again at `since` or later.
-/// Linear in the members, no allocation.
-#[tactic(auto, unfolding(crate::specs::Touching::next_deadline))]
-pub fn next_deadline(since: Moment, group: &Group) -> Moment
-    ensures { result ≡ next_deadline since group.now }
-{
+    let TickPlan { round } = plan;
+    thin(now, group);
     if is_ready(group) {
-        return Moment::from_millis(0);
+        carry_out(now, false, round, group);
+    } else {
+        end(now, round, group);
     }
-    let expiry = earliest_expiry(since, group.members.as_slice());
-    expiry.min(rebalance_deadline(group))
 }
 
-/// Returns the step of a tick in one group. Copies the group.
-#[tactic(auto, unfolding(cg_member::specs::Ticking::ticked))]
-pub fn ticked(alloc: Global, now: Moment, group: &Group) -> Result<Turn, AllocError>
-    ensures { IfOk result (λ t. t ≡ ticked now group.now) }
+// Returns whether the rebalance has lasted its time when the expired sessions are gone. If it begins with them, it ends at once where
+// all its rebalance timeouts are 0.
+fn is_over(now: Moment, begins: bool, group: &Group) -> bool
+    ensures { result ≡ is_over now begins group.now }
 {
-    let mut group = copied_group(alloc, group)?;
-    let mut effects = Effects {
-        commands: Few::new(alloc),
-        replies: Few::new(alloc),
-    };
-    expired(alloc, now, &mut group, &mut effects)?;
-    at_deadline(alloc, now, &mut group, &mut effects)?;
-    let Effects { commands, replies } = effects;
-    Ok(Turn {
-        group,
-        replies,
-        commands,
-    })
+    let started = if begins { now } else { group.started };
+    let greatest = greatest_rebalance(&Staying::Unexpired(now), group.members.as_slice());
+    is_under_way(begins, group.phase) && now.is_past(started, greatest)
+}
+
+// Returns the parked calls with which a dynamic member outstays the rebalance: a SYNC has its reply if the rebalance just began.
+fn outstaying(begins: bool) -> Calls
+    ensures { result ≡ if begins then Joins else Any }
+{
+    if begins { Calls::Joins } else { Calls::Any }
+}
+
+fn staying_waits(calls: Calls, who: &Staying, members: &[Member]) -> bool
+    ensures { result ≡ list_any (is_waiting calls) (remaining who.now members.now) }
+{
+    members
+        .iter()
+        .filter(|m| who.keeps(m))
+        .any(|m| is_waiting(calls, m))
+}
+
+// Returns whether no member stays, or one with a parked call.
+fn can_complete(calls: Calls, who: &Staying, members: &[Member]) -> bool
+    ensures { result ≡ (is_empty (remaining who.now members.now) || list_any (is_waiting calls) (remaining who.now members.now)) }
+{
+    none_stays(who, members) || staying_waits(calls, who, members)
+}
+
+// Returns the round with which the rebalance completes, if it has lasted its time and can complete, and appends the effects of that.
+fn planned_end(
+    alloc: Global,
+    now: Moment,
+    begins: bool,
+    group: &Group,
+    effects: &mut Effects,
+) -> Result<Option<Round>, AllocError>
+    ensures { IfOk result (λ round. begins ≡ begins_at now group.now
+        → at_deadline now (turned (thinned now group.now) effects.old) ≡ turned (at_end now round (thinned now group.now)) effects.new) }
+{
+    if !is_over(now, begins, group) {
+        return Ok(None);
+    }
+    let calls = outstaying(begins);
+    let who = Staying::Outstaying(now, calls);
+    if !can_complete(calls, &who, group.members.as_slice()) {
+        return Ok(None);
+    }
+    let round = completion(alloc, &who, group, effects)?;
+    Ok(Some(round))
+}
+
+// Returns the effects with which a rebalance begins, if it does: every parked SYNC of the members that stay gets 27.
+fn first_effects(
+    alloc: Global,
+    now: Moment,
+    begins: bool,
+    members: &[Member],
+) -> Result<Effects, AllocError>
+    ensures { IfOk result (λ e. e ≡ first_effects now begins members.now) }
+{
+    let mut effects = Effects::new(alloc);
+    if begins {
+        refuse_syncs_of(&Staying::Unexpired(now), members, &mut effects.replies)?;
+    }
+    Ok(effects)
+}
+
+/// Returns what a tick comes to in the group, and its effects. The group stays as it is. Linear in the members but for a rebalance
+/// that completes; allocates only where one begins or completes.
+pub fn plan_tick(
+    alloc: Global,
+    now: Moment,
+    group: &Group,
+) -> Result<(TickPlan, Effects), AllocError>
+    ensures { IfOk result (λ p. ticked now group.now ≡ turned (carried now p.0 group.now) p.1) }
+{
+    let begins = begins_at(now, group);
+    let mut effects = first_effects(alloc, now, begins, group.members.as_slice())?;
+    let unexpired = Staying::Unexpired(now);
+    if let Some(round) = planned(alloc, begins, &unexpired, group, &mut effects)? {
+        let round = Some(round);
+        return Ok((TickPlan { round }, effects));
+    }
+    let round = planned_end(alloc, now, begins, group, &mut effects)?;
+    Ok((TickPlan { round }, effects))
 }

@@ -6,11 +6,13 @@ use Rattle.cg_member.specs.declared.group.Group.{Group}
 use Rattle.cg_member.specs.declared.reply.Reply.{Reply}
 use Rattle.cg_record.specs.declared.command.Command.{Command}
 use Rattle.cg_request.specs.declared.ticket.Ticket.{Ticket}
+use Rattle.cg_member.specs.Leaving.{gone_in}
 use Rattle.cg_turn.specs.Touching.{gone_touches}
 use Rattle.cg_held.specs.declared.sessions.Home.{Home}
 use Rattle.cg_held.specs.Kept.{Each}
 use Rattle.cg_held.specs.Sessions.{is_noted}
-use Rattle.cg_held.proofs.Homeward.{answered_all, answered_none, gone_effects, told_all, told_none}
+use Rattle.cg_held.proofs.Homeward.{answered_all, gone_effects, told_all, told_none}
+use Rattle.cg_held.proofs.Successive.{stepped_none}
 use Rattle.cg_held.proofs.homes.end_session.Goals as goal
 
 made : List Command → List (Ticket × Reply) → Effects
@@ -23,7 +25,7 @@ pub returns-in_default-clause-groups : goal.returns-in_default-clause-groups
 returns-in_default-clause-groups c =
     let gs = c.args.held.now in
     let calm = subst (Quiet c.args.session gs) (sym c.get.ensures.value ∙ ap option_copied c.in_default.is) c.requires in
-    answered_all c.args.now c.args.session {X = Home} gs gs [] calm (answered_none c.args.now c.args.session gs)
+    answered_all {X = Home} c.args.now c.args.session gs gs [] calm (stepped_none (gone_in c.args.now c.args.session) gs)
 
 pub returns-in_default-clause-effects : goal.returns-in_default-clause-effects
 unfolding made

@@ -2,8 +2,9 @@ use Rattle.std.proofs.Common.{List, [], sym, ◌∙◌, subst}
 use Rattle.std.specs.BTreeMap.{keys}
 use Rattle.cg_member.specs.declared.reply.Reply.{Reply}
 use Rattle.cg_request.specs.declared.ticket.Ticket.{Ticket}
-use Rattle.cg_held.proofs.Homeward.{HaveTold, homeward_end, homeward_next, told_all, told_next, told_none}
+use Rattle.cg_held.proofs.Homeward.{HaveTold, told_all, told_next, told_none}
 use Rattle.cg_held.proofs.InOrder.{ascending_from_sorted}
+use Rattle.cg_held.proofs.Successive.{along_end, along_next}
 use Rattle.cg_held.proofs.homes.refused_homes.Goals as goal
 
 pub loop-id-init : goal.loop-id-init
@@ -16,11 +17,11 @@ loop-id-preserved c =
     let l = c.loop-id in
     let gs = c.args.groups.now in
     let session = c.args.session in
-    homeward_next (HaveTold session gs l.replies) (HaveTold session gs c.refuse_named.new.replies) (keys c.args.ids.now) l.id-iterator c.next.new.self c.in-Some.id.now (ascending_from_sorted (keys c.args.ids.now) c.keys-id-items.ensures.ordered) c.in-Some.ensures.steps
+    along_next (HaveTold session gs l.replies) (HaveTold session gs c.refuse_named.new.replies) (keys c.args.ids.now) l.id-iterator c.next.new.self c.in-Some.id.now (ascending_from_sorted (keys c.args.ids.now) c.keys-id-items.ensures.ordered) c.in-Some.ensures.steps
     (told_next session gs l.replies c.refuse_named.new.replies c.in-Some.id.now c.refuse_named.ensures.in_order c.in_ok-refuse_named.ensures.there c.in_ok-refuse_named.ensures.absent)
     l.invariant
 
 pub returns : goal.returns
 returns c =
     let l = c.loop-id in
-    told_all c.args.session c.args.groups.now l.replies c.args.ids.now.entries c.requires (homeward_end (HaveTold c.args.session c.args.groups.now l.replies) (keys c.args.ids.now) l.id-iterator c.in-None.ensures.steps.0 l.invariant)
+    told_all c.args.session c.args.groups.now l.replies c.args.ids.now.entries c.requires (along_end (HaveTold c.args.session c.args.groups.now l.replies) (keys c.args.ids.now) l.id-iterator c.in-None.ensures.steps.0 l.invariant)

@@ -1,5 +1,6 @@
 use Rattle.std.proofs.Common.{◌≡◌, List, map, Some, sym, ap, ◌∙◌}
 use Rattle.cg_member.specs.declared.vote.Candidate.{Candidate}
+use Rattle.cg_member.specs.Staying.{remaining}
 use Rattle.cg_member.specs.Tally.{tally}
 use Rattle.cg_member.specs.Vote.{votes}
 use Rattle.cg_member.proofs.Votes.{counted_once, elected_none, elected_some}
@@ -7,7 +8,7 @@ use Rattle.cg_member.proofs.vote.elected.Goals as goal
 
 pub returns-in-None : goal.returns-in-None
 returns-in-None c =
-    let members = c.args.members.now in
+    let members = remaining c.args.who.now c.args.members.now in
     let names = c.in_ok-names.names in
     let cs : List Candidate = c.in_ok-counted.counted.items in
     let each : map tally cs ≡ map (λ n. (n, votes names members n)) names = rw c.as_slice.ensures at c.in_ok-counted.ensures in
@@ -15,7 +16,7 @@ returns-in-None c =
 
 pub returns : goal.returns
 returns c =
-    let members = c.args.members.now in
+    let members = remaining c.args.who.now c.args.members.now in
     let names = c.in_ok-names.names in
     let cs : List Candidate = c.in_ok-counted.counted.items in
     let each : map tally cs ≡ map (λ n. (n, votes names members n)) names = rw c.as_slice.ensures at c.in_ok-counted.ensures in

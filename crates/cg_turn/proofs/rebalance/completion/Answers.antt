@@ -1,16 +1,19 @@
-use Rattle.std.proofs.Common.{sym, ◌∙◌}
+use Rattle.std.proofs.Common.{List, sym, ap, ◌∙◌}
+use Rattle.cg_member.specs.declared.member.Member.{Member}
+use Rattle.cg_member.specs.Membership.{is_empty}
 use Rattle.cg_member.specs.Rebalance.{emptied_command}
-use Rattle.cg_turn.proofs.Rounds.{completed_empty, completed_told, empty_by_length}
+use Rattle.cg_member.specs.Staying.{remaining}
+use Rattle.cg_turn.proofs.Rounds.{completed_empty, completed_told}
 use Rattle.cg_turn.specs.Rounds.{among}
 use Rattle.cg_turn.proofs.rebalance.completion.Goals as goal
 
-pub returns-then-is_empty : goal.returns-then-is_empty
+pub returns-then-none_stays : goal.returns-then-none_stays
 unfolding emptied_command
-returns-then-is_empty c =
-    λ now. completed_empty now (among c.args.members.now c.args.group.now) c.args.effects.now c.in_ok-round.round c.emptied_round.new.commands
-    (empty_by_length c.args.members.now ∙ sym c.is_empty.ensures ∙ c.if-is_empty.true) c.in_ok-round.ensures.round c.in_ok-round.ensures.commands
+returns-then-none_stays c =
+    λ now. completed_empty now (among c.args.who.now c.args.group.now) c.args.effects.now c.in_ok-round.round c.emptied_round.new.commands
+    (ap (λ (ms : List Member). is_empty (remaining c.args.who.now ms)) (sym c.as_slice.ensures.value) ∙ sym c.none_stays.ensures ∙ c.if-none_stays.true) c.in_ok-round.ensures.round c.in_ok-round.ensures.commands
 
 pub returns : goal.returns
 returns c =
-    λ now. completed_told now (among c.args.members.now c.args.group.now) c.args.effects.now c.in_ok-round-2.round c.told_round.new.replies
-    (empty_by_length c.args.members.now ∙ sym c.is_empty.ensures ∙ c.if-is_empty.false) c.in_ok-round-2.ensures.round c.in_ok-round-2.ensures.replies
+    λ now. completed_told now (among c.args.who.now c.args.group.now) c.args.effects.now c.in_ok-round-2.round c.told_round.new.replies
+    (ap (λ (ms : List Member). is_empty (remaining c.args.who.now ms)) (sym c.as_slice.ensures.value) ∙ sym c.none_stays.ensures ∙ c.if-none_stays.false) c.in_ok-round-2.ensures.round c.in_ok-round-2.ensures.replies

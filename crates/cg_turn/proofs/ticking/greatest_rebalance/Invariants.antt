@@ -1,6 +1,6 @@
-use Rattle.std.proofs.Common.{◌≡◌, map, take, fold}
-use Rattle.std.specs.Prelude.{max}
+use Rattle.std.proofs.Common.{◌≡◌, take, fold}
+use Rattle.cg_turn.proofs.Lasting.{raised}
 use Rattle.cg_turn.proofs.ticking.greatest_rebalance.Given as goal
 
 abbrev pub invariant-loop-member : goal.invariant-loop-member
-invariant-loop-member l = l.greatest ≡ fold max 0 (map (λ m. m.rebalance) (take l.member-index l.members))
+invariant-loop-member l = l.greatest ≡ fold (raised l.who) 0 (take l.member-index l.members)

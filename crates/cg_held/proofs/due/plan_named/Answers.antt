@@ -1,0 +1,17 @@
+use Rattle.std.proofs.Common.{◌≡◌, Some, false, ap, sym, ◌∙◌, rules}
+use Rattle.std.specs.Option.{option_copied}
+use Rattle.cg_turn.specs.Touching.{tick_touches}
+use Rattle.cg_held.specs.Held.{find_group}
+use Rattle.cg_held.proofs.DueGroups.{planned_unheld, planned_untouched}
+use Rattle.cg_held.proofs.due.plan_named.Goals as goal
+
+pub returns-in_default-clause-planned : goal.returns-in_default-clause-planned
+returns-in_default-clause-planned c =
+    λ ids b h. planned_unheld c.args.now c.args.held.now ids c.args.id c.args.dues.now.items c.args.effects.now (sym c.find.ensures.found ∙ ap option_copied c.in_default.is) h
+
+pub returns-clause-planned : goal.returns-clause-planned
+returns-clause-planned c =
+    let g = c.in-Some.group.now in
+    let found : find_group c.args.id c.args.held.now ≡ Some g = sym c.find.ensures.found ∙ ap option_copied c.in-Some.is in
+    let calm : tick_touches c.args.now g ≡ false = search rules in
+    λ ids b h. planned_untouched c.args.now c.args.held.now ids c.args.id g c.args.dues.now.items c.args.effects.now c.find.ensures.in_order found calm h

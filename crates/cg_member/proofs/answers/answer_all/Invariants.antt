@@ -1,8 +1,0 @@
-use Rattle.std.proofs.Common.{◌≡◌, ◌++◌, take}
-use Rattle.std.specs.List.{flat_map}
-use Rattle.cg_member.specs.Waiting.{answer}
-use Rattle.cg_member.proofs.answers.answer_all.Given as goal
-
-abbrev pub invariant-loop-member : goal.invariant-loop-member
-invariant-loop-member g l =
-    l.replies ≡ l.initial.replies ++ flat_map (answer l.which (g.T.Telling.tells l.teller)) (take l.member-index l.members)
