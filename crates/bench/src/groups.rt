@@ -80,6 +80,23 @@ fn rate_once<R: Clock>(
     Ok(tally.median().items_per_second())
 }
 
+// Times a Tick at which the sessions of all members have expired, and counts the members.
+fn time_expiry<R: Clock>(rt: &R, scene: &mut Scene, members: u64, tally: &mut Tally) -> Result<()> {
+    let start = Instant::now(rt)?;
+    scene.expire()?;
+    tally.add(rt, start, members)
+}
+
+// Returns the members per second that such Ticks remove, each in a new machine.
+fn expiry_rate<R: Clock>(rt: &R, alloc: Global, groups: u64, members: u64) -> Result<u64> {
+    let mut tally = Tally::new(alloc);
+    for _ in 0..RUNS {
+        let mut scene = Scene::new(alloc, groups, members)?;
+        time_expiry(rt, &mut scene, groups.saturating_mul(members), &mut tally)?;
+    }
+    Ok(tally.median().items_per_second())
+}
+
 /// Events per second of each kind that leaves the groups stable.
 #[derive(Clone, Copy)]
 struct SharedRates {
@@ -99,6 +116,8 @@ struct GroupRates {
     session_closed: u64,
     enter: u64,
     leave: u64,
+    /// Members that a Tick removes.
+    expired: u64,
 }
 
 fn shared_rates<R: Clock>(rt: &R, alloc: Global, scene: &mut Scene) -> Result<SharedRates> {
@@ -129,6 +148,7 @@ fn measure_once<R: Clock>(rt: &R, alloc: Global, groups: u64, members: u64) -> R
         session_closed: rate_once(rt, alloc, GroupEvent::Gone, groups, members)?,
         enter: rate_once(rt, alloc, GroupEvent::Enter, groups, members)?,
         leave: rate_once(rt, alloc, GroupEvent::Leave, groups, members)?,
+        expired: expiry_rate(rt, alloc, groups, members)?,
     })
 }
 
@@ -172,7 +192,13 @@ fn report_once<R: Print>(rt: &R, rates: GroupRates, base: GroupRates) -> Result<
         base.session_closed,
     )?;
     report_rate(rt, "JOIN in a rebalance", rates.enter, base.enter)?;
-    report_rate(rt, "LEAVE in a rebalance", rates.leave, base.leave)
+    report_rate(rt, "LEAVE in a rebalance", rates.leave, base.leave)?;
+    report_rate(
+        rt,
+        "members that a Tick removes",
+        rates.expired,
+        base.expired,
+    )
 }
 
 // Measures groups like these, and reports them beside the base.

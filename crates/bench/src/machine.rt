@@ -5,9 +5,17 @@ use cg_group::{Effects, Event, Groups, Ticket};
 use cg_names::Moment;
 use std::alloc::Global;
 
+/// Session timeout of each member, in milliseconds.
+pub const SESSION_MS: u32 = 10_000;
+
 /// Returns the moment of each event, except those that come after recovery.
 pub fn now() -> Moment {
     Moment::from_millis(0)
+}
+
+/// Returns the moment at which the sessions of members expire that were heard then.
+pub fn after_sessions() -> Moment {
+    Moment::from_millis(u64::from(SESSION_MS))
 }
 
 /// Returns a ticket whose number later requests may share.

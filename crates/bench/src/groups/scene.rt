@@ -1,7 +1,7 @@
 //! Stable groups with the same number of members, and events for them.
 ghost use Rattle.std.specs.Prelude.{◌≡◌, IfOk, vec_len};
 
-use crate::machine::{now, revived, step, ticket};
+use crate::machine::{SESSION_MS, after_sessions, now, revived, step, ticket};
 use crate::offsets::{commit_entry, commit_request};
 use crate::values::{assignment, client_id, name, rebalance_timeout, subscription};
 use anyhow::{Context, Result, bail};
@@ -110,7 +110,7 @@ fn join_request(
         member,
         instance: None,
         client,
-        session_ms: 10_000,
+        session_ms: SESSION_MS,
         rebalance,
         kind,
         protocols,
@@ -385,6 +385,12 @@ impl Scene {
         let member = member.context("a group has no member")?;
         let id = member.id.clone()?;
         Ok(id)
+    }
+
+    /// Steps the machine by a Tick at which the session of every member has expired.
+    pub fn expire(&mut self) -> Result<()> {
+        step(&mut self.groups, Event::Tick, after_sessions())?;
+        Ok(())
     }
 
     /// Returns the loaded groups.
