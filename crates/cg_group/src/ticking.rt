@@ -66,8 +66,8 @@ fn carry_out_all(held: &mut Held, homes: &mut Homes, now: Moment, dues: Vec<Due>
 }
 
 /// Processes a tick, in place. Visits only the groups that are due. What the tick comes to is worked out in all of them before
-/// the first one changes; nothing is allocated after that. Then costs for each changed group four look-ups, the change, two passes
-/// over the members, and a few look-ups for each call that was or is parked there.
+/// the first one changes; nothing is allocated after that. Then costs for each changed group four look-ups, the change, two
+/// passes over the members, and a few look-ups for each call that was or is parked there.
 #[tactic(auto, unfolding(cg_held::specs::Held::everywhere))]
 pub fn meet_tick(now: Moment, held: &mut Held, homes: &mut Homes) -> Result<Effects, AllocError>
     requires known { AreKnown (is_home homes.old) held.old }
