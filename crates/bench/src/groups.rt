@@ -80,7 +80,7 @@ fn rate_once<R: Clock>(
     Ok(tally.median().items_per_second())
 }
 
-// Times a Tick at which the sessions of all members have expired, and counts the members.
+// Times a Tick at which the sessions of all members have expired; the tally counts the members.
 fn time_expiry<R: Clock>(rt: &R, scene: &mut Scene, members: u64, tally: &mut Tally) -> Result<()> {
     let start = Instant::now(rt)?;
     scene.expire()?;
@@ -116,7 +116,7 @@ struct GroupRates {
     session_closed: u64,
     enter: u64,
     leave: u64,
-    /// Members that a Tick removes.
+    /// Members per second that a Tick removes.
     expired: u64,
 }
 

@@ -8,12 +8,12 @@ use std::alloc::Global;
 /// Session timeout of each member, in milliseconds.
 pub const SESSION_MS: u32 = 10_000;
 
-/// Returns the moment of each event, except those that come after recovery.
+/// Returns the moment of each event, except of a Tick after the sessions and of those that come after recovery.
 pub fn now() -> Moment {
     Moment::from_millis(0)
 }
 
-/// Returns the moment at which the sessions of members expire that were heard then.
+/// Returns the moment at which the sessions of members that were heard at `now()` expire.
 pub fn after_sessions() -> Moment {
     Moment::from_millis(u64::from(SESSION_MS))
 }

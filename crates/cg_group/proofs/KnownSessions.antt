@@ -283,7 +283,7 @@ module _ (homes : ℕ → List ℕ → Bool) where
   known-deleted s ticket (Ok id) h = each-without Home id s.groups h
   known-deleted s ticket (Err code) h = h
 
-  pub known-met : (s : Machine) (e : Event) → Owns homes e → AreKnown homes s.groups → AreKnown homes (met s e).after.groups
+  known-met : (s : Machine) (e : Event) → Owns homes e → AreKnown homes s.groups → AreKnown homes (met s e).after.groups
   unfolding met
   known-met s (event.Join ticket r fresh) own h =
       known-concluded s ticket (join s.last r fresh ticket s.groups)

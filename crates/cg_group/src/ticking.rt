@@ -37,7 +37,7 @@ impl Changing for TickChange {
 
 // Carries out a tick in this group, and drops the group from the session index for each session that no longer has a parked
 // call in it. No allocation.
-fn carry_out(held: &mut Held, homes: &mut Homes, now: Moment, due: Due)
+fn carry_out_due(held: &mut Held, homes: &mut Homes, now: Moment, due: Due)
     requires known { AreKnown (is_home homes.old) held.old }
     requires tight { IsTight homes.old held.old }
     requires due { IsDue now held.old due }
@@ -61,7 +61,7 @@ fn carry_out_all(held: &mut Held, homes: &mut Homes, now: Moment, dues: Vec<Due>
     ensures after { held.new ≡ groups_after (ticked now) held.old }
 {
     for due in dues {
-        carry_out(held, homes, now, due);
+        carry_out_due(held, homes, now, due);
     }
 }
 

@@ -34,7 +34,7 @@ keys_have x (e ∷ es) =
     ∙ (elim (is_same x e.0) as (λ b. is_some (cond b (Some e.1) (lookup (is_at (slice_cmp nat_cmp x)) es)) ≡ (b || is_one_of (keys_of es) x)) [ true ↦ refl | false ↦ keys_have x es ])
 
 -- no call of the session is parked in the groups that have no entry
-abbrev pub Calm : {X : Type 0} → ℕ → List (List ℕ × X) → List Group → Type 0
+abbrev Calm : {X : Type 0} → ℕ → List (List ℕ × X) → List Group → Type 0
 Calm session es groups = Each (λ (g : Group). is_some (lookup (is_at (slice_cmp nat_cmp g.id)) es) ≡ false → gone_touches session g ≡ false) groups
 
 calm_turns : {X : Type 0} (now session : ℕ) (es : List (List ℕ × X)) (gs : List Group) → Calm session es gs → Each (λ (g : Group). is_one_of (keys_of es) g.id ≡ false → gone_in now session g ≡ turn_of g) gs

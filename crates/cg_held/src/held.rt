@@ -259,7 +259,7 @@ impl Held {
         self.deadlines.due(now)
     }
 
-    /// Notes that members are heard at this moment or later from now on: moments that are found out after this are as late as
+    /// Notes that from now on members are heard at `now` or later, so that moments that are found out after this call are as late as
     /// they can be.
     pub fn advance(&mut self, now: Moment)
         ensures { self.new ≡ self.old }

@@ -65,7 +65,7 @@ fn refused_homes(
     Ok(replies)
 }
 
-/// The change of a group at the end of a session: its parked calls are cleared, and their members count as heard.
+/// The change of a group at the end of a session: the session's parked calls in it are cleared, and their members count as heard.
 #[derive(Drop)]
 struct Answering {
     session: u64,

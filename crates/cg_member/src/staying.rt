@@ -16,7 +16,7 @@ pub enum Staying<'a> {
     Without(&'a MemberId),
     /// Those whose session has not expired at this moment.
     Unexpired(Moment),
-    /// Of those, the static ones, and those with a parked call that is one of these.
+    /// Those whose session has not expired at this moment and that are static or have a parked call that is one of these.
     Outstaying(Moment, Calls),
 }
 

@@ -52,7 +52,7 @@ fn first_staying<'a>(who: &Staying, members: &'a [Member]) -> Option<&'a Member>
     members.iter().find(|m| who.keeps(m))
 }
 
-// Returns at most `PROTOCOLS_MAX` names, as they all come from the first member's list.
+// Returns at most `PROTOCOLS_MAX` names, as they all come from the list of the first member that stays.
 #[tactic(auto, using(crate::proofs::Remaining::candidates_none, crate::proofs::Remaining::candidates_some))]
 fn candidates(
     alloc: Global,
@@ -73,7 +73,7 @@ fn candidates(
     Ok(names)
 }
 
-// Returns the first protocol of the member's own list that every member supports.
+// Returns the first protocol of the member's own list that is one of these names.
 fn first_choice<'a>(names: &[ProtocolName], member: &'a Member) -> Option<&'a Protocol>
     ensures { option_copied result ≡ find (λ p. is_among names.now p.name) member.now.protocols }
 {
@@ -101,7 +101,7 @@ fn votes(names: &[ProtocolName], who: &Staying, members: &[Member], name: &Proto
         .count()
 }
 
-/// A protocol that every member supports, and the number of members that vote for it.
+/// A protocol that every member that stays supports, and the number of them that vote for it.
 #[derive(Clone, Copy)]
 pub struct Candidate<'a> {
     name: &'a ProtocolName,
@@ -148,7 +148,8 @@ fn unbeaten(counted: &[Candidate]) -> Option<usize>
         .position(|candidate| !is_beaten(counted, candidate))
 }
 
-/// Returns the protocol that wins the vote of the members that stay, or `None` if none stays or they have no common protocol.
+/// Returns the protocol that wins the vote of the members that stay, or `None` if no member stays or they have no common
+/// protocol.
 /// Linear in the members; counts each candidate once.
 #[tactic(auto, unfolding(crate::specs::Vote::elected))]
 pub fn elected(

@@ -85,7 +85,7 @@ module _ (f : Member → Member) (same_id : (m : Member) → (f m).id ≡ m.id) 
   abbrev winner : List (List ℕ) → (List ℕ → ℕ) → Option (List ℕ)
   winner names count = find (λ name. not (list_any (λ other. nat_lt (count name) (count other) || (count other == count name && is_lt (slice_cmp nat_cmp other name))) names)) names
 
-  pub elected_alike : (ms : List Member) → elected (map f ms) ≡ elected ms
+  elected_alike : (ms : List Member) → elected (map f ms) ≡ elected ms
   unfolding elected is_beaten beats
   elected_alike ms =
       ap (λ names. winner names (votes names (map f ms))) (candidates_alike ms)

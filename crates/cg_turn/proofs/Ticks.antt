@@ -144,13 +144,13 @@ none_of_some p a c (m ∷ ms) h =
 
 -- the end of a rebalance's time
 module _ (now : ℕ) (x : Group) (e : Effects) where
-  pub end_not_due : is_due now x ≡ false → at_deadline now (turned x e) ≡ turned (at_end now None x) e
+  end_not_due : is_due now x ≡ false → at_deadline now (turned x e) ≡ turned (at_end now None x) e
   unfolding at_deadline
   end_not_due h =
       ap (λ b. if b then ended now (turned (keeping outstays x) e) else turned x e) h
       ∙ sym (ap (λ b. turned (if b then closed now None (keeping outstays x) else x) e) h)
 
-  pub end_waits : is_due now x ≡ true → can_complete (keeping outstays x).members ≡ false → at_deadline now (turned x e) ≡ turned (at_end now None x) e
+  end_waits : is_due now x ≡ true → can_complete (keeping outstays x).members ≡ false → at_deadline now (turned x e) ≡ turned (at_end now None x) e
   unfolding at_deadline ended
   end_waits h waits =
       let k : Group = keeping outstays x in
@@ -158,7 +158,7 @@ module _ (now : ℕ) (x : Group) (e : Effects) where
       ∙ ap (λ b. if b then completed now (turned k e) else turned (record k { started = now }) e) waits
       ∙ sym (ap (λ b. turned (if b then closed now None k else x) e) h)
 
-  pub end_completes : (r : Round) (after : Effects) → is_due now x ≡ true → can_complete (keeping outstays x).members ≡ true
+  end_completes : (r : Round) (after : Effects) → is_due now x ≡ true → can_complete (keeping outstays x).members ≡ true
       → completed now (turned (keeping outstays x) e) ≡ turned (rounded now (Some r) (keeping outstays x)) after → at_deadline now (turned x e) ≡ turned (at_end now (Some r) x) after
   unfolding at_deadline ended
   end_completes r after h can by =

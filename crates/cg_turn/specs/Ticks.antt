@@ -32,21 +32,22 @@ first_effects now begins members = record {
   replies = if begins then answers Syncs (refusing RebalanceInProgress) (remaining (Unexpired now) members) else [];
 }
 
--- the rebalance has lasted its time when they are gone
+-- the rebalance has lasted its time, once the members whose session has expired are gone
 abbrev pub is_over : ℕ → Bool → Group → Bool
 is_over now begins g =
     (begins || is_preparing g.phase) && nat_le ((if begins then now else g.started) + greatest_rebalance (remaining (Unexpired now) g.members)) now
 
--- the group as its rebalance has lasted its time: it completes with the round, or its time starts again
+-- the group when its rebalance has lasted its time: the rebalance completes with the round, or its time starts again
 abbrev pub closed : ℕ → Option Round → Group → Group
 closed now None g = record g { started = now }
 closed now (Some r) g = rounded now (Some r) g
 
--- the same, if it has lasted its time: who does not outstay that is removed first
+-- the group at the deadline, if that has come: the members that do not outstay it are removed first
 abbrev pub at_end : ℕ → Option Round → Group → Group
 at_end now round g = if is_due now g then closed now round (keeping outstays g) else g
 
--- the group, from which the expired members are gone, as its rebalance completes with the round, if it does
+-- the group without the expired members: its rebalance completes with the round if all have joined, or reaches its deadline, or
+-- goes on
 abbrev pub finished : ℕ → Option Round → Group → Group
 finished now round g = if is_ready g then rounded now round g else at_end now round g
 

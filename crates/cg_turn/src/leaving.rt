@@ -1,8 +1,8 @@
 //! LEAVE (LeaveGroup request).
-ghost use Rattle.std.specs.Prelude.{◌≡◌, ◌⊎◌, ℕ, Bool, is_some, Ok, Err, Some, true, not, filter, is_ok, IfOk, OnErr, MatchOption, MatchResult, ⊤};
-ghost use Rattle.cg_member.specs.Leaving.{has_joined, left, leave_taken, may_be, leaver, leave_held};
-ghost use Rattle.cg_member.specs.Membership.{find_member, has_id, is_named, keeping, leader_among};
-ghost use Rattle.cg_member.specs.Rebalance.{begun, tried, turned};
+ghost use Rattle.std.specs.Prelude.{◌≡◌, ◌⊎◌, ℕ, Bool, Ok, Err, Some, true, not, filter, is_ok, IfOk, OnErr, MatchOption, MatchResult, ⊤};
+ghost use Rattle.cg_member.specs.Leaving.{has_joined, left, may_be, leaver, leave_held};
+ghost use Rattle.cg_member.specs.Membership.{has_id, is_named, keeping, leader_among};
+ghost use Rattle.cg_member.specs.Rebalance.{turned};
 ghost use Rattle.cg_turn.specs.Leaving.{IsLeaver, left_effects, left_replies, others_than, without};
 ghost use Rattle.cg_turn.specs.Rounds.{IsPlan};
 ghost use Rattle.std.specs.List.{list_any};
@@ -21,7 +21,7 @@ use cg_member::member::Member;
 use cg_member::members::Members;
 use cg_member::reply::Reply;
 use cg_member::staying::Staying;
-use cg_names::{Code, InstanceId, MemberId, Moment};
+use cg_names::{Code, InstanceId, MemberId};
 use cg_request::request::LeaveRequest;
 use cg_request::ticket::Ticket;
 use std::alloc::{AllocError, Global};

@@ -1,5 +1,5 @@
-//! The steps of one group: a JOIN, a LEAVE or the SYNC of a leader changes the group in place, a tick a copy of it, and returns the
-//! replies and commands. Of a BEAT, a COMMIT, and a request that is only parked, the checks and the command are here, and `cg_group`
+//! The steps of one group: a JOIN, a LEAVE, the SYNC of a leader and a tick change the group in place, and return the replies and
+//! commands. Of a BEAT, a COMMIT, and a request that is only parked, the checks and the command are here, and `cg_group`
 //! changes the group.
 //! The functions implement the definitions in `specs/`, here and in `cg_member`.
 #![tactic(auto)]

@@ -1,5 +1,5 @@
 //! The rebalance: its start and its completion (KIP-62).
-ghost use Rattle.std.specs.Prelude.{◌≡◌, ℕ, true, not, ◌&&◌, ◌||◌, ◌++◌, Some, None, IfOk, OnOk, OnErr, find, option_map};
+ghost use Rattle.std.specs.Prelude.{◌≡◌, ℕ, true, ◌&&◌, ◌||◌, ◌++◌, Some, None, IfOk, OnOk, OnErr, find, option_map};
 ghost use Rattle.std.specs.List.{list_all, list_any};
 ghost use Rattle.cg_member.specs.Rebalance.{turned, begun, joined_reply, next_leader, next_round, emptied_command, completed, is_ready, tried};
 ghost use Rattle.cg_member.specs.Membership.{is_empty, is_preparing, leads};
@@ -32,7 +32,7 @@ pub fn is_preparing(phase: Phase) -> bool
 }
 
 /// Appends 27 for every parked SYNC of the members that stay, as a rebalance does when it begins.
-pub fn refuse_syncs_of(
+pub(crate) fn refuse_syncs_of(
     who: &Staying,
     members: &[Member],
     replies: &mut Few<(Ticket, Reply)>,
@@ -208,7 +208,7 @@ fn some_stay(who: &Staying, members: &[Member]) -> bool
 
 /// Returns whether no member stays.
 #[tactic(auto, using(cg_member::proofs::Remaining::none_remain))]
-pub fn none_stays(who: &Staying, members: &[Member]) -> bool
+pub(crate) fn none_stays(who: &Staying, members: &[Member]) -> bool
     ensures { result ≡ is_empty (remaining who.now members.now) }
 {
     !some_stay(who, members)
@@ -216,7 +216,7 @@ pub fn none_stays(who: &Staying, members: &[Member]) -> bool
 
 /// Returns the round with which the rebalance of the members that stay completes, and appends the effects of that. The group stays
 /// as it is.
-pub fn completion(
+pub(crate) fn completion(
     alloc: Global,
     who: &Staying,
     group: &Group,
@@ -234,7 +234,7 @@ pub fn completion(
 }
 
 /// Returns whether a rebalance begins or is under way.
-pub fn is_under_way(begins: bool, phase: Phase) -> bool
+pub(crate) fn is_under_way(begins: bool, phase: Phase) -> bool
     ensures { result ≡ (begins || is_preparing phase) }
 {
     begins || is_preparing(phase)
@@ -275,7 +275,7 @@ pub fn planned(
 }
 
 /// Completes the rebalance of the group with this round: every parked JOIN has its reply.
-pub fn enter(now: Moment, round: Round, group: &mut Group)
+pub(crate) fn enter(now: Moment, round: Round, group: &mut Group)
     ensures { group.new ≡ rounded now (Some round) group.old }
 {
     let Round {

@@ -1,4 +1,4 @@
-//! The replies to JOINs.
+//! The replies to JOINs, and a member's subscription for a protocol.
 ghost use Rattle.std.specs.Prelude.{◌≡◌, IfOk};
 ghost use Rattle.cg_member.specs.Rebalance.{subscription_for, joined_member, joined_members, joined_reply};
 ghost use Rattle.cg_member.specs.Membership.{is_named};
@@ -78,7 +78,7 @@ pub struct Told<'a> {
     pub(crate) protocol: &'a Option<ProtocolName>,
     pub(crate) leader: &'a Option<MemberId>,
     pub(crate) members: &'a [Member],
-    /// Which of the members the replies tell of.
+    /// Which of the members stay; the reply to the leader lists these.
     pub(crate) staying: &'a Staying<'a>,
 }
 
@@ -101,7 +101,7 @@ fn joined_members(
     Ok(members)
 }
 
-// Returns the reply to a JOIN of the member. It copies all members for the leader.
+// Returns the reply to a JOIN of the member. It copies all members that stay for the leader.
 #[tactic(auto, unfolding(cg_member::specs::Rebalance::joined_reply))]
 fn told_reply(alloc: Global, told: &Told, member: &Member) -> Result<Reply, AllocError>
     ensures { IfOk result (λ reply. reply ≡ joined_reply (told_group told.now) member.now) }

@@ -79,8 +79,8 @@ pub(crate) fn is_due(now: Moment, group: &Group) -> bool
         && now.is_past(group.started, greatest_rebalance(&Staying::All, members))
 }
 
-// Removes, if the rebalance has lasted its time, those who do not outstay that, and completes it with the round, or starts its
-// time again.
+// If the rebalance has lasted its time: removes the members that do not outstay it, and completes it with the round or, without
+// one, starts its time again.
 #[tactic(auto, unfolding(cg_member::specs::Membership::keeping))]
 fn end(now: Moment, round: Option<Round>, group: &mut Group)
     ensures { group.new ≡ at_end now round group.old }
@@ -109,8 +109,8 @@ pub fn carry_out_tick(now: Moment, plan: TickPlan, group: &mut Group)
     }
 }
 
-// Returns whether the rebalance has lasted its time when the expired sessions are gone. If it begins with them, it ends at once where
-// all its rebalance timeouts are 0.
+// Returns whether the rebalance has lasted its time, once the members whose session has expired are gone. A rebalance that begins at
+// this tick ends at once if all rebalance timeouts are 0.
 fn is_over(now: Moment, begins: bool, group: &Group) -> bool
     ensures { result ≡ is_over now begins group.now }
 {
@@ -181,8 +181,8 @@ fn first_effects(
     Ok(effects)
 }
 
-/// Returns what a tick comes to in the group, and its effects. The group stays as it is. Linear in the members but for a rebalance
-/// that completes; allocates only where one begins or completes.
+/// Returns what a tick comes to in the group, and its effects. The group stays as it is. Linear in the members. Allocates only if a
+/// rebalance begins or completes.
 pub fn plan_tick(
     alloc: Global,
     now: Moment,

@@ -18,8 +18,8 @@ loop-due-init c =
       len = search rules;
     }
 
-pub carry_out-requires-clause-due : goal.carry_out-requires-clause-due
-carry_out-requires-clause-due c =
+pub carry_out_due-requires-clause-due : goal.carry_out_due-requires-clause-due
+carry_out_due-requires-clause-due c =
     let l = c.loop-due in
     due_still c.args.now c.args.held.now c.args.dues.items c.requires.due l.held (into_iter_items l.due-iterator) (into_iter_items c.next.new.self) c.in-Some.due c.in-Some.ensures.steps.0 l.invariant.carried
 
@@ -27,9 +27,9 @@ pub loop-due-preserved : goal.loop-due-preserved
 loop-due-preserved c =
     let l = c.loop-due in
     record {
-      carried = carried_next c.args.now c.args.held.now c.args.dues.items c.requires.due l.held (into_iter_items l.due-iterator) (into_iter_items c.next.new.self) c.in-Some.due c.in-Some.ensures.steps.0 c.carry_out.new.held c.carry_out.ensures.in_order c.carry_out.ensures.after l.invariant.carried;
-      known = c.carry_out.ensures.known;
-      tight = c.carry_out.ensures.tight;
+      carried = carried_next c.args.now c.args.held.now c.args.dues.items c.requires.due l.held (into_iter_items l.due-iterator) (into_iter_items c.next.new.self) c.in-Some.due c.in-Some.ensures.steps.0 c.carry_out_due.new.held c.carry_out_due.ensures.in_order c.carry_out_due.ensures.after l.invariant.carried;
+      known = c.carry_out_due.ensures.known;
+      tight = c.carry_out_due.ensures.tight;
       len =
           let was = l.invariant.len in
           let gone = c.in-Some.ensures.steps.1 in

@@ -8,7 +8,7 @@ use Rattle.cg_held.specs.Sessions.{IsLetGo, is_home}
 use Rattle.cg_held.proofs.DueGroups.{due_parked, due_stepped, tick_keeps}
 use Rattle.cg_group.proofs.KnownSessions.{tick_known}
 use Rattle.cg_group.proofs.Stepped.{known-stepped, tight-left}
-use Rattle.cg_group.proofs.ticking.carry_out.Goals as goal
+use Rattle.cg_group.proofs.ticking.carry_out_due.Goals as goal
 
 pub change-requires : goal.change-requires
 change-requires c = record { keeps = λ g. carried_id c.args.now c.args.due.plan g }
