@@ -87,12 +87,23 @@ fn time_expiry<R: Clock>(rt: &R, scene: &mut Scene, members: u64, tally: &mut Ta
     tally.add(rt, start, members)
 }
 
+// Times it once, in a new machine with this many groups.
+fn time_expiry_once<R: Clock>(
+    rt: &R,
+    alloc: Global,
+    groups: u64,
+    members: u64,
+    tally: &mut Tally,
+) -> Result<()> {
+    let mut scene = Scene::new(alloc, groups, members)?;
+    time_expiry(rt, &mut scene, groups.saturating_mul(members), tally)
+}
+
 // Returns the members per second that such Ticks remove, each in a new machine.
 fn expiry_rate<R: Clock>(rt: &R, alloc: Global, groups: u64, members: u64) -> Result<u64> {
     let mut tally = Tally::new(alloc);
     for _ in 0..RUNS {
-        let mut scene = Scene::new(alloc, groups, members)?;
-        time_expiry(rt, &mut scene, groups.saturating_mul(members), &mut tally)?;
+        time_expiry_once(rt, alloc, groups, members, &mut tally)?;
     }
     Ok(tally.median().items_per_second())
 }

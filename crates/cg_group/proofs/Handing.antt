@@ -1,11 +1,11 @@
 -- The SYNC of a leader, which hands the assignments in.
-use Rattle.std.proofs.Common.{◌≡◌, ℕ, List, Some, Ok, refl, sym, ap, ◌∙◌, subst}
+use Rattle.std.proofs.Common.{◌≡◌, ℕ, List, Some, Ok, refl, sym, ap, ◌∙◌}
 use Rattle.cg_member.specs.declared.effects.Effects.{Effects}
 use Rattle.cg_member.specs.declared.group.Group.{Group}
 use Rattle.cg_request.specs.declared.request.SyncRequest.{SyncRequest}
 use Rattle.cg_request.specs.declared.ticket.Ticket.{Ticket}
 use Rattle.cg_turn.specs.declared.syncing.SyncCase.TheVariants.{Leading}
-use Rattle.cg_turn.specs.Distributing.{IsLeader, distributing}
+use Rattle.cg_turn.specs.Distributing.{distributing}
 use Rattle.cg_group.specs.InPlace.{IsSync, StepParks}
 use Rattle.cg_group.specs.Machine.{concluded, sync}
 use Rattle.cg_held.specs.Changes.{KeepIds}
@@ -25,9 +25,6 @@ module _ (r : SyncRequest) (groups : List Group) (own id : List ℕ) (at : IsSyn
   -- the loaded group with its id is the one that the request names
   same : at.group ≡ g
   same = let is : Some at.group ≡ Some g = sym at.named.found ∙ found in cc
-
-  pub leads_named : IsLeader id g
-  leads_named = let P : Group → Type 0 = λ k. IsLeader id k in subst P same (at.member, at.found, at.processed.0)
 
   sync_is : (now : ℕ) (ticket : Ticket) → sync now r ticket groups ≡ Ok (distributing now id ticket r.entries g)
   sync_is now ticket = sync_here now r ticket groups own id Leading at ∙ ap Ok (at.processed.1 now r id ticket) ∙ ap (λ k. Ok (distributing now id ticket r.entries k)) same

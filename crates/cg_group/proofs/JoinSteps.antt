@@ -1,5 +1,5 @@
 -- The step of a JOIN in its loaded group, which does not refuse it.
-use Rattle.std.proofs.Common.{◌≡◌, ℕ, true, is_some, List, Some, Result, Ok, Err, refl, ap, sym, subst, ◌∙◌}
+use Rattle.std.proofs.Common.{◌≡◌, ℕ, true, List, Some, Result, Ok, Err, refl, ap, sym, subst, ◌∙◌}
 use Rattle.std.specs.Prelude.{is_ok}
 use Rattle.std.proofs.lemmas.Bool.{false≢true}
 use Rattle.cg_names.specs.declared.code.Code.{Code}
@@ -52,9 +52,6 @@ module _ (now : ℕ) (r : JoinRequest) (fresh : List ℕ) (ticket : Ticket) wher
 
     pub parks_joined : (g : Group) → find_group own groups ≡ Some g → StepParks groups ticket (turn_or g (join_held now r fresh ticket r.member g))
     parks_joined g found = step_parks now groups ticket (join now r fresh ticket groups) (turn_or g (join_held now r fresh ticket r.member g)) (joined_is g found) (parks-join now groups ticket r fresh)
-
-    pub loaded_joined : is_some (find_group own groups) ≡ true
-    loaded_joined = ap is_some at.named.found
 
     pub taken_joined : is_ok (join now r fresh ticket groups) ≡ true
     taken_joined = ap is_ok (joined_is at.group at.named.found)

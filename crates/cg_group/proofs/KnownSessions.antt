@@ -1,6 +1,6 @@
 -- A call that is parked after an event was parked before, or came with the event.
 use Rattle.std.proofs.Common.{◌≡◌, ℕ, Bool, true, false, not, List, [], ◌∷◌, map, refl, sym, ap, ◌∙◌, subst, Option, Some, None, Result, Ok, Err}
-use Rattle.std.specs.Prelude.{◌==◌, if◌then◌else◌, is_some, IfOk, OnErr}
+use Rattle.std.specs.Prelude.{◌==◌, if◌then◌else◌, is_some}
 use Rattle.std.specs.List.{list_any}
 use Rattle.cg_names.specs.declared.code.Code.{Code}
 use Rattle.cg_member.specs.declared.calls.Calls.TheVariants.{Joins, OfSession, Syncs}
@@ -372,11 +372,6 @@ pub known-after : (homes : ℕ → List ℕ → Bool) (now : ℕ) (groups after 
 known-after homes now groups after e made own is h =
     let P : List Group → Type 0 = λ gs. AreKnown homes gs in
     subst P (ap (λ (o : Outcome). o.after.groups) is) (known-met homes (at_moment now groups) e own h)
-
--- the same, whether or not an allocation failed
-pub known-through : {E : Type 0} (homes : ℕ → List ℕ → Bool) (now : ℕ) (groups after : List Group) (e : Event) (r : Result Effects E) → Owns homes e → IfOk r (λ made. met (at_moment now groups) e ≡ outcome (at_moment now after) made) → OnErr r (after ≡ groups) → AreKnown homes groups → AreKnown homes after
-known-through homes now groups after e (Ok made) own ok err h = known-after homes now groups after e made own ok h
-known-through homes now groups after e (Err x) own ok err h = let P : List Group → Type 0 = λ gs. AreKnown homes gs in subst P (sym err) h
 
 ticked_home : (homes : ℕ → List ℕ → Bool) (now : ℕ) (g : Group) → Home homes g → Home homes (ticked now g).group
 ticked_home homes now g k = stays homes g.id (ticked now g) (framed-ticked now g) (known-ticked (at homes g.id) now g k)

@@ -9,12 +9,11 @@ use Rattle.cg_member.specs.declared.effects.Effects.{Effects}
 use Rattle.cg_member.specs.declared.group.Group.{Group}
 use Rattle.cg_member.specs.declared.turn.Turn.{Turn}
 use Rattle.cg_request.specs.declared.event.Event.TheVariants as event
-use Rattle.cg_request.specs.declared.request.JoinRequest.{JoinRequest}
 use Rattle.cg_request.specs.declared.request.LeaveRequest.{LeaveRequest}
 use Rattle.cg_request.specs.declared.request.SyncRequest.{SyncRequest}
 use Rattle.cg_request.specs.declared.ticket.Ticket.{Ticket}
 use Rattle.cg_group.specs.InPlace.{ParksKnown, StepKnown, StepParks}
-use Rattle.cg_group.specs.Machine.{concluded, join, leave, met, sync}
+use Rattle.cg_group.specs.Machine.{concluded, leave, met, sync}
 use Rattle.cg_held.specs.declared.sessions.Home.{Home}
 use Rattle.cg_held.specs.Changes.{KeepIds, effects_in}
 use Rattle.cg_held.specs.Held.{IsHeld, at_moment, find_group, outcome, with_group}
@@ -22,7 +21,7 @@ use Rattle.cg_held.specs.Kept.{Each}
 use Rattle.cg_held.specs.Sessions.{AreKnown, IsFilled, IsLetGo, IsTight, is_home, is_parked, parked_calls}
 use Rattle.cg_held.proofs.InOrder.{found_named}
 use Rattle.cg_held.proofs.Tight.{at_parked}
-use Rattle.cg_group.proofs.KnownSessions.{known-after, parks-join, parks-sync}
+use Rattle.cg_group.proofs.KnownSessions.{known-after, parks-sync}
 use Rattle.cg_group.proofs.TightIndex.{tight_left, tight_parked, tight_unchanged}
 
 -- what follows from either outcome
@@ -43,10 +42,7 @@ step_parks now groups ticket o t is parks homes noted h =
     (λ x e. let same : t.group.id ≡ x = cc in let H : List ℕ → Type 0 = λ i. homes ticket.session i ≡ true in subst H same noted)
     (concluded_step now groups (with_group t.group groups) ticket t (effects_in t) refl refl) h
 
--- such requests: JOIN, and SYNC
-pub join_parks : (now : ℕ) (r : JoinRequest) (fresh : List ℕ) (ticket : Ticket) (groups : List Group) (t : Turn) → join now r fresh ticket groups ≡ Ok t → StepParks groups ticket t
-join_parks now r fresh ticket groups t is = step_parks now groups ticket (join now r fresh ticket groups) t is (parks-join now groups ticket r fresh)
-
+-- such a request: SYNC
 pub sync_parks : (now : ℕ) (r : SyncRequest) (ticket : Ticket) (groups : List Group) (t : Turn) → sync now r ticket groups ≡ Ok t → StepParks groups ticket t
 sync_parks now r ticket groups t is = step_parks now groups ticket (sync now r ticket groups) t is (parks-sync now groups ticket r)
 

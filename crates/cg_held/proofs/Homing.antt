@@ -151,16 +151,6 @@ any_at p [] i d lt e = absurd (omega arith)
 any_at p (x ∷ xs) zero d lt e = or_left (p x) (list_any p xs) e
 any_at p (x ∷ xs) (suc i) d lt e = or_right (p x) (list_any p xs) (any_at p xs i d (omega arith) e)
 
--- what was settled for a session stays so while another one is settled
-pub still_settled : (id : List ℕ) (old new : BTreeMap ℕ (BTreeMap (List ℕ) Home)) (session q : ℕ) → IsSettled new session id → ((Some session ≡ Some q → ⊥) → get nat_cmp new q ≡ get nat_cmp old q) → IsSettled old q id → IsSettled new q id
-still_settled id old new session q own apart h =
-    (elim (session == q) as (λ b. (session == q) ≡ b → IsSettled new q id) [
-      | true ↦ λ e. let P : ℕ → Type 0 = λ x. IsSettled new x id in subst P (eqb-true session q e) own
-      | false ↦ λ e.
-          let P : Option (BTreeMap (List ℕ) Home) → Type 0 = λ o. IsSettledIn id o × IsFilled o in
-          subst P (sym (apart (λ same. eqb-false session q e (cc)))) h
-    ]) refl
-
 -- the parked calls of the group are still in the index, if it is loaded
 pub settled_any : (before after : ℕ → List ℕ → Bool) (id : List ℕ) → ((q : ℕ) (x : List ℕ) → (x ≡ id → ⊥) → before q x ≡ true → after q x ≡ true) → (gs : List Group) → InOrder gs
     → ((g : Group) → find_group id gs ≡ Some g → Known (λ q. before q id) g → Known (λ q. after q id) g) → AreKnown before gs → AreKnown after gs

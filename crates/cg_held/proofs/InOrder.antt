@@ -109,17 +109,6 @@ come_before (y ∷ ys) x rest h = (behind y ys h.0, come_before ys x rest h.1)
     behind y [] h = h.0
     behind y (z ∷ zs) h = behind y zs h.1
 
-pub found_at : (front : List Group) (g : Group) (rest : List Group) → InOrder (front ++ g ∷ rest) → find_group g.id (front ++ g ∷ rest) ≡ Some g
-unfolding find_group
-found_at [] g rest h = ap (λ b. cond b (Some g) (find (λ y. is_same y.id g.id) rest)) (same_self g.id)
-found_at (x ∷ xs) g rest h =
-    ap (λ b. cond b (Some x) (find (λ y. is_same y.id g.id) (xs ++ g ∷ rest))) (differs_from_order x.id g.id Less (behind xs h.0) refl)
-    ∙ found_at xs g rest h.1
-  where
-    behind : (ys : List Group) → ComesBefore x.id (group_ids (ys ++ g ∷ rest)) → slice_cmp nat_cmp x.id g.id ≡ Less
-    behind [] h = h.0
-    behind (z ∷ zs) h = behind zs h.1
-
 pub ascending_from_sorted : (xs : List (List ℕ)) → IsStrictlySortedBy (slice_cmp nat_cmp) xs → Ascending xs
 unfolding IsStrictlySortedBy
 ascending_from_sorted [] h = tt

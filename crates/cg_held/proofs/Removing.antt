@@ -60,11 +60,6 @@ not_first : (id : List ℕ) (h : Group) (hs : List Group) → find_group id (h �
 unfolding find_group
 not_first id h hs e = (elim (is_same h.id id) as (λ b. cond b (Some h) (find_group id hs) ≡ None → (b ≡ false) × (find_group id hs ≡ None)) [ true ↦ λ e. cc | false ↦ λ e. (refl, e) ]) e
 
-pub without_absent : (id : List ℕ) (gs : List Group) → find_group id gs ≡ None → without_group id gs ≡ gs
-unfolding without_group
-without_absent id [] e = refl
-without_absent id (h ∷ hs) e = let p = not_first id h hs e in ap (λ b. if b then hs else h ∷ without_group id hs) p.0 ∙ ap (λ r. h ∷ r) (without_absent id hs p.1)
-
 -- inserting a new group and removing it again changes nothing
 pub without_with : (g : Group) (gs : List Group) → find_group g.id gs ≡ None → without_group g.id (with_group g gs) ≡ gs
 unfolding with_group without_group

@@ -197,12 +197,6 @@ pub none_together : AreMembers []
 unfolding are_distinct
 none_together = record { few = omega arith; distinct = (refl, refl) }
 
--- a look-up without an instance finds no member
-pub no_instance_found : (ms : List Member) → is_some (find_instance None ms) ≡ false
-unfolding find_instance
-no_instance_found [] = refl
-no_instance_found (m ∷ ms) = no_instance_found ms
-
 -- every change of the members keeps them lawful
 
 pub after_hearing : (id : List ℕ) (now : ℕ) (ms ns : List Member) → ns ≡ with_member id (heard now) ms → AreMembers ms → AreMembers ns

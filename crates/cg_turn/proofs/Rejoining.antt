@@ -40,10 +40,6 @@ joins_displaced now id (m ∷ ms) =
     ])
     ∙ ap (λ b. displaced (cond b (Some (after_answer Syncs now m)) (find (has_id id) (map (after_answer Syncs now) ms)))) (sym (same_id id now m))
 
-pub any_displaced : (o : Option Member) → refused_call Any o ≡ displaced o
-any_displaced None = refl
-any_displaced (Some m) = refl
-
 -- a JOIN that is parked and an answered SYNC, in either order
 commutes_one : (now : ℕ) (ticket : Ticket) (m : Member) → after_answer Syncs now (waits_with now (Join ticket) m) ≡ waits_with now (Join ticket) (after_answer Syncs now m)
 commutes_one now ticket m =
