@@ -149,8 +149,7 @@ fn unbeaten(counted: &[Candidate]) -> Option<usize>
 }
 
 /// Returns the protocol that wins the vote of the members that stay, or `None` if no member stays or they have no common
-/// protocol.
-/// Linear in the members; counts each candidate once.
+/// protocol. Linear in the members; counts each candidate once.
 #[tactic(auto, unfolding(crate::specs::Vote::elected))]
 pub fn elected(
     alloc: Global,
