@@ -18,7 +18,7 @@ use cg_member::group::Group;
 use cg_member::reply::Reply;
 use cg_names::{Code, GroupId, MemberId, Moment};
 use cg_record::Committed;
-use cg_request::commits::Commits;
+use cg_request::commits::{Commits, into_entries};
 use cg_request::request::BeatRequest;
 use cg_request::ticket::Ticket;
 use cg_turn::committing::kept;
@@ -109,7 +109,7 @@ pub fn commit_in(
     ensures err { OnErr result ((held.new ≡ held.old) × (offsets.new ≡ offsets.old)) }
     ensures taken { OnErr result ((g : Group) → is_ok (commit_by context.now (option_copied who.entry) entries context.ticket g) ≡ true) }
 {
-    let Some(entries) = entries.into_entries(context.alloc)? else {
+    let Some(entries) = into_entries(context.alloc, entries)? else {
         let refused = Reply::Refused(Code::OffsetMetadataTooLarge);
         return Ok(reply_alone(context.alloc, context.ticket, refused));
     };

@@ -25,7 +25,7 @@ use cg_member::few::Few;
 use cg_member::reply::Reply;
 use cg_names::{Code, GroupId, Moment};
 use cg_record::{Command, Committed, Deleted, Entries};
-use cg_request::commits::Commits;
+use cg_request::commits::{Commits, into_entries};
 use cg_request::event::Event;
 use cg_request::request::CommitRequest;
 use cg_request::ticket::Ticket;
@@ -100,7 +100,7 @@ fn commit_apart(
     if let Some(code) = new_group_commit_refusal(generation, &entries, held.len()) {
         return Ok(reply_alone(context.alloc, context.ticket, Reply::Refused(code)));
     }
-    let Some(entries) = entries.into_entries(context.alloc)? else {
+    let Some(entries) = into_entries(context.alloc, entries)? else {
         unreachable!()
     };
     let effects = commit_new(context, held, offsets, id, entries)?;

@@ -22,6 +22,7 @@ use Rattle.cg_line.specs.Parsing.{are_protocols, are_sync_entries, given_to, is_
 use Rattle.cg_line.specs.Requests.{IsOpaque, IsProtocol, IsSyncEntry, protocol_word, sync_entry_word}
 use Rattle.cg_line.specs.Splitting.{joined}
 use Rattle.cg_line.specs.Words.{bytes_word}
+use Rattle.cg_line.proofs.Apart.{own_names}
 use Rattle.cg_line.proofs.Digits.{opaque_parts}
 use Rattle.cg_line.proofs.Hexed.{bytes_in-bytes_word, bytes_spelled, is_bytes-bytes_word}
 use Rattle.cg_line.proofs.Joined.{IsFree, before-joined, behind-joined, joined-cut, free_append}
@@ -168,7 +169,7 @@ protocols_lawful ws are =
     let len = length-map ws protocol_in in
     let some = words.some in
     let few = words.few in
-    record { some = omega (arith, len); few = omega (arith, len); distinct = ap are_distinct (protocol_names ws) ∙ words.distinct }
+    record { some = omega (arith, len); few = omega (arith, len); distinct = (own_names (λ p. p.name) (map protocol_in ws)).0 (ap are_distinct (protocol_names ws) ∙ words.distinct) }
 
 pub are_protocols-words : (ps : List Protocol) → AreProtocols ps → AllByRecursion IsProtocol ps → are_protocols (map protocol_word ps) ≡ true
 unfolding are_protocols
@@ -179,7 +180,7 @@ are_protocols-words ps are each =
       le-leb (length ps) PROTOCOLS_MAX are.few,
       pass_all IsProtocol is_protocol protocol_word is_protocol-word ps each,
       seen_all IsProtocol key_of protocol_word (λ p. p.name) key_of-protocol ps each,
-    ) are.distinct
+    ) ((own_names (λ p. p.name) ps).1 are.distinct)
 
 pub record AreSyncWords (ws : List (List ℕ)) : Type 0 where
   pub few : length ws ≤ MEMBERS_MAX
@@ -202,7 +203,7 @@ sync_entries_lawful ws are =
     let words = sync_words_parts ws are in
     let len = length-map ws sync_entry_in in
     let few = words.few in
-    record { few = omega (arith, len); distinct = ap are_distinct (sync_members ws) ∙ words.distinct }
+    record { few = omega (arith, len); some = omega arith; distinct = (own_names (λ e. e.member) (map sync_entry_in ws)).0 (ap are_distinct (sync_members ws) ∙ words.distinct) }
 
 pub are_sync_entries-words : (es : List SyncEntry) → AreSyncEntries es → AllByRecursion IsSyncEntry es → are_sync_entries (map sync_entry_word es) ≡ true
 unfolding are_sync_entries
@@ -212,4 +213,4 @@ are_sync_entries-words es are each =
       le-leb (length es) MEMBERS_MAX are.few,
       pass_all IsSyncEntry is_sync_entry sync_entry_word is_sync_entry-word es each,
       seen_all IsSyncEntry key_of sync_entry_word (λ e. e.member) key_of-sync_entry es each,
-    ) are.distinct
+    ) ((own_names (λ e. e.member) es).1 are.distinct)

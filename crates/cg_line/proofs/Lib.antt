@@ -1,4 +1,5 @@
 pub mod Answered
+pub mod Apart
 pub mod Complete
 pub mod Cutting
 pub mod Decimals

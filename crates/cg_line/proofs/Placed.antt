@@ -1,7 +1,7 @@
 -- topic:partition:offset:bytes and topic:partition, parsed and spelled.
 use Rattle.std.proofs.Common.{◌≡◌, ℕ, ◌^◌, ◌<◌, ◌≤◌, Bool, true, false, List, [], ◌∷◌, ◌++◌, length, map, refl, ap, sym, subst, ◌∙◌, arith, eqb}
 use Rattle.std.specs.Prelude.{◌&&◌, nat_le}
-use Rattle.std.specs.List.{list_all, list_any, AllByRecursion}
+use Rattle.std.specs.List.{list_all, AllByRecursion, IsDistinct}
 use Rattle.std.specs.Fmt.{decimal}
 use Rattle.std.specs.Str.{bytes_eq}
 use Rattle.std.proofs.lemmas.Bool.{eqb-true, leb-true, le-leb}
@@ -15,15 +15,14 @@ use Rattle.cg_record.specs.declared.partition.TheConstants.{PARTITION_MAX}
 use Rattle.cg_request.specs.declared.commit_entry.CommitEntry.{CommitEntry}
 use Rattle.cg_request.specs.declared.topic_partition.TopicPartition.{TopicPartition}
 use Rattle.cg_request.specs.Commits.{AreCommits, share_partition}
-use Rattle.cg_request.specs.Commits as commits
 use Rattle.cg_request.specs.Partitions.{ArePartitions, are_one}
-use Rattle.cg_request.specs.Partitions as partitions
 use Rattle.cg_line.specs.Fields.{bytes_in, is_bytes, is_name}
 use Rattle.cg_line.specs.Numbers.{is_digit, is_number, value_of}
 use Rattle.cg_line.specs.Parsing.{are_commits, are_partitions, commit_in, have_own_places, is_commit, is_partition, is_place, metadata_field, offset_field, partition_field, partition_in, share_place, topic_field}
 use Rattle.cg_line.specs.Requests.{IsCommitEntry, IsTopicPartition, commit_word, partition_word}
 use Rattle.cg_line.specs.Splitting.{before, behind, joined}
 use Rattle.cg_line.specs.Words.{bytes_word}
+use Rattle.cg_line.proofs.Apart.{own_places}
 use Rattle.cg_line.proofs.Decimals.{decimal-value_of, digits_of_number, is_number-decimal, value_of-decimal, value_of-le}
 use Rattle.cg_line.proofs.Generations.{decimal_free}
 use Rattle.cg_line.proofs.Hexed.{bytes_in-bytes_word, bytes_spelled, is_bytes-bytes_word}
@@ -172,15 +171,6 @@ commit_free e is =
     free_append 32 e.topic (58 ∷ (decimal e.partition ++ 58 ∷ (decimal e.offset ++ 58 ∷ bytes_word e.metadata))) (name_free 32 NAME_BYTES_MAX e.topic refl is.topic)
     (free_mark 58 (decimal e.partition ++ 58 ∷ (decimal e.offset ++ 58 ∷ bytes_word e.metadata)) refl more)
 
--- two words have the same partition only if their values have
-apart_any : {A : Type 0} (share : A → A → Bool) (p : List ℕ → Bool) (read : List ℕ → A)
-    → ((a b : List ℕ) → p a ≡ true → p b ≡ true → share_place a b ≡ share (read a) (read b))
-    → (w : List ℕ) (ws : List (List ℕ)) → p w ≡ true → list_all p ws ≡ true → list_any (share_place w) ws ≡ list_any (share (read w)) (map read ws)
-apart_any share p read agree w [] is all = refl
-apart_any share p read agree w (v ∷ vs) is all =
-    let parts = both_of (p v) (list_all p vs) all in
-    rw (agree w v is parts.0, apart_any share p read agree w vs is parts.1) refl
-
 share_agree : (a b : List ℕ) → is_commit a ≡ true → is_commit b ≡ true → share_place a b ≡ share_partition (commit_in a) (commit_in b)
 unfolding share_place commit_in
 share_agree a b is_a is_b =
@@ -188,13 +178,6 @@ share_agree a b is_a is_b =
     let right = commit_parts b is_b in
     and_comm (bytes_eq (topic_field a) (topic_field b)) (bytes_eq (partition_field a) (partition_field b))
     ∙ ap (λ t. t && bytes_eq (topic_field a) (topic_field b)) (same_number PARTITION_MAX (partition_field a) (partition_field b) (partition_small PARTITION_MAX (omega arith)) left.partition right.partition)
-
-commits_apart : (ws : List (List ℕ)) → list_all is_commit ws ≡ true → have_own_places ws ≡ commits.are_apart (map commit_in ws)
-unfolding have_own_places commits.are_apart
-commits_apart [] all = refl
-commits_apart (w ∷ ws) all =
-    let parts = both_of (is_commit w) (list_all is_commit ws) all in
-    rw (apart_any share_partition is_commit commit_in share_agree w ws parts.0 parts.1, commits_apart ws parts.1) refl
 
 pub record AreCommitWords (ws : List (List ℕ)) : Type 0 where
   pub some : 1 ≤ length ws
@@ -216,14 +199,16 @@ commits_lawful ws are =
     let len = length-map ws commit_in in
     let some = words.some in
     let few = words.few in
-    record { some = omega (arith, len); few = omega (arith, len); apart = sym (commits_apart ws words.each) ∙ words.apart }
+    let own = own_places share_partition is_commit commit_in share_agree ws words.each in
+    record { some = omega (arith, len); few = omega (arith, len); distinct = own.0 words.apart }
 
 pub are_commits-words : (es : List CommitEntry) → AreCommits es → AllByRecursion IsCommitEntry es → are_commits (map commit_word es) ≡ true
 unfolding are_commits
 are_commits-words es are each =
     let pass = pass_all IsCommitEntry is_commit commit_word is_commit-word es each in
     let back = read_all IsCommitEntry commit_in commit_word commit_in-word es each in
-    let apart = commits_apart (map commit_word es) pass ∙ (ap commits.are_apart back ∙ are.apart) in
+    let own = own_places share_partition is_commit commit_in share_agree (map commit_word es) pass in
+    let apart = own.1 (subst (λ (read : List CommitEntry). IsDistinct share_partition read) (sym back) are.distinct) in
     rw (length-map es commit_word, le-leb 1 (length es) are.some, le-leb (length es) ENTRIES_MAX are.few, pass) apart
 
 -- partitions
@@ -289,13 +274,6 @@ one_agree a b is_a is_b =
     ∙ (ap (λ x. bytes_eq (behind 58 a) x && bytes_eq (topic_field a) (topic_field b)) (plain_field b is_b)
     ∙ ap (λ t. t && bytes_eq (topic_field a) (topic_field b)) (same_number PARTITION_MAX (behind 58 a) (behind 58 b) (partition_small PARTITION_MAX (omega arith)) left.partition right.partition)))
 
-partitions_apart : (ws : List (List ℕ)) → list_all is_partition ws ≡ true → have_own_places ws ≡ partitions.are_apart (map partition_in ws)
-unfolding have_own_places partitions.are_apart
-partitions_apart [] all = refl
-partitions_apart (w ∷ ws) all =
-    let parts = both_of (is_partition w) (list_all is_partition ws) all in
-    rw (apart_any are_one is_partition partition_in one_agree w ws parts.0 parts.1, partitions_apart ws parts.1) refl
-
 pub record ArePartitionWords (ws : List (List ℕ)) : Type 0 where
   pub some : 1 ≤ length ws
   pub few : length ws ≤ ENTRIES_MAX
@@ -316,12 +294,14 @@ partitions_lawful ws are =
     let len = length-map ws partition_in in
     let some = words.some in
     let few = words.few in
-    record { some = omega (arith, len); few = omega (arith, len); apart = sym (partitions_apart ws words.each) ∙ words.apart }
+    let own = own_places are_one is_partition partition_in one_agree ws words.each in
+    record { some = omega (arith, len); few = omega (arith, len); distinct = own.0 words.apart }
 
 pub are_partitions-words : (ps : List TopicPartition) → ArePartitions ps → AllByRecursion IsTopicPartition ps → are_partitions (map partition_word ps) ≡ true
 unfolding are_partitions
 are_partitions-words ps are each =
     let pass = pass_all IsTopicPartition is_partition partition_word is_partition-word ps each in
     let back = read_all IsTopicPartition partition_in partition_word partition_in-word ps each in
-    let apart = partitions_apart (map partition_word ps) pass ∙ (ap partitions.are_apart back ∙ are.apart) in
+    let own = own_places are_one is_partition partition_in one_agree (map partition_word ps) pass in
+    let apart = own.1 (subst (λ (read : List TopicPartition). IsDistinct are_one read) (sym back) are.distinct) in
     rw (length-map ps partition_word, le-leb 1 (length ps) are.some, le-leb (length ps) ENTRIES_MAX are.few, pass) apart

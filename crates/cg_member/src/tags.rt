@@ -24,7 +24,11 @@ pub(crate) fn tag_of(id: &MemberId) -> u32
 pub(crate) fn tagged(alloc: Global, members: &[Member]) -> Result<Vec<u32>, AllocError>
     ensures { IfOk result (λ tags. tags.items ≡ tags_of members.now) }
 {
-    members.iter().map(|m| tag_of(&m.id)).collect(alloc)
+    let mut tags = Vec::with_capacity(alloc, members.len())?;
+    for member in members {
+        tags.push(tag_of(&member.id))?;
+    }
+    Ok(tags)
 }
 
 // Overwrites the tags by those of the members' ids.

@@ -15,7 +15,7 @@ all_fail p [] e = tt
 all_fail p (x ∷ xs) e = let h = both_false (p x) (list_any p xs) e in (h.0, all_fail p xs h.1)
 
 -- if each element fails the test, none passes it
-none_passes : {X : Type 0} (p : X → Bool) (xs : List X) → AllByRecursion (λ x. p x ≡ false) xs → list_any p xs ≡ false
+pub none_passes : {X : Type 0} (p : X → Bool) (xs : List X) → AllByRecursion (λ x. p x ≡ false) xs → list_any p xs ≡ false
 none_passes p [] h = refl
 none_passes p (x ∷ xs) h = rw (h.0, none_passes p xs h.1) refl
 

@@ -1,9 +1,10 @@
 -- Which entries a commit can have.
-use Rattle.std.specs.Prelude.{ℕ, ◌≤◌, Bool, ◌&&◌, ◌==◌, List, length}
+use Rattle.std.specs.Prelude.{ℕ, Bool, ◌&&◌, ◌==◌, List}
 use Rattle.std.specs.List.{IsDistinct}
 use Rattle.std.specs.Str.{bytes_eq}
 use Rattle.cg_record.specs.declared.entries.TheConstants.{ENTRIES_MAX}
 use Rattle.cg_record.specs.declared.entry.Entry.{Entry}
+use Rattle.cg_record.specs.Distinct.{AreDistinct}
 
 -- the entry is for this partition of this topic
 abbrev pub is_of : List ℕ → ℕ → Entry → Bool
@@ -18,7 +19,5 @@ abbrev pub HasDistinctKeys : List Entry → Type 0
 HasDistinctKeys entries = IsDistinct have_one_key entries
 
 -- the entries of one commit
-pub record AreEntries (entries : List Entry) : Type 0 where
-  pub some : 1 ≤ length entries
-  pub few : length entries ≤ ENTRIES_MAX
-  pub distinct : HasDistinctKeys entries
+abbrev pub AreEntries : List Entry → Type 0
+AreEntries entries = AreDistinct have_one_key 1 ENTRIES_MAX entries

@@ -1,5 +1,6 @@
 pub mod Texts
 pub mod Fields
+pub mod Distinct
 pub mod Keys
 pub mod Rosters
 pub mod Members

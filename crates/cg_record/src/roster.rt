@@ -1,8 +1,9 @@
 //! The members of a stable group.
 ghost use Rattle.std.specs.Prelude.{◌≡◌, ◌<◌, ◌↔◌, false, length, slice_set, position, if◌then◌else◌, IsTrue, IfOk, MatchOption, MatchResult};
 ghost use Rattle.std.specs.List.{list_any};
-ghost use Rattle.cg_record.specs.Rosters.{AreApart, AreMembers, IsPlace, IsRoster, roster_of, has_id_of_other, have_one_name, is_led_by, may_replace, replaced_in, takes_place_of};
+ghost use Rattle.cg_record.specs.Rosters.{AreMembers, IsPlace, IsRoster, roster_of, has_id_of_other, is_led_by, may_replace, replaced_in, takes_place_of};
 
+use crate::distinct::{Keyed, are_distinct};
 use crate::member::Member;
 use cg_names::{MemberId, ProtocolName};
 use std::alloc::{AllocError, Global};
@@ -31,19 +32,13 @@ impl Model for Roster {
     ghost invariant = { λ r. IsRoster (roster_of r.protocol r.leader r.members.items) };
 }
 
-fn is_among(member: &Member, others: &[Member]) -> bool
-    ensures { result ≡ list_any (have_one_name member.now) others.now }
-{
-    others.iter().any(|other| member.has_name_of(other))
-}
+impl Keyed for Member {
+    ghost use Rattle.cg_record.specs.Rosters.{have_one_name};
 
-// Quadratic in the number of members, which is at most 64.
-fn are_apart(members: &[Member]) -> bool
-    ensures { IsTrue result ↔ AreApart members.now }
-{
-    match members {
-        [] => true,
-        [first, others @ ..] => !is_among(first, others) && are_apart(others),
+    ghost shares = { have_one_name };
+
+    fn shares_key(&self, other: &Self) -> bool {
+        self.has_name_of(other)
     }
 }
 
@@ -57,7 +52,7 @@ pub fn is_led_by(leader: &[u8], members: &[Member]) -> bool
 fn are_members(members: &[Member]) -> bool
     ensures { IsTrue result ↔ AreMembers members.now }
 {
-    !members.is_empty() && members.len() <= MEMBERS_MAX && are_apart(members)
+    !members.is_empty() && members.len() <= MEMBERS_MAX && are_distinct(members)
 }
 
 // Returns whether a member that the new one does not replace has its id.

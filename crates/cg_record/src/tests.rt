@@ -46,7 +46,7 @@ const COMMANDS: [(&[u8], &str, u64); 7] = [
     ),
     (
         COMMITTED,
-        "[Committed(Committed { group: g, entries: Entries { items: [Entry { topic: t, partition: Partition { number: 0 }, offset: Offset { number: 42 }, metadata: Metadata { bytes: [] } }] } })]",
+        "[Committed(Committed { group: g, entries: Distinct { items: [Entry { topic: t, partition: Partition { number: 0 }, offset: Offset { number: 42 }, metadata: Metadata { bytes: [] } }] } })]",
         22,
     ),
     (DELETED, "[Deleted(Deleted { group: g })]", 3),

@@ -1,2 +1,2 @@
+mod Alone
 pub mod KeptEntries
-pub mod Offered

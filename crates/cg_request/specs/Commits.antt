@@ -1,9 +1,10 @@
 -- Which entries a COMMIT can have, and what a command keeps of them.
-use Rattle.std.specs.Prelude.{◌≡◌, ◌≤◌, ℕ, ◌+◌, Bool, true, not, ◌&&◌, ◌||◌, nat_lt, List, [], ◌∷◌, length}
+use Rattle.std.specs.Prelude.{ℕ, ◌+◌, Bool, ◌||◌, nat_lt, List, [], ◌∷◌, length}
 use Rattle.std.specs.List.{list_any}
 use Rattle.cg_record.specs.declared.entries.TheConstants.{ENTRIES_MAX}
 use Rattle.cg_record.specs.declared.entry.Entry.{Entry}
 use Rattle.cg_record.specs.declared.metadata.TheConstants.{METADATA_BYTES_MAX}
+use Rattle.cg_record.specs.Distinct.{AreDistinct}
 use Rattle.cg_record.specs.Keys.{have_one_key}
 use Rattle.cg_request.specs.declared.commit_entry.CommitEntry.{CommitEntry}
 use Rattle.cg_request.specs.declared.commits.TheConstants.{COMMIT_METADATA_BYTES_MAX}
@@ -16,16 +17,9 @@ kept_entry e = record { topic = e.topic; partition = e.partition; offset = e.off
 abbrev pub share_partition : CommitEntry → CommitEntry → Bool
 share_partition a b = have_one_key (kept_entry a) (kept_entry b)
 
--- no two entries are for one partition
-unfoldable pub are_apart : List CommitEntry → Bool
-are_apart [] = true
-are_apart (e ∷ es) = not (list_any (share_partition e) es) && are_apart es
-
 -- the entries of one COMMIT
-pub record AreCommits (entries : List CommitEntry) : Type 0 where
-  pub some : 1 ≤ length entries
-  pub few : length entries ≤ ENTRIES_MAX
-  pub apart : are_apart entries ≡ true
+abbrev pub AreCommits : List CommitEntry → Type 0
+AreCommits entries = AreDistinct share_partition 1 ENTRIES_MAX entries
 
 -- the metadata of the entry is longer than a command keeps
 abbrev pub is_long : CommitEntry → Bool

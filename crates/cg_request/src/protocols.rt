@@ -1,11 +1,9 @@
-//! The protocol list of a JOIN, checked for number and duplicate names.
-ghost use Rattle.std.specs.Prelude.{◌≡◌, ◌↔◌, [], ◌∷◌, map, true, IsTrue, IfOk, MatchOption};
-ghost use Rattle.std.specs.List.{list_any};
+//! The protocol list of a JOIN.
+ghost use Rattle.std.specs.Prelude.{◌≡◌, [], ◌∷◌, IfOk, MatchOption, OnErr};
 ghost use Rattle.cg_request.specs.Offers.{AreProtocols};
-ghost use Rattle.cg_request.specs.Names.{are_distinct, is_same};
 
 use crate::protocol::{PROTOCOLS_MAX, Protocol};
-use cg_names::ProtocolName;
+use cg_record::{Distinct, Keyed};
 use std::alloc::{AllocError, Global};
 use std::marker::Model;
 use std::sync::Arc;
@@ -14,72 +12,51 @@ use std::sync::Arc;
 /// see the list. A clone shares the list and does not copy it.
 #[derive(Debug, Drop)]
 pub struct Protocols {
-    items: Arc<Vec<Protocol>>,
+    items: Arc<Distinct<Protocol, 1, PROTOCOLS_MAX>>,
 }
 
 impl Model for Protocols {
     ghost use Rattle.std.specs.Prelude.{List};
-    ghost use Rattle.cg_request.specs.Offers.{AreProtocols};
     ghost use Rattle.cg_request.specs.declared.protocol.Protocol.{Protocol};
 
     ghost Value = { List Protocol };
 
-    ghost view = { λ p. p.items.value.items };
-
-    ghost invariant = { λ p. AreProtocols p.items.value.items };
+    ghost view = { λ p. p.items.value };
 }
 
-fn is_offered(name: &ProtocolName, protocols: &[Protocol]) -> bool
-    ensures { result ≡ list_any (λ p. is_same name.now p.name) protocols.now }
-{
-    protocols.iter().any(|p| *name == p.name)
-}
+impl Keyed for Protocol {
+    ghost use Rattle.cg_request.specs.Offers.{share_name};
 
-// The same search over a list of names, as the definition has it.
-fn is_named_among(name: &ProtocolName, others: &[Protocol]) -> bool
-    ensures { result ≡ list_any (is_same name.now) (map (λ p. p.name) others.now) }
-{
-    is_offered(name, others)
-}
+    ghost shares = { share_name };
 
-// Quadratic in the number of protocols, which is at most 4.
-#[tactic(auto, unfolding(crate::specs::Names::are_distinct))]
-fn have_own_names(protocols: &[Protocol]) -> bool
-    ensures { result ≡ are_distinct (map (λ p. p.name) protocols.now) }
-{
-    match protocols {
-        [] => true,
-        [first, others @ ..] => !is_named_among(&first.name, others) && have_own_names(others),
+    fn shares_key(&self, other: &Self) -> bool {
+        self.name == other.name
     }
 }
 
-fn are_protocols(protocols: &[Protocol]) -> bool
-    ensures { IsTrue result ↔ AreProtocols protocols.now }
-{
-    !protocols.is_empty() && protocols.len() <= PROTOCOLS_MAX && have_own_names(protocols)
-}
-
 impl Protocols {
-    /// Wraps the protocols, without a copy. Returns `None` if the vector is empty, too long or repeats a name.
+    /// Wraps the protocols, without a copy. Returns `None` if the vector is empty, too long or repeats a name; only others
+    /// need an allocation.
     pub fn from_vec(alloc: Global, items: Vec<Protocol>) -> Result<Option<Self>, AllocError>
-        ensures { IfOk result (λ made. MatchOption made (¬ AreProtocols items.items)
+        ensures ok { IfOk result (λ made. MatchOption made (¬ AreProtocols items.items)
             (λ protocols. AreProtocols items.items × (protocols ≡ items.items))) }
+        ensures err { OnErr result (AreProtocols items.items) }
     {
-        if !are_protocols(items.as_slice()) {
+        let Ok(protocols) = Distinct::from_vec(items) else {
             return Ok(None);
-        }
-        let items = Arc::new(alloc, items)?;
+        };
+        let items = Arc::new(alloc, protocols)?;
         Ok(Some(Protocols { items }))
     }
 
     /// Creates a list of one protocol.
-    #[tactic(auto, unfolding(crate::specs::Names::are_distinct))]
+    #[tactic(auto, using(crate::proofs::Alone::alone))]
     pub fn only(alloc: Global, protocol: Protocol) -> Result<Self, AllocError>
         ensures { IfOk result (λ protocols. protocols ≡ protocol ∷ []) }
     {
         let mut items = Vec::with_capacity(alloc, 1)?;
         items.push(protocol)?;
-        let items = Arc::new(alloc, items)?;
+        let items = Arc::new(alloc, Distinct::from_lawful(items))?;
         Ok(Protocols { items })
     }
 

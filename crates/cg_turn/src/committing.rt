@@ -13,7 +13,7 @@ use cg_member::group::{Group, Phase};
 use cg_member::reply::Reply;
 use cg_names::{Code, InstanceId, MemberId};
 use cg_record::{Command, Committed};
-use cg_request::commits::Commits;
+use cg_request::commits::{Commits, is_too_large};
 use cg_request::ticket::Ticket;
 use std::alloc::Global;
 
@@ -85,7 +85,7 @@ pub fn new_group_commit_refusal(generation: i32, entries: &Commits, loaded: usiz
     if generation >= 0 {
         return Some(Code::IllegalGeneration);
     }
-    if entries.is_too_large() {
+    if is_too_large(entries) {
         return Some(Code::OffsetMetadataTooLarge);
     }
     if GROUPS_MAX <= loaded {

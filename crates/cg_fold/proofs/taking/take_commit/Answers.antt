@@ -8,8 +8,10 @@ use Rattle.cg_fold.proofs.taking.take_commit.Goals as goal
 
 pub from_lawful-requires : goal.from_lawful-requires
 from_lawful-requires c =
-    let rows = c.args.rows.now.items in
-    are_entries (take ENTRIES_MAX rows) c.in_ok-entries.entries.items
-    (omega (arith, length-take ENTRIES_MAX rows, c.requires.some)) (omega (arith, length-take ENTRIES_MAX rows))
-    (is_true _ (sorted-take ENTRIES_MAX rows (tested c.requires.sorted)))
-    (c.in_ok-entries.ensures.entries ∙ ap (each entry_of) c.first_len-len.ensures.first)
+    let rows = c.args.rows.now.items in (
+      omega arith,
+      are_entries (take ENTRIES_MAX rows) c.in_ok-entries.entries.items
+          (omega (arith, length-take ENTRIES_MAX rows, c.requires.some)) (omega (arith, length-take ENTRIES_MAX rows))
+          (is_true _ (sorted-take ENTRIES_MAX rows (tested c.requires.sorted)))
+          (c.in_ok-entries.ensures.entries ∙ ap (each entry_of) c.first_len-len.ensures.first),
+    )
