@@ -24,7 +24,7 @@ use Rattle.cg_desk.specs.Held.{calls_of}
 use Rattle.cg_desk.specs.Owed.{weight_calls}
 use Rattle.cg_desk.specs.Turns.{own, told_of, total, waits_of}
 
-calls-append : (rs qs : List (Ticket × Reply)) → calls_of (rs ++ qs) ≡ calls_of rs ++ calls_of qs
+pub calls-append : (rs qs : List (Ticket × Reply)) → calls_of (rs ++ qs) ≡ calls_of rs ++ calls_of qs
 calls-append [] qs = refl
 calls-append (r ∷ rs) qs = ap (λ l. r.0 ∷ l) (calls-append rs qs)
 

@@ -2,6 +2,7 @@
 use Rattle.std.proofs.Common.{◌≡◌, ℕ, ◌+◌, Bool, true, false, not, cond, List, [], ◌∷◌, find, is_some, refl, sym, ap, ◌∙◌, arith, Result, Ok, Err, ok_or}
 use Rattle.std.specs.Prelude.{Option, Some, None, max}
 use Rattle.std.specs.List.{list_any}
+use Rattle.std.proofs.lemmas.Bool.{or_parts, and_parts, not-true}
 use Rattle.cg_names.specs.declared.code.Code.{Code}
 use Rattle.cg_names.specs.declared.code.Code.TheVariants.{FencedInstanceId, GroupIdNotFound, InvalidGroupId, NonEmptyGroup, UnknownMemberId}
 use Rattle.cg_request.specs.declared.asking.Request.{Request}
@@ -38,7 +39,7 @@ use Rattle.cg_desk.specs.Turns.{told_of, waits_of}
 use Rattle.cg_desk.specs.declared.token.ReplyToken.{ReplyToken}
 use Rattle.cg_desk.proofs.CalledEverywhere.{groups-waiting, in_groups}
 use Rattle.cg_desk.proofs.CalledGroups.{Takes, removed-kept, takes-held, takes-made}
-use Rattle.cg_desk.proofs.CalledRequests.{and-true, beat-kept, commit-kept, known-kept, leave-kept, new-kept, not-true, or-false, sync-kept}
+use Rattle.cg_desk.proofs.CalledRequests.{beat-kept, commit-kept, known-kept, leave-kept, new-kept, sync-kept}
 use Rattle.cg_desk.proofs.CalledTurns.{replacing-kept}
 
 -- the member that leaves is the only one with its id
@@ -46,7 +47,7 @@ use Rattle.cg_desk.proofs.CalledTurns.{replacing-kept}
 absent : (p : Member → Bool) (id : List ℕ) (ms : List Member) (m : Member) → list_any (is_same id) (ids ms) ≡ false → find p ms ≡ Some m → is_same id m.id ≡ false
 absent p id [] m none found = cc
 absent p id (x ∷ xs) m none found =
-    let parts = or-false (is_same id x.id) (list_any (is_same id) (ids xs)) none in
+    let parts = or_parts (is_same id x.id) (list_any (is_same id) (ids xs)) none in
     (elim (p x) as (λ b. cond b (Some x) (find p xs) ≡ Some m → is_same id m.id ≡ false) [
       | true ↦ λ found. let own : x ≡ m = cc in ap (λ (y : Member). is_same id y.id) (sym own) ∙ parts.0
       | false ↦ λ found. absent p id xs m parts.1 found
@@ -56,7 +57,7 @@ by-id : (p : Member → Bool) (ms : List Member) (m : Member) → are_distinct (
 unfolding are_distinct find_member
 by-id p [] m distinct found = cc
 by-id p (x ∷ xs) m distinct found =
-    let parts = and-true (not (list_any (is_same x.id) (ids xs))) (are_distinct (ids xs)) distinct in
+    let parts = and_parts (not (list_any (is_same x.id) (ids xs))) (are_distinct (ids xs)) distinct in
     (elim (p x) as (λ b. cond b (Some x) (find p xs) ≡ Some m → cond (is_same x.id m.id) (Some x) (find (has_id m.id) xs) ≡ Some m) [
       | true ↦ λ found.
           let own : x ≡ m = cc in

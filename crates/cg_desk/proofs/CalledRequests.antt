@@ -1,10 +1,11 @@
 -- Requests of members over a new request, which is answered or parked.
 use Rattle.std.proofs.Common.{◌≡◌, ℕ, ◌+◌, Bool, true, false, not, List, [], ◌∷◌, ◌++◌, map, refl, sym, ap, ◌∙◌, arith}
-use Rattle.std.specs.Prelude.{Option, Some, None, is_some, filter, option_map, option_to_list, if◌then◌else◌, ◌&&◌, ◌||◌}
+use Rattle.std.specs.Prelude.{Option, Some, None, is_some, filter, option_map, option_to_list, if◌then◌else◌}
 use Rattle.std.specs.List.{list_any}
 use Rattle.std.proofs.lemmas.Slice.Eq.{bytes_eq-Decides}
 use Rattle.std.proofs.lemmas.Cmp.{nat_list_eq_equiv}
 use Rattle.std.proofs.lemmas.List.Sums.{sum_by-append, sum_by-cons}
+use Rattle.std.proofs.lemmas.Bool.{or_parts, and_parts, not-true}
 use Rattle.cg_names.specs.declared.code.Code.TheVariants.{RebalanceInProgress, UnknownMemberId}
 use Rattle.cg_member.specs.declared.calls.Calls.TheVariants.{Any, Syncs}
 use Rattle.cg_member.specs.declared.group.Group.{Group}
@@ -242,25 +243,13 @@ others-at false weight id m ms kept is other rest =
     let all = sum_by-cons (own weight) m ms in
     omega arith
 
-pub or-false : (a b : Bool) → (a || b) ≡ false → (a ≡ false) × (b ≡ false)
-or-false true b is = absurd (cc)
-or-false false b is = (refl, is)
-
 -- if no member has the id, all stay
 pub others-kept : (weight : Ticket → ℕ) (id : List ℕ) (ms : List Member) → list_any (is_same id) (ids ms) ≡ false → waits_of weight (filter (λ other. not (has_id id other)) ms) ≡ waits_of weight ms
 others-kept weight id [] none = refl
 others-kept weight id (m ∷ ms) none =
-    let parts = or-false (is_same id m.id) (list_any (is_same id) (ids ms)) none in
+    let parts = or_parts (is_same id m.id) (list_any (is_same id) (ids ms)) none in
     let other : has_id id m ≡ false = nat_list_eq_equiv.symm m.id id ∙ parts.0 in
     others-at (has_id id m) weight id m ms (filter (λ other. not (has_id id other)) ms) refl other (others-kept weight id ms parts.1)
-
-pub and-true : (a b : Bool) → (a && b) ≡ true → (a ≡ true) × (b ≡ true)
-and-true true b is = (refl, is)
-and-true false b is = absurd (cc)
-
-pub not-true : (a : Bool) → not a ≡ true → a ≡ false
-not-true true is = absurd (cc)
-not-true false is = refl
 
 gone-at : (b : Bool) (weight : Ticket → ℕ) (id : List ℕ) (m x : Member) (ms kept : List Member) (found : Option Member) → has_id id x ≡ b → (if b then Some x else found) ≡ Some m
     → (b ≡ true → waits_of weight kept ≡ waits_of weight ms) → (found ≡ Some m → waits_of weight kept + own weight m ≡ waits_of weight ms)
@@ -281,7 +270,7 @@ pub gone-member : (weight : Ticket → ℕ) (id : List ℕ) (m : Member) (ms : L
 unfolding find_member are_distinct
 gone-member weight id m [] distinct found = absurd (cc)
 gone-member weight id m (x ∷ ms) distinct found =
-    let parts = and-true (not (list_any (is_same x.id) (ids ms))) (are_distinct (ids ms)) distinct in
+    let parts = and_parts (not (list_any (is_same x.id) (ids ms))) (are_distinct (ids ms)) distinct in
     let none = not-true (list_any (is_same x.id) (ids ms)) parts.0 in
     gone-at (has_id id x) weight id m x ms (filter (λ other. not (has_id id other)) ms) (find_member id ms) refl found
     (λ is. others-kept weight id ms (ap (λ y. list_any (is_same y) (ids ms)) (sym ((bytes_eq-Decides x.id id).0 is)) ∙ none))

@@ -5,6 +5,7 @@ use Rattle.std.specs.List.{list_any}
 use Rattle.std.proofs.lemmas.Slice.Eq.{bytes_eq-Decides}
 use Rattle.std.proofs.lemmas.Cmp.{nat_list_eq_equiv}
 use Rattle.std.proofs.lemmas.List.Sums.{sum_by-cons}
+use Rattle.std.proofs.lemmas.Bool.{or_parts, and_parts, not-true}
 use Rattle.cg_names.specs.declared.code.Code.TheVariants.{FencedInstanceId}
 use Rattle.cg_record.specs.declared.member.Member.{Member as KeptMember}
 use Rattle.cg_member.specs.declared.calls.Calls.TheVariants.{Any}
@@ -20,10 +21,11 @@ use Rattle.cg_request.specs.Names.{are_distinct}
 use Rattle.cg_member.specs.Replacing.{join_replacing, keeps_generation, replaced, replaced_in_place, replaced_reply, replacing, seating, successor}
 use Rattle.cg_member.specs.Syncing.{kept_member}
 use Rattle.cg_member.specs.Waiting.{called, refusing}
+use Rattle.cg_member.proofs.Seats.{rest_distinct}
 use Rattle.cg_held.proofs.KeptLists.{same_self}
 use Rattle.cg_desk.specs.Turns.{TurnsKeepTheirCalls, own, total, waits_of}
 use Rattle.cg_desk.proofs.Called.{gone-kept, ticked-kept, told-append}
-use Rattle.cg_desk.proofs.CalledRequests.{and-true, answer-own, beat-kept, commit-kept, known-kept, leave-kept, new-kept, not-true, or-false, rejoined-kept, sync-kept}
+use Rattle.cg_desk.proofs.CalledRequests.{answer-own, beat-kept, commit-kept, known-kept, leave-kept, new-kept, rejoined-kept, sync-kept}
 
 -- a new member replaces the one with this instance
 abbrev seat : Option (List ℕ) → Member → Member → Member
@@ -39,7 +41,7 @@ stays-at None instance weight new m ms rest none more =
     let same = more none in
     omega arith
 stays-at (Some given) instance weight new m ms rest none more =
-    let parts = or-false (is_same instance given) (list_any (is_same instance) (instances ms)) none in
+    let parts = or_parts (is_same instance given) (list_any (is_same instance) (instances ms)) none in
     let other : is_same given instance ≡ false = nat_list_eq_equiv.symm given instance ∙ parts.0 in
     let here = ap (λ b. waits_of weight ((if b then new else m) ∷ rest)) other in
     let left = sum_by-cons (own weight) m rest in
@@ -56,13 +58,8 @@ alone : (given : Option (List ℕ)) (instance : List ℕ) (rest : List (List ℕ
 unfolding are_distinct
 alone None instance rest distinct has = absurd (cc)
 alone (Some given) instance rest distinct has =
-    let parts = and-true (not (list_any (is_same given) rest)) (are_distinct rest) distinct in
+    let parts = and_parts (not (list_any (is_same given) rest)) (are_distinct rest) distinct in
     ap (λ y. list_any (is_same y) rest) (sym ((bytes_eq-Decides given instance).0 has)) ∙ not-true (list_any (is_same given) rest) parts.0
-
-others : (given : Option (List ℕ)) (rest : List (List ℕ)) → are_distinct (option_to_list given ++ rest) ≡ true → are_distinct rest ≡ true
-unfolding are_distinct
-others None rest distinct = distinct
-others (Some given) rest distinct = (and-true (not (list_any (is_same given) rest)) (are_distinct rest) distinct).1
 
 -- the member with the instance is removed, and has no parked request any more
 seat-at : (b : Bool) (weight : Ticket → ℕ) (new old m : Member) (ms rest : List Member) (found : Option Member) → own weight new ≡ 0 → (if b then Some m else found) ≡ Some old
@@ -88,7 +85,7 @@ seated-some instance weight new old [] idle distinct found = absurd (cc)
 seated-some instance weight new old (m ∷ ms) idle distinct found =
     seat-at (is_named m.instance instance) weight new old m ms (map (seat (Some instance) new) ms) (find_instance (Some instance) ms) idle found
     (λ has. stays instance weight new ms (alone m.instance instance (instances ms) distinct has))
-    (λ more. seated-some instance weight new old ms idle (others m.instance (instances ms) distinct) more)
+    (λ more. seated-some instance weight new old ms idle (rest_distinct m.instance (instances ms) distinct) more)
 
 none-given : (old : Member) (ms : List Member) → find_instance None ms ≡ Some old → ⊥
 unfolding find_instance

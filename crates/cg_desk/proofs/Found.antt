@@ -1,21 +1,16 @@
 -- The token that a search for a ticket finds.
-use Rattle.std.proofs.Common.{◌≡◌, ℕ, Bool, true, false, List, get_or, Some, ap, ◌∙◌, eqb, refl}
-use Rattle.std.specs.Prelude.{◌&&◌}
+use Rattle.std.proofs.Common.{◌≡◌, ℕ, true, List, get_or, Some, ap, ◌∙◌, eqb}
 use Rattle.std.specs.List.{position}
-use Rattle.std.proofs.lemmas.Bool.{eqb-true}
+use Rattle.std.proofs.lemmas.Bool.{eqb-true, and_parts}
 use Rattle.std.proofs.lemmas.List.Quantifiers.{position-Some}
 use Rattle.cg_request.specs.declared.ticket.Ticket.{Ticket}
 use Rattle.cg_desk.specs.Tokens.{call_of, is_for}
 use Rattle.cg_desk.specs.declared.token.ReplyToken.{ReplyToken}
 
-both : (a b : Bool) → (a && b) ≡ true → (a ≡ true) × (b ≡ true)
-both true b are = (refl, are)
-both false b are = absurd (cc)
-
 pub for_ticket : (ticket : Ticket) (token : ReplyToken) → is_for ticket token ≡ true → call_of token ≡ ticket
 for_ticket ticket token is =
     let call = call_of token in
-    let parts = both (eqb call.session ticket.session) (eqb call.number ticket.number) is in
+    let parts = and_parts (eqb call.session ticket.session) (eqb call.number ticket.number) is in
     ap (λ (s : ℕ). let t : Ticket = record { session = s; number = call.number } in t) (eqb-true call.session ticket.session parts.0)
     ∙ ap (λ (n : ℕ). let t : Ticket = record { session = ticket.session; number = n } in t) (eqb-true call.number ticket.number parts.1)
 

@@ -4,9 +4,9 @@ use Rattle.std.proofs.lemmas.Bool.{leb-true, leb-false}
 use Rattle.cg_frame.specs.declared.segment.TheConstants.{LARGEST_PAYLOAD_BYTES}
 use Rattle.cg_record.specs.declared.command.Command.{Command}
 use Rattle.cg_record.specs.Spelling.{command_text}
+use Rattle.cg_store.proofs.Lengths.{text_len, text_len-cons, spelling-len}
 use Rattle.cg_desk.specs.Fronts.{fitting, in_frame}
 use Rattle.cg_desk.specs.Laws.{BatchesAreLongest}
-use Rattle.cg_desk.proofs.FullTexts.{spelling-len, text_len, text_len-cons}
 
 step-le : (b : Bool) (n m : ℕ) → n ≤ m → cond b (suc n) 0 ≤ suc m
 step-le true n m le = omega arith

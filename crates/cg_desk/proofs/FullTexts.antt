@@ -1,23 +1,12 @@
 -- A payload that grows by commands, and when it is full.
-use Rattle.std.proofs.Common.{◌≡◌, ℕ, suc, ◌+◌, ◌<◌, ◌≤◌, Bool, true, false, List, [], ◌∷◌, ◌++◌, length, get_or, take, drop, cond, leb, refl, ap, ◌∙◌, subst, arith, length-append}
-use Rattle.std.specs.List.{flat_map}
+use Rattle.std.proofs.Common.{◌≡◌, ℕ, suc, ◌+◌, ◌<◌, ◌≤◌, Bool, true, false, List, [], ◌∷◌, ◌++◌, length, get_or, take, drop, cond, leb, refl, ap, ◌∙◌, subst, arith}
 use Rattle.std.proofs.lemmas.Bool.{leb-true, leb-false}
 use Rattle.std.proofs.Math.Seq.{take-append_seam, drop-append_seam}
 use Rattle.cg_frame.specs.declared.segment.TheConstants.{LARGEST_PAYLOAD_BYTES}
 use Rattle.cg_record.specs.declared.command.Command.{Command}
 use Rattle.cg_record.specs.Spelling.{command_text, spelling}
+use Rattle.cg_store.proofs.Lengths.{text_len, text_len-cons, spelling-len}
 use Rattle.cg_desk.specs.Fronts.{fitting, in_frame}
-
--- the encoded length of commands, without the byte of the version
-abbrev pub text_len : List Command → ℕ
-text_len commands = length (flat_map command_text commands)
-
-pub text_len-cons : (c : Command) (cs : List Command) → text_len (c ∷ cs) ≡ length (command_text c) + text_len cs
-text_len-cons c cs = length-append (command_text c) (flat_map command_text cs)
-
-pub spelling-len : (cs : List Command) → length (spelling cs) ≡ 1 + text_len cs
-unfolding spelling
-spelling-len cs = omega arith
 
 -- a command that does not fit ends the prefix that fits
 stops-at : (b : Bool) (n : ℕ) → b ≡ false → cond b (suc n) 0 ≡ 0

@@ -1,5 +1,5 @@
 -- Replies leave in their order.
-use Rattle.std.proofs.Common.{◌≡◌, ℕ, zero, suc, ◌+◌, ◌-◌, ◌<◌, ◌≤◌, List, [], ◌∷◌, ◌++◌, length, get_or, map, take, drop, cond, true, false, refl, ap, sym, ◌∙◌, arith, leb, append_assoc}
+use Rattle.std.proofs.Common.{◌≡◌, ℕ, suc, ◌+◌, ◌-◌, ◌<◌, ◌≤◌, List, [], ◌∷◌, ◌++◌, length, get_or, map, take, drop, cond, true, false, refl, ap, sym, ◌∙◌, arith, leb, append_assoc}
 use Rattle.std.proofs.lemmas.List.{append-nil}
 use Rattle.std.specs.Prelude.{nat_lt}
 use Rattle.std.proofs.lemmas.Bool.{le-leb, lt-leb, ltb-true}
@@ -47,10 +47,6 @@ answering-append (r ∷ rs) qs tokens =
 pub record Told (rs : List Outgoing) (tokens : List ReplyToken) (out : List Outgoing) (qs : List Outgoing) (left : List ReplyToken) (more : List Outgoing) : Type 0 where
   pub told : more ++ answering qs left ≡ out ++ answering rs tokens
   pub kept : after_answering qs left ≡ after_answering rs tokens
-
--- no reply is sent yet
-pub told_here : (rs : List Outgoing) (tokens : List ReplyToken) (out : List Outgoing) → Told rs tokens out rs tokens out
-told_here rs tokens out = record { told = refl; kept = refl }
 
 pub told_then : (rs qs ps : List Outgoing) (tokens left last : List ReplyToken) (out more most : List Outgoing) → Told rs tokens out qs left more → Told qs left more ps last most → Told rs tokens out ps last most
 told_then rs qs ps tokens left last out more most a b = record { told = b.told ∙ a.told; kept = b.kept ∙ a.kept }

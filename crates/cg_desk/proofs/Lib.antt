@@ -6,7 +6,6 @@ pub mod FullTexts
 pub mod Taken
 pub mod Parting
 pub mod Sums
-pub mod Alike
 pub mod Weights
 pub mod Owing
 pub mod Called

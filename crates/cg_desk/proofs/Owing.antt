@@ -1,5 +1,5 @@
 -- Each pending request has one token.
-use Rattle.std.proofs.Common.{◌≡◌, ℕ, suc, ◌+◌, ◌≤◌, Bool, true, false, not, List, [], ◌∷◌, ◌++◌, length, map, take, drop, cond, refl, ap, sym, ◌∙◌, arith, eq-eqb}
+use Rattle.std.proofs.Common.{◌≡◌, ℕ, suc, ◌+◌, ◌≤◌, Bool, true, false, not, List, [], ◌∷◌, ◌++◌, length, map, take, cond, refl, ap, sym, ◌∙◌, arith, eq-eqb}
 use Rattle.std.specs.Prelude.{Option, Some, None, is_some, nat_eq, nat_lt, ◌&&◌, if◌then◌else◌}
 use Rattle.std.specs.List.{position, position_or_len}
 use Rattle.std.proofs.lemmas.Bool.{ltb-false}
@@ -27,6 +27,7 @@ use Rattle.cg_desk.specs.declared.origin.Origin.{Origin}
 use Rattle.cg_desk.specs.declared.outgoing.Outgoing.{Outgoing}
 use Rattle.cg_desk.specs.declared.token.ReplyToken.{ReplyToken}
 use Rattle.cg_desk.proofs.Weights.{by_tokens, one-weight}
+use Rattle.cg_desk.proofs.Called.{calls-append}
 
 -- the weight that is one for this ticket and zero for every other
 abbrev pub alone : Ticket → Ticket → ℕ
@@ -91,10 +92,6 @@ all-leave (r ∷ rs) tokens rest owes =
       stay = more.stay;
     }
 
-calls-append : (rs qs : List (Ticket × Reply)) → calls_of (rs ++ qs) ≡ calls_of rs ++ calls_of qs
-calls-append [] qs = refl
-calls-append (r ∷ rs) qs = ap (λ l. r.0 ∷ l) (calls-append rs qs)
-
 -- replies as they leave have their tickets
 sent-weight : (weight : Ticket → ℕ) (origin : Origin) (rs : List (Ticket × Reply)) → weight_out weight (map (sent origin) rs) ≡ weight_calls weight (calls_of rs)
 sent-weight weight origin [] = refl
@@ -115,11 +112,8 @@ leaving-weight weight (h ∷ hs) =
     omega arith
 
 -- held replies are those that leave and those that stay held
-take-drop : {X : Type 0} (n : ℕ) (xs : List X) → xs ≡ take n xs ++ drop n xs
-take-drop n xs = sym (take-append-drop n xs)
-
 split-held : (settled : ℕ) (held : List HeldStep) → replies_of held ≡ replies_of (take (ready settled held) held) ++ replies_of (still_held settled held)
-split-held settled held = ap replies_of (take-drop (ready settled held) held) ∙ flat_map-append (λ (s : HeldStep). s.replies) (take (ready settled held) held) (still_held settled held)
+split-held settled held = ap replies_of (sym (take-append-drop (ready settled held) held)) ∙ flat_map-append (λ (s : HeldStep). s.replies) (take (ready settled held) held) (still_held settled held)
 
 record Goes (c : Books) : Type 0 where
   gone : (letting_go c).out ≡ released c.settled c.held

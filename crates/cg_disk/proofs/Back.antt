@@ -1,6 +1,8 @@
 -- Calls that are undone, the last one first.
-use Rattle.std.proofs.Common.{◌≡◌, ℕ, Bool, true, false, ◌&&◌, List, [], ◌∷◌, ◌++◌, refl, sym, ◌∙◌, ap, append_assoc}
+use Rattle.std.proofs.Common.{◌≡◌, ℕ, Bool, true, false, List, [], ◌∷◌, ◌++◌, sym, ◌∙◌, ap, append_assoc}
 use Rattle.std.specs.List.{list_all}
+use Rattle.std.proofs.Math.Bool.{and-true}
+use Rattle.std.proofs.lemmas.Bool.{and_parts}
 use Rattle.std.proofs.lemmas.List.Folds.{list_all-append}
 use Rattle.cg_disk.specs.Record.{GoesBack, GoesBackToSync, before_call, is_unsynced, is_unsynced_call}
 use Rattle.cg_disk.specs.declared.record.Call.{Call}
@@ -26,12 +28,4 @@ GoesBackToSync-sync bytes b calls cs cs' back last = record {
 
 -- a property of all calls holds for the last one and for those before it
 pub within-last : (p : Call → Bool) (cs cs' : List Call) (call : Call) → list_all p cs ≡ true → cs ≡ cs' ++ call ∷ [] → (list_all p cs' ≡ true) × (p call ≡ true)
-within-last p cs cs' call all last = both (list_all p cs') (p call) (rw (list_all-append p cs' (call ∷ []), and-true (p call)) at (ap (list_all p) (sym last) ∙ all))
-  where
-    both : (a b : Bool) → (a && b) ≡ true → (a ≡ true) × (b ≡ true)
-    both true b e = (refl, e)
-    both false b e = cc
-
-    and-true : (b : Bool) → (b && true) ≡ b
-    and-true true = refl
-    and-true false = refl
+within-last p cs cs' call all last = and_parts (list_all p cs') (p call) (rw (list_all-append p cs' (call ∷ []), and-true (p call)) at (ap (list_all p) (sym last) ∙ all))

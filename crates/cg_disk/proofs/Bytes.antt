@@ -62,7 +62,7 @@ sector-part xs ys a at n i is same lt =
     rw is (ap (λ (k : ℕ). take 512 (drop k xs)) from ∙ ap (take 512) (sym (drop-drop (512 * i) a xs)) ∙ sym (take-take 512 (n - 512 * i) (drop (512 * i) (drop a xs)) (omega arith)) ∙ ap (take 512) (sym (drop-take (512 * i) (n - 512 * i) (drop a xs)) ∙ ap (λ (k : ℕ). drop (512 * i) (take k (drop a xs))) (sym n_is)))
 
 -- zeros everywhere
-get_or-zeros : (n i : ℕ) → ◌≡◌ {A = ℕ} (get_or (replicate n 0) i 0) 0
+pub get_or-zeros : (n i : ℕ) → ◌≡◌ {A = ℕ} (get_or (replicate n 0) i 0) 0
 get_or-zeros zero i = refl
 get_or-zeros (suc n) zero = refl
 get_or-zeros (suc n) (suc i) = get_or-zeros n i

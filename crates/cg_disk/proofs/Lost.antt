@@ -1,10 +1,11 @@
 -- The content that a crash loses.
-use Rattle.std.proofs.Common.{◌≡◌, ◌⊎◌, ℕ, ◌+◌, ◌-◌, ◌*◌, ◌/◌, ◌%◌, ◌<◌, ◌≤◌, Bool, true, false, ◌&&◌, ◌||◌, leb, ltb, eqb, List, [], ◌∷◌, ◌++◌, length, take, drop, refl, sym, ◌∙◌, ap, subst, zero-add, suc-add, inl, inr, arith}
+use Rattle.std.proofs.Common.{◌≡◌, ◌⊎◌, ℕ, ◌+◌, ◌-◌, ◌*◌, ◌/◌, ◌%◌, ◌<◌, ◌≤◌, Bool, true, false, ◌&&◌, ◌||◌, leb, ltb, eqb, List, [], ◌∷◌, ◌++◌, length, take, drop, refl, sym, ◌∙◌, ap, subst, inl, inr, arith}
 use Rattle.std.specs.List.{list_all}
+use Rattle.std.proofs.Math.Seq.{take-append-add}
 use Rattle.std.proofs.lemmas.List.{length-append, take-append-drop, take_at, drop_at, drop-drop}
 use Rattle.std.proofs.lemmas.List.Folds.{list_all-append}
 use Rattle.std.proofs.lemmas.Bool.Decides.{nat_tests}
-use Rattle.std.proofs.lemmas.Bool.{cases_lt}
+use Rattle.std.proofs.lemmas.Bool.{cases_lt, and_parts}
 use Rattle.cg_disk.specs.Disk.{sector}
 use Rattle.cg_disk.specs.Record.{GoesBackToSync, undone, is_unsynced, is_marked, is_unsynced_call, is_within, recorded, overwritten}
 use Rattle.cg_disk.specs.Crash.{IsLastSynced}
@@ -12,13 +13,6 @@ use Rattle.cg_disk.specs.declared.record.Call.{Call}
 use Rattle.cg_disk.specs.declared.record.Call.TheVariants.{Read, Write, Sync}
 use Rattle.cg_disk.proofs.Bytes.{length-overwritten, sector-overwritten_below, sector-overwritten_above}
 use Rattle.cg_disk.proofs.Recorded.{undone-append, is_unsynced-append}
-
-and-parts : (a b : Bool) → (a && b) ≡ true → (a ≡ true) × (b ≡ true)
-and-parts true b e = (refl, e)
-and-parts false b e = cc
-
-and-made : (a b : Bool) → a ≡ true → b ≡ true → (a && b) ≡ true
-and-made a b p q = rw (p, q) refl
 
 -- the condition of `is_within` for a write
 fits : (n at : ℕ) (r : List ℕ) → (leb (512 * at + length r) n && eqb (length r % 512) 0) ≡ true → (512 * at + length r ≤ n) × (length r % 512 ≡ 0)
@@ -29,7 +23,7 @@ length-undone [] bytes w = refl
 length-undone (Read ∷ u) bytes w = length-undone u bytes w
 length-undone (Sync ∷ u) bytes w = length-undone u bytes w
 length-undone (Write at r ∷ u) bytes w =
-    let parts = and-parts (is_within (length bytes) (Write at r)) (list_all (is_within (length bytes)) u) w in
+    let parts = and_parts (is_within (length bytes) (Write at r)) (list_all (is_within (length bytes)) u) w in
     let rest = length-undone u bytes parts.1 in
     let f = fits (length bytes) at r.items parts.0 in
     length-overwritten (undone u bytes) (512 * at) r.items (omega arith) ∙ rest
@@ -40,7 +34,7 @@ unmarked [] bytes s b w n e = (e, refl)
 unmarked (Read ∷ u) bytes s b w n e = unmarked u bytes s b w n e
 unmarked (Sync ∷ u) bytes s b w n e = cc
 unmarked (Write at r ∷ u) bytes s b w n e =
-    let parts = and-parts (is_within (length bytes) (Write at r)) (list_all (is_within (length bytes)) u) w in
+    let parts = and_parts (is_within (length bytes) (Write at r)) (list_all (is_within (length bytes)) u) w in
     let rest = unmarked u bytes s (is_marked (Write at r) s b) parts.1 n e in
     let f = fits (length bytes) at r.items parts.0 in
     let long = length-undone u bytes parts.1 in
@@ -55,10 +49,6 @@ unmarked (Write at r ∷ u) bytes s b w n e =
     kept at r s bs le whole (inl lt) = sector-overwritten_below bs at r s le lt
     kept at r s bs le whole (inr ge) = sector-overwritten_above bs at r s le (omega arith)
 
-take_past : (xs ys : List Call) (n : ℕ) → take (length xs + n) (xs ++ ys) ≡ xs ++ take n ys
-take_past [] ys n = ap (λ (k : ℕ). take k ys) (zero-add n)
-take_past (x ∷ xs) ys n = ap (λ (k : ℕ). take k (x ∷ (xs ++ ys))) (suc-add (length xs) n) ∙ ap (λ (l : List Call). x ∷ l) (take_past xs ys n)
-
 module _ (bytes b : List ℕ) (calls : List Call) (within : list_all (is_within (length bytes)) calls ≡ true) (to : GoesBackToSync bytes calls b) where
   abbrev lost : List Call
   lost = to.back.undone_calls
@@ -67,7 +57,7 @@ module _ (bytes b : List ℕ) (calls : List Call) (within : list_all (is_within 
   kept = to.now_calls
 
   lost_within : list_all (is_within (length bytes)) lost ≡ true
-  lost_within = (and-parts _ _ (sym (list_all-append (is_within (length bytes)) kept lost) ∙ ap (list_all (is_within (length bytes))) (sym to.back.split) ∙ within)).1
+  lost_within = (and_parts _ _ (sym (list_all-append (is_within (length bytes)) kept lost) ∙ ap (list_all (is_within (length bytes))) (sym to.back.split) ∙ within)).1
 
   -- the remaining content is an image
   pub IsImage-lost : (s : ℕ) → is_unsynced calls s false ≡ false → sector b s ≡ sector bytes s
@@ -83,13 +73,13 @@ module _ (bytes b : List ℕ) (calls : List Call) (within : list_all (is_within 
   since_sync = ap (λ (l : List Call). drop (length kept) l) to.back.split ∙ drop_at kept lost (length kept) refl
 
   take_since : (j : ℕ) → take (length kept + j) calls ≡ kept ++ take j lost
-  take_since j = ap (λ (l : List Call). take (length kept + j) l) to.back.split ∙ take_past kept lost j
+  take_since j = ap (λ (l : List Call). take (length kept + j) l) to.back.split ∙ take-append-add kept lost j
 
   drop_since : (j : ℕ) → drop (length kept + j) calls ≡ drop j lost
   drop_since j = sym (drop-drop j (length kept) calls) ∙ ap (λ (l : List Call). drop j l) since_sync
 
   parts_hold : (p : Call → Bool) (j : ℕ) → list_all p lost ≡ true → (list_all p (take j lost) ≡ true) × (list_all p (drop j lost) ≡ true)
-  parts_hold p j all = and-parts _ _ (sym (list_all-append p (take j lost) (drop j lost)) ∙ ap (list_all p) (take-append-drop j lost) ∙ all)
+  parts_hold p j all = and_parts _ _ (sym (list_all-append p (take j lost) (drop j lost)) ∙ ap (list_all p) (take-append-drop j lost) ∙ all)
 
   -- if the disk was synced again since, the content was the same
   same_since : (j : ℕ) (s : ℕ) → is_unsynced (take (length kept + j) calls) s false ≡ false → sector b s ≡ sector (undone (drop (length kept + j) calls) bytes) s

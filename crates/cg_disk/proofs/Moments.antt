@@ -1,10 +1,10 @@
 -- Sequences of disk calls, with one lemma for each call, for the crates above.
-use Rattle.std.proofs.Common.{◌≡◌, ◌⊎◌, ℕ, zero, suc, ◌+◌, ◌*◌, ◌<◌, ◌≤◌, Bool, false, cond, ◌&&◌, leb, ltb, List, ◌++◌, length, take, drop, refl, sym, ◌∙◌, ap, subst, zero-add, add-zero, suc-add, append_assoc, inl, inr, arith}
+use Rattle.std.proofs.Common.{◌≡◌, ◌⊎◌, ℕ, zero, suc, ◌+◌, ◌*◌, ◌<◌, ◌≤◌, false, cond, ◌&&◌, leb, ltb, List, ◌++◌, length, take, drop, refl, sym, ◌∙◌, ap, subst, zero-add, add-zero, suc-add, append_assoc, inl, inr, arith}
 use Rattle.std.proofs.lemmas.Bool.{cases_lt}
 use Rattle.std.proofs.lemmas.Bool.Decides.{nat_tests}
 use Rattle.std.proofs.lemmas.List.{length-take, length-drop, nil_from_length, drop-drop, take-append-drop}
 use Rattle.cg_disk.proofs.Bytes.{sector-part}
-use Rattle.cg_disk.specs.Disk.{Image, Moment, History, BeginsWithSync, Changes, Stays, TakesCalls, IsDisturbed, IsKept, IsImage, IsSynced, AllBut, LeavesOnly, Holds, present, sector, span}
+use Rattle.cg_disk.specs.Disk.{Image, Moment, History, Changes, Stays, IsDisturbed, IsKept, IsImage, IsSynced, AllBut, LeavesOnly, Holds, present, sector, span}
 
 -- IsKept and IsDisturbed
 
@@ -41,10 +41,6 @@ Changes-present at n old new c = elim (cases_lt old.now new.now) [
 
 pub Changes-wider : (at n at' n' : ℕ) (old new : History) → at' ≤ at → at + n ≤ at' + n' → Changes at n old new → Changes at' n' old new
 Changes-wider at n at' n' old new low high c = record { later = c.later; keeps = c.keeps; each = λ k lt le. IsDisturbed-wider at n at' n' _ _ low high (c.each k lt le) }
-
--- a history without changes has no changes in any range
-pub Changes-stays : (at n : ℕ) (old new : History) → Stays old new → Changes at n old new
-Changes-stays at n old new c = record { later = c.later; keeps = c.keeps; each = λ k lt le. let d = c.each k lt le in record { below = λ s b. d.above s (omega arith); above = λ s b. d.above s (omega arith) } }
 
 pub Changes-then : (at n : ℕ) (old mid new : History) → Changes at n old mid → Changes at n mid new → Changes at n old new
 Changes-then at n old mid new a b = record {
@@ -170,10 +166,6 @@ LeavesOnly-both old new P Q p q = record { later = p.later; keeps = p.keeps; eac
 pub LeavesOnly-present : (old new : History) (P : Image → Type 0) → LeavesOnly old new P → (image : Image) → IsImage (present new) image → P image
 LeavesOnly-present old new P run image is = run.each new.now run.later (omega arith) image is
 
--- the property of each image of the moment at the start
-pub LeavesOnly-first : (old new : History) (P : Image → Type 0) → LeavesOnly old new P → (image : Image) → IsImage (present old) image → P image
-LeavesOnly-first old new P run image is = run.each old.now (omega arith) run.later image (subst (λ (m : Moment). IsImage m image) (sym (run.keeps old.now (omega arith))) is)
-
 -- a call that changes some sectors keeps each image except for these
 pub LeavesOnly-changes : (at n : ℕ) (old new : History) → Changes at n old new → LeavesOnly old new (AllBut at n (present old))
 LeavesOnly-changes at n old new c =
@@ -222,17 +214,3 @@ Holds-front image at n m bytes le holds i lt =
 
 pub span-holds_front : (image : Image) (at n m : ℕ) (bytes : List ℕ) → length bytes ≡ 512 * n → m ≤ n → Holds image at n bytes → span image at m ≡ take (512 * m) bytes
 span-holds_front image at n m bytes long le holds = span-holds image at m (take (512 * m) bytes) (simp length-take (omega arith)) (Holds-front image at n m bytes le holds)
-
--- a sector that holds bytes of a buffer has 512 bytes
-pub length-holds : (image : Image) (at n : ℕ) (bytes : List ℕ) (i : ℕ) → length bytes ≡ 512 * n → Holds image at n bytes → i < n → length (image (at + i)) ≡ 512
-unfolding sector
-length-holds image at n bytes i long holds lt = ap length (holds i lt) ∙ simp (length-take, length-drop) (omega arith)
-
--- a sync, and then calls that write nothing
-pub BeginsWithSync-then : (old mid new : History) (failed : Bool) → TakesCalls 1 old mid false → IsSynced (present mid) → Stays mid new → BeginsWithSync old new failed
-BeginsWithSync-then old mid new failed clock synced then =
-    let now : mid.now ≡ old.now + 1 = clock.all refl in
-    record {
-      called = λ _. omega (arith, then.later);
-      synced = λ _. subst (λ (k : ℕ). IsSynced (new.at k)) now (subst IsSynced (sym (then.keeps mid.now (omega arith))) synced);
-    }

@@ -9,7 +9,3 @@ OnOk-from (Err e) P there = tt
 pub is_ok-from_is_err : {T E : Type 0} (r : Result T E) → is_err r ≡ false → is_ok r ≡ true
 is_ok-from_is_err (Ok x) same = refl
 is_ok-from_is_err (Err e) same = cc
-
-pub OnOk-to : {T E : Type 0} (r : Result T E) (P : Type 0) → OnOk r P → is_err r ≡ false → P
-OnOk-to (Ok x) P there ok = there
-OnOk-to (Err e) P there ok = cc

@@ -6,10 +6,11 @@ use Rattle.std.proofs.lemmas.Bool.Decides.{nat_tests}
 use Rattle.std.specs.Prelude.{Vec}
 use Rattle.std.specs.declared.alloc.Global.{Global}
 use Rattle.cg_disk.proofs.Bytes.{overwritten-overwritten, sector-overwritten_below, sector-overwritten_above, sector-overwritten_within}
-use Rattle.cg_disk.specs.Disk.{History, Changes, Holds, IsUnsynced, IsDisturbed, IsKept, IsSynced, Stays, TakesCalls, present, sector}
+use Rattle.cg_disk.specs.Disk.{Changes, Holds, IsUnsynced, IsDisturbed, IsKept, IsSynced, Stays, TakesCalls, present, sector}
 use Rattle.cg_disk.specs.Record.{before_call, undone, is_marked, is_unsynced, moment_after, recorded, overwritten}
 use Rattle.cg_disk.specs.declared.record.Call.{Call}
 use Rattle.cg_disk.specs.declared.record.Call.TheVariants.{Write, Sync}
+use Rattle.cg_disk.proofs.Moments.{Changes-refl}
 
 pub undone-append : (xs ys : List Call) (bytes : List ℕ) → undone (xs ++ ys) bytes ≡ undone xs (undone ys bytes)
 undone-append [] ys bytes = refl
@@ -61,10 +62,6 @@ Changes-push bytes new calls later call at n is before below above safe_below sa
 pub Stays-push : (bytes : List ℕ) (calls later : List Call) (call : Call) → later ≡ calls ++ call ∷ [] → before_call call bytes ≡ bytes → ((s : ℕ) → is_marked call s false ≡ false) → Stays (recorded bytes calls) (recorded bytes later)
 Stays-push bytes calls later call is before safe = Changes-push bytes bytes calls later call 0 0 is before (λ s lt. refl) (λ s le. refl) (λ s lt. safe s) (λ s le. safe s)
 
--- no call
-pub Changes-none : (at n : ℕ) (h : History) → Changes at n h h
-Changes-none at n h = record { later = omega arith; keeps = λ k le. refl; each = λ k lt le. absurd (omega arith) }
-
 -- after a sync the whole disk is synced
 pub unsynced-sync : (bytes : List ℕ) (calls : List Call) (s : ℕ) → (present (recorded bytes (calls ++ Sync ∷ []))).unsynced s ≡ false
 unsynced-sync bytes calls s = unsynced-present bytes (calls ++ Sync ∷ []) s ∙ is_unsynced-append calls (Sync ∷ []) s false
@@ -72,7 +69,7 @@ unsynced-sync bytes calls s = unsynced-present bytes (calls ++ Sync ∷ []) s �
 -- a call that writes nothing, recorded if the allocation succeeded
 pub Stays-noted : (b : Bool) (bytes : List ℕ) (calls later : List Call) (call : Call) → later ≡ cond b (calls ++ call ∷ []) calls → before_call call bytes ≡ bytes → ((s : ℕ) → is_marked call s false ≡ false) → Stays (recorded bytes calls) (recorded bytes later)
 Stays-noted true bytes calls later call is before safe = Stays-push bytes calls later call is before safe
-Stays-noted false bytes calls later call is before safe = rw is (Changes-none 0 0 (recorded bytes calls))
+Stays-noted false bytes calls later call is before safe = rw is (Changes-refl 0 0 (recorded bytes calls))
 
 pub IsSynced-noted : (bytes : List ℕ) (calls later : List Call) (b : Bool) → later ≡ cond b (calls ++ Sync ∷ []) calls → b ≡ true → IsSynced (present (recorded bytes later))
 IsSynced-noted bytes calls later b is ok s = rw (is, ok) (unsynced-sync bytes calls s)

@@ -10,7 +10,8 @@ use Rattle.cg_disk.specs.Disk.{Changes, TakesCalls, Holds, IsUnsynced, present}
 use Rattle.cg_disk.specs.Record.{recorded, overwritten, is_within}
 use Rattle.cg_disk.specs.declared.record.Call.{Call}
 use Rattle.cg_disk.specs.declared.record.Call.TheVariants.{Write, Sync}
-use Rattle.cg_disk.proofs.Recorded.{TakesCalls-noted, Changes-write, Changes-none, Holds-write, IsUnsynced-write}
+use Rattle.cg_disk.proofs.Recorded.{TakesCalls-noted, Changes-write, Holds-write, IsUnsynced-write}
+use Rattle.cg_disk.proofs.Moments.{Changes-refl}
 
 -- the record of calls with such a write appended
 abbrev pub Notes : List ℕ → List ℕ → ℕ → List Call → List Call → Type 0
@@ -19,7 +20,7 @@ Notes bytes new at calls later = (replaced : Vec ℕ Global) × (replaced.items 
 module _ {T E : Type 0} (bytes new now : List ℕ) (at : ℕ) (calls later : List Call) (fits : 512 * at + length new ≤ length bytes) (whole : length new % 512 ≡ 0) where
   pub Changes-noted : (r : Result T E) → OnOk r (now ≡ overwritten bytes (512 * at) new) → OnOk r (Notes bytes new at calls later) → OnErr r (now ≡ bytes) → OnErr r (later ≡ calls) → Changes at (length new / 512) (recorded bytes calls) (recorded now later)
   Changes-noted (Ok x) written noted same same_calls = rw written (Changes-write bytes new at noted.0 fits whole noted.1 calls later noted.2)
-  Changes-noted (Err e) written noted same same_calls = rw (same, same_calls) (Changes-none at (length new / 512) (recorded bytes calls))
+  Changes-noted (Err e) written noted same same_calls = rw (same, same_calls) (Changes-refl at (length new / 512) (recorded bytes calls))
 
   pub TakesCalls-written : (r : Result T E) (failed : Bool) → OnOk r (Notes bytes new at calls later) → OnErr r (later ≡ calls) → (failed ≡ false → is_err r ≡ false) → TakesCalls 1 (recorded bytes calls) (recorded now later) failed
   TakesCalls-written (Ok x) failed noted same_calls ok = TakesCalls-noted true failed bytes now calls later (Write at noted.0) noted.2 (λ _. refl)

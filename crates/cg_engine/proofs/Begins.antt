@@ -1,5 +1,6 @@
 -- Commands that begin with others.
-use Rattle.std.proofs.Common.{◌≡◌, ◌↔◌, List, [], ◌∷◌, ◌++◌, length, take, ap, refl, subst, sym}
+use Rattle.std.proofs.Common.{◌≡◌, ◌↔◌, List, [], ◌∷◌, ◌++◌, length, ap, refl, subst, sym}
+use Rattle.std.proofs.Math.Seq.{take-length}
 use Rattle.cg_store.specs.Carried.{joined}
 use Rattle.cg_record.specs.declared.command.Command.{Command}
 use Rattle.cg_trail.specs.Trails.{BeginsWith}
@@ -23,16 +24,12 @@ begins-fewer (y ∷ ys) (x ∷ xs) others h =
     let less = begins-fewer ys xs others rest in
     cc
 
-whole : {X : Type 0} (l : List X) → take (length l) l ≡ l
-whole [] = refl
-whole (z ∷ l) = ap (λ m. z ∷ m) (whole l)
-
 -- as many commands, which begin with these, are these
 pub begins_same : (a b : List Command) → length a ≡ length b → BeginsWith a b → a ≡ b
-begins_same a b long h = let all = whole a in cc
+begins_same a b long h = let all = take-length a in cc
 
 pub same_begins : (a b : List Command) → a ≡ b → BeginsWith a b
-same_begins a b same = let all = whole b in cc
+same_begins a b same = let all = take-length b in cc
 
 -- a batch that does not come next
 pub begins-stop : (P : Type 0) (left batch : List Command) (rest others : List (List Command)) → rest ≡ batch ∷ others → ¬ BeginsWith left batch → BeginsWith left (joined rest) ↔ P → P → ⊥

@@ -3,5 +3,4 @@ pub mod BorneOut
 pub mod Crossing
 pub mod Kept
 pub mod Loads
-pub mod Rests
 pub mod Stored

@@ -1,5 +1,5 @@
 -- The commits of a snapshot.
-use Rattle.std.proofs.Common.{◌≡◌, ℕ, zero, suc, ◌<◌, ◌≤◌, Bool, true, false, List, [], ◌∷◌, ◌++◌, length, map as each, take, drop, ap, sym, ◌∙◌, refl, subst, arith, append_assoc, length-drop}
+use Rattle.std.proofs.Common.{◌≡◌, ℕ, zero, suc, ◌<◌, ◌≤◌, Bool, true, false, List, [], ◌∷◌, ◌++◌, length, map as each, take, drop, ap, sym, ◌∙◌, refl, subst, arith, append_assoc, length-drop, append-nil}
 use Rattle.std.proofs.Math.Dec.{T}
 use Rattle.std.specs.Prelude.{◌==◌, IsTrue, bytes_eq}
 use Rattle.std.specs.List.{AllByRecursion, IsDistinct}
@@ -17,27 +17,15 @@ use Rattle.cg_fold.specs.Key.{KeptRow, topic_partition, partition_cmp}
 use Rattle.cg_fold.specs.Snapshot.{commit_command, commits_of, entry_of}
 use Rattle.cg_fold.proofs.KeyOrder.{partition_total}
 use Rattle.cg_fold.proofs.Place.{below_all, both}
-use Rattle.cg_fold.proofs.Put.{tested}
-use Rattle.cg_fold.proofs.Stock.{append-nil}
+use Rattle.cg_fold.proofs.Put.{tested, is_true}
 
 -- ---- the offsets of one group are for different partitions
 
-true_of : (b : Bool) → b ≡ true → T b
-true_of true e = tt
-true_of false e = absurd cc
-
-of_true : (b : Bool) → T b → b ≡ true
-of_true true h = refl
-of_true false h = absurd h
-
-same_number : (a b : ℕ) → (a == b) ≡ true → a ≡ b
-same_number a b e = (Decides-eqb a b).0 e
-
 same_key : (a b : KeptRow) → have_one_key (entry_of a) (entry_of b) ≡ true → a.0 ≡ b.0
 same_key a b one =
-    let parts = both (a.0.partition == b.0.partition) (bytes_eq a.0.topic b.0.topic) (true_of (have_one_key (entry_of a) (entry_of b)) one) in
-    let partition = same_number a.0.partition b.0.partition (of_true (a.0.partition == b.0.partition) parts.0) in
-    let topic = (bytes_eq-Decides a.0.topic b.0.topic).0 (of_true (bytes_eq a.0.topic b.0.topic) parts.1) in
+    let parts = both (a.0.partition == b.0.partition) (bytes_eq a.0.topic b.0.topic) (tested one) in
+    let partition = (Decides-eqb a.0.partition b.0.partition).0 (is_true (a.0.partition == b.0.partition) parts.0) in
+    let topic = (bytes_eq-Decides a.0.topic b.0.topic).0 (is_true (bytes_eq a.0.topic b.0.topic) parts.1) in
     ap (λ t. topic_partition t a.0.partition) topic ∙ ap (topic_partition b.0.topic) partition
 
 keys_apart : (a b : KeptRow) → T (is_lt (partition_cmp a.0 b.0)) → have_one_key (entry_of a) (entry_of b) ≡ false

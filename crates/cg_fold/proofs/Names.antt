@@ -11,6 +11,7 @@ use Rattle.std.specs.FinMap as map
 use Rattle.std.specs.FinMap.{find, is_sorted}
 use Rattle.std.specs.FinMap.Entries.{is_some-find}
 use Rattle.std.proofs.lemmas.Slice.Eq.{bytes_eq-Decides}
+use Rattle.std.proofs.Math.Bool.{or-true}
 use Rattle.cg_fold.specs.Key.{name_cmp}
 use Rattle.cg_fold.specs.Snapshot.{Ascending, ComesBefore, marked, in_order}
 use Rattle.cg_fold.proofs.KeyOrder.{name_total, name_same}
@@ -20,10 +21,6 @@ pub equal : (o : Ordering) → is_eq o ≡ true → o ≡ Equal
 equal Less e = absurd cc
 equal Equal e = refl
 equal Greater e = absurd cc
-
-pub or_true : (b : Bool) → (b || true) ≡ true
-or_true true = refl
-or_true false = refl
 
 -- names that compare equal are the same
 pub tied : (g h : List ℕ) → eq_by_cmp name_cmp g h ≡ true → g ≡ h
@@ -116,7 +113,7 @@ below_all-Before x [] before = tt
 below_all-Before x (n ∷ names) before =
     and (is_lt (name_cmp x n)) (below_all name_cmp x (each marked names))
     (subst (λ r. T (is_lt r)) (sym (before n (or_left (bytes_eq n n) (list_any (bytes_eq n) names) (itself n)))) tt)
-    (below_all-Before x names (λ q there. before q (ap (λ b. bytes_eq q n || b) there ∙ or_true (bytes_eq q n))))
+    (below_all-Before x names (λ q there. before q (ap (λ b. bytes_eq q n || b) there ∙ or-true (bytes_eq q n))))
 
 -- a name before all others is the first of `in_order`
 pub in_order_first : (x : List ℕ) (names rest : List (List ℕ)) → ((q : List ℕ) → list_any (bytes_eq q) names ≡ (bytes_eq q x || list_any (bytes_eq q) rest)) → Before x rest → in_order names ≡ x ∷ in_order rest

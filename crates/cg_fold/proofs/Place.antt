@@ -24,9 +24,6 @@ less Less h = refl
 less Equal h = absurd h
 less Greater h = absurd h
 
-is_less : (o : Ordering) → is_lt o ≡ true → o ≡ Less
-is_less o e = less o (subst T (sym e) tt)
-
 -- x comes before each entry
 abbrev pub below_all : {K X : Type 0} → (K → K → Ordering) → K → List (K × X) → Bool
 below_all R x [] = true
@@ -61,7 +58,7 @@ module _ {K X : Type 0} {R : K → K → Ordering} (o : IsTotalOrder R) where
   partitioned key (e ∷ es) sorted zero zero d le below passes = passes
   partitioned key (e ∷ es) sorted zero (suc j) d le below passes =
       let behind = front_below e.0 es j d (both (below_all R e.0 es) (is_sorted R es) sorted).0 (omega arith) in
-      ap is_lt (o.trans e.0 (get_or es j d).0 key behind (is_less _ passes))
+      ap is_lt (o.trans e.0 (get_or es j d).0 key behind (less _ (subst T (sym passes) tt)))
   partitioned key (e ∷ es) sorted (suc i) zero d le below passes = absurd (omega arith)
   partitioned key (e ∷ es) sorted (suc i) (suc j) d le below passes = partitioned key es (sorted-tail e es sorted) i j d (omega arith) (omega arith) passes
 

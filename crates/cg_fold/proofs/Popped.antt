@@ -1,5 +1,5 @@
 -- The commands of the first group of a state, and those of the others.
-use Rattle.std.proofs.Common.{◌≡◌, ℕ, List, [], ◌∷◌, ◌++◌, length, map as each, Option, Some, None, cond, ap, sym, ◌∙◌, refl, subst, arith}
+use Rattle.std.proofs.Common.{◌≡◌, ℕ, List, [], ◌∷◌, ◌++◌, length, map as each, Option, Some, None, cond, ap, sym, ◌∙◌, refl, subst, arith, append-nil}
 use Rattle.std.specs.Prelude.{flat_map}
 use Rattle.std.specs.Option.{option_to_list}
 use Rattle.std.specs.Ordering.{is_eq, ordering_reverse}
@@ -14,7 +14,7 @@ use Rattle.cg_fold.specs.Snapshot.{Ascending, AreListed, ComesBefore, PopsFirst,
 use Rattle.cg_fold.proofs.KeyOrder.{name_total}
 use Rattle.cg_fold.proofs.Kept.{map-get, map_of}
 use Rattle.cg_fold.proofs.Names.{in_order_ascending}
-use Rattle.cg_fold.proofs.Stock.{append-nil, groups_of_shelves, shelves-group}
+use Rattle.cg_fold.proofs.Stock.{groups_of_shelves, shelves-group}
 
 -- ---- the groups after the first
 

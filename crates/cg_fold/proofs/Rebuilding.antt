@@ -1,5 +1,5 @@
 -- The commands of a snapshot build the state that it was taken of.
-use Rattle.std.proofs.Common.{◌≡◌, ℕ, zero, suc, ◌≤◌, Bool, true, false, cond, List, [], ◌∷◌, ◌++◌, length, map as each, take, drop, Option, Some, None, ap, sym, ◌∙◌, refl, arith}
+use Rattle.std.proofs.Common.{◌≡◌, ℕ, zero, suc, ◌≤◌, Bool, true, false, cond, List, [], ◌∷◌, length, map as each, take, drop, Option, Some, None, ap, sym, ◌∙◌, refl, arith}
 use Rattle.std.proofs.Math.Dec.{T}
 use Rattle.std.specs.Prelude.{◌||◌, filter, flat_map, bytes_eq, is_some}
 use Rattle.std.specs.List.{fold, list_any}
@@ -13,6 +13,8 @@ use Rattle.std.proofs.lemmas.List.{map-append, take-append-drop, length-drop}
 use Rattle.std.proofs.lemmas.List.Concat.{flat_map-cons}
 use Rattle.std.proofs.lemmas.List.Folds.{list_any-append}
 use Rattle.std.proofs.lemmas.Slice.Eq.{bytes_eq-Decides}
+use Rattle.std.proofs.Math.Bool.{or-true}
+use Rattle.std.proofs.lemmas.List.Sums.{fold-append}
 use Rattle.cg_record.specs.declared.entries.TheConstants.{ENTRIES_MAX}
 use Rattle.cg_record.specs.Rosters.{RosterParts}
 use Rattle.cg_fold.specs.declared.key.StoredOffset.{StoredOffset}
@@ -23,13 +25,9 @@ use Rattle.cg_fold.specs.Snapshot.{groups_in, in_order, record_command, record_c
 use Rattle.cg_fold.proofs.KeyOrder.{key_total, key_same, name_total, name_same}
 use Rattle.cg_fold.proofs.Place.{below_all, both}
 use Rattle.cg_fold.proofs.Stock.{kept-filter, kept_all}
-use Rattle.cg_fold.proofs.Names.{any_in_order, any_tie, equal, or_true, tie_is_same}
+use Rattle.cg_fold.proofs.Names.{any_in_order, any_tie, equal, tie_is_same}
 
 -- ---- lists of commands
-
-fold-append : {A B : Type 0} (f : A → B → A) (a : A) (xs ys : List B) → fold f a (xs ++ ys) ≡ fold f (fold f a xs) ys
-fold-append f a [] ys = refl
-fold-append f a (x ∷ xs) ys = fold-append f (f a x) xs ys
 
 -- the first of the two that is given
 abbrev pub or_else : {X : Type 0} → Option X → Option X → Option X
@@ -202,7 +200,7 @@ any_group k (x ∷ keys) hit = step (eq_by_cmp key_cmp k x) refl (any_group k ke
         rw same refl
     step false is rest =
         let more : list_any (eq_by_cmp key_cmp k) keys ≡ true = rw is at hit in
-        rw (rest more) (or_true (bytes_eq k.group x.group))
+        rw (rest more) (or-true (bytes_eq k.group x.group))
 
 -- a name is one of the groups of a state exactly if it has a record or an offset
 pub any_group_in : (state : State) (q : List ℕ) → list_any (bytes_eq q) (in_order (groups_in state)) ≡ (map.contains_key state.records q || list_any (bytes_eq q) (each (λ k. k.group) (map.keys state.offsets)))
@@ -224,7 +222,7 @@ record_covered state q there = any_group_in state q ∙ ap (λ b. b || list_any 
 pub offset_covered : (state : State) (k : OffsetKey) → is_some (map.get state.offsets k) ≡ true → list_any (bytes_eq k.group) (in_order (groups_in state)) ≡ true
 offset_covered state k there =
     let known : list_any (bytes_eq k.group) (each (λ x. x.group) (map.keys state.offsets)) ≡ true = any_group k (map.keys state.offsets) (sym (map.contains_key-keys state.offsets k) ∙ there) in
-    any_group_in state k.group ∙ ap (λ b. map.contains_key state.records k.group || b) known ∙ or_true (map.contains_key state.records k.group)
+    any_group_in state k.group ∙ ap (λ b. map.contains_key state.records k.group || b) known ∙ or-true (map.contains_key state.records k.group)
 
 nothing_holds : (whole : State) → Holds whole empty (λ q. false)
 nothing_holds whole = record { records = λ q. map.get-empty name_cmp q; offsets = λ k. map.get-empty key_cmp k }

@@ -1,5 +1,5 @@
 -- Sorted shelves as the map of their offsets.
-use Rattle.std.proofs.Common.{◌≡◌, ℕ, ◌<◌, Bool, true, false, cond, List, [], ◌∷◌, ◌++◌, length, map as each, Some, None, ap, sym, ◌∙◌, refl, subst, arith}
+use Rattle.std.proofs.Common.{◌≡◌, ℕ, ◌<◌, Bool, true, false, cond, List, [], ◌∷◌, ◌++◌, length, map as each, Some, None, ap, sym, ◌∙◌, refl, subst, arith, append-nil}
 use Rattle.std.proofs.Math.Dec.{T}
 use Rattle.std.specs.Prelude.{◌||◌, IsTrue, filter, bytes_eq}
 use Rattle.std.specs.List.{list_any}
@@ -11,6 +11,7 @@ use Rattle.std.specs.FinMap.Entries.{find-where_key}
 use Rattle.std.proofs.lemmas.List.Elements.{filter-append}
 use Rattle.std.proofs.lemmas.List.Folds.{list_any-append}
 use Rattle.std.proofs.lemmas.Slice.Eq.{bytes_eq-Decides}
+use Rattle.std.proofs.Math.Bool.{or-false, or_self}
 use Rattle.cg_fold.specs.declared.key.TopicPartition.{TopicPartition}
 use Rattle.cg_fold.specs.Key.{KeptOffset, KeptRow, OffsetKey, in_group, key_cmp, key_of, name_cmp, topic_partition, partition_cmp, without_group_id}
 use Rattle.cg_fold.specs.Record.{KeptRecord}
@@ -22,14 +23,6 @@ use Rattle.cg_fold.proofs.Place.{and, below_all, both, less}
 use Rattle.cg_fold.proofs.Put.{tested}
 use Rattle.cg_fold.proofs.Names.{in_order_same, itself, strange, tied}
 use Rattle.cg_fold.proofs.Kept.{Offsets, map_of, state}
-
-or_false : (b : Bool) → (b || false) ≡ b
-or_false true = refl
-or_false false = refl
-
-or_same : (b : Bool) → (b || b) ≡ b
-or_same true = refl
-or_same false = refl
 
 -- ---- the rows of one group, and its offsets
 
@@ -100,10 +93,6 @@ filter-strange g h [] apart = refl
 filter-strange g h (row ∷ rows) apart =
     ap (λ b. cond b (in_group h row ∷ filter (λ k. is_of_group g k.0) (kept_all h rows)) (filter (λ k. is_of_group g k.0) (kept_all h rows))) apart
     ∙ filter-strange g h rows apart
-
-pub append-nil : {X : Type 0} (xs : List X) → xs ++ [] ≡ xs
-append-nil [] = refl
-append-nil (x ∷ xs) = ap (λ l. x ∷ l) (append-nil xs)
 
 -- the offsets of a group are those on its shelf
 filter-stock : (g : List ℕ) (shelves : List KeptShelf) → T (is_sorted name_cmp shelves) → filter (λ k. is_of_group g k.0) (stock shelves) ≡ kept_all g (rows_at g shelves)
@@ -197,8 +186,8 @@ groups_of kept = each (λ k. k.group) (each (λ k. k.0) kept)
 
 any-own : (q g : List ℕ) (rows : List KeptRow) → 0 < length rows → list_any (bytes_eq q) (groups_of (kept_all g rows)) ≡ bytes_eq q g
 any-own q g [] some = absurd (omega (arith, some))
-any-own q g (row ∷ []) some = or_false (bytes_eq q g)
-any-own q g (row ∷ next ∷ rows) some = ap (λ b. bytes_eq q g || b) (any-own q g (next ∷ rows) (omega arith)) ∙ or_same (bytes_eq q g)
+any-own q g (row ∷ []) some = or-false (bytes_eq q g)
+any-own q g (row ∷ next ∷ rows) some = ap (λ b. bytes_eq q g || b) (any-own q g (next ∷ rows) (omega arith)) ∙ or_self (bytes_eq q g)
 
 each-append : (rows others : List KeptOffset) → groups_of (rows ++ others) ≡ groups_of rows ++ groups_of others
 each-append [] others = refl

@@ -21,12 +21,6 @@ replace_found records after group held new sorted there stored =
     stored ∙ set_value-put name_total group held (replaced_record new held) records (tested sorted) found
     ∙ sym (ap (λ f. put_found group (option_map (replaced_record new) f) records) found)
 
--- the group has no record
-pub replace_missed : (records after : List KeptRecord) (group : List ℕ) (new : Member)
-    → lookup (is_at (name_cmp group)) records ≡ None → after ≡ records → after ≡ replaced_among group new records
-replace_missed records after group new absent same =
-    same ∙ sym (ap (λ f. put_found group (option_map (replaced_record new) f) records) (sym (lookup-find name_cmp group records) ∙ absent))
-
 found_keeps_order : (group : List ℕ) (found : Option GroupRecord) (records : List KeptRecord) → IsTrue (is_sorted name_cmp records) → IsTrue (is_sorted name_cmp (put_found group found records))
 found_keeps_order group None records sorted = sorted
 found_keeps_order group (Some r) records sorted = put_keeps_order name_total group r records (put name_cmp group r records) refl sorted

@@ -1,8 +1,9 @@
 -- What a gate that is written, and a guarded write, leave.
 use Rattle.std.proofs.Common.{◌≡◌, ℕ, zero, ◌+◌, ◌<◌, List, length, get_or, set, replicate, length-set, get_or-set_same, get_or-set_other, sym, ◌∙◌, ap, subst, inl, inr, arith, add-zero}
-use Rattle.std.proofs.lemmas.Bool.{cases_eq, cases_lt}
-use Rattle.std.proofs.lemmas.List.{get_or-take, get_or_past, get_or-replicate, length-replicate, take_all}
+use Rattle.std.proofs.lemmas.Bool.{cases_eq}
+use Rattle.std.proofs.lemmas.List.{get_or-take, length-replicate, take_all}
 use Rattle.cg_disk.specs.Disk.{Image, Moment, History, Changes, LeavesOnly, Holds, IsImage, IsSynced, present, sector}
+use Rattle.cg_disk.proofs.Bytes.{get_or-zeros}
 use Rattle.cg_disk.proofs.Moments.{Changes-present, IsDisturbed-wider, IsSynced-image, AllBut-wider, AllBut-then, LeavesOnly-starts, LeavesOnly-goes_on, AllBut-image}
 use Rattle.cg_gate.specs.Gates.{IsClosed, IsOpenGate, IsClosedGate, IsGuarded, GuardedWrite}
 
@@ -70,12 +71,6 @@ module _ (h0 h1 : History) (gate n : ℕ) (sectors : List ℕ) (first : Changes 
   }
 
 -- The sectors of gates
-
-get_or-zeros : (n i : ℕ) → ◌≡◌ {A = ℕ} (get_or (replicate n 0) i 0) 0
-get_or-zeros n i = elim (cases_lt i n) [
-  | inl lt ↦ get_or-replicate n i 0 0 lt
-  | inr ge ↦ get_or_past (replicate n 0) i 0 (omega (arith, length-replicate n zero, ge))
-]
 
 pub IsClosedGate-zeros : IsClosedGate (replicate 512 0)
 IsClosedGate-zeros = record { long = length-replicate {A = ℕ} 512 0; zeros = get_or-zeros 512 }

@@ -272,7 +272,7 @@ next_is_completed n = elim (nat_lt n GENERATION_MAX) as (λ b. completed_generat
     is_completed : (k : ℕ) → 1 ≤ k → completed_generation k ≡ Some k
     is_completed k h = grind (arith, nat_tests)
 
-empty_is : (ms : List Member) → is_empty ms ≡ true → ms ≡ []
+pub empty_is : (ms : List Member) → is_empty ms ≡ true → ms ≡ []
 empty_is [] e = refl
 empty_is (m ∷ ms) e = cc
 

@@ -55,6 +55,7 @@ use Rattle.cg_group.proofs.OffsetsKept.{AreQuiet, quiet-offsets}
 use Rattle.cg_group.proofs.Quiet.{quiet-all, quiet-beat, quiet-concluded, quiet-gone_in, quiet-join, quiet-leave, quiet-sync, quiet-ticked}
 use Rattle.cg_group.proofs.KeptMachine.{Fits, Invariant, each-over, fits_framed, invariant-concluded, invariant-deleted, invariant-everywhere, kept-undeleted}
 use Rattle.cg_group.proofs.Requests.{Fine, fine-beat, fine-commit, fine-join, fine-leave, fine-sync}
+use Rattle.cg_group.proofs.Made.{own_id_new}
 use Rattle.std.proofs.lemmas.Cmp.{nat_list_eq_equiv}
 
 -- the machine agrees with the records, after these events
@@ -135,12 +136,8 @@ nothing : (o : Option GroupRecord) → (is_some o ≡ true → ⊥) → o ≡ No
 nothing None h = refl
 nothing (Some r) h = absurd (h refl)
 
-id_new : (id : List ℕ) → (new_group id).id ≡ id
-unfolding new_group
-id_new id = refl
-
 unkept : (kept : Kept) (groups : List Group) (id : List ℕ) → find_group id groups ≡ None → ((i : List ℕ) → is_some (kept i) ≡ true → is_some (find_group i groups) ≡ true) → kept (new_group id).id ≡ None
-unkept kept groups id none held = ap kept (id_new id) ∙ nothing (kept id) (λ e. false≢true (sym (ap is_some none) ∙ held id e))
+unkept kept groups id none held = ap kept (own_id_new id) ∙ nothing (kept id) (λ e. false≢true (sym (ap is_some none) ∙ held id e))
 
 whole_new : (events : List (Event × ℕ)) (offsets : OffsetMap) (id : List ℕ) → HasOffset offsets id → Whole events offsets (new_group id) None
 unfolding new_group is_common
@@ -216,7 +213,7 @@ module _ (events : List (Event × ℕ)) (offsets : OffsetMap) (kept : Kept) wher
       let gone : kept (new_group id).id ≡ None = unkept kept s.groups id none v.held in
       let P : Option GroupRecord → Type 0 = λ o. Whole events offsets (new_group id) o in
       fits_framed (Whole events offsets) kept (new_group id).id _ framed
-      (after-committed events offsets kept s.last r.entries ticket None (new_group id) (subst P (sym gone) (whole_new events offsets id (subst H (framed.0 ∙ id_new id) has)))))
+      (after-committed events offsets kept s.last r.entries ticket None (new_group id) (subst P (sym gone) (whole_new events offsets id (subst H (framed.0 ∙ own_id_new id) has)))))
       (λ id g who e _ _. fits_framed (Whole events offsets) kept g.id _ (framed-committed s.last r.entries ticket who g)
       (after-committed events offsets kept s.last r.entries ticket who g (each-found (λ k. Whole events offsets k (kept k.id)) id s.groups g e v.each))))) v
   whole-met s (event.Fetch ticket r) asked seen stored v = let P : Kept → Type 0 = λ k. Invariant (Whole events offsets) s.groups k in subst P (sym (kept_after-none kept)) v

@@ -41,6 +41,7 @@ use Rattle.cg_group.proofs.Elections.{HasCommon}
 use Rattle.cg_held.proofs.Framed.{Framed, framed-in_join_phase, framed-waiting, framed-expired_of}
 use Rattle.cg_member.proofs.Keeping.{map-with_member, keep-after_answers}
 use Rattle.cg_held.proofs.KeptLists.{kept_after-one, same_names}
+use Rattle.cg_held.proofs.Mapped.{id-hearing}
 use Rattle.cg_group.proofs.Calling.{AllWaits, each-filter, is_named_wait, no_sync, waits-after_answers, waits-append, waits-seated, waits-with_member}
 use Rattle.cg_group.proofs.Succeeding.{successor_may, told-replacing}
 use Rattle.cg_group.proofs.Agreeing.{After, Holds, Joining, Suits, Whole, after-after_removal, after-completed, after-distributed, after-ended, after-hearing, after-tried, common-append, common-filter, common-map, common-seated, common-update, empty_members, joining-in_join_phase, joining-waiting, joining_from, kind_holds, lasting_kept, lasting_protocols, preparing_is, whole-members}
@@ -77,10 +78,6 @@ nothing_passes p (x ∷ xs) e n = cc
 joining-keeping : (stays : Member → Bool) (g : Group) → Joining g → Joining (keeping stays g)
 unfolding keeping
 joining-keeping stays g j = record { phase = j.phase; kind = j.kind; common = common-filter stays g.members j.common; quiet = each-filter (λ m. no_sync m.id m.waits ≡ true) stays g.members j.quiet }
-
-id-hearing : (now : ℕ) (own : List ℕ) (g : Group) → (hearing now own g).id ≡ g.id
-unfolding hearing
-id-hearing now own g = refl
 
 id-keeping : (stays : Member → Bool) (g : Group) → (keeping stays g).id ≡ g.id
 unfolding keeping

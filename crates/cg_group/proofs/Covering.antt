@@ -1,12 +1,10 @@
 -- Each group with an offset is loaded, before and after each event.
-use Rattle.std.proofs.Common.{◌≡◌, ℕ, Bool, true, false, not, ◌||◌, List, [], ◌∷◌, cond, is_some, refl, sym, ap, ◌∙◌, subst, Option, Some, None, Result, Ok, Err, max}
+use Rattle.std.proofs.Common.{◌≡◌, ℕ, Bool, true, false, ◌||◌, List, [], ◌∷◌, cond, is_some, refl, sym, ap, ◌∙◌, subst, Option, Some, None, Result, Ok, Err, max}
 use Rattle.std.specs.List.{flat_map, fold}
-use Rattle.std.specs.Ordering.{eq_by_cmp, is_eq}
+use Rattle.std.specs.Ordering.{eq_by_cmp}
 use Rattle.std.specs.FinMap as finmap
 use Rattle.std.specs.FinMap.{get-insert, get-retain_keys}
-use Rattle.std.specs.declared.cmp.Ordering.{Ordering}
-use Rattle.std.specs.declared.cmp.Ordering.TheVariants.{Less, Equal, Greater}
-use Rattle.std.proofs.lemmas.Bool.{or_left, or_right, false≢true}
+use Rattle.std.proofs.lemmas.Bool.{or_left, or_right, false≢true, not-true}
 use Rattle.std.proofs.lemmas.Cmp.{nat_list_eq_equiv}
 use Rattle.cg_names.specs.declared.code.Code.{Code}
 use Rattle.cg_record.specs.declared.entry.Entry.{Entry}
@@ -14,6 +12,7 @@ use Rattle.cg_fold.specs.declared.key.StoredOffset.{StoredOffset}
 use Rattle.cg_fold.specs.Durable.{State, after, effect, is_of_other, with_entry}
 use Rattle.cg_fold.specs.Key.{OffsetKey, key_cmp, kept_of}
 use Rattle.cg_fold.proofs.KeyOrder.{key_same, key_total}
+use Rattle.cg_fold.proofs.Names.{equal}
 use Rattle.cg_request.specs.declared.event.Event.{Event}
 use Rattle.cg_request.specs.declared.event.Event.TheVariants as event
 use Rattle.cg_member.specs.declared.group.Group.{Group}
@@ -45,11 +44,6 @@ Covered offsets groups = (key : OffsetKey) → is_some (finmap.get offsets key) 
 abbrev Adds : OffsetMap → Turn → Type 0
 Adds offsets t = (key : OffsetKey) → is_some (finmap.get (offsets_after offsets t.commands) key) ≡ true → (is_same t.group.id key.group || is_some (finmap.get offsets key)) ≡ true
 
-equal_is : (o : Ordering) → is_eq o ≡ true → o ≡ Equal
-equal_is Less e = absurd (false≢true e)
-equal_is Equal e = refl
-equal_is Greater e = absurd (false≢true e)
-
 over_or : (a b c : Bool) → (b ≡ true → c ≡ true) → (a || b) ≡ true → (a || c) ≡ true
 over_or true b c k e = refl
 over_or false b c k e = k e
@@ -61,7 +55,7 @@ added group (x ∷ xs) offsets key e =
     let new = kept_of group x in
     let got = get-insert key_total offsets new.0 new.1 key in
     let one : eq_by_cmp key_cmp key new.0 ≡ true → is_same group key.group ≡ true =
-    λ t. ap (λ (k : OffsetKey). is_same group k.group) (key_same key new.0 (equal_is (key_cmp key new.0) t)) ∙ same_self group in
+    λ t. ap (λ (k : OffsetKey). is_same group k.group) (key_same key new.0 (equal (key_cmp key new.0) t)) ∙ same_self group in
     let put : (is_same group key.group || is_some (cond (eq_by_cmp key_cmp key new.0) (Some new.1) (finmap.get offsets key))) ≡ true =
     ap (λ o. is_same group key.group || is_some o) (sym got) ∙ added group xs (with_entry group offsets x) key e in
     (elim (eq_by_cmp key_cmp key new.0) as (λ b. (b ≡ true → is_same group key.group ≡ true) → (is_same group key.group || is_some (cond b (Some new.1) (finmap.get offsets key))) ≡ true → (is_same group key.group || is_some (finmap.get offsets key)) ≡ true) [
@@ -100,17 +94,13 @@ left_over : (b : Bool) (o : Option StoredOffset) → is_some (cond b o None) ≡
 left_over true o e = (refl, e)
 left_over false o e = absurd (false≢true e)
 
-not_other : (b : Bool) → not b ≡ true → b ≡ false
-not_other true e = absurd (false≢true e)
-not_other false e = refl
-
 covered-deleted : (s : Machine) (ticket : Ticket) (o : Result (List ℕ) Code) → Covered s.offsets s.groups → Covered (offsets_after s.offsets (deleted s ticket o).effects.commands) (deleted s ticket o).after.groups
 unfolding deleted effect
 covered-deleted s ticket (Err code) v key e = v key e
 covered-deleted s ticket (Ok id) v key e =
     let got = get-retain_keys s.offsets (is_of_other id) key (λ x t. ap (is_of_other id) (sym (key_same key x t))) in
     let parts = left_over (is_of_other id key) (finmap.get s.offsets key) (ap is_some (sym got) ∙ e) in
-    found-without id key.group s.groups (nat_list_eq_equiv.symm id key.group ∙ not_other (is_same key.group id) parts.0) (v key parts.1)
+    found-without id key.group s.groups (nat_list_eq_equiv.symm id key.group ∙ not-true (is_same key.group id) parts.0) (v key parts.1)
 
 pub covered-met : (s : Machine) (e : Event) → Covered s.offsets s.groups → Covered (offsets_after s.offsets (met s e).effects.commands) (met s e).after.groups
 unfolding met

@@ -28,25 +28,10 @@ use Rattle.cg_member.specs.Joining.{displaced, updated, updating, waiting, waits
 use Rattle.cg_member.specs.Membership.{find_member, has_id, heard, hearing, with_member}
 use Rattle.cg_member.specs.Rebalance.{turn_of}
 use Rattle.cg_member.specs.Waiting.{called, is_waiting}
+use Rattle.cg_member.proofs.Recalling.{find-with_member}
 use Rattle.cg_group.proofs.InPlace.{join_here, sync_here}
 use Rattle.cg_group.proofs.KnownSessions.{known-parked_join, known-parked_sync}
 use Rattle.cg_group.proofs.TightIndex.{tight_parked}
-
--- the member with the id, after one of this id was changed
-find-with_member : (id : List ℕ) (change : Member → Member) → ((m : Member) → (change m).id ≡ m.id) → (ms : List Member) (m : Member) → find_member id ms ≡ Some m → find_member id (with_member id change ms) ≡ Some (change m)
-unfolding find_member with_member
-find-with_member id change keeps [] m e = cc
-find-with_member id change keeps (x ∷ xs) m e =
-    (elim (has_id id x) as (λ b. has_id id x ≡ b → cond b (Some x) (find (has_id id) xs) ≡ Some m → find (has_id id) (if b then change x ∷ xs else x ∷ with_member id change xs) ≡ Some (change m)) [
-      | true ↦ λ h f.
-          let same : x ≡ m = cc in
-          let own : has_id id (change x) ≡ true = own_id x h in
-          ap (λ b. cond b (Some (change x)) (find (has_id id) xs)) own ∙ ap (λ y. Some (change y)) same
-      | false ↦ λ h f. ap (λ b. cond b (Some x) (find (has_id id) (with_member id change xs))) h ∙ find-with_member id change keeps xs m f
-    ]) refl e
-  where
-    own_id : (y : Member) → has_id id y ≡ true → has_id id (change y) ≡ true
-    own_id y h = ap (λ i. has_id id (record y { id = i })) (keeps y) ∙ h
 
 -- a change of one member: who passed the test before passes it after, or is that member
 any-or : (p : Member → Bool) (id : List ℕ) (change : Member → Member) (ms : List Member) (m : Member) → find_member id ms ≡ Some m → list_any p ms ≡ true → (list_any p (with_member id change ms) ≡ true) ⊎ (p m ≡ true)

@@ -29,10 +29,7 @@ use Rattle.cg_member.specs.Rebalance.{joined_reply}
 use Rattle.cg_member.specs.Refusing.{◌>>=◌, refused_if}
 use Rattle.cg_member.specs.Syncing.{sync_current, sync_held, sync_taken}
 use Rattle.cg_held.proofs.InOrder.{found_named}
-
-id-hearing : (now : ℕ) (id : List ℕ) (g : Group) → (hearing now id g).id ≡ g.id
-unfolding hearing
-id-hearing now id g = refl
+use Rattle.cg_held.proofs.Mapped.{id-hearing}
 
 -- a fact that holds in any case holds of an error
 pub on_err : {A E : Type 0} (r : Result A E) (P : Type 0) → P → OnErr r P

@@ -43,9 +43,11 @@ use Rattle.cg_member.specs.Waiting.{after_answers, answered, called, is_waiting}
 use Rattle.std.proofs.lemmas.Bool.{eqb-false, eqb-true, or_from}
 use Rattle.cg_held.proofs.Framed.{Framed, framed-beat_taken, framed-committed, framed-gone_in, framed-join_known, framed-join_new, framed-join_replacing, framed-leave_taken, framed-sync_taken, framed-ticked}
 use Rattle.cg_group.proofs.Calling.{each-filter, waits-after_answers, waits-append, waits-assigned, waits-seated, waits-with_member}
-use Rattle.cg_held.proofs.KeptLists.{each-found, each-put, id-found, same_names}
+use Rattle.cg_held.proofs.KeptLists.{each-found, each-put}
 use Rattle.cg_held.proofs.Removing.{each-without}
+use Rattle.cg_held.proofs.InOrder.{found_named}
 use Rattle.cg_group.proofs.Requests.{Fine, fine-beat, fine-commit, fine-join, fine-leave, fine-sync}
+use Rattle.cg_group.proofs.Made.{own_id_new}
 
 module _ (sessions : ℕ → Bool) where
   abbrev allowed : List ℕ → Waits → Bool
@@ -241,9 +243,6 @@ module _ (sessions : ℕ → Bool) where
   known-committed now entries ticket None g h = h
   known-committed now entries ticket (Some id) g h = known-hearing now id g h
 
-found_named : (id : List ℕ) (groups : List Group) (g : Group) → find_group id groups ≡ Some g → g.id ≡ id
-found_named id groups g e = same_names g.id id (id-found id groups g e)
-
 -- a fact about the group before its step carries over to the group after it
 module _ (homes : ℕ → List ℕ → Bool) where
   abbrev at : List ℕ → ℕ → Bool
@@ -260,10 +259,6 @@ module _ (homes : ℕ → List ℕ → Bool) where
 
   its_own : (session : ℕ) (o : Option (List ℕ)) (id x : List ℕ) → ((y : List ℕ) → o ≡ Some y → homes session y ≡ true) → o ≡ Some x → id ≡ x → homes session id ≡ true
   its_own session o id x own named same = ap (homes session) same ∙ own x named
-
-  id-new_group : (id : List ℕ) → (new_group id).id ≡ id
-  unfolding new_group
-  id-new_group id = refl
 
   known-concluded : (s : Machine) (ticket : Ticket) (o : Result Turn Code) → Fine Stays o → AreKnown homes s.groups → AreKnown homes (concluded s ticket o).after.groups
   unfolding concluded
@@ -290,7 +285,7 @@ module _ (homes : ℕ → List ℕ → Bool) where
       (fine-join Stays s.last r fresh ticket s.groups
       (λ id new named _.
       let g : Group = new_group id in
-      stays g.id (join_new s.last r new ticket g) (framed-join_new s.last r new ticket g) (known-join_new (at g.id) s.last r new ticket g (its_own ticket.session r.group g.id id own named (id-new_group id)) (known-new_group (at g.id) id)))
+      stays g.id (join_new s.last r new ticket g) (framed-join_new s.last r new ticket g) (known-join_new (at g.id) s.last r new ticket g (its_own ticket.session r.group g.id id own named (own_id_new id)) (known-new_group (at g.id) id)))
       (λ id new g named e _ _ _.
       stays g.id (join_new s.last r new ticket g) (framed-join_new s.last r new ticket g) (known-join_new (at g.id) s.last r new ticket g (its_own ticket.session r.group g.id id own named (found_named id s.groups g e)) (each-found Home id s.groups g e h)))
       (λ id new g old named e _ _ _.
@@ -448,14 +443,10 @@ known-revived homes now state (x ∷ xs) = (known-revived_one (at homes (revived
 one_name : (o : Option (List ℕ)) (x y : List ℕ) → o ≡ Some x → o ≡ Some y → x ≡ y
 one_name o x y e f = let same : Some x ≡ Some y = sym e ∙ f in cc
 
-own_group : (id : List ℕ) → (new_group id).id ≡ id
-unfolding new_group
-own_group id = refl
-
 named-join : (now : ℕ) (r : JoinRequest) (fresh : List ℕ) (ticket : Ticket) (groups : List Group) → Fine (λ t. (x : List ℕ) → r.group ≡ Some x → t.group.id ≡ x) (join now r fresh ticket groups)
 named-join now r fresh ticket groups =
     fine-join (λ t. (x : List ℕ) → r.group ≡ Some x → t.group.id ≡ x) now r fresh ticket groups
-    (λ id new named _ x k. (framed-join_new now r new ticket (new_group id)).0 ∙ own_group id ∙ one_name r.group id x named k)
+    (λ id new named _ x k. (framed-join_new now r new ticket (new_group id)).0 ∙ own_id_new id ∙ one_name r.group id x named k)
     (λ id new g named e _ _ _ x k. (framed-join_new now r new ticket g).0 ∙ found_named id groups g e ∙ one_name r.group id x named k)
     (λ id new g old named e _ _ _ x k. (framed-join_replacing now r new ticket old g).0 ∙ found_named id groups g e ∙ one_name r.group id x named k)
     (λ id own g m named e _ _ x k. (framed-join_known now r own ticket m g).0 ∙ found_named id groups g e ∙ one_name r.group id x named k)

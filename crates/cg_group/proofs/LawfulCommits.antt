@@ -26,7 +26,7 @@ use Rattle.cg_held.specs.Held.{Machine, find_group}
 use Rattle.cg_member.specs.Membership.{find_member, is_empty}
 use Rattle.cg_member.specs.Refusing.{◌>>=◌, refused_if}
 use Rattle.cg_held.specs.Reviving.{revive}
-use Rattle.cg_group.proofs.Agreeing.{Whole, empty_members}
+use Rattle.cg_group.proofs.Agreeing.{Whole, empty_members, empty_is}
 use Rattle.cg_group.proofs.AgreeingMachine.{whole-all}
 use Rattle.cg_held.proofs.KeptLists.{each-found}
 use Rattle.cg_group.proofs.Requests.{Fine, after_checked, after_given, after_test, check_parts, passed_by, tested, unfenced_by}
@@ -37,10 +37,6 @@ IsSound g = g.phase ≡ Empty → g.members ≡ []
 
 Lawful : CommitRequest → Option Group → Type 0
 Lawful r o = IsOfNobody r o ⊎ IsOfMember r o
-
-empty_is : (ms : List Member) → is_empty ms ≡ true → ms ≡ []
-empty_is [] e = refl
-empty_is (m ∷ ms) e = cc
 
 found_some : (ms : List Member) (id : List ℕ) (m : Member) → find_member id ms ≡ Some m → ms ≡ [] → ⊥
 unfolding find_member

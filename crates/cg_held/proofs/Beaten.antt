@@ -11,11 +11,6 @@ use Rattle.cg_held.proofs.InOrder.{found_named}
 use Rattle.cg_held.proofs.KeptLists.{ascending-with_group}
 use Rattle.cg_held.proofs.Mapped.{id-hearing, stand-set_value, values-set_value}
 
--- what follows in either case follows from a result
-pub match-more : {T E : Type 0} (r : Result T E) (P P' : T → Type 0) (Q Q' : E → Type 0) → ((x : T) → P x → P' x) → ((e : E) → Q e → Q' e) → MatchResult r P Q → MatchResult r P' Q'
-match-more (Ok x) P P' Q Q' p q h = p x h
-match-more (Err e) P P' Q Q' p q h = q e h
-
 -- a member of the group there is heard, or nothing changes
 module _ (x : List ℕ) (now : ℕ) (g : Group) (es after : List (List ℕ × Group)) (h : StandUnderIds es) (o : InOrder (values_of es)) (found : find_group x (values_of es) ≡ Some g) where
   pub heard_values : (id : List ℕ) → after ≡ set_value (is_at (slice_cmp nat_cmp x)) es (hearing now id g) → values_of after ≡ with_group (hearing now id g) (values_of es)

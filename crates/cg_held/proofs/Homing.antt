@@ -1,13 +1,13 @@
 -- The session index keeps each parked call after an event.
 use Rattle.std.proofs.Common.{◌≡◌, ℕ, zero, suc, ◌+◌, ◌<◌, ◌≤◌, Bool, true, false, cond, List, [], ◌∷◌, length, get_or, is_some, inl, inr, Option, Some, None, refl, sym, ap, ◌∙◌, subst, arith}
-use Rattle.std.proofs.lemmas.Bool.{cases_lt, eqb-false, eqb-true, false≢true, or_left, or_right}
-use Rattle.std.specs.List.{list_any}
+use Rattle.std.proofs.lemmas.Bool.{cases_lt, eqb-true, false≢true}
 use Rattle.std.specs.Prelude.{◌⊎◌, ◌==◌, nat_lt}
 use Rattle.std.specs.declared.cmp.Ordering.TheVariants.{Less, Equal, Greater}
 use Rattle.std.specs.BTreeMap.{BTreeMap, get, is_at}
 use Rattle.std.specs.Cmp.Lexicographic.{slice_cmp}
 use Rattle.std.proofs.lemmas.Map.Text.{is_eq-slice_cmp}
 use Rattle.std.specs.Ordering.{nat_cmp, is_eq}
+use Rattle.std.proofs.lemmas.List.{get_or_default}
 use Rattle.cg_member.specs.declared.group.Group.{Group}
 use Rattle.cg_member.specs.declared.member.Member.{Member}
 use Rattle.cg_member.specs.declared.member.Waits.{Waits}
@@ -17,7 +17,7 @@ use Rattle.cg_held.specs.declared.sessions.Home.TheVariants.{Certain}
 use Rattle.cg_held.specs.Kept.{Each}
 use Rattle.cg_held.specs.Held.{InOrder, find_group}
 use Rattle.cg_request.specs.Names.{is_same}
-use Rattle.cg_held.specs.Sessions.{AreKnown, IsFilled, IsSettled, IsSettledIn, Known, is_certain_in, is_known, is_lived_in, is_noted}
+use Rattle.cg_held.specs.Sessions.{AreKnown, Known, is_certain_in, is_known, is_lived_in, is_noted}
 use Rattle.cg_held.proofs.InOrder.{found_alone, found_named, none_found}
 use Rattle.cg_held.proofs.KeptLists.{same_names, same_self}
 
@@ -115,11 +115,6 @@ pub certain_home : (id : List ℕ) (groups : Option (BTreeMap (List ℕ) Home)) 
 certain_home id None h = h
 certain_home id (Some groups) h = lived_in (get (slice_cmp nat_cmp) groups id) h
 
-at_any : {X : Type 0} (xs : List X) (i : ℕ) (c d : X) → i < length xs → get_or xs i c ≡ get_or xs i d
-at_any [] i c d lt = absurd (omega arith)
-at_any (x ∷ xs) zero c d lt = refl
-at_any (x ∷ xs) (suc i) c d lt = at_any xs i c d (omega arith)
-
 -- one more member, whose parked call is in the index for certain
 pub affirmed : (first before sure after : ℕ → Bool) (ms : List Member) (i : ℕ) (m : Member) → i < length ms → m ≡ get_or ms i m
     → ((q : ℕ) → first q ≡ true → before q ≡ true) → ((q : ℕ) → sure q ≡ true → after q ≡ true)
@@ -132,7 +127,7 @@ affirmed first before sure after ms i m below here kept certain own h k d lt kno
     choose (inl less) = known_more sure after certain (get_or ms k d).waits (h k d less known)
     choose (inr more) =
         let at : i ≡ k = omega arith in
-        let same : m ≡ get_or ms k d = here ∙ at_any ms i m d below ∙ ap (λ n. get_or ms n d) at in
+        let same : m ≡ get_or ms k d = here ∙ get_or_default ms i m d below ∙ ap (λ n. get_or ms n d) at in
         let P : Member → Type 0 = λ x. is_known after x.waits ≡ true in
         let Q : Member → Type 0 = λ x. is_known first x.waits ≡ true in
         subst P same (own (known_more first before kept m.waits (subst Q (sym same) known)))
@@ -143,13 +138,7 @@ each_more P xs i x below here own h k d lt = choose (cases_lt k i)
   where
     choose : (k < i) ⊎ (i ≤ k) → P (get_or xs k d)
     choose (inl less) = h k d less
-    choose (inr more) = let at : i ≡ k = omega arith in subst P (here ∙ at_any xs i x d below ∙ ap (λ n. get_or xs n d) at) own
-
--- the element at an index passes the test, and so one does
-pub any_at : {X : Type 0} (p : X → Bool) (xs : List X) (i : ℕ) (d : X) → i < length xs → p (get_or xs i d) ≡ true → list_any p xs ≡ true
-any_at p [] i d lt e = absurd (omega arith)
-any_at p (x ∷ xs) zero d lt e = or_left (p x) (list_any p xs) e
-any_at p (x ∷ xs) (suc i) d lt e = or_right (p x) (list_any p xs) (any_at p xs i d (omega arith) e)
+    choose (inr more) = let at : i ≡ k = omega arith in subst P (here ∙ get_or_default xs i x d below ∙ ap (λ n. get_or xs n d) at) own
 
 -- the parked calls of the group are still in the index, if it is loaded
 pub settled_any : (before after : ℕ → List ℕ → Bool) (id : List ℕ) → ((q : ℕ) (x : List ℕ) → (x ≡ id → ⊥) → before q x ≡ true → after q x ≡ true) → (gs : List Group) → InOrder gs

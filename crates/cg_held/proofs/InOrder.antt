@@ -7,9 +7,9 @@ use Rattle.std.specs.Cmp.Lexicographic.{slice_cmp}
 use Rattle.std.specs.List.{AllByRecursion}
 use Rattle.std.specs.List.Sorted.{IsStrictlySortedBy}
 use Rattle.std.specs.Ordering.{nat_cmp, is_eq, match_ordering, ordering_reverse}
-use Rattle.std.specs.declared.cmp.Ordering.{Ordering}
 use Rattle.std.specs.declared.cmp.Ordering.TheVariants.{Less, Equal, Greater}
 use Rattle.cg_member.specs.declared.group.Group.{Group}
+use Rattle.cg_fold.proofs.Names.{equal}
 use Rattle.cg_held.specs.Kept.{Ascending, ComeBefore, ComesBefore, Each}
 use Rattle.cg_held.specs.Held.{InOrder, IsHeld, find_group, with_group}
 use Rattle.cg_request.specs.Names.{is_same}
@@ -18,12 +18,7 @@ use Rattle.cg_held.proofs.KeptLists.{differs_from_order, each-found, group_ids, 
 -- how names compare
 
 pub same_order : (x : List ℕ) → slice_cmp nat_cmp x x ≡ Equal
-same_order x = equal_from (slice_cmp nat_cmp x x) (is_eq-slice_cmp x x ∙ same_self x)
-  where
-    equal_from : (o : Ordering) → is_eq o ≡ true → o ≡ Equal
-    equal_from Less e = cc
-    equal_from Equal e = refl
-    equal_from Greater e = cc
+same_order x = equal (slice_cmp nat_cmp x x) (is_eq-slice_cmp x x ∙ same_self x)
 
 pub equal_is : (x y : List ℕ) → slice_cmp nat_cmp x y ≡ Equal → x ≡ y
 equal_is x y e = same_names x y (sym (is_eq-slice_cmp x y) ∙ ap is_eq e)

@@ -1,8 +1,8 @@
 -- The members of a lawful record are lawful members of a group.
-use Rattle.std.proofs.Common.{◌≡◌, ℕ, ◌≤◌, Bool, true, false, not, List, [], ◌∷◌, ◌++◌, map, refl, sym, ap, ◌∙◌, subst, Option, Some, None}
+use Rattle.std.proofs.Common.{◌≡◌, ℕ, ◌≤◌, true, false, not, List, [], ◌∷◌, ◌++◌, map, refl, sym, ap, ◌∙◌, subst, Option, Some, None}
 use Rattle.std.specs.List.{list_any, flat_map, AllByRecursion, IsDistinct}
 use Rattle.std.specs.Option.{option_to_list}
-use Rattle.std.proofs.lemmas.Bool.{and_from, or_parts, or_from}
+use Rattle.std.proofs.lemmas.Bool.{and_from, or_parts, or_from, not_from_false}
 use Rattle.std.proofs.lemmas.List.{length-map}
 use Rattle.cg_record.specs.declared.member.Member.{Member as KeptMember}
 use Rattle.cg_record.specs.declared.roster.TheConstants.{MEMBERS_MAX}
@@ -18,9 +18,6 @@ kept_ids ms = map (λ m. m.id) ms
 kept_instances : List KeptMember → List (List ℕ)
 kept_instances ms = flat_map (λ m. option_to_list m.instance) ms
 
-not_false : (b : Bool) → b ≡ false → not b ≡ true
-not_false b e = ap not e
-
 no_other_id : (x : KeptMember) (ys : List KeptMember) → AllByRecursion (λ y. have_one_name x y ≡ false) ys → list_any (is_same x.id) (kept_ids ys) ≡ false
 unfolding kept_ids
 no_other_id x [] h = refl
@@ -29,7 +26,7 @@ no_other_id x (y ∷ ys) h = or_from (is_same x.id y.id) (list_any (is_same x.id
 own_ids : (ms : List KeptMember) → AreApart ms → are_distinct (kept_ids ms) ≡ true
 unfolding IsDistinct are_distinct kept_ids
 own_ids [] h = refl
-own_ids (m ∷ ms) h = and_from (not (list_any (is_same m.id) (kept_ids ms))) (are_distinct (kept_ids ms)) (not_false (list_any (is_same m.id) (kept_ids ms)) (no_other_id m ms h.0)) (own_ids ms h.1)
+own_ids (m ∷ ms) h = and_from (not (list_any (is_same m.id) (kept_ids ms))) (are_distinct (kept_ids ms)) (not_from_false (list_any (is_same m.id) (kept_ids ms)) (no_other_id m ms h.0)) (own_ids ms h.1)
 
 no_other_instance : (i : List ℕ) (ys : List KeptMember) → AllByRecursion (λ y. is_one_instance (Some i) y.instance ≡ false) ys → list_any (is_same i) (kept_instances ys) ≡ false
 unfolding kept_instances
@@ -53,7 +50,7 @@ own_instances (m ∷ ms) h = go (own_instances ms h.1) m.instance refl
   where
     go : are_distinct (kept_instances ms) ≡ true → (o : Option (List ℕ)) → m.instance ≡ o → are_distinct (option_to_list o ++ kept_instances ms) ≡ true
     go rest None e = rest
-    go rest (Some i) e = and_from (not (list_any (is_same i) (kept_instances ms))) (are_distinct (kept_instances ms)) (not_false (list_any (is_same i) (kept_instances ms)) (no_other_instance i ms (instance_parts m (Some i) e ms h.0))) rest
+    go rest (Some i) e = and_from (not (list_any (is_same i) (kept_instances ms))) (are_distinct (kept_instances ms)) (not_from_false (list_any (is_same i) (kept_instances ms)) (no_other_instance i ms (instance_parts m (Some i) e ms h.0))) rest
 
 ids-revived : (now : ℕ) (protocol : List ℕ) (ms : List KeptMember) → ids (map (revived_member now protocol) ms) ≡ kept_ids ms
 unfolding revived_member kept_ids

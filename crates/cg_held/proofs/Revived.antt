@@ -1,5 +1,5 @@
 -- The groups after recovery, and their order.
-use Rattle.std.proofs.Common.{◌≡◌, ℕ, Bool, true, false, ◌||◌, ◌&&◌, List, [], ◌∷◌, cond, is_some, refl, sym, ap, ◌∙◌, subst, Option, Some, None, map as each, zero, suc, ◌+◌, ◌<◌, length, get_or, take, arith, ◌++◌}
+use Rattle.std.proofs.Common.{◌≡◌, ℕ, Bool, true, false, ◌||◌, List, [], ◌∷◌, cond, is_some, refl, sym, ap, ◌∙◌, subst, Option, Some, None, map as each, zero, suc, ◌+◌, ◌<◌, length, get_or, take, arith, ◌++◌}
 use Rattle.std.proofs.Math.Dec.{T}
 use Rattle.std.specs.List.{list_any}
 use Rattle.std.specs.Cmp.{eq_by_cmp_equiv}
@@ -19,6 +19,7 @@ use Rattle.cg_fold.specs.Durable.{State}
 use Rattle.cg_fold.specs.Key.{OffsetKey, key_cmp, name_cmp}
 use Rattle.cg_fold.specs.Snapshot.{groups_in, in_order, marked}
 use Rattle.cg_fold.proofs.KeyOrder.{key_total}
+use Rattle.cg_fold.proofs.Place.{less, both}
 use Rattle.cg_record.specs.Rosters.{RosterParts}
 use Rattle.cg_member.specs.declared.group.Group.{Group}
 use Rattle.cg_member.specs.Joining.{new_group}
@@ -33,25 +34,16 @@ use Rattle.cg_member.specs.Offsets.{OffsetMap}
 
 -- names in ascending order
 
-less_is : (o : Ordering) → T (is_lt o) → o ≡ Less
-less_is Less h = refl
-less_is Equal h = absurd h
-less_is Greater h = absurd h
-
-both_parts : (a b : Bool) → T (a && b) → T a × T b
-both_parts true b h = (tt, h)
-both_parts false b h = absurd h
-
 before_keys : {X : Type 0} (x : List ℕ) (es : List (List ℕ × X)) → T (below_all name_cmp x es) → ComesBefore x (each (λ e. e.0) es)
 before_keys x [] h = tt
 before_keys x (e ∷ es) h =
-    let parts = both_parts (is_lt (name_cmp x e.0)) (below_all name_cmp x es) h in
-    (less_is (slice_cmp nat_cmp x e.0) parts.0, before_keys x es parts.1)
+    let parts = both (is_lt (name_cmp x e.0)) (below_all name_cmp x es) h in
+    (less (slice_cmp nat_cmp x e.0) parts.0, before_keys x es parts.1)
 
 ascending_keys : {X : Type 0} (es : List (List ℕ × X)) → T (is_sorted name_cmp es) → Ascending (each (λ e. e.0) es)
 ascending_keys [] h = tt
 ascending_keys (e ∷ es) h =
-    let parts = both_parts (below_all name_cmp e.0 es) (is_sorted name_cmp es) h in
+    let parts = both (below_all name_cmp e.0 es) (is_sorted name_cmp es) h in
     (before_keys e.0 es parts.0, ascending_keys es parts.1)
 
 ascending-in_order : (names : List (List ℕ)) → Ascending (in_order names)

@@ -21,6 +21,7 @@ use Rattle.cg_held.specs.Sessions.{IfParked, IsFilled, IsLetGo, IsSettled, IsTig
 use Rattle.cg_held.proofs.Finding.{find-other, find-own, find-without}
 use Rattle.cg_held.proofs.InOrder.{found_named}
 use Rattle.cg_held.proofs.KeptLists.{same_names, same_self}
+use Rattle.cg_held.proofs.Mapped.{id-hearing}
 
 -- what holds of the sessions of all parked calls holds of the session of one
 pub at_call : (P : ℕ → Type 0) (q : ℕ) (w : Waits) → IfParked P (called Any w) → is_some (called (OfSession q) w) ≡ true → P q
@@ -118,10 +119,6 @@ pub parked-hearing : (q now : ℕ) (id : List ℕ) (g : Group) → is_parked q (
 unfolding hearing
 parked-hearing q now id g = waits-with_member q now id g.members
 
-own_id : (now : ℕ) (id : List ℕ) (g : Group) → (hearing now id g).id ≡ g.id
-unfolding hearing
-own_id now id g = refl
-
 -- all calls stay parked where a group takes the place of one with the same parked calls
 pub stay_put : (x : List ℕ) (g new : Group) (groups : List Group) → find_group x groups ≡ Some g → new.id ≡ g.id → ((q : ℕ) → is_parked q (Some g) ≡ true → is_parked q (Some new) ≡ true) → StayParked groups (with_group new groups)
 stay_put x g new groups found same stays q y parked =
@@ -139,7 +136,7 @@ stay_put x g new groups found same stays q y parked =
 pub stay_heard : (now : ℕ) (id own : List ℕ) (groups after : List Group) (g : Group) → find_group own groups ≡ Some g → after ≡ with_group (hearing now id g) groups → StayParked groups after
 stay_heard now id own groups after g found put =
     let P : List Group → Type 0 = λ gs. StayParked groups gs in
-    subst P (sym put) (stay_put own g (hearing now id g) groups found (own_id now id g) (λ q h. parked-hearing q now id g ∙ h))
+    subst P (sym put) (stay_put own g (hearing now id g) groups found (id-hearing now id g) (λ q h. parked-hearing q now id g ∙ h))
 
 -- all calls stay parked where a group is new
 pub stay_added : (g : Group) (groups : List Group) → find_group g.id groups ≡ None → StayParked groups (with_group g groups)

@@ -8,7 +8,7 @@ use Rattle.std.proofs.lemmas.Map.Text.{is_eq-slice_cmp}
 use Rattle.std.specs.BTreeMap.{insert_entry}
 use Rattle.std.specs.Cmp.Lexicographic.{slice_cmp}
 use Rattle.std.specs.Map.{remove_entry}
-use Rattle.std.specs.Ordering.{eq_by_cmp, is_eq, match_ordering, nat_cmp}
+use Rattle.std.specs.Ordering.{eq_by_cmp, match_ordering, nat_cmp}
 use Rattle.std.specs.declared.cmp.Ordering.TheVariants.{Less, Equal, Greater}
 use Rattle.cg_time.specs.Entries.{due_keys, has_key}
 use Rattle.cg_member.specs.declared.group.Group.{Group}
@@ -22,9 +22,10 @@ use Rattle.cg_held.specs.Kept.{Each}
 use Rattle.cg_held.specs.Timed.{AreTimed}
 use Rattle.cg_request.specs.Names.{is_same}
 use Rattle.cg_held.proofs.Finding.{find-own}
-use Rattle.cg_held.proofs.InOrder.{before_found, found_named, less_greater, same_order, with_group-found}
-use Rattle.cg_held.proofs.KeptLists.{same_names, same_self}
+use Rattle.cg_held.proofs.InOrder.{before_found, equal_is, found_named, less_greater, same_order, with_group-found}
+use Rattle.cg_held.proofs.KeptLists.{same_self}
 use Rattle.cg_held.proofs.Quiet.{deadline-heard, deadline-since, ticked_before}
+use Rattle.cg_held.proofs.Mapped.{id-hearing}
 
 abbrev Index : Type 0
 Index = List (List ℕ × ℕ)
@@ -56,9 +57,6 @@ timed-put since deadline k g (e ∷ es) (x ∷ xs) own d h =
       | Equal ↦ λ same. (h.0 ∙ sym (equal_is g.id x.id same), d, h.2)
       | Greater ↦ λ _. (h.0, h.1, rest)
     ]) refl)
-  where
-    equal_is : (a b : List ℕ) → slice_cmp nat_cmp a b ≡ Equal → a ≡ b
-    equal_is a b e = same_names a b (sym (is_eq-slice_cmp a b) ∙ ap is_eq e)
 
 pub timed-without : (since : ℕ) (x : List ℕ) (es : Index) (gs : List Group) → AreTimed since es gs → AreTimed since (remove_entry (eq_by_cmp (slice_cmp nat_cmp) x) es) (without_group x gs)
 unfolding without_group
@@ -101,10 +99,6 @@ timed-there since id new g (e ∷ es) (x ∷ xs) o found own more h =
           let P : _ → Type 0 = λ r. AreTimed since (e ∷ es) (match_ordering r (new ∷ x ∷ xs) (new ∷ xs) (x ∷ with_group new xs)) in
           subst P (sym (less_greater x.id new.id behind)) (h.0, h.1, timed-there since id new g es xs o.1 f own more h.2)
     ]) refl found
-
-id-hearing : (now : ℕ) (id : List ℕ) (g : Group) → (hearing now id g).id ≡ g.id
-unfolding hearing
-id-hearing now id g = refl
 
 pub timed-heard : (since now : ℕ) (own id : List ℕ) (g : Group) (es : Index) (gs : List Group) → since ≤ now → InOrder gs → find_group own gs ≡ Some g → AreTimed since es gs → AreTimed since es (with_group (hearing now id g) gs)
 timed-heard since now own id g es gs le o found h = timed-there since own (hearing now id g) g es gs o found (id-hearing now id g) (deadline-heard now id since g le) h

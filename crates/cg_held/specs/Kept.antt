@@ -1,8 +1,7 @@
 -- Records of the durable state, and lists in ascending order.
 use Rattle.std.specs.Prelude.{◌≡◌, ℕ, true, List, [], ◌∷◌, Option, IfSome, is_some}
-use Rattle.std.specs.Ordering.{Ordering-set, nat_cmp}
+use Rattle.std.specs.Ordering.{nat_cmp}
 use Rattle.std.specs.FinMap as finmap
-use mathlib.Core.HLevel.{Unit-prop, ×_prop}
 use Rattle.std.specs.Cmp.Lexicographic.{slice_cmp}
 use Rattle.std.specs.declared.cmp.Ordering.TheVariants.{Less}
 use Rattle.cg_fold.specs.declared.record.GroupRecord.{GroupRecord}
@@ -28,15 +27,6 @@ ComeBefore xs y = Each (λ x. slice_cmp nat_cmp x y ≡ Less) xs
 abbrev pub Ascending : List (List ℕ) → Type 0
 Ascending [] = Unit {0}
 Ascending (x ∷ xs) = ComesBefore x xs × Ascending xs
-
--- two proofs of either of these facts are equal
-pub ComesBefore-prop : (x : List ℕ) (ys : List (List ℕ)) → IsProp (ComesBefore x ys)
-ComesBefore-prop x [] = Unit-prop
-ComesBefore-prop x (y ∷ ys) = ×_prop (Ordering-set (slice_cmp nat_cmp x y) Less) (ComesBefore-prop x ys)
-
-pub Ascending-prop : (xs : List (List ℕ)) → IsProp (Ascending xs)
-Ascending-prop [] = Unit-prop
-Ascending-prop (x ∷ xs) = ×_prop (ComesBefore-prop x xs) (Ascending-prop xs)
 
 -- the record of each group
 abbrev pub Kept : Type 0

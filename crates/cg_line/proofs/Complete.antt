@@ -1,9 +1,10 @@
 -- The line of a lawful request is parsed as that request.
 use Rattle.std.proofs.Common.{◌≡◌, ℕ, ℤ, ◌^◌, ◌<◌, ◌≤◌, Bool, true, cond, List, [], ◌∷◌, length, map, refl, ap, ◌∙◌, arith, Option, Some, None}
-use Rattle.std.specs.Prelude.{◌&&◌, codes}
+use Rattle.std.specs.Prelude.{codes}
 use Rattle.std.specs.Option.{option_map}
 use Rattle.std.specs.Fmt.{decimal, signed_decimal}
 use Rattle.std.proofs.lemmas.List.{length-map}
+use Rattle.std.proofs.lemmas.Bool.{and_from}
 use Rattle.cg_names.specs.declared.name.TheConstants.{NAME_BYTES_MAX, MEMBER_ID_BYTES_MAX}
 use Rattle.cg_record.specs.declared.millis.TheConstants.{REBALANCE_MS_MAX}
 use Rattle.cg_request.specs.declared.asking.Request.{Request}
@@ -31,9 +32,6 @@ use Rattle.cg_line.proofs.Placed.{are_commits-words, are_partitions-words, commi
 picked : {A : Type 0} (b : Bool) (x r : A) → b ≡ true → x ≡ r → cond b (Some x) None ≡ Some r
 picked b x r is same = rw (is, same) refl
 
-both : (a b : Bool) → a ≡ true → b ≡ true → (a && b) ≡ true
-both a b is_a is_b = rw (is_a, is_b) refl
-
 call_complete : (g m i : Option (List ℕ)) (n : ℤ) → IsOptional NAME_BYTES_MAX g → IsGeneration n → IsOptional MEMBER_ID_BYTES_MAX m → IsOptional NAME_BYTES_MAX i
     → is_call (name_word g) (signed_decimal n) (name_word m) (name_word i) ≡ true
 call_complete g m i n is_g is_n is_m is_i =
@@ -47,7 +45,7 @@ made_sync r s e1 e2 e3 e4 e5 =
 sync_complete : (r : SyncRequest) → IsSync r → sync_of (name_word r.group ∷ signed_decimal r.generation ∷ name_word r.member ∷ name_word r.instance ∷ map sync_entry_word r.entries) ≡ Some r
 unfolding sync_of
 sync_complete r is =
-    picked _ _ r (both _ _ (call_complete r.group r.member r.instance r.generation is.group is.generation is.member is.instance) (are_sync_entries-words r.entries is.entries is.each))
+    picked _ _ r (and_from _ _ (call_complete r.group r.member r.instance r.generation is.group is.generation is.member is.instance) (are_sync_entries-words r.entries is.entries is.each))
     (made_sync r _ (optional_in-name_word NAME_BYTES_MAX r.group is.group) (generation_in-signed r.generation is.generation.0 is.generation.1)
     (optional_in-name_word MEMBER_ID_BYTES_MAX r.member is.member) (optional_in-name_word NAME_BYTES_MAX r.instance is.instance)
     (read_all IsSyncEntry sync_entry_in sync_entry_word sync_entry_in-word r.entries is.each))
@@ -60,7 +58,7 @@ made_commit r s e1 e2 e3 e4 e5 =
 commit_complete : (r : CommitRequest) → IsCommit r → commit_of (name_word r.group ∷ signed_decimal r.generation ∷ name_word r.member ∷ name_word r.instance ∷ map commit_word r.entries) ≡ Some r
 unfolding commit_of
 commit_complete r is =
-    picked _ _ r (both _ _ (call_complete r.group r.member r.instance r.generation is.group is.generation is.member is.instance) (are_commits-words r.entries is.entries is.each))
+    picked _ _ r (and_from _ _ (call_complete r.group r.member r.instance r.generation is.group is.generation is.member is.instance) (are_commits-words r.entries is.entries is.each))
     (made_commit r _ (optional_in-name_word NAME_BYTES_MAX r.group is.group) (generation_in-signed r.generation is.generation.0 is.generation.1)
     (optional_in-name_word MEMBER_ID_BYTES_MAX r.member is.member) (optional_in-name_word NAME_BYTES_MAX r.instance is.instance)
     (read_all IsCommitEntry commit_in commit_word commit_in-word r.entries is.each))
@@ -85,7 +83,7 @@ made_leave r s e1 e3 e4 =
 leave_complete : (r : LeaveRequest) → IsLeave r → leave_of (name_word r.group ∷ name_word r.member ∷ name_word r.instance ∷ []) ≡ Some r
 unfolding leave_of
 leave_complete r is =
-    picked _ _ r (both _ _ (both _ _ (is_optional-name_word NAME_BYTES_MAX r.group is.group) (is_optional-name_word MEMBER_ID_BYTES_MAX r.member is.member)) (is_optional-name_word NAME_BYTES_MAX r.instance is.instance))
+    picked _ _ r (and_from _ _ (and_from _ _ (is_optional-name_word NAME_BYTES_MAX r.group is.group) (is_optional-name_word MEMBER_ID_BYTES_MAX r.member is.member)) (is_optional-name_word NAME_BYTES_MAX r.instance is.instance))
     (made_leave r _ (optional_in-name_word NAME_BYTES_MAX r.group is.group) (optional_in-name_word MEMBER_ID_BYTES_MAX r.member is.member) (optional_in-name_word NAME_BYTES_MAX r.instance is.instance))
 
 made_fetch : (r s : FetchRequest) → s.group ≡ r.group → s.partitions ≡ r.partitions → s ≡ r
@@ -96,7 +94,7 @@ made_fetch r s e1 e2 =
 fetch_complete : (r : FetchRequest) → IsFetch r → fetch_of (name_word r.group ∷ map partition_word r.partitions) ≡ Some r
 unfolding fetch_of
 fetch_complete r is =
-    picked _ _ r (both _ _ (is_optional-name_word NAME_BYTES_MAX r.group is.group) (are_partitions-words r.partitions is.partitions is.each))
+    picked _ _ r (and_from _ _ (is_optional-name_word NAME_BYTES_MAX r.group is.group) (are_partitions-words r.partitions is.partitions is.each))
     (made_fetch r _ (optional_in-name_word NAME_BYTES_MAX r.group is.group) (read_all IsTopicPartition partition_in partition_word partition_in-word r.partitions is.each))
 
 group_complete : (o : Option (List ℕ)) → IsOptional NAME_BYTES_MAX o → group_of (name_word o ∷ []) ≡ Some o
@@ -111,11 +109,11 @@ rebalance_small n within = omega arith
 
 caller_complete : (j : JoinRequest) → IsJoin j → is_caller (name_word j.group) (name_word j.member) (name_word j.instance) j.client ≡ true
 caller_complete j is =
-    both _ _ (both _ _ (both _ _ (is_optional-name_word NAME_BYTES_MAX j.group is.group) (is_optional-name_word MEMBER_ID_BYTES_MAX j.member is.member)) (is_optional-name_word NAME_BYTES_MAX j.instance is.instance)) (is_name-from_name NAME_BYTES_MAX j.client is.client)
+    and_from _ _ (and_from _ _ (and_from _ _ (is_optional-name_word NAME_BYTES_MAX j.group is.group) (is_optional-name_word MEMBER_ID_BYTES_MAX j.member is.member)) (is_optional-name_word NAME_BYTES_MAX j.instance is.instance)) (is_name-from_name NAME_BYTES_MAX j.client is.client)
 
 terms_complete : (j : JoinRequest) → IsJoin j → are_terms (decimal j.session_ms) (decimal j.rebalance) j.kind ≡ true
 terms_complete j is =
-    both _ _ (both _ _ (is_number-decimal SESSION_LINE_MS_MAX j.session_ms is.session_ms (session_small j.session_ms is.session_ms))
+    and_from _ _ (and_from _ _ (is_number-decimal SESSION_LINE_MS_MAX j.session_ms is.session_ms (session_small j.session_ms is.session_ms))
     (is_number-decimal REBALANCE_MS_MAX j.rebalance is.rebalance (rebalance_small j.rebalance is.rebalance))) (is_name-from_name NAME_BYTES_MAX j.kind is.kind)
 
 made_join : (r s : JoinRequest) → s.group ≡ r.group → s.member ≡ r.member → s.instance ≡ r.instance → s.client ≡ r.client → s.session_ms ≡ r.session_ms
@@ -127,7 +125,7 @@ made_join r s e1 e2 e3 e4 e5 e6 e7 e8 =
 join_complete : (j : JoinRequest) → IsJoin j → join_of (name_word j.group ∷ name_word j.member ∷ name_word j.instance ∷ j.client ∷ decimal j.session_ms ∷ decimal j.rebalance ∷ j.kind ∷ map protocol_word j.protocols) ≡ Some j
 unfolding join_of
 join_complete j is =
-    picked _ _ j (both _ _ (both _ _ (caller_complete j is) (terms_complete j is)) (are_protocols-words j.protocols is.protocols is.each))
+    picked _ _ j (and_from _ _ (and_from _ _ (caller_complete j is) (terms_complete j is)) (are_protocols-words j.protocols is.protocols is.each))
     (made_join j _ (optional_in-name_word NAME_BYTES_MAX j.group is.group) (optional_in-name_word MEMBER_ID_BYTES_MAX j.member is.member)
     (optional_in-name_word NAME_BYTES_MAX j.instance is.instance) refl (value_of-decimal j.session_ms (session_small j.session_ms is.session_ms))
     (value_of-decimal j.rebalance (rebalance_small j.rebalance is.rebalance)) refl (read_all IsProtocol protocol_in protocol_word protocol_in-word j.protocols is.each))

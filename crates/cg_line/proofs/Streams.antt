@@ -4,7 +4,7 @@ use Rattle.std.proofs.lemmas.Bool.Decides.{nat_tests}
 use Rattle.std.proofs.Math.Seq.{take-length}
 use Rattle.memchr.specs.Find.{Passes, is_byte}
 use Rattle.std.specs.List.{flat_map, list_all}
-use Rattle.std.specs.Io.KnownBytes.{Appends, Consumes, Keeps}
+use Rattle.std.specs.Io.KnownBytes.{Appends, Consumes}
 use Rattle.std.proofs.lemmas.Grind.{flat_map-append}
 use Rattle.std.proofs.lemmas.List.Folds.{list_all-append}
 use Rattle.cg_request.specs.declared.asking.Request.{Request}
@@ -46,11 +46,6 @@ consumes_then (Some x) (Some y) (Some z) xs ys p q = p ∙ ap (λ l. xs ++ l) q 
 pub consumes_nothing : (a : Option (List ℕ)) → Consumes a a []
 consumes_nothing None = tt
 consumes_nothing (Some x) = refl
-
-pub keeps_appends : (a b : Option (List ℕ)) → Keeps a b → Appends a b []
-keeps_appends None b same = tt
-keeps_appends (Some x) None same = absurd same
-keeps_appends (Some x) (Some y) same = same ∙ sym (append-nil x)
 
 -- a write took the first of the remaining bytes
 pub written_more : (bytes part rest : List ℕ) (n : ℕ) → bytes ≡ part ++ rest → bytes ≡ (part ++ take n rest) ++ take (length rest - n) (drop n rest)
@@ -275,19 +270,6 @@ far_begins gives before old begun begins = record {
   written = appends_nothing old;
   is_line = (refl, omega arith);
   begun_is = begins;
-}
-
-pub memory_stops : {S : Type 0} (gives : S → Request → Reply → S → Type 0) (before : S) (old : Option (List ℕ)) → Stopped gives (Err (Fault faults.Memory)) [] before before old old
-memory_stops gives before old = record {
-  text = [];
-  written = appends_nothing old;
-  ran = record {
-    served = [];
-    rest = [];
-    read_is = refl;
-    serves = refl;
-    ends_so = (refl, (refl, omega arith));
-  };
 }
 
 -- The reply to a line that is too long.

@@ -1,12 +1,9 @@
 -- The number of digits grows with each digit.
-use Rattle.std.proofs.Common.{◌≡◌, ℕ, ◌+◌, ◌-◌, ◌*◌, ◌^◌, ◌<◌, ◌≤◌, List, [], ◌∷◌, length, drop, get_or, ap, arith, Bool, true, false, refl}
+use Rattle.std.proofs.Common.{◌≡◌, ℕ, ◌+◌, ◌-◌, ◌*◌, ◌<◌, ◌≤◌, List, [], ◌∷◌, length, drop, get_or, ap, arith, Bool, true, false, refl}
 use Rattle.std.specs.Prelude.{IsTrue, ◌&&◌}
-use Rattle.std.proofs.lemmas.Bool.Decides.{nat_tests}
-use Rattle.std.proofs.Math.Nat.{pow-succ', mul-le-mul_right, mul_assoc}
 use Rattle.std.proofs.Math.Seq.{drop-cons}
 use Rattle.std.proofs.Math.Numerals.{add-one}
-use Rattle.std.specs.List.{list_all}
-use Rattle.cg_line.specs.Numbers.{is_digit, value_from}
+use Rattle.cg_line.specs.Numbers.{value_from}
 
 pub value_from-le : (n : ℕ) (digits : List ℕ) → n ≤ value_from n digits
 value_from-le n [] = omega arith
@@ -17,20 +14,7 @@ pub value_from-drop : (n : ℕ) (digits : List ℕ) (i : ℕ) → i < length dig
     → value_from n (drop i digits) ≡ value_from (10 * n + (get_or digits i 0 - 48)) (drop (i + 1) digits)
 value_from-drop n digits i below = rw add-one (ap (value_from n) (drop-cons digits i 0 below))
 
-digit-le : (d n : ℕ) → IsTrue (is_digit d) → 10 * n + (d - 48) ≤ 10 * n + 9
-digit-le d n is = grind (arith, nat_tests)
-
 -- two tests that pass together
 pub both_of : (a b : Bool) → IsTrue (a && b) → IsTrue a × IsTrue b
 both_of true b are = (refl, are)
 both_of false b are = absurd (cc)
-
--- the number of n digits is below the n-th power of ten
-pub value_from-lt : (n : ℕ) (digits : List ℕ) → IsTrue (list_all is_digit digits) → value_from n digits < (n + 1) * 10 ^ length digits
-value_from-lt n [] are = omega arith
-value_from-lt n (d ∷ ds) are =
-    let parts = both_of (is_digit d) (list_all is_digit ds) are in
-    let later = value_from-lt (10 * n + (d - 48)) ds parts.1 in
-    let small = digit-le d n parts.0 in
-    let wide = mul-le-mul_right {m = 10 * n + (d - 48) + 1} {n = (n + 1) * 10} (10 ^ length ds) (omega (arith, small)) in
-    rw (pow-succ' 10 (length ds), ← mul_assoc) (omega (arith, later, wide))

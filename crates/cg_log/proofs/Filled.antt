@@ -1,8 +1,7 @@
 -- Segments with their frames: lists of them, and images that agree on their sectors.
 use Rattle.std.proofs.Common.{◌≡◌, ◌⊎◌, inl, inr, ℕ, zero, suc, ◌+◌, ◌-◌, ◌<◌, ◌≤◌, List, [], ◌∷◌, ◌++◌, length, get_or, take, sym, ap, ◌∙◌, subst, refl, arith}
-use Rattle.std.proofs.lemmas.List.{map-append}
 use Rattle.std.proofs.lemmas.Grind.{flat_map-append}
-use Rattle.std.proofs.lemmas.List.{append-nil, take_all, take_more, length-append}
+use Rattle.std.proofs.lemmas.List.{append-nil, take_all, take_more, length-append, length-map, map-append}
 use Rattle.std.proofs.Math.Seq.{get_or-append_seam}
 use Rattle.std.specs.List.{AllByRecursion}
 use Rattle.cg_disk.specs.Disk.{Image}
@@ -104,6 +103,9 @@ frames_of-push xs id frames = frames_of-append xs ((id, frames) ∷ []) ∙ ap (
 
 pub ids_of-push : (xs : List Filled) (id : ℕ) (frames : Frames) → ids_of (xs ++ (id, frames) ∷ []) ≡ ids_of xs ++ id ∷ []
 ids_of-push xs id frames = map-append (λ (s : Filled). s.0) xs ((id, frames) ∷ [])
+
+pub length-ids : (segments : List Filled) → length (ids_of segments) ≡ length segments
+length-ids segments = length-map segments (λ (s : Filled). s.0)
 
 -- The last of several segments
 

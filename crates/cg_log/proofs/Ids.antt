@@ -2,7 +2,7 @@
 use Rattle.std.proofs.Common.{◌≡◌, ◌⊎◌, inl, inr, ℕ, zero, suc, ◌<◌, ◌≤◌, ◌+◌, Bool, true, false, List, [], ◌∷◌, ◌++◌, length, get_or, refl, ap, ◌∙◌, arith}
 use Rattle.std.specs.Prelude.{◌&&◌, ◌||◌, nat_lt, nat_eq, IsTrue}
 use Rattle.std.specs.List.{list_all, AllByRecursion, IsDistinct}
-use Rattle.std.proofs.lemmas.Bool.{cases_lt}
+use Rattle.std.proofs.lemmas.Bool.{cases_lt, and_parts, or_parts}
 use Rattle.std.proofs.lemmas.Bool.Decides.{nat_tests}
 use Rattle.std.proofs.lemmas.List.Folds.{list_all-append}
 use Rattle.cg_gate.specs.Layout.{first_sector, segment_count}
@@ -12,30 +12,12 @@ use Rattle.cg_log.specs.Free.{is_among}
 use Rattle.cg_log.specs.Segments.{Filled, ids_of}
 use Rattle.cg_log.proofs.Filled.{AreApart}
 
-pub both_true : (a b : Bool) → (a && b) ≡ true → (a ≡ true) × (b ≡ true)
-both_true true b e = (refl, e)
-both_true false b e = absurd cc
-
-pub both_false : (a b : Bool) → (a || b) ≡ false → (a ≡ false) × (b ≡ false)
-both_false true b e = absurd cc
-both_false false b e = (refl, e)
-
--- the ids are below a bound
-pub below_back : (n : ℕ) (xs ys : List ℕ) → IsTrue (list_all (λ id. nat_lt id n) (xs ++ ys)) → IsTrue (list_all (λ id. nat_lt id n) ys)
-below_back n [] ys is = is
-below_back n (x ∷ xs) ys is = below_back n xs ys (both_true (nat_lt x n) (list_all (λ id. nat_lt id n) (xs ++ ys)) is).1
-
-pub below_last : (n : ℕ) (xs : List ℕ) (x : ℕ) → IsTrue (list_all (λ id. nat_lt id n) (xs ++ x ∷ [])) → x < n
-below_last n xs x is =
-    let test : nat_lt x n ≡ true = (both_true (nat_lt x n) true (below_back n xs (x ∷ []) is)).0 in
-    grind (arith, nat_tests)
-
 pub below_at : (n : ℕ) (xs : List ℕ) (i : ℕ) → i < length xs → IsTrue (list_all (λ id. nat_lt id n) xs) → get_or xs i 0 < n
 below_at n [] i lt is = absurd (omega arith)
 below_at n (x ∷ xs) zero lt is =
-    let test : nat_lt x n ≡ true = (both_true (nat_lt x n) (list_all (λ id. nat_lt id n) xs) is).0 in
+    let test : nat_lt x n ≡ true = (and_parts (nat_lt x n) (list_all (λ id. nat_lt id n) xs) is).0 in
     grind (arith, nat_tests)
-below_at n (x ∷ xs) (suc i) lt is = below_at n xs i (omega arith) (both_true (nat_lt x n) (list_all (λ id. nat_lt id n) xs) is).1
+below_at n (x ∷ xs) (suc i) lt is = below_at n xs i (omega arith) (and_parts (nat_lt x n) (list_all (λ id. nat_lt id n) xs) is).1
 
 -- where a disk has a segment, all of its sectors are on the disk
 segment-on_disk : (sectors id : ℕ) → id < segment_count sectors → first_sector id + 2048 ≤ sectors
@@ -47,19 +29,15 @@ root-on_disk sectors root index lawful inside = segment-on_disk sectors (get_or 
 
 -- an id that is none of these
 module _ (y : ℕ) where
-  none_equal : (xs : List ℕ) → is_among y xs ≡ false → AllByRecursion (λ x. nat_eq y x ≡ false) xs
-  none_equal [] none = tt
-  none_equal (x ∷ xs) none = let parts = both_false (nat_eq y x) (is_among y xs) none in (parts.0, none_equal xs parts.1)
-
   pub is_among-front : (xs ys : List ℕ) → is_among y (xs ++ ys) ≡ false → is_among y xs ≡ false
   is_among-front [] ys none = refl
   is_among-front (x ∷ xs) ys none =
-      let parts = both_false (nat_eq y x) (is_among y (xs ++ ys)) none in
+      let parts = or_parts (nat_eq y x) (is_among y (xs ++ ys)) none in
       ap (λ (b : Bool). b || is_among y xs) parts.0 ∙ is_among-front xs ys parts.1
 
   pub is_among-back : (xs ys : List ℕ) → is_among y (xs ++ ys) ≡ false → is_among y ys ≡ false
   is_among-back [] ys none = none
-  is_among-back (x ∷ xs) ys none = is_among-back xs ys (both_false (nat_eq y x) (is_among y (xs ++ ys)) none).1
+  is_among-back (x ∷ xs) ys none = is_among-back xs ys (or_parts (nat_eq y x) (is_among y (xs ++ ys)) none).1
 
   -- the last of distinct ids is none of those before it
   differs_last : (x : ℕ) (xs : List ℕ) → AllByRecursion (λ z. nat_eq x z ≡ false) (xs ++ y ∷ []) → nat_eq x y ≡ false
@@ -82,7 +60,7 @@ module _ (y : ℕ) where
   unfolding IsDistinct
   distinct_push [] distinct none = (tt, tt)
   distinct_push (x ∷ xs) distinct none =
-      let parts = both_false (nat_eq y x) (is_among y xs) none in
+      let parts = or_parts (nat_eq y x) (is_among y xs) none in
       let apart : nat_eq y x ≡ false = parts.0 in
       let flipped : nat_eq x y ≡ false = grind (arith, nat_tests) in
       (all_push x xs distinct.0 flipped, distinct_push xs distinct.1 parts.1)
@@ -95,15 +73,11 @@ module _ (y : ℕ) where
         list_all-append (λ id. nat_lt id n) xs (y ∷ []) ∙ ap (λ (b : Bool). b && (nat_lt y n && true)) are.below ∙ ap (λ (b : Bool). b && true) test;
   }
 
-pub AreSegments-nil : (n : ℕ) → AreSegments n []
-unfolding IsDistinct
-AreSegments-nil n = record { distinct = tt; below = refl }
-
 -- segments of these ids have no sector in the segment of an id that is none of them
 pub AreApart-segment : (id at n : ℕ) (segments : List Filled) → first_sector id ≤ at → at + n ≤ first_sector id + 2048 → is_among id (ids_of segments) ≡ false → AreApart at n segments
 AreApart-segment id at n [] low high none = tt
 AreApart-segment id at n (s ∷ segments) low high none =
-    let parts = both_false (nat_eq id s.0) (is_among id (ids_of segments)) none in
+    let parts = or_parts (nat_eq id s.0) (is_among id (ids_of segments)) none in
     (apart (cases_lt id s.0) parts.0, AreApart-segment id at n segments low high parts.1)
   where
     apart : (id < s.0) ⊎ (s.0 ≤ id) → nat_eq id s.0 ≡ false → (first_sector s.0 + 2048 ≤ at) ⊎ (at + n ≤ first_sector s.0)

@@ -6,12 +6,11 @@ use Rattle.cg_gate.specs.Gates.{IsOpen, IsClosed}
 use Rattle.cg_gate.specs.Layout.{first_sector}
 use Rattle.cg_root.specs.Slots.{gate_of, other_slot}
 use Rattle.std.specs.Prelude.{IsTrue, ◌↔◌}
-use Rattle.cg_root.specs.Roots.{CountingRoot}
 use Rattle.cg_root.specs.declared.root.Root.{Root}
 use Rattle.cg_root.proofs.Stored.{CountingRoot-same, HasNoRoot-same, HasBadRoot-same}
 use Rattle.cg_root.proofs.Unique.{CountingRoot-unique, CountingRoot-some, CountingRoot-good}
 use Rattle.cg_log.specs.Carried.{Content, LogAt, Carries, AllCarry, HoldsContent, tails}
-use Rattle.cg_log.specs.Faults.{Tells, IsOutOfReach, IsReadingFault}
+use Rattle.cg_log.specs.Faults.{Tells, IsOutOfReach}
 use Rattle.cg_log.specs.Ready.{IsReady, last_id}
 use Rattle.cg_log.specs.Segments.{Frames, ids_of, frames_of, counted, end_of_frames, segment_of}
 use Rattle.cg_log.specs.declared.fault.LogFault.{LogFault}
@@ -54,12 +53,6 @@ Carries-unique image sectors n m base base' tail tail' c d =
     (number, base_same, tail_same)
 
 -- Why an image carries nothing
-
-module _ (image : Image) (sectors : ℕ) (root : Root) (counting : CountingRoot image sectors root) where
-  pub Tells-reading : (fault : LogFault) → IsReadingFault fault → (fault ≡ log_fault.BadFrame → (n : ℕ) (base tail : Frames) → Carries image sectors n base tail → ⊥) → Tells image sectors fault
-  Tells-reading fault (inl bad) none = subst (Tells image sectors) (sym bad) record { root = root; counting = counting; none = none bad }
-  Tells-reading fault (inr (inl memory)) none = subst (Tells image sectors) (sym memory) tt
-  Tells-reading fault (inr (inr device)) none = subst (Tells image sectors) (sym device) tt
 
 pub Tells-same : (a b : Image) (sectors : ℕ) (fault : LogFault) → ((s : ℕ) → b s ≡ a s) → Tells a sectors fault → Tells b sectors fault
 Tells-same a b sectors log_fault.Memory same told = tt

@@ -1,5 +1,5 @@
 -- What an append and a new tail leave of a log.
-use Rattle.std.proofs.Common.{◌≡◌, ◌⊎◌, inl, inr, ℕ, ◌+◌, ◌-◌, ◌^◌, ◌<◌, ◌≤◌, Bool, true, false, List, [], ◌∷◌, ◌++◌, length, take, get_or, sym, ap, ◌∙◌, subst, refl, arith, add-zero, append_assoc}
+use Rattle.std.proofs.Common.{◌≡◌, ◌⊎◌, inl, inr, ℕ, ◌+◌, ◌^◌, ◌<◌, ◌≤◌, Bool, true, false, List, [], ◌∷◌, ◌++◌, length, get_or, sym, ap, ◌∙◌, subst, refl, arith, add-zero, append_assoc}
 use Rattle.std.proofs.lemmas.List.{append-nil, length-append}
 use Rattle.cg_disk.specs.Disk.{Image, Moment, History, Changes, AllBut, IsImage, LeavesOnly, present}
 use Rattle.cg_disk.proofs.Moments.{AllBut-disturbed, Changes-present, LeavesOnly-weaker, LeavesOnly-both, LeavesOnly-changes, LeavesOnly-present, LeavesOnly-then, LeavesOnly-starts, IsImage-content}
@@ -12,6 +12,7 @@ use Rattle.cg_root.specs.Slots.{gate_of, other_slot}
 use Rattle.cg_root.specs.declared.root.Root.{Root}
 use Rattle.cg_root.specs.declared.slot.Slot.{Slot}
 use Rattle.cg_root.specs.declared.slot.Slot.TheVariants.{Zero, One}
+use Rattle.cg_root.proofs.Segments.{AreSegments-nil}
 use Rattle.cg_root.proofs.Stored.{CountingRoot-same, gate_of-small, other_other}
 use Rattle.cg_log.specs.Carried.{AllCarry, Content, Carries, CarriesBeforeOrAfter, LogAt, KeepsLog, HoldsContent, tails, appended, rolled}
 use Rattle.cg_log.specs.Formatted.{first_root, nothing}
@@ -19,11 +20,11 @@ use Rattle.cg_log.specs.Free.{is_among, IsLeastFree}
 use Rattle.cg_log.specs.Ready.{AllClosed, AllOpen, IsReady, last_id}
 use Rattle.cg_log.specs.Rolled.{HasOneMoreTail, HasOrRolled, IsAppended}
 use Rattle.cg_log.specs.Segments.{Frames, segment_of, ids_of, frames_of, counted, end_of_frames, AreStored}
-use Rattle.cg_log.proofs.Filled.{AreApart, AreApart-slots, AreStored-apart, AreStored-append, AreStored-back, AreStored-front, HasFramesTo-end, frames_of-push, ids_of-push, last_id-push, split_last}
+use Rattle.cg_log.proofs.Filled.{AreApart, AreApart-slots, AreStored-apart, AreStored-append, AreStored-back, AreStored-front, HasFramesTo-end, frames_of-push, ids_of-push, last_id-push}
 use Rattle.cg_log.specs.declared.numbers.TheConstants.{COMMAND_NUMBER_MAX}
 use Rattle.cg_log.proofs.Images.{AllCarry-holds, Carries-at}
 use Rattle.cg_log.proofs.Found.{counted-append}
-use Rattle.cg_log.proofs.Ids.{AreApart-segment, AreSegments-nil, AreSegments-push, is_among-back, is_among-front, is_among-last, below_back, below_last}
+use Rattle.cg_log.proofs.Ids.{AreApart-segment, AreSegments-push, is_among-back, is_among-front, is_among-last}
 
 -- Gates that a change does not reach
 
@@ -244,11 +245,6 @@ IsReady-rolled sectors current next id more h2 h3 closed time keeps published =
     }
 
 -- The last tail of a log
-
-pub last_id-below : (sectors : ℕ) (root : Root) → IsLawful sectors root → last_id root.tail < segment_count sectors
-last_id-below sectors root lawful =
-    let split = split_last root.tail (length root.tail) refl lawful.tail in
-    below_last (segment_count sectors) (take (length root.tail - 1) root.tail) (last_id root.tail) (rw split at (below_back (segment_count sectors) root.base root.tail lawful.ids.below))
 
 pub last_id-content : (m : Moment) (sectors : ℕ) (root : Root) (has : Content) → KeepsLog m sectors root has → last_id root.tail ≡ has.last.0
 last_id-content m sectors root has keeps =

@@ -13,7 +13,7 @@ use Rattle.cg_log.specs.Ready.{IsReady, last_id}
 use Rattle.cg_root.specs.Roots.{CountingRoot}
 use Rattle.cg_root.specs.Slots.{gate_of, other_slot}
 use Rattle.cg_root.specs.declared.root.Root.{Root}
-use Rattle.cg_log.proofs.Filled.{AreStored-append}
+use Rattle.cg_log.proofs.Filled.{AreStored-append, length-ids}
 use Rattle.cg_log.specs.Cursors.{IsAfter, IsNext, frames_at, index_of, read_limit, segments_before}
 use Rattle.cg_log.specs.Scanned.{Finds}
 use Rattle.cg_log.specs.Segments.{Frames, Filled, segment_of, ids_of, frames_of, end_of_frames, AreStored}
@@ -144,10 +144,6 @@ HoldsContent-stays old new sectors root end number has stays holds = record {
 }
 
 -- The segments of a log
-
-length-ids : (segments : List Filled) → length (ids_of segments) ≡ length segments
-length-ids [] = refl
-length-ids (s ∷ segments) = ap suc (length-ids segments)
 
 module _ (m : Moment) (sectors : ℕ) (root : Root) (has : Content) (keeps : KeepsLog m sectors root has) where
   at : LogAt m.content sectors root has

@@ -4,6 +4,7 @@ use Rattle.std.specs.Prelude.{◌&&◌, ◌||◌, nat_lt, nat_eq, if◌then◌el
 use Rattle.std.proofs.lemmas.Bool.{cases_lt}
 use Rattle.std.proofs.lemmas.Bool.Decides.{nat_tests}
 use Rattle.std.proofs.lemmas.List.Folds.{list_any-append}
+use Rattle.std.proofs.Math.Bool.{or-true}
 use Rattle.cg_frame.specs.Frames.{next_gate}
 use Rattle.cg_gate.specs.Layout.{segment_count}
 use Rattle.cg_gate.specs.declared.layout.TheConstants.{SEGMENT_SECTORS}
@@ -17,10 +18,6 @@ use Rattle.cg_log.specs.declared.fault.LogFault.{LogFault}
 use Rattle.cg_log.specs.declared.fault.LogFault.TheVariants as log_fault
 
 -- ---- free ids
-
-pub or-true : (b : Bool) → (b || true) ≡ true
-or-true true = refl
-or-true false = refl
 
 among-other : (k id : ℕ) (ids : List ℕ) → nat_eq k id ≡ false → is_among k (ids ++ id ∷ []) ≡ is_among k ids
 among-other k id [] differs = ap (λ (b : Bool). b || false) differs
@@ -39,7 +36,7 @@ less-step : (b : Bool) (x y : ℕ) → x ≡ y + 1 → (if b then x else x + 1) 
 less-step true x y same = same
 less-step false x y same = ap (λ (n : ℕ). n + 1) same
 
-free-none : (ids : List ℕ) (n : ℕ) → ((k : ℕ) → k < n → is_among k ids ≡ true) → free_below n ids ≡ 0
+pub free-none : (ids : List ℕ) (n : ℕ) → ((k : ℕ) → k < n → is_among k ids ≡ true) → free_below n ids ≡ 0
 unfolding free_below
 free-none ids zero all = refl
 free-none ids (suc n) all = rw (all n (omega arith)) (free-none ids n (λ k lt. all k (omega arith)))

@@ -15,14 +15,10 @@ use Rattle.cg_log.specs.Ready.{AllClosed, AllOpen, IsReady, last_id}
 use Rattle.cg_log.specs.Segments.{AreStored, Filled, counted, frames_of, ids_of}
 use Rattle.cg_log.specs.Switched.{CarriesEither, IsSwitchedRoot, switched}
 use Rattle.cg_log.specs.declared.numbers.TheConstants.{COMMAND_NUMBER_MAX}
-use Rattle.cg_log.proofs.Filled.{AreApart-slots, AreStored-apart, AreStored-back}
+use Rattle.cg_log.proofs.Filled.{AreApart-slots, AreStored-apart, AreStored-back, length-ids}
 use Rattle.cg_log.proofs.Images.{AllCarry-holds, Carries-at}
 use Rattle.cg_log.proofs.Moves.{AllClosed-kept, LogAt-counting}
-use Rattle.cg_log.proofs.Taken.{index-inside}
-
-length-ids : (segments : List Filled) → length (ids_of segments) ≡ length segments
-length-ids [] = refl
-length-ids (s ∷ segments) = ap suc (length-ids segments)
+use Rattle.cg_log.proofs.Taken.{index_of-below}
 
 ids_of-drop : (k : ℕ) (segments : List Filled) → ids_of (drop k segments) ≡ drop k (ids_of segments)
 ids_of-drop zero segments = refl
@@ -47,7 +43,7 @@ module _ (m : Moment) (sectors : ℕ) (current next : Root) (has : Content) (fre
 
   k-inside : k ≤ length has.sealed
   k-inside =
-      omega (arith, index-inside cut (ids_of (tails has)) (ap (is_among cut) (sym first.tail_ids) ∙ among), length-ids (tails has), length-append has.sealed (has.last ∷ []))
+      omega (arith, index_of-below cut (ids_of (tails has)) (ap (is_among cut) (sym first.tail_ids) ∙ among), length-ids (tails has), length-append has.sealed (has.last ∷ []))
 
   pub tails-switched : tails (switched has fresh cut) ≡ tails_from cut has
   tails-switched = sym (drop-append-le k has.sealed (has.last ∷ []) k-inside)
@@ -94,7 +90,7 @@ module _ (old new : History) (sectors : ℕ) (current next : Root) (has : Conten
 
 pub ready-switched : (old new : History) (sectors : ℕ) (current next : Root) (ids : List ℕ) (cut base_number end : ℕ) (is_other_open : Bool) → IsSwitchedRoot current ids cut base_number next → is_among cut current.tail ≡ true → Changes 0 4 old new → KeepsRoot (present new) sectors next → AllOpen (present new) (gate_of (other_slot next.slot)) → IsReady (present old) sectors current end is_other_open → IsReady (present new) sectors next end true
 ready-switched old new sectors current next ids cut base_number end is_other_open is among change published other ready =
-    let last : last_id next.tail ≡ last_id current.tail = ap last_id is.tail ∙ last_id-drop (index_of cut current.tail) current.tail (index-inside cut current.tail among) in
+    let last : last_id next.tail ≡ last_id current.tail = ap last_id is.tail ∙ last_id-drop (index_of cut current.tail) current.tail (index_of-below cut current.tail among) in
     record {
       root_counts = published;
       closed = subst (λ (k : ℕ). AllClosed (present new) (first_sector k + end)) (sym last)

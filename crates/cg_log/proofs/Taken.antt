@@ -1,87 +1,63 @@
 -- Taken ids, those that a root names and the fresh ones: no two are equal, in whatever order they stand.
 use Rattle.std.proofs.Common.{◌≡◌, ◌⊎◌, inl, inr, ℕ, zero, suc, ◌+◌, ◌-◌, ◌^◌, ◌<◌, ◌≤◌, Bool, true, false, List, [], ◌∷◌, ◌++◌, length, take, drop, refl, sym, ap, ◌∙◌, subst, arith, append_assoc}
-use Rattle.std.specs.Prelude.{◌||◌, nat_eq, nat_lt}
-use Rattle.std.specs.List.{list_all, AllByRecursion, IsDistinct}
-use Rattle.std.proofs.lemmas.Bool.{cases_lt}
+use Rattle.std.specs.Prelude.{◌||◌, nat_eq}
+use Rattle.std.proofs.lemmas.Bool.{cases_lt, or_parts}
 use Rattle.std.proofs.lemmas.Bool.Decides.{nat_tests}
 use Rattle.std.proofs.lemmas.List.{append-nil, length-append, length-drop, take-append-drop}
 use Rattle.std.proofs.lemmas.List.Folds.{list_any-append}
+use Rattle.std.proofs.Math.Bool.{or-true}
 use Rattle.cg_gate.specs.Layout.{segment_count}
 use Rattle.cg_root.specs.Roots.{AreSegments, IsLawful, root_ids}
 use Rattle.cg_root.specs.declared.root.Root.{Root}
+use Rattle.cg_root.proofs.Segments.{AreSegments-first}
 use Rattle.cg_log.specs.Cursors.{index_of}
 use Rattle.cg_log.specs.Free.{free_below, is_among}
 use Rattle.cg_log.specs.Ready.{last_id}
 use Rattle.cg_log.specs.Rolled.{HasOneMoreTail}
 use Rattle.cg_log.specs.Switched.{IsSwitchedRoot}
 use Rattle.cg_log.proofs.Filled.{split_last}
-use Rattle.cg_log.proofs.Ids.{AreSegments-push, below_last, both_false, both_true, is_among-back, is_among-front}
-use Rattle.cg_log.proofs.Room.{among-last, free-as, free-less, or-true}
+use Rattle.cg_log.proofs.Ids.{AreSegments-push, is_among-back, is_among-front}
+use Rattle.cg_log.proofs.Room.{among-last, free-as, free-less}
 
 -- ---- parts of a list
 
-none_among : (id : ℕ) (ids : List ℕ) → AllByRecursion (λ y. nat_eq id y ≡ false) ids → is_among id ids ≡ false
-none_among id [] none = refl
-none_among id (x ∷ ids) none = ap (λ (b : Bool). b || is_among id ids) none.0 ∙ none_among id ids none.1
-
--- the first id is below the bound and none of the others
-record IsFirst (n id : ℕ) (ids : List ℕ) : Type 0 where
-  below : id < n
-  none : is_among id ids ≡ false
-  rest : AreSegments n ids
-
-AreSegments-first : (n id : ℕ) (ids : List ℕ) → AreSegments n (id ∷ ids) → IsFirst n id ids
-unfolding IsDistinct
-AreSegments-first n id ids are =
-    let parts = both_true (nat_lt id n) (list_all (λ x. nat_lt x n) ids) are.below in
-    let test : nat_lt id n ≡ true = parts.0 in
-    record { below = grind (arith, nat_tests); none = none_among id ids are.distinct.0; rest = record { distinct = are.distinct.1; below = parts.1 } }
-
 pub AreSegments-back : (n : ℕ) (xs ys : List ℕ) → AreSegments n (xs ++ ys) → AreSegments n ys
 AreSegments-back n [] ys are = are
-AreSegments-back n (x ∷ xs) ys are = AreSegments-back n xs ys (AreSegments-first n x (xs ++ ys) are).rest
+AreSegments-back n (x ∷ xs) ys are = AreSegments-back n xs ys (AreSegments-first n x (xs ++ ys) are).1
 
 pub AreSegments-swap : (n : ℕ) (xs ys : List ℕ) → AreSegments n (xs ++ ys) → AreSegments n (ys ++ xs)
 AreSegments-swap n [] ys are = subst (AreSegments n) (sym (append-nil ys)) are
 AreSegments-swap n (x ∷ xs) ys are =
     let first = AreSegments-first n x (xs ++ ys) are in
-    let pushed = AreSegments-push x n (xs ++ ys) first.rest first.below first.none in
+    let pushed = AreSegments-push x n (xs ++ ys) first.1 first.0.below first.0.none in
     let swapped = AreSegments-swap n xs (ys ++ x ∷ []) (subst (AreSegments n) (append_assoc xs ys (x ∷ [])) pushed) in
     subst (AreSegments n) (append_assoc ys (x ∷ []) xs) swapped
 
 pub among-back : (k : ℕ) (xs ys : List ℕ) → is_among k ys ≡ true → is_among k (xs ++ ys) ≡ true
 among-back k xs ys is = list_any-append (nat_eq k) xs ys ∙ ap (λ (b : Bool). is_among k xs || b) is ∙ or-true (is_among k xs)
 
-pub among-front : (k : ℕ) (xs ys : List ℕ) → is_among k xs ≡ true → is_among k (xs ++ ys) ≡ true
-among-front k xs ys is = list_any-append (nat_eq k) xs ys ∙ ap (λ (b : Bool). b || is_among k ys) is
-
 none-both : (k : ℕ) (xs ys : List ℕ) → is_among k xs ≡ false → is_among k ys ≡ false → is_among k (xs ++ ys) ≡ false
 none-both k xs ys a b = list_any-append (nat_eq k) xs ys ∙ ap (λ (t : Bool). t || is_among k ys) a ∙ b
 
 pub apart-front : (n k : ℕ) (xs ys : List ℕ) → AreSegments n (xs ++ ys) → is_among k xs ≡ true → is_among k ys ≡ false
 apart-front n k [] ys are is = absurd cc
-apart-front n k (x ∷ xs) ys are is = here (nat_eq k x) refl (λ (named : is_among k xs ≡ true). apart-front n k xs ys (AreSegments-first n x (xs ++ ys) are).rest named)
+apart-front n k (x ∷ xs) ys are is = here (nat_eq k x) refl (λ (named : is_among k xs ≡ true). apart-front n k xs ys (AreSegments-first n x (xs ++ ys) are).1 named)
   where
     here : (b : Bool) → nat_eq k x ≡ b → (is_among k xs ≡ true → is_among k ys ≡ false) → is_among k ys ≡ false
     here true same further =
         let equal : k ≡ x = grind (arith, nat_tests) in
-        ap (λ (j : ℕ). is_among j ys) equal ∙ is_among-back x xs ys (AreSegments-first n x (xs ++ ys) are).none
+        ap (λ (j : ℕ). is_among j ys) equal ∙ is_among-back x xs ys (AreSegments-first n x (xs ++ ys) are).0.none
     here false differs further = further (ap (λ (b : Bool). b || is_among k xs) (sym differs) ∙ is)
 
 pub last_id-among : (xs : List ℕ) → 1 ≤ length xs → is_among (last_id xs) xs ≡ true
 last_id-among xs some = ap (is_among (last_id xs)) (split_last xs (length xs) refl some) ∙ among-last (last_id xs) (take (length xs - 1) xs)
-
-pub last_id-less : (n : ℕ) (xs : List ℕ) → AreSegments n xs → 1 ≤ length xs → last_id xs < n
-last_id-less n xs are some =
-    let split = split_last xs (length xs) refl some in
-    below_last n (take (length xs - 1) xs) (last_id xs) (rw split at are.below)
 
 -- an id that is none of these is not the last of them
 pub other-last : (id : ℕ) (ids : List ℕ) → is_among id ids ≡ false → 1 ≤ length ids → (id < last_id ids) ⊎ (last_id ids < id)
 other-last id ids none some =
     let split = split_last ids (length ids) refl some in
     let last = is_among-back id (take (length ids - 1) ids) (last_id ids ∷ []) (ap (is_among id) (sym split) ∙ none) in
-    apart (cases_lt id (last_id ids)) (both_false (nat_eq id (last_id ids)) false last).0
+    apart (cases_lt id (last_id ids)) (or_parts (nat_eq id (last_id ids)) false last).0
   where
     apart : (id < last_id ids) ⊎ (last_id ids ≤ id) → nat_eq id (last_id ids) ≡ false → (id < last_id ids) ⊎ (last_id ids < id)
     apart (inl lt) differs = inl lt
@@ -103,9 +79,6 @@ module _ (n : ℕ) (root : Root) (fresh : List ℕ) (are : AreSegments n (root_i
   pub fresh-segments : AreSegments n fresh
   fresh-segments = AreSegments-back n (root_ids root) fresh are
 
-  pub taken-none : AreSegments n (root_ids root) → AreSegments n (root_ids root ++ [])
-  taken-none named = subst (AreSegments n) (sym (append-nil (root_ids root))) named
-
   pub taken-fresh : (id : ℕ) → id < n → is_among id (root_ids root ++ fresh) ≡ false → AreSegments n (root_ids root ++ (fresh ++ id ∷ []))
   taken-fresh id lt none = subst (AreSegments n) (append_assoc (root_ids root) fresh (id ∷ [])) (AreSegments-push id n (root_ids root ++ fresh) are lt none)
 
@@ -125,9 +98,9 @@ module _ (n : ℕ) (root : Root) (fresh : List ℕ) (are : AreSegments n (root_i
       let kept = AreSegments-back n (take k root.tail) (drop k root.tail ++ fresh) (subst (AreSegments n) (append_assoc (take k root.tail) (drop k root.tail) fresh) parts) in
       AreSegments-swap n (drop k root.tail) fresh kept
 
-pub index-inside : (id : ℕ) (ids : List ℕ) → is_among id ids ≡ true → index_of id ids < length ids
-index-inside id [] is = absurd cc
-index-inside id (x ∷ ids) is = here (nat_eq id x) refl (λ (named : is_among id ids ≡ true). index-inside id ids named)
+pub index_of-below : (id : ℕ) (ids : List ℕ) → is_among id ids ≡ true → index_of id ids < length ids
+index_of-below id [] is = absurd cc
+index_of-below id (x ∷ ids) is = here (nat_eq id x) refl (λ (named : is_among id ids ≡ true). index_of-below id ids named)
   where
     here : (b : Bool) → nat_eq id x ≡ b → (is_among id ids ≡ true → index_of id ids < length ids) → index_of id (x ∷ ids) < length (x ∷ ids)
     here true same further = rw same (omega arith)
@@ -140,7 +113,7 @@ IsLawful-switched sectors current next fresh cut base_number is among are low sm
   epoch_from = omega (arith, is.epoch);
   epoch_to = omega (arith, is.epoch, small);
   base_number = omega (arith, is.number, low);
-  tail = omega (arith, ap length is.tail, length-drop (index_of cut current.tail) current.tail, index-inside cut current.tail among);
+  tail = omega (arith, ap length is.tail, length-drop (index_of cut current.tail) current.tail, index_of-below cut current.tail among);
   ids = subst (AreSegments (segment_count sectors)) (λ i. sym is.base i ++ sym is.tail i) (taken-switched (segment_count sectors) current fresh are (index_of cut current.tail));
 }
 
@@ -165,12 +138,8 @@ free_taken : (n : ℕ) (ids : List ℕ) → AreSegments n ids → free_below n i
 free_taken n [] are = omega (arith, free-all n)
 free_taken n (id ∷ ids) are =
     let first = AreSegments-first n id ids are in
-    omega (arith, free-as (id ∷ ids) (ids ++ id ∷ []) (λ k. among-first k id ids) n, free-less ids id n first.below first.none, free_taken n ids first.rest)
+    omega (arith, free-as (id ∷ ids) (ids ++ id ∷ []) (λ k. among-first k id ids) n, free-less ids id n first.0.below first.0.none, free_taken n ids first.1)
 
 pub free_and_taken : (sectors : ℕ) (base tail fresh : List ℕ) → AreSegments (segment_count sectors) ((base ++ tail) ++ fresh)
     → free_below (segment_count sectors) ((base ++ tail) ++ fresh) + (length base + length tail + length fresh) ≡ segment_count sectors
 free_and_taken sectors base tail fresh are = omega (arith, free_taken (segment_count sectors) ((base ++ tail) ++ fresh) are, length-append (base ++ tail) fresh, length-append base tail)
-
-pub segment_count-le : (sectors : ℕ) → segment_count sectors ≤ 200
-unfolding segment_count
-segment_count-le sectors = omega arith

@@ -1,10 +1,11 @@
 -- Assignments that are handed out to members, and exchanged with theirs.
-use Rattle.std.proofs.Common.{◌≡◌, ℕ, zero, suc, ◌+◌, ◌-◌, ◌<◌, Bool, true, false, cond, not, List, [], ◌∷◌, ◌++◌, length, map, take, drop, get_or, Option, Some, None, unwrap_or, add-one, refl, sym, ap, ◌∙◌, append_assoc, arith}
+use Rattle.std.proofs.Common.{◌≡◌, ℕ, zero, suc, ◌+◌, ◌-◌, ◌<◌, true, false, cond, not, List, [], ◌∷◌, ◌++◌, length, map, take, drop, get_or, Option, Some, None, unwrap_or, add-one, refl, sym, ap, ◌∙◌, append_assoc, arith}
 use Rattle.std.specs.Prelude.{find, option_map, if◌then◌else◌}
 use Rattle.std.specs.List.{list_any}
-use Rattle.std.proofs.lemmas.Bool.{and_parts, or_parts}
+use Rattle.std.proofs.lemmas.Bool.{and_parts, or_parts, not-true}
 use Rattle.std.proofs.Math.ListN.{set}
 use Rattle.std.proofs.lemmas.List.{get_or-map, length-map}
+use Rattle.std.proofs.Math.Seq.{take-length}
 use Rattle.cg_member.specs.declared.member.Member.{Member}
 use Rattle.cg_request.specs.declared.request.SyncEntry.{SyncEntry}
 use Rattle.cg_request.specs.Names.{are_distinct, is_same}
@@ -34,16 +35,12 @@ same_look_ups f g id (m ∷ ms) same apart =
     ap (λ o. unwrap_or o [] ∷ map (λ x. unwrap_or (f x.id) []) ms) (same m.id parts.0)
     ∙ ap (λ xs. unwrap_or (g m.id) [] ∷ xs) (same_look_ups f g id ms same parts.1)
 
-false_from_not : (b : Bool) → not b ≡ true → b ≡ false
-false_from_not true e = sym e
-false_from_not false e = refl
-
 -- the first of distinct members has its id alone, and the others are distinct
 pub first_alone : (m : Member) (ms : List Member) → are_distinct (ids (m ∷ ms)) ≡ true → (list_any (is_same m.id) (ids ms) ≡ false) × (are_distinct (ids ms) ≡ true)
 unfolding are_distinct
 first_alone m ms e =
     let parts = and_parts (not (list_any (is_same m.id) (ids ms))) (are_distinct (ids ms)) e in
-    (false_from_not (list_any (is_same m.id) (ids ms)) parts.0, parts.1)
+    (not-true (list_any (is_same m.id) (ids ms)) parts.0, parts.1)
 
 -- the look-up of the first member, and then those of the others in what is left
 pub all_taken : (f g : List ℕ → Option (List ℕ)) (first : Member) (others ms : List Member) (before pushed after : List (List ℕ)) (a : List ℕ) → ms ≡ first ∷ others → are_distinct (ids ms) ≡ true → ((other : List ℕ) → is_same first.id other ≡ false → g other ≡ f other) → a ≡ unwrap_or (f first.id) [] → pushed ≡ before ++ a ∷ [] → after ≡ pushed ++ map (λ m. unwrap_or (g m.id) []) others → after ≡ before ++ map (λ m. unwrap_or (f m.id) []) ms
@@ -143,13 +140,9 @@ module _ (list : List (List ℕ)) (ms : List Member) (i : ℕ) (held : List Memb
       ∙ one_more_in_list (map (λ (x : Member). x.assignment) ms) list i a (omega arith) (omega arith)
       ∙ ap (λ n. take n (map (λ (x : Member). x.assignment) ms) ++ drop n list) (sym (add-one i))
 
-whole : {X : Type 0} (l : List X) → take (length l) l ≡ l
-whole [] = refl
-whole (z ∷ l) = ap (λ m. z ∷ m) (whole l)
-
 -- a list is its first element and the slice after it
 pub rest_is : {X : Type 0} (xs : List X) (x : X) → 0 < length xs → x ≡ get_or xs 0 x → xs ≡ x ∷ take (length xs - 1) (drop 1 xs)
 rest_is [] x some is = absurd (omega arith)
 rest_is {X = X} (y ∷ xs) x some is =
     let less : suc (length xs) - 1 ≡ length xs = omega arith in
-    ap (λ z. z ∷ xs) (sym is) ∙ ap (λ l. x ∷ l) (sym (ap (λ n. take n xs) less ∙ whole xs))
+    ap (λ z. z ∷ xs) (sym is) ∙ ap (λ l. x ∷ l) (sym (ap (λ n. take n xs) less ∙ take-length xs))

@@ -1,10 +1,10 @@
 -- A member replaces the one with its instance: only that one is removed, and the members stay lawful.
-use Rattle.std.proofs.Common.{◌≡◌, ℕ, suc, ◌+◌, ◌<◌, ◌≤◌, Bool, true, false, cond, find, not, ◌||◌, List, [], ◌∷◌, ◌++◌, length, map, is_some, subst, Option, Some, None, refl, sym, ap, ◌∙◌, arith}
+use Rattle.std.proofs.Common.{◌≡◌, ℕ, suc, ◌+◌, ◌<◌, ◌≤◌, true, false, cond, find, not, ◌||◌, List, [], ◌∷◌, ◌++◌, length, map, is_some, subst, Option, Some, None, refl, sym, ap, ◌∙◌, arith}
 use Rattle.std.proofs.Math.ListN.{set}
 use Rattle.std.specs.Prelude.{if◌then◌else◌}
 use Rattle.std.specs.List.{list_any, flat_map, position, position_or_len}
 use Rattle.std.specs.Option.{option_to_list}
-use Rattle.std.proofs.lemmas.Bool.{and_parts, and_from, or_parts, or_from, false≢true}
+use Rattle.std.proofs.lemmas.Bool.{and_parts, and_from, or_parts, or_from, false≢true, not-true}
 use Rattle.std.proofs.lemmas.Cmp.{nat_list_eq_equiv}
 use Rattle.std.proofs.lemmas.List.{length-map}
 use Rattle.std.proofs.lemmas.Slice.Eq.{bytes_eq-Decides}
@@ -17,10 +17,6 @@ use Rattle.cg_member.specs.Replacing.{seated, seating}
 use Rattle.cg_member.proofs.Keeping.{map-same}
 use Rattle.cg_member.proofs.Places.{place_is, no_place_is}
 use Rattle.cg_member.proofs.Together.{flat_map-map, fresh_from_find}
-
-false_from_not : (b : Bool) → not b ≡ true → b ≡ false
-false_from_not true e = sym e
-false_from_not false e = refl
 
 -- a look-up by instance that finds a member was given an instance
 pub instance_given : (o : Option (List ℕ)) (ms : List Member) (m : Member) → find_instance o ms ≡ Some m → is_some o ≡ true
@@ -58,11 +54,11 @@ others_free (Some i) m ms h d = go m.instance h d
     go : (own : Option (List ℕ)) → is_named own i ≡ true → are_distinct (option_to_list own ++ instances ms) ≡ true → list_any (has_instance (Some i)) ms ≡ false
     go None h d = absurd (false≢true h)
     go (Some j) h d =
-        let apart : list_any (is_same j) (instances ms) ≡ false = false_from_not (list_any (is_same j) (instances ms)) (and_parts (not (list_any (is_same j) (instances ms))) (are_distinct (instances ms)) d).0 in
+        let apart : list_any (is_same j) (instances ms) ≡ false = not-true (list_any (is_same j) (instances ms)) (and_parts (not (list_any (is_same j) (instances ms))) (are_distinct (instances ms)) d).0 in
         let Q : List ℕ → Type 0 = λ x. list_any (is_same x) (instances ms) ≡ false in
         none_named i ms (subst Q ((bytes_eq-Decides j i).0 h) apart)
 
-rest_distinct : (o : Option (List ℕ)) (rest : List (List ℕ)) → are_distinct (option_to_list o ++ rest) ≡ true → are_distinct rest ≡ true
+pub rest_distinct : (o : Option (List ℕ)) (rest : List (List ℕ)) → are_distinct (option_to_list o ++ rest) ≡ true → are_distinct rest ≡ true
 unfolding are_distinct
 rest_distinct None rest e = e
 rest_distinct (Some i) rest e = (and_parts (not (list_any (is_same i) rest)) (are_distinct rest) e).1
@@ -136,7 +132,7 @@ distinct_ids new (m ∷ ms) e d free =
           (and_from (not (list_any (is_same new.id) (ids ms))) (are_distinct (ids ms)) (ap not (other_way new.id (ids ms) news.1)) parts.1)
       | false ↦ λ h.
           and_from (not (list_any (is_same m.id) (ids (map (seated new) ms)))) (are_distinct (ids (map (seated new) ms)))
-          (ap not (none_seated m.id new ms news.0 (false_from_not (list_any (is_same m.id) (ids ms)) parts.0)))
+          (ap not (none_seated m.id new ms news.0 (not-true (list_any (is_same m.id) (ids ms)) parts.0)))
           (distinct_ids new ms parts.1 (rest_distinct m.instance (instances ms) d) news.1)
     ]) refl
 

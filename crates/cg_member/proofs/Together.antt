@@ -1,8 +1,8 @@
 -- The members of one group stay lawful: few enough, with different ids and different instances.
-use Rattle.std.proofs.Common.{◌≡◌, ℕ, ◌+◌, ◌<◌, ◌≤◌, Bool, true, false, not, ◌||◌, List, [], ◌∷◌, ◌++◌, length, map, filter, find, cond, is_some, refl, sym, ap, ◌∙◌, subst, Option, Some, None, arith}
+use Rattle.std.proofs.Common.{◌≡◌, ℕ, ◌<◌, ◌≤◌, Bool, true, false, not, ◌||◌, List, [], ◌∷◌, ◌++◌, length, map, filter, find, cond, is_some, refl, sym, ap, ◌∙◌, subst, Option, Some, None, arith}
 use Rattle.std.specs.List.{list_any, flat_map}
 use Rattle.std.specs.Option.{option_to_list}
-use Rattle.std.proofs.lemmas.Bool.{and_parts, and_from, or_parts, or_from}
+use Rattle.std.proofs.lemmas.Bool.{and_parts, and_from, or_parts, or_from, not-true}
 use Rattle.std.proofs.lemmas.List.{length-map, length-append}
 use Rattle.cg_record.specs.declared.roster.TheConstants.{MEMBERS_MAX}
 use Rattle.cg_member.specs.declared.calls.Calls.{Calls}
@@ -17,10 +17,6 @@ use Rattle.cg_member.specs.Membership.{is_same, is_named, has_id, has_instance, 
 use Rattle.cg_member.specs.Waiting.{after_answer, after_answers, recalled}
 use Rattle.cg_member.proofs.Exchanges.{map-with_assignments}
 use Rattle.cg_member.proofs.Keeping.{IsLasting, keep-after_answers, map-with_member}
-
-false_from_not : (b : Bool) → not b ≡ true → b ≡ false
-false_from_not true e = sym e
-false_from_not false e = refl
 
 -- a property that no member has holds for none of those that stay
 none_stays : (p : List ℕ → Bool) (stays : Member → Bool) (ms : List Member) → list_any p (ids ms) ≡ false → list_any p (ids (filter stays ms)) ≡ false
@@ -40,7 +36,7 @@ distinct-filter stays (m ∷ ms) e =
     let parts = and_parts (not (list_any (is_same m.id) (ids ms))) (are_distinct (ids ms)) e in
     let rest = distinct-filter stays ms parts.1 in
     elim (stays m) as (λ b. are_distinct (ids (cond b (m ∷ filter stays ms) (filter stays ms))) ≡ true) [
-      | true ↦ and_from (not (list_any (is_same m.id) (ids (filter stays ms)))) (are_distinct (ids (filter stays ms))) (ap not (none_stays (is_same m.id) stays ms (false_from_not (list_any (is_same m.id) (ids ms)) parts.0))) rest
+      | true ↦ and_from (not (list_any (is_same m.id) (ids (filter stays ms)))) (are_distinct (ids (filter stays ms))) (ap not (none_stays (is_same m.id) stays ms (not-true (list_any (is_same m.id) (ids ms)) parts.0))) rest
       | false ↦ rest
     ]
 
@@ -57,7 +53,7 @@ distinct-push [] x e fresh = refl
 distinct-push (y ∷ ys) x e fresh =
     let parts = and_parts (not (list_any (is_same y) ys)) (are_distinct ys) e in
     let news = or_parts (is_same y x) (list_any (λ z. is_same z x) ys) fresh in
-    and_from (not (list_any (is_same y) (ys ++ x ∷ []))) (are_distinct (ys ++ x ∷ [])) (ap not (none-push (is_same y) ys x (false_from_not (list_any (is_same y) ys) parts.0) news.0)) (distinct-push ys x parts.1 news.1)
+    and_from (not (list_any (is_same y) (ys ++ x ∷ []))) (are_distinct (ys ++ x ∷ [])) (ap not (none-push (is_same y) ys x (not-true (list_any (is_same y) ys) parts.0) news.0)) (distinct-push ys x parts.1 news.1)
 
 -- an id by which no member is found is not among the ids
 pub fresh_from_find : (id : List ℕ) (ms : List Member) → is_some (find_member id ms) ≡ false → list_any (λ y. is_same y id) (ids ms) ≡ false
@@ -97,7 +93,7 @@ distinct-filter_instances stays (m ∷ ms) e =
           let parts = and_parts (not (list_any (is_same i) (instances ms))) (are_distinct (instances ms)) e in
           let rest = distinct-filter_instances stays ms parts.1 in
           elim (stays m) as (λ b. are_distinct (flat_map (λ (x : Member). option_to_list x.instance) (cond b (record m { instance = Some i } ∷ filter stays ms) (filter stays ms))) ≡ true) [
-            | true ↦ and_from (not (list_any (is_same i) (instances (filter stays ms)))) (are_distinct (instances (filter stays ms))) (ap not (none_instance_stays (is_same i) stays ms (false_from_not (list_any (is_same i) (instances ms)) parts.0))) rest
+            | true ↦ and_from (not (list_any (is_same i) (instances (filter stays ms)))) (are_distinct (instances (filter stays ms))) (ap not (none_instance_stays (is_same i) stays ms (not-true (list_any (is_same i) (instances ms)) parts.0))) rest
             | false ↦ rest
           ]
     ]) e
@@ -175,21 +171,15 @@ few-filter stays (m ∷ ms) =
     let rest : length (filter stays ms) ≤ length ms = few-filter stays ms in
     elim (stays m) as (λ b. length (cond b (m ∷ filter stays ms) (filter stays ms)) ≤ length (m ∷ ms)) [ true ↦ omega arith | false ↦ omega arith ]
 
-within : (a b c : ℕ) → a ≤ b → b ≤ c → a ≤ c
-within a b c x y = omega arith
-
 pub members-filter : (stays : Member → Bool) (ms : List Member) → AreMembers ms → AreMembers (filter stays ms)
 members-filter stays ms h = record {
-  few = within (length (filter stays ms)) (length ms) MEMBERS_MAX (few-filter stays ms) h.few;
+  few = omega (arith, few-filter stays ms, h.few);
   distinct = (distinct-filter stays ms h.distinct.0, distinct-filter_instances stays ms h.distinct.1);
 }
 
-one_more : (n k : ℕ) → n < k → n + 1 ≤ k
-one_more n k e = omega arith
-
 pub members-push : (ms : List Member) (m : Member) → length ms < MEMBERS_MAX → is_some (find_member m.id ms) ≡ false → is_some (find_instance m.instance ms) ≡ false → AreMembers ms → AreMembers (ms ++ m ∷ [])
 members-push ms m room own free h = record {
-  few = subst (λ (n : ℕ). n ≤ MEMBERS_MAX) (sym (length-append ms (m ∷ []))) (one_more (length ms) MEMBERS_MAX room);
+  few = subst (λ (n : ℕ). n ≤ MEMBERS_MAX) (sym (length-append ms (m ∷ []))) (omega (arith, room));
   distinct = distinct-members-push ms m own free h.distinct;
 }
 

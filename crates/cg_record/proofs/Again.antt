@@ -38,11 +38,6 @@ pub record IsUnmet {X : Type 0} (at : List X → List ℕ → Read X) (count i :
   pub reads : many_at at (count - i) front rest ≡ Ok (whole, end)
   pub none : list_any passes front ≡ false
 
-pub unmet_start : {X : Type 0} (at : List X → List ℕ → Read X) (count : ℕ) (passes : X → Bool) (whole : List X) (end bytes : List ℕ) → many_at at count [] bytes ≡ Ok (whole, end) → IsUnmet at count 0 passes whole end bytes
-unmet_start at count passes whole end bytes e =
-    let all : count - 0 ≡ count = omega arith in
-    record { front = []; reads = ap (λ (n : ℕ). many_at at n [] bytes) all ∙ e; none = refl }
-
 -- the next value
 pub unmet_next : {X : Type 0} (at : List X → List ℕ → Read X) (count i : ℕ) (passes : X → Bool) (whole : List X) (end rest : List ℕ) (unmet : IsUnmet at count i passes whole end rest) → i < count
     → (x : X × List ℕ) × (at unmet.front rest ≡ Ok x) × (many_at at (count - (i + 1)) (unmet.front ++ x.0 ∷ []) x.1 ≡ Ok (whole, end))

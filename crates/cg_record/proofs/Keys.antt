@@ -1,18 +1,14 @@
 -- Lists with distinct keys, by their first element and by their last.
-use Rattle.std.proofs.Common.{◌≡◌, ◌-◌, ◌<◌, Bool, true, false, List, [], ◌∷◌, ◌++◌, length, take, drop, get_or, refl, sym, subst, arith}
+use Rattle.std.proofs.Common.{◌≡◌, ◌-◌, ◌<◌, Bool, false, List, [], ◌∷◌, ◌++◌, length, take, drop, get_or, refl, sym, subst, arith}
 use Rattle.std.specs.Prelude.{◌||◌}
 use Rattle.std.proofs.lemmas.List.{take_all}
 use Rattle.std.specs.List.{list_any, AllByRecursion, IsDistinct}
-
--- both sides of an `or` that is false are false
-pub both_false : (a b : Bool) → (a || b) ≡ false → (a ≡ false) × (b ≡ false)
-both_false true b e = absurd cc
-both_false false b e = (refl, e)
+use Rattle.std.proofs.lemmas.Bool.{or_parts}
 
 -- if no element passes the test, each fails it
 pub all_fail : {X : Type 0} (p : X → Bool) (xs : List X) → list_any p xs ≡ false → AllByRecursion (λ x. p x ≡ false) xs
 all_fail p [] e = tt
-all_fail p (x ∷ xs) e = let h = both_false (p x) (list_any p xs) e in (h.0, all_fail p xs h.1)
+all_fail p (x ∷ xs) e = let h = or_parts (p x) (list_any p xs) e in (h.0, all_fail p xs h.1)
 
 -- if each element fails the test, none passes it
 pub none_passes : {X : Type 0} (p : X → Bool) (xs : List X) → AllByRecursion (λ x. p x ≡ false) xs → list_any p xs ≡ false
@@ -27,15 +23,15 @@ AllByRecursion-push P (x ∷ xs) y h p = (h.0, AllByRecursion-push P xs y h.1 p)
 pub neither : {X : Type 0} (p q : X → Bool) (xs : List X) → list_any p xs ≡ false → list_any q xs ≡ false → list_any (λ x. p x || q x) xs ≡ false
 neither p q [] none other = refl
 neither p q (x ∷ xs) none other =
-    let n = both_false (p x) (list_any p xs) none in
-    let o = both_false (q x) (list_any q xs) other in
+    let n = or_parts (p x) (list_any p xs) none in
+    let o = or_parts (q x) (list_any q xs) other in
     rw (n.0, o.0, neither p q xs n.1 o.1) refl
 
 pub neither_parts : {X : Type 0} (p q : X → Bool) (xs : List X) → list_any (λ x. p x || q x) xs ≡ false → (list_any p xs ≡ false) × (list_any q xs ≡ false)
 neither_parts p q [] none = (refl, refl)
 neither_parts p q (x ∷ xs) none =
-    let n = both_false (p x || q x) (list_any (λ y. p y || q y) xs) none in
-    let here = both_false (p x) (q x) n.0 in
+    let n = or_parts (p x || q x) (list_any (λ y. p y || q y) xs) none in
+    let here = or_parts (p x) (q x) n.0 in
     let there = neither_parts p q xs n.1 in
     (rw (here.0, there.0) refl, rw (here.1, there.1) refl)
 
@@ -44,7 +40,7 @@ pub IsDistinct-push : {X : Type 0} (e : X → X → Bool) (xs : List X) (y : X) 
 unfolding IsDistinct
 IsDistinct-push e [] y h none = (tt, tt)
 IsDistinct-push e (x ∷ xs) y h none =
-    let n = both_false (e x y) (list_any (λ z. e z y) xs) none in
+    let n = or_parts (e x y) (list_any (λ z. e z y) xs) none in
     (AllByRecursion-push (λ z. e x z ≡ false) xs y h.0 n.0, IsDistinct-push e xs y h.1 n.1)
 
 AllByRecursion-middle : {X : Type 0} (P : X → Type 0) (xs : List X) (y : X) (ys : List X) → AllByRecursion P (xs ++ y ∷ ys) → P y

@@ -2,7 +2,7 @@
 use Rattle.std.proofs.Common.{◌≡◌, ℕ, ◌+◌, ◌<◌, Bool, true, false, cond, List, [], ◌++◌, length, get_or, drop, Result, Ok, Err, refl, sym, ap, subst, ◌∙◌, append_assoc}
 use Rattle.std.proofs.lemmas.List.{get_or-drop, drop_at}
 use Rattle.cg_record.specs.declared.fault.RecordFault.{RecordFault}
-use Rattle.cg_record.specs.Fields.{Read, ◌>>=◌, only, made}
+use Rattle.cg_record.specs.Fields.{Read, ◌>>=◌, only}
 
 -- each element is a byte
 abbrev pub IsBytes : List ℕ → Type 0
@@ -91,23 +91,6 @@ reads_end {X} y {Known} known only_one = record {
       let same : (y, bytes) ≡ (x, rest) = ok_is (y, bytes) (x, rest) e in
       subst (λ (z : X × List ℕ). Takes bytes [] z.1 × Known z.0 × Anything z.0) same (Takes-one bytes [] bytes fits refl, known, tt);
   again = λ x rest is_known is. ap (λ (z : X). Ok (z, rest)) (only_one x is_known);
-}
-
--- a value with a single field
-pub reads_made : {A X : Type 0} {at : List ℕ → Read A} {text : A → List ℕ} {Is : A → Type 0} (make : A → X) (back : X → A) {text_of : X → List ℕ} {IsX : X → Type 0}
-    → Reads at text Is → ((a : A) → (text_of (make a) ≡ text a)) → ((a : A) → Is a → IsX (make a)) → ((x : X) → make (back x) ≡ x) → ((x : X) → IsX x → Is (back x))
-    → Reads (λ bytes. made make (at bytes)) text_of IsX
-reads_made {A} {X} {at} {text} {Is} make back {text_of} {IsX} reader same_text there returns here = record {
-  takes = λ bytes x rest fits e.
-      let b = bind_ok (at bytes) (λ y. Ok (make y.0, y.1)) (x, rest) e in
-      let t = reader.takes bytes b.0.0 b.0.1 fits b.1 in
-      let same : (make b.0.0, b.0.1) ≡ (x, rest) = ok_is (make b.0.0, b.0.1) (x, rest) b.2 in
-      let taken : Takes bytes (text_of (make b.0.0)) b.0.1 = subst (λ (l : List ℕ). Takes bytes l b.0.1) (sym (same_text b.0.0)) t.0 in
-      subst (λ (y : X × List ℕ). Takes bytes (text_of y.0) y.1 × Anything y.0 × IsX y.0) same (taken, tt, there b.0.0 t.2);
-  again = λ x rest known is.
-      let spelled : text_of x ≡ text (back x) = ap text_of (sym (returns x)) ∙ same_text (back x) in
-      let one : made make (at (text (back x) ++ rest)) ≡ Ok (make (back x), rest) = rw (reader.again (back x) rest tt (here x is)) refl in
-      ap (λ (l : List ℕ). made make (at (l ++ rest))) spelled ∙ one ∙ ap (λ (z : X). Ok (z, rest)) (returns x);
 }
 
 -- the same decoder under an equal encoding and an equal law

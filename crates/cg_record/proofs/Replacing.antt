@@ -2,13 +2,15 @@
 use Rattle.std.proofs.Common.{◌≡◌, ℕ, zero, suc, ◌+◌, ◌<◌, ◌≤◌, Bool, true, false, cond, List, [], ◌∷◌, length, get_or, set, map, Option, Some, None, refl, sym, ap, subst, ◌∙◌, arith}
 use Rattle.std.specs.Prelude.{◌||◌, ◌&&◌, not, bytes_eq, position, nat_lt}
 use Rattle.std.proofs.lemmas.List.Quantifiers.{position-Some}
-use Rattle.std.proofs.lemmas.Bool.{ltb-false}
+use Rattle.std.proofs.lemmas.Bool.{ltb-false, or_parts}
 use Rattle.std.specs.List.{list_any, position_or_len, AllByRecursion, IsDistinct}
 use Rattle.std.proofs.lemmas.Slice.Eq.{bytes_eq-Decides}
 use Rattle.std.proofs.lemmas.List.{length-map}
+use Rattle.std.proofs.Math.Bool.{or-true}
+use Rattle.std.proofs.lemmas.List.Folds.{list_any_at}
 use Rattle.cg_record.specs.declared.member.Member.{Member}
 use Rattle.cg_record.specs.Rosters.{RosterParts, roster_of, has_id, has_instance, is_one_instance, have_one_name, is_led_by, AreApart, IsRoster, IsPlace, takes_place_of, has_id_of_other, may_replace, seated, leads_and_goes, leader_after, replaced_in}
-use Rattle.cg_record.proofs.Keys.{both_false, all_fail}
+use Rattle.cg_record.proofs.Keys.{all_fail}
 
 -- ---- one element of a list that passes a test
 
@@ -90,10 +92,6 @@ module _ {X : Type 0} (e : X → X → Bool) (p : X → Bool) (clash : (x y : X)
 
 -- ---- names
 
-or_true : (b : Bool) → (b || true) ≡ true
-or_true true = refl
-or_true false = refl
-
 bytes_eq-sym : (a b : List ℕ) → bytes_eq a b ≡ bytes_eq b a
 bytes_eq-sym a b = cases (bytes_eq a b) (bytes_eq b a) refl refl
   where
@@ -168,21 +166,21 @@ led_by_new new (x ∷ xs) some = cases (takes_place_of new x) refl (led_by_new n
     cases true is later = rw (bytes_eq-same new.id) refl
     cases false is later =
         let rest : list_any (takes_place_of new) xs ≡ true = rw is at some in
-        rw (later rest) (or_true (has_id new.id x))
+        rw (later rest) (or-true (has_id new.id x))
 
 led_by_old : (new : Member) (leader : List ℕ) (xs : List Member) → list_any (leads_and_goes new leader) xs ≡ false → is_led_by leader xs ≡ true → is_led_by leader (map (seated new) xs) ≡ true
 led_by_old new leader [] none led = absurd cc
 led_by_old new leader (x ∷ xs) none led = cases (has_id leader x) (takes_place_of new x) refl refl (led_by_old new leader xs)
   where
     parts : (leads_and_goes new leader x ≡ false) × (list_any (leads_and_goes new leader) xs ≡ false)
-    parts = both_false (leads_and_goes new leader x) (list_any (leads_and_goes new leader) xs) none
+    parts = or_parts (leads_and_goes new leader x) (list_any (leads_and_goes new leader) xs) none
 
     cases : (l p : Bool) → has_id leader x ≡ l → takes_place_of new x ≡ p → (list_any (leads_and_goes new leader) xs ≡ false → is_led_by leader xs ≡ true → is_led_by leader (map (seated new) xs) ≡ true) → (has_id leader (cond p new x) || is_led_by leader (map (seated new) xs)) ≡ true
     cases true true is also later = absurd (let goes : leads_and_goes new leader x ≡ true = rw (also, is) refl in let clash : true ≡ false = sym goes ∙ parts.0 in cc)
     cases true false is also later = rw is refl
     cases false p is also later =
         let rest : is_led_by leader xs ≡ true = rw is at led in
-        rw (later parts.1 rest) (or_true (has_id leader (cond p new x)))
+        rw (later parts.1 rest) (or-true (has_id leader (cond p new x)))
 
 leads_then : (b : Bool) (new : Member) (leader : List ℕ) (xs : List Member) → list_any (leads_and_goes new leader) xs ≡ b → list_any (takes_place_of new) xs ≡ true → is_led_by leader xs ≡ true → is_led_by (cond b new.id leader) (map (seated new) xs) ≡ true
 leads_then true new leader xs goes some led = led_by_new new xs some
@@ -202,15 +200,10 @@ seated_roster new roster is some none = record {
 
 -- ---- the index of the replaced member
 
-any_of_position : {X : Type 0} (p : X → Bool) (xs : List X) (i : ℕ) (d : X) → i < length xs → p (get_or xs i d) ≡ true → list_any p xs ≡ true
-any_of_position p [] i d lt hit = absurd (omega arith)
-any_of_position p (x ∷ xs) zero d lt hit = rw hit refl
-any_of_position p (x ∷ xs) (suc i) d lt hit = rw (any_of_position p xs i d (omega arith) hit) (or_true (p x))
-
 pub place_found : (new : Member) (members : List Member) (at : ℕ) → position (takes_place_of new) members ≡ Some at → list_any (has_id_of_other new) members ≡ false → IsPlace new members at
 place_found new members at found none =
     let first = position-Some (takes_place_of new) members at new found in
-    let some = any_of_position (takes_place_of new) members at new first.0 first.1 in
+    let some = list_any_at (takes_place_of new) members at new first.0 first.1 in
     record { may = rw (some, none) refl; within = first.0; taken = λ d. (position-Some (takes_place_of new) members at d found).1 }
 
 none_before_end : {X : Type 0} (p : X → Bool) (xs : List X) → length xs ≤ position_or_len p xs → list_any p xs ≡ false

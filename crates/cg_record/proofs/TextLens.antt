@@ -1,9 +1,7 @@
 -- The lengths of encodings, and of lists of encodings that grow.
-use Rattle.std.proofs.Common.{◌≡◌, ℕ, ◌+◌, ◌<◌, List, [], ◌∷◌, ◌++◌, length, get_or, take, refl, sym, ap, subst, ◌∙◌, arith}
-use Rattle.std.specs.List.{flat_map, AllByRecursion}
-use Rattle.std.proofs.lemmas.List.{length-append, take_more, append-nil}
-use Rattle.std.proofs.lemmas.List.Concat.{flat_map-cons}
-use Rattle.std.proofs.lemmas.Grind.{flat_map-append}
+use Rattle.std.proofs.Common.{◌≡◌, ℕ, ◌+◌, ◌∷◌, ◌++◌, length, refl, arith}
+use Rattle.std.specs.List.{flat_map}
+use Rattle.std.proofs.lemmas.List.{length-append}
 use Rattle.cg_record.specs.declared.entry.Entry.{Entry}
 use Rattle.cg_record.specs.declared.emptied.Emptied.{Emptied}
 use Rattle.cg_record.specs.declared.committed.Committed.{Committed}
@@ -14,7 +12,6 @@ use Rattle.cg_record.specs.Rosters.{RosterParts}
 use Rattle.cg_record.specs.Members.{Profile, profile_of, profile_text, member_text}
 use Rattle.cg_record.specs.Texts.{number, four, eight, name_text, optional_text, bytes_text}
 use Rattle.cg_record.specs.Spelling.{entry_text, roster_text, assigned_text, emptied_text, replaced_text, committed_text}
-use Rattle.cg_record.proofs.Keys.{AllByRecursion-push}
 
 four_len : (n : ℕ) → length (four n) ≡ 4
 unfolding number
@@ -92,16 +89,6 @@ assigned_len a =
 pub replaced_len : (r : Replaced) → length (replaced_text r) ≡ length r.group + length (member_text r.member) + 1
 unfolding replaced_text
 replaced_len r = omega (arith, length-append (name_text r.group) (member_text r.member))
-
--- one more encoding
-pub flat_map-more : {X : Type 0} (f : X → List ℕ) (xs : List X) (i : ℕ) (d : X) → i < length xs → flat_map f (take (i + 1) xs) ≡ flat_map f (take i xs) ++ f (get_or xs i d)
-flat_map-more f xs i d lt =
-    ap (flat_map f) (take_more xs i d lt) ∙ flat_map-append f (take i xs) (get_or xs i d ∷ [])
-    ∙ ap (λ (l : List ℕ). flat_map f (take i xs) ++ l) (flat_map-cons f (get_or xs i d) [] ∙ append-nil (f (get_or xs i d)))
-
--- one more element with the property
-pub each-more : {X : Type 0} (P : X → Type 0) (xs : List X) (i : ℕ) (d : X) → i < length xs → AllByRecursion P (take i xs) → P (get_or xs i d) → AllByRecursion P (take (i + 1) xs)
-each-more P xs i d lt so_far here = subst (AllByRecursion P) (sym (take_more xs i d lt)) (AllByRecursion-push P (take i xs) (get_or xs i d) so_far here)
 
 pub emptied_len : (e : Emptied) → length (emptied_text e) ≡ length e.group + length e.kind + 6
 unfolding emptied_text

@@ -1,5 +1,5 @@
 mod Words
-mod Segments
+pub mod Segments
 mod Bodies
 pub mod Stored
 mod States

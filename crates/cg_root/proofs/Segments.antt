@@ -6,22 +6,15 @@ use Rattle.std.specs.List.{list_all, list_any, AllByRecursion, IsDistinct}
 use Rattle.std.proofs.lemmas.Bool.Decides.{nat_tests}
 use Rattle.std.proofs.lemmas.List.{take_all}
 use Rattle.std.proofs.lemmas.Map.Steps.{length-le_from_distinct_below}
+use Rattle.std.proofs.lemmas.Bool.{and_parts, or_parts}
 use Rattle.cg_gate.specs.Layout.{segment_count}
 use Rattle.cg_root.specs.Roots.{AreSegments}
 use Rattle.cg_root.specs.Decoding.{ids_in, IsApart}
 
-both_true : (a b : Bool) → (a && b) ≡ true → (a ≡ true) × (b ≡ true)
-both_true true b e = (refl, e)
-both_true false b e = absurd cc
-
-both_false : (a b : Bool) → (a || b) ≡ false → (a ≡ false) × (b ≡ false)
-both_false true b e = absurd cc
-both_false false b e = (refl, e)
-
 -- no id equals this one
 none_equal : (id : ℕ) (ids : List ℕ) → list_any (nat_eq id) ids ≡ false → AllByRecursion (λ y. nat_eq id y ≡ false) ids
 none_equal id [] none = tt
-none_equal id (x ∷ ids) none = let parts = both_false (nat_eq id x) (list_any (nat_eq id) ids) none in (parts.0, none_equal id ids parts.1)
+none_equal id (x ∷ ids) none = let parts = or_parts (nat_eq id x) (list_any (nat_eq id) ids) none in (parts.0, none_equal id ids parts.1)
 
 none_among : (id : ℕ) (ids : List ℕ) → AllByRecursion (λ y. nat_eq id y ≡ false) ids → list_any (nat_eq id) ids ≡ false
 none_among id [] none = refl
@@ -43,7 +36,7 @@ AreSegments-cons n id ids apart are = record {
 pub AreSegments-first : (n id : ℕ) (ids : List ℕ) → AreSegments n (id ∷ ids) → IsApart n id ids × AreSegments n ids
 unfolding IsDistinct
 AreSegments-first n id ids are =
-    let parts = both_true (nat_lt id n) (list_all (λ x. nat_lt x n) ids) are.below in
+    let parts = and_parts (nat_lt id n) (list_all (λ x. nat_lt x n) ids) are.below in
     let test : nat_lt id n ≡ true = parts.0 in
     (record { below = grind (arith, nat_tests); none = none_among id ids are.distinct.0 }, record { distinct = are.distinct.1; below = parts.1 })
 
@@ -68,7 +61,7 @@ first_below n x q ids below any rest false other = rest (ap (λ (b : Bool). b ||
 member_below : (n : ℕ) (ids : List ℕ) → list_all (λ x. nat_lt x n) ids ≡ true → (q : ℕ) → list_any (nat_eq q) ids ≡ true → q < n
 member_below n [] all q any = absurd cc
 member_below n (x ∷ ids) all q any =
-    let parts = both_true (nat_lt x n) (list_all (λ y. nat_lt y n) ids) all in
+    let parts = and_parts (nat_lt x n) (list_all (λ y. nat_lt y n) ids) all in
     first_below n x q ids parts.0 any (λ passes. member_below n ids parts.1 q passes) (nat_eq q x) refl
 
 pub segment_count-le : (sectors : ℕ) → segment_count sectors ≤ 200

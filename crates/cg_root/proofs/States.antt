@@ -1,14 +1,13 @@
 -- What the slots of a disk hold, and which root counts.
-use Rattle.std.proofs.Common.{◌≡◌, ◌≢◌, ◌⊎◌, ℕ, ◌+◌, ◌*◌, ◌<◌, ◌≤◌, Bool, true, false, List, length, drop, get_or, Ok, Err, refl, sym, ◌∙◌, ap, subst, inl, inr, arith, add-zero}
+use Rattle.std.proofs.Common.{◌≡◌, ◌≢◌, ◌⊎◌, ℕ, ◌+◌, ◌*◌, ◌<◌, ◌≤◌, Bool, true, false, List, length, drop, get_or, Ok, refl, sym, ◌∙◌, ap, subst, inl, inr, arith, add-zero}
 use Rattle.std.specs.Prelude.{◌==◌, nat_lt}
 use Rattle.std.proofs.lemmas.Bool.Decides.{nat_tests}
 use Rattle.std.proofs.lemmas.List.{length-take, length-drop, get_or-take, get_or-drop}
 use Rattle.cg_disk.specs.Disk.{Image, sector}
 use Rattle.cg_gate.specs.Gates.{IsClosed}
 use Rattle.cg_root.specs.Slots.{gate_of}
-use Rattle.cg_root.specs.Roots.{CountingRoot, HasNoRoot, IsBroken, HasBadRoot}
+use Rattle.cg_root.specs.Roots.{CountingRoot, IsBroken}
 use Rattle.cg_root.specs.Decoding.{head_in, root_in, IsRootBody, IsState, greater_epoch, counting_slot}
-use Rattle.cg_root.specs.declared.fault.RootFault.TheVariants.{NoRoot, BadRoot}
 use Rattle.cg_root.specs.declared.root.Root.{Root}
 use Rattle.cg_root.specs.declared.slot.Slot.{Slot}
 use Rattle.cg_root.specs.declared.slot.Slot.TheVariants.{Zero, One}
@@ -57,16 +56,6 @@ greater_cases a b slot true less is_same is_less ok = absurd (cc ok)
 greater_cases a b slot false true is_same is_less ok = record { cases = inl (let e : slot ≡ One = cc in e, let lt : a < b = grind (arith, nat_tests) in lt) }
 greater_cases a b slot false false is_same is_less ok = record { cases = inr (let e : slot ≡ Zero = cc in e, let lt : b < a = grind (arith, nat_tests) in lt) }
 
-greater_bad : (a b : ℕ) (same less : Bool) → (a == b) ≡ same → nat_lt a b ≡ less → greater_epoch a b ≡ Err BadRoot → a ≡ b
-greater_bad a b true less is_same is_less bad = grind (arith, nat_tests)
-greater_bad a b false true is_same is_less bad = absurd (cc bad)
-greater_bad a b false false is_same is_less bad = absurd (cc bad)
-
-greater_some : (a b : ℕ) (same less : Bool) → (a == b) ≡ same → nat_lt a b ≡ less → greater_epoch a b ≡ Err NoRoot → ⊥
-greater_some a b true less is_same is_less none = cc none
-greater_some a b false true is_same is_less none = cc none
-greater_some a b false false is_same is_less none = cc none
-
 -- Both slots
 
 module _ (image : Image) (sectors : ℕ) (room : 4 ≤ sectors) where
@@ -102,26 +91,3 @@ module _ (image : Image) (sectors : ℕ) (room : 4 ≤ sectors) where
       subst Counts same record { counting = record { room = room; stored = zs.0; newest = inl os }; body = zs.1 }
   counting-counts (Stored a) Broken slot zs os ok = absurd (cc ok)
   counting-counts (Stored a) (Stored b) slot zs os ok = greater_counts a b slot zs os (greater_cases a b slot (a == b) (nat_lt a b) refl refl ok)
-
-  pub counting-none : (z o : SlotState) → IsState image sectors Zero z → IsState image sectors One o → counting_slot z o ≡ Err NoRoot → HasNoRoot image sectors
-  counting-none Closed Closed zs os none = inr (zs, os)
-  counting-none Closed Broken zs os none = absurd (cc none)
-  counting-none Closed (Stored b) zs os none = absurd (cc none)
-  counting-none Broken o zs os none = absurd (cc none)
-  counting-none (Stored a) Closed zs os none = absurd (cc none)
-  counting-none (Stored a) Broken zs os none = absurd (cc none)
-  counting-none (Stored a) (Stored b) zs os none = absurd (greater_some a b (a == b) (nat_lt a b) refl refl none)
-
-  pub counting-bad : (z o : SlotState) → IsState image sectors Zero z → IsState image sectors One o → counting_slot z o ≡ Err BadRoot → HasBadRoot image sectors
-  counting-bad Closed Closed zs os bad = absurd (cc bad)
-  counting-bad Closed Broken zs os bad = record { room = room; bad = inl (inr os) }
-  counting-bad Closed (Stored b) zs os bad = absurd (cc bad)
-  counting-bad Broken o zs os bad = record { room = room; bad = inl (inl zs) }
-  counting-bad (Stored a) Closed zs os bad = absurd (cc bad)
-  counting-bad (Stored a) Broken zs os bad = record { room = room; bad = inl (inr os) }
-  counting-bad (Stored a) (Stored b) zs os bad =
-      let same : a ≡ b = greater_bad a b (a == b) (nat_lt a b) refl refl bad in
-      record {
-        room = room;
-        bad = inr record { zero_root = stored_in Zero; one_root = stored_in One; zero_slot = refl; one_slot = refl; zero_stored = zs.0; one_stored = os.0; one_epoch = zs.2 ∙ same ∙ sym os.2 };
-      }

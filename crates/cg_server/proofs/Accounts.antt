@@ -27,15 +27,6 @@ pub broke_then : (a b c : Option (List ℕ)) (text : List ℕ) (cause : Stop) �
 broke_then a b c text cause before (inl write) = inl write
 broke_then a b c text cause before (inr more) = inr (text ++ more.0, appends_then a b c _ _ before more.1)
 
--- nothing was written after `text`, or a line could not be written
-pub broke_after : (a b c : Option (List ℕ)) (text : List ℕ) (cause : Stop) → Appends a b text → (cause ≡ stop.Write) ⊎ Appends b c [] → Broke cause a c
-broke_after a b c text cause before (inl write) = inl write
-broke_after a b c text cause before (inr none) = inr (text ++ [], appends_then a b c _ _ before none)
-
-pub broke_alone : (a b : Option (List ℕ)) (cause : Stop) → (cause ≡ stop.Write) ⊎ Appends a b [] → Broke cause a b
-broke_alone a b cause (inl write) = inl write
-broke_alone a b cause (inr none) = inr ([], none)
-
 pub all_then : (a b c : Option (List ℕ)) (listens : Bool) (said : List ℕ) (front : ℕ) → IsAccount listens said → Appends a b said → Appends b c (closed_text front) → PrintsAll listens a c
 all_then a b c listens said front is before more = (said, front, is, appends_then a b c _ _ before more)
 

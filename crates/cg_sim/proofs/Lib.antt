@@ -4,5 +4,4 @@ pub mod Front
 pub mod Known
 mod Lines
 pub mod Poking
-pub mod CommandLine
 pub mod Filled

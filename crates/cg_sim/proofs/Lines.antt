@@ -1,7 +1,7 @@
 -- The first line of an input, read in parts.
-use Rattle.std.proofs.Common.{Bool, false, not, eqb, ne_eqb, append-nil, ⊎_elim, ◌≡◌, ◌≢◌, ℕ, ◌+◌, ◌-◌, ◌<◌, ◌≤◌, All, List, [], ◌∷◌, ◌++◌, length, take, drop, get_or, refl, sym, ap, subst, ◌∙◌, arith, take_all, append_assoc, length-append, Some, None, Option}
+use Rattle.std.proofs.Common.{Bool, false, not, eqb, ne_eqb, append-nil, ⊎_elim, ◌≡◌, ◌≢◌, ℕ, ◌+◌, ◌-◌, ◌≤◌, All, List, [], ◌∷◌, ◌++◌, length, take, drop, refl, sym, ap, subst, ◌∙◌, arith, append_assoc, length-append, Some, None, Option}
 use Rattle.std.proofs.lemmas.List.{take-append-drop}
-use Rattle.std.proofs.lemmas.List.Elements.{All-append, All-more, All-take}
+use Rattle.std.proofs.lemmas.List.Elements.{All-append, All-take}
 use Rattle.std.proofs.Math.Seq.{drop-append_seam, take-append-add, take-nil}
 use Rattle.std.proofs.BufReadLemmas.{take_through-append, through_part}
 use Rattle.std.specs.Prelude.{◌==◌}
@@ -10,13 +10,6 @@ use Rattle.std.specs.Io.KnownBytes.{Consumes}
 use Rattle.std.specs.Io.BufRead.{take_through}
 use Rattle.cg_sim.specs.Reading.{HasNoEnd, IsNext, IsOver, first_line}
 use Rattle.cg_sim.specs.declared.line.TheConstants.{SCRIPT_LINE_BYTES_MAX}
-
--- a line that stops at its line feed, and whose last byte is another one, has none
-pub none-but-last : (line : List ℕ) → StopsAt line 10 → (0 < length line → get_or line (length line - 1) 0 ≢ 10) → HasNoEnd line
-none-but-last [] stops last = λ k d below. absurd (omega (arith, below))
-none-but-last (x ∷ xs) stops last =
-    let line = x ∷ xs in
-    subst (All (λ b. b ≢ 10)) (take_all (length line - 1 + 1) line (omega arith)) (All-more (λ b. b ≢ 10) line (length line - 1) 0 (omega arith) stops (last (omega arith)))
 
 -- bytes without a line feed, and then some that stop at theirs
 pub stops-append : (xs ys : List ℕ) → HasNoEnd xs → StopsAt ys 10 → StopsAt (xs ++ ys) 10

@@ -1,9 +1,9 @@
 -- What a compaction knows stays true while its log grows.
 use Rattle.std.proofs.Common.{◌≡◌, ℕ, ◌+◌, Bool, List, [], sym, ap, ◌∙◌, subst, arith}
 use Rattle.cg_disk.specs.Disk.{History, present}
-use Rattle.cg_log.specs.Carried.{Content, HoldsContent}
+use Rattle.cg_log.specs.Carried.{Content}
 use Rattle.cg_log.specs.Fresh.{HoldsFresh}
-use Rattle.cg_log.specs.Log.{HasFresh, IsUnchanged, LogHas}
+use Rattle.cg_log.specs.Log.{HasFresh, IsUnchanged}
 use Rattle.cg_log.specs.Segments.{Filled, Frames, counted}
 use Rattle.cg_log.specs.declared.log.Log.{Log}
 use Rattle.cg_record.specs.declared.command.Command.{Command}
@@ -52,14 +52,3 @@ module _ {D : Type 0} {g : _} (honest : D → Bool) (history : D → History) wh
     is_honest = ap honest same.disk ∙ has.is_honest;
     holds = coe 0 1 (i. HoldsFresh (present (history (sym same.disk i))) (sym same.fresh i) (sym same.fresh_end i) fresh) has.holds;
   }
-
-  pub LogHas-unchanged : (size : D → ℕ) (old new : Log D g) → IsUnchanged old new → (has : Content) → LogHas honest history size old has → LogHas honest history size new has
-  LogHas-unchanged size old new same has holds =
-      let disk = sym same.disk in
-      let root = sym same.root in
-      let end = sym same.end in
-      let number = sym same.number in
-      record {
-        is_honest = ap honest same.disk ∙ holds.is_honest;
-        holds = coe 0 1 (i. HoldsContent (present (history (disk i))) (size (disk i)) (root i) (end i) (number i) has) holds.holds;
-      }

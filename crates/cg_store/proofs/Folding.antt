@@ -17,16 +17,18 @@ use Rattle.cg_log.specs.Rolled.{IsRolled}
 use Rattle.cg_log.specs.Segments.{Filled, Frames, counted, frames_of, ids_of}
 use Rattle.cg_log.specs.declared.cursor.Cursor.{Cursor}
 use Rattle.cg_log.specs.declared.log.Log.{Log}
-use Rattle.cg_log.proofs.Filled.{frames_of-append, ids_of-push}
+use Rattle.cg_log.proofs.Filled.{frames_of-append, ids_of-push, length-ids}
 use Rattle.cg_log.proofs.Ids.{is_among-back, is_among-last}
 use Rattle.cg_log.proofs.Moves.{frames_of-rolled}
+use Rattle.cg_log.proofs.Taken.{index_of-below}
+use Rattle.cg_log.proofs.Room.{among-last}
 use Rattle.cg_root.specs.declared.root.Root.{Root}
 use Rattle.cg_store.specs.Carried.{Spell}
 use Rattle.cg_store.specs.Compacting.{HaveSameFrames, IsFolding, IsFrameRead}
 use Rattle.cg_store.specs.Loading.{Adds, IsNoText}
 use Rattle.cg_store.specs.declared.compaction.Cut.{Cut}
 use Rattle.cg_store.specs.declared.phase.Progress.TheVariants.{More}
-use Rattle.cg_store.proofs.Growing.{index_of-below, index_of-last, is_among-last-of, length-ids}
+use Rattle.cg_store.proofs.Growing.{index_of-last}
 use Rattle.cg_store.proofs.Spelled.{Spell-next, Spell-nil, Spell-push}
 
 -- ---- the frames before a cut and from it on
@@ -150,7 +152,7 @@ module _ (image : Image) (sectors : ℕ) (root : Root) (has new : Content) (id :
   at-last = ap (index_of id) last-ids ∙ index_of-last id (ids_of new.sealed) is-apart ∙ length-ids new.sealed
 
   is-tail : is_among id (ids_of (tails new)) ≡ true
-  is-tail = ap (is_among id) last-ids ∙ is_among-last-of id (ids_of new.sealed)
+  is-tail = ap (is_among id) last-ids ∙ among-last id (ids_of new.sealed)
 
   from-last : frames_of (tails_from id new) ≡ []
   from-last =

@@ -3,13 +3,15 @@ use Rattle.std.proofs.Common.{◌≡◌, inl, inr, ℕ, zero, suc, ◌+◌, ◌<
 use Rattle.std.specs.Prelude.{nat_eq, ◌||◌, OnOk, OnErr}
 use Rattle.std.proofs.lemmas.List.{drop-append-le, length-append, map-append, take-append-le}
 use Rattle.std.proofs.lemmas.Bool.Decides.{nat_tests}
+use Rattle.std.proofs.lemmas.List.Folds.{list_any-append}
 use Rattle.cg_log.specs.Carried.{Content, segments_of, tails}
 use Rattle.cg_log.specs.Cursors.{IsAfter, frames_at, index_of, segment_index, segments_before, tails_before, tails_from}
 use Rattle.cg_log.specs.Free.{is_among}
 use Rattle.cg_log.specs.Rolled.{IsAppended}
 use Rattle.cg_log.specs.Segments.{Filled, Frames, counted, frames_of, ids_of}
-use Rattle.cg_log.proofs.Filled.{frames_of-append, frames_of-push, ids_of-push}
+use Rattle.cg_log.proofs.Filled.{frames_of-append, frames_of-push, ids_of-push, length-ids}
 use Rattle.cg_log.proofs.Found.{counted-append}
+use Rattle.cg_log.proofs.Taken.{index_of-below}
 use Rattle.cg_store.specs.Compacting.{IsCut, IsFolding}
 use Rattle.cg_store.specs.declared.compaction.Cut.{Cut}
 use Rattle.cg_store.specs.declared.compaction.Reading.{Reading}
@@ -21,14 +23,6 @@ not-fewer (Ok x) old new count more same = omega (arith, more)
 not-fewer (Err e) old new count more same = omega (arith, same)
 
 -- ---- the index of an id
-
-below-step : (b c : Bool) (n m : ℕ) → (b || c) ≡ true → (c ≡ true → n < m) → cond b 0 (1 + n) < 1 + m
-below-step true c n m is rest = omega arith
-below-step false c n m is rest = let lt = rest is in omega arith
-
-pub index_of-below : (id : ℕ) (ids : List ℕ) → is_among id ids ≡ true → index_of id ids < length ids
-index_of-below id [] is = absurd (cc)
-index_of-below id (x ∷ ids) is = let lt = below-step (nat_eq id x) (is_among id ids) (index_of id ids) (length ids) is (λ there. index_of-below id ids there) in omega arith
 
 more-step : (b c : Bool) (n m : ℕ) → (b || c) ≡ true → (c ≡ true → n ≡ m) → cond b 0 (1 + n) ≡ cond b 0 (1 + m)
 more-step true c n m is rest = refl
@@ -48,27 +42,8 @@ index_of-last id [] none =
     ap (λ (b : Bool). cond b 0 1) same
 index_of-last id (x ∷ ids) none = last-step (nat_eq id x) (is_among id ids) (index_of id (ids ++ id ∷ [])) (length ids) none (λ other. index_of-last id ids other)
 
-among-step : (b c d : Bool) → (b || c) ≡ true → (c ≡ true → d ≡ true) → (b || d) ≡ true
-among-step true c d is rest = refl
-among-step false c d is rest = rest is
-
 pub is_among-more : (id : ℕ) (ids more : List ℕ) → is_among id ids ≡ true → is_among id (ids ++ more) ≡ true
-is_among-more id [] more is = absurd (cc)
-is_among-more id (x ∷ ids) more is = among-step (nat_eq id x) (is_among id ids) (is_among id (ids ++ more)) is (λ there. is_among-more id ids more there)
-
-pub is_among-last-of : (id : ℕ) (ids : List ℕ) → is_among id (ids ++ id ∷ []) ≡ true
-is_among-last-of id [] =
-    let same : nat_eq id id ≡ true = grind (arith, nat_tests) in
-    ap (λ (b : Bool). b || false) same
-is_among-last-of id (x ∷ ids) = or-so (nat_eq id x) (is_among id (ids ++ id ∷ [])) (is_among-last-of id ids)
-  where
-    or-so : (b c : Bool) → c ≡ true → (b || c) ≡ true
-    or-so true c is = refl
-    or-so false c is = is
-
-pub length-ids : (segments : List Filled) → length (ids_of segments) ≡ length segments
-length-ids [] = refl
-length-ids (s ∷ segments) = ap suc (length-ids segments)
+is_among-more id ids more is = list_any-append (nat_eq id) ids more ∙ ap (λ (b : Bool). b || is_among id more) is
 
 -- ---- positions
 

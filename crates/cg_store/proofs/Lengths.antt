@@ -7,13 +7,13 @@ use Rattle.cg_record.specs.declared.command.Command.{Command}
 use Rattle.cg_record.specs.Spelling.{command_text, spelling}
 
 -- the encoded length of commands, without the byte of the version
-abbrev text_len : List Command → ℕ
+abbrev pub text_len : List Command → ℕ
 text_len commands = length (flat_map command_text commands)
 
-text_len-cons : (c : Command) (cs : List Command) → text_len (c ∷ cs) ≡ length (command_text c) + text_len cs
+pub text_len-cons : (c : Command) (cs : List Command) → text_len (c ∷ cs) ≡ length (command_text c) + text_len cs
 text_len-cons c cs = length-append (command_text c) (flat_map command_text cs)
 
-spelling-len : (cs : List Command) → length (spelling cs) ≡ 1 + text_len cs
+pub spelling-len : (cs : List Command) → length (spelling cs) ≡ 1 + text_len cs
 unfolding spelling
 spelling-len cs = omega arith
 

@@ -1,6 +1,6 @@
 -- A payload with one more command.
 use Rattle.std.proofs.Common.{◌≡◌, ℕ, ◌≤◌, List, [], ◌∷◌, ◌++◌, length, take, refl, sym, ap, ◌∙◌, arith, Ok, append-nil}
-use Rattle.std.specs.List.{AllByRecursion, flat_map}
+use Rattle.std.specs.List.{flat_map}
 use Rattle.std.proofs.lemmas.Grind.{flat_map-append}
 use Rattle.std.proofs.lemmas.List.Concat.{flat_map-cons}
 use Rattle.std.proofs.lemmas.List.{length-append}
@@ -9,11 +9,8 @@ use Rattle.cg_record.specs.Lawful.{AreCommands, IsCommand}
 use Rattle.cg_record.specs.Reading.{commands_of}
 use Rattle.cg_record.specs.Spelling.{command_text, spelling}
 use Rattle.cg_record.proofs.CommandLaws.{commands_again, text_not_empty}
+use Rattle.cg_record.proofs.Keys.{AllByRecursion-push}
 use Rattle.cg_store.specs.Texts.{IsText, told, what_is_read}
-
-pub all-push : {X : Type 0} (P : X → Type 0) (xs : List X) (x : X) → AllByRecursion P xs → P x → AllByRecursion P (xs ++ x ∷ [])
-all-push P [] x are is = (is, tt)
-all-push P (y ∷ xs) x are is = (are.0, all-push P xs x are.1 is)
 
 spelling-push : (cs : List Command) (c : Command) → spelling (cs ++ c ∷ []) ≡ spelling cs ++ command_text c
 unfolding spelling
@@ -36,7 +33,7 @@ pub record IsLonger (bytes : List ℕ) (c : Command) : Type 0 where
 pub longer : (bytes : List ℕ) (c : Command) → AreCommands (told bytes) → bytes ≡ spelling (told bytes) → IsCommand c → IsLonger bytes c
 longer bytes c are is one =
     let all : bytes ++ command_text c ≡ spelling (told bytes ++ c ∷ []) = ap (λ b. b ++ command_text c) is ∙ sym (spelling-push (told bytes) c) in
-    let reads = ap commands_of all ∙ commands_again (told bytes ++ c ∷ []) (all-push IsCommand (told bytes) c are one) in
+    let reads = ap commands_of all ∙ commands_again (told bytes ++ c ∷ []) (AllByRecursion-push IsCommand (told bytes) c are one) in
     let known : told (bytes ++ command_text c) ≡ told bytes ++ c ∷ [] = ap what_is_read reads in
     record {
       text = reads ∙ ap Ok (sym known);

@@ -1,5 +1,5 @@
 -- What an opening finds on a disk.
-use Rattle.std.proofs.Common.{◌≡◌, ℕ, Bool, true, false, not, ◌++◌, subst, refl}
+use Rattle.std.proofs.Common.{◌≡◌, ℕ, true, false, ◌++◌, subst}
 use Rattle.cg_disk.specs.Disk.{Image}
 use Rattle.cg_log.specs.Carried.{Carries as LogCarries}
 use Rattle.cg_log.specs.Segments.{Frames}
@@ -23,11 +23,3 @@ module _ (image : Image) (sectors number : ℕ) (base tail : Frames) (loading : 
         let frames : c.base ++ c.tail ≡ base ++ tail = λ i. (one.1) i ++ (one.2) i in
         not-all-read loading.all_read (base ++ tail) loading.durable state not_all read (subst (λ (l : Frames). Spell l state) frames c.spelled);
   }
-
-pub not-true : (b : Bool) → not b ≡ true → b ≡ false
-not-true true is = absurd (cc)
-not-true false is = refl
-
-pub not-false : (b : Bool) → not b ≡ false → b ≡ true
-not-false true is = refl
-not-false false is = absurd (cc)

@@ -1,14 +1,14 @@
 -- The room of a store whose compaction begins, writes and ends, and the refusals of its calls.
-use Rattle.std.proofs.Common.{◌≡◌, ◌≢◌, ◌⊎◌, inl, inr, ℕ, zero, suc, ◌+◌, ◌-◌, ◌<◌, Bool, true, false, List, [], ◌∷◌, ◌++◌, ap, sym, ◌∙◌, subst, refl, arith, Ok, Err, append_assoc}
+use Rattle.std.proofs.Common.{◌≡◌, ◌≢◌, ◌⊎◌, inl, inr, ℕ, zero, suc, ◌+◌, ◌-◌, Bool, true, false, List, [], ◌∷◌, ◌++◌, ap, sym, ◌∙◌, subst, refl, arith, Ok, Err, append_assoc}
 use Rattle.std.specs.Prelude.{nat_lt}
 use Rattle.std.proofs.lemmas.Bool.Decides.{nat_tests}
 use Rattle.cg_gate.specs.Layout.{segment_count}
 use Rattle.cg_gate.specs.declared.layout.TheConstants.{SEGMENT_SECTORS}
 use Rattle.cg_root.specs.declared.root.Root.{Root}
-use Rattle.cg_log.specs.Free.{NoneIsFree, free_below, free_count_of, is_among}
+use Rattle.cg_log.specs.Free.{NoneIsFree, free_count_of}
 use Rattle.cg_log.specs.Rolled.{IsFullFor}
 use Rattle.cg_log.specs.Room.{HasNext, Room, rolled_room, room_at}
-use Rattle.cg_log.proofs.Room.{can-next, cannot-full, free-less}
+use Rattle.cg_log.proofs.Room.{can-next, cannot-full, free-less, free-none}
 use Rattle.cg_store.specs.Compacting.{IsTakenFrom}
 use Rattle.cg_store.specs.Phases.{abort_result, begun_room, can_begin}
 use Rattle.cg_store.specs.declared.fault.CompactFault.TheVariants as compact_fault
@@ -55,13 +55,8 @@ module _ (sectors size : ℕ) (size_is : sectors ≡ size) (taken : List ℕ) (r
 
 -- ---- a frame that is written
 
-none-below : (taken : List ℕ) (n : ℕ) → ((id : ℕ) → id < n → is_among id taken ≡ true) → free_below n taken ≡ 0
-unfolding free_below
-none-below taken zero all = refl
-none-below taken (suc n) all = rw (all n (omega arith)) (none-below taken n (λ k lt. all k (omega arith)))
-
 pub none-free : (sectors size : ℕ) (taken : List ℕ) → sectors ≡ size → NoneIsFree size taken → free_count_of sectors taken ≡ 0
-none-free sectors size taken size_is none = ap (λ (s : ℕ). free_count_of s taken) size_is ∙ none-below taken (segment_count size) none
+none-free sectors size taken size_is none = ap (λ (s : ℕ). free_count_of s taken) size_is ∙ free-none taken (segment_count size) none
 
 -- at most one segment is taken
 pub free-taken : (sectors : ℕ) (named old new : List ℕ) → IsTakenFrom sectors (named ++ old) old new

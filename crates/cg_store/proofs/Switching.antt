@@ -49,9 +49,6 @@ module _ {D : Type 0} {g : _} (honest : D → Bool) (history : D → History) wh
         ∙ ap (λ (l : List Command). l ++ left) (sym (joined-push copied.batches commands));
   }
 
-  pub HasCopied-none : (log : Log D g) (all before left : List Command) → before ≡ [] → left ≡ [] → HasCopied honest history log all before → HasCopied honest history log all left
-  HasCopied-none log all before left before_is left_is copied = subst (λ (l : List Command). HasCopied honest history log all l) (before_is ∙ sym left_is) copied
-
   pub HasWritten-copied : (old new : Log D g) (has : Content) (cut : Cut) (before left : List Command) → ((all : List Command) → HasCopied honest history old all before → HasCopied honest history new all left) → HasWritten honest history old has cut before → HasWritten honest history new has cut left
   HasWritten-copied old new has cut before left copies written =
       let now = copies (snapshot_of written.state) (record { fresh = written.fresh; holds = written.holds; batches = written.batches; frames = written.frames; order = written.snapshot }) in

@@ -1,12 +1,12 @@
 -- Trails, entry by entry.
-use Rattle.std.proofs.Common.{◌≡◌, ◌<◌, List, [], ◌∷◌, ◌++◌, length, refl, ap, sym, ◌∙◌, append_assoc, append-nil}
+use Rattle.std.proofs.Common.{◌≡◌, ◌<◌, List, [], ◌∷◌, ◌++◌, length, refl, ap, sym, ◌∙◌, append_assoc, append-nil, arith}
+use Rattle.std.proofs.lemmas.List.{nil_from_length}
 use Rattle.cg_group.specs.Laws.{commands_of}
 use Rattle.cg_held.specs.Held.{Machine}
 use Rattle.cg_record.specs.declared.command.Command.{Command}
 use Rattle.cg_trail.specs.Entries.{events_of, recorded, replies_of, step_of}
 use Rattle.cg_trail.specs.Trails.{AreLawful}
 use Rattle.cg_trail.specs.declared.entry.TrailEntry.{TrailEntry}
-use Rattle.cg_trail.proofs.Rests.{none_is}
 
 -- entries from a state are the first, from there, and the others after it
 pub record IsFirst (all : List TrailEntry) (s : Machine) (e : TrailEntry) (others : List TrailEntry) (next : Machine) : Type 0 where
@@ -41,7 +41,7 @@ unfolding AreLawful replies_of
 none s = refl
 
 pub lawful-none : (P : Type 0) (all : List TrailEntry) (s : Machine) → length all < 1 → (AreLawful all s → P) × (P → AreLawful all s) → P
-lawful-none P all s few known = known.0 (rw (none_is all few) (none s))
+lawful-none P all s few known = known.0 (rw (nil_from_length all (omega (arith, few))) (none s))
 
 first_commands : (e : TrailEntry) (es : List TrailEntry) (s : Machine)
     → commands_of (events_of (e ∷ es)) s ≡ (step_of s e).effects.commands ++ commands_of (events_of es) (step_of s e).after
@@ -62,5 +62,5 @@ no_commands s = refl
 
 pub made-none : (all : List TrailEntry) (s : Machine) (made total : List Command) → length all < 1 → made ++ commands_of (events_of all) s ≡ total → made ≡ total
 made-none all s made total few known =
-    let last : made ++ commands_of (events_of []) s ≡ total = rw (none_is all few) at known in
+    let last : made ++ commands_of (events_of []) s ≡ total = rw (nil_from_length all (omega (arith, few))) at known in
     sym (append-nil made) ∙ sym (ap (λ l. made ++ l) (no_commands s)) ∙ last

@@ -1,3 +1,2 @@
-mod Rests
 mod Picked
 mod Lawful

@@ -1,26 +1,17 @@
 -- A BEAT with an id that no member has.
-use Rattle.std.proofs.Common.{◌≡◌, ℕ, true, false, not, List, [], ◌∷◌, cond, Some, None, is_some, option_map, Ok, ok_or, refl, ap, ◌∙◌}
+use Rattle.std.proofs.Common.{◌≡◌, ℕ, false, not, List, is_some, option_map, Ok, ok_or, ap, ◌∙◌}
 use Rattle.std.specs.Ordering.{int_eq}
-use Rattle.std.specs.Prelude.{pos, if◌then◌else◌}
+use Rattle.std.specs.Prelude.{pos}
 use Rattle.cg_names.specs.declared.code.Code.TheVariants.{IllegalGeneration, UnknownMemberId}
 use Rattle.cg_member.specs.declared.group.Group.{Group}
 use Rattle.cg_member.specs.declared.member.Member.{Member}
 use Rattle.cg_member.specs.Fencing.{member_check}
-use Rattle.cg_member.specs.Membership.{find_member, has_id, heard, with_member}
+use Rattle.cg_member.specs.Membership.{find_member, heard, with_member}
 use Rattle.cg_member.specs.Refusing.{◌>>=◌, refused_if}
+use Rattle.cg_member.proofs.Recalling.{with_member_none}
 use Rattle.cg_request.specs.declared.request.BeatRequest.{BeatRequest}
 use Rattle.cg_turn.specs.Beating.{IsBeatRefused, beat_held, beat_taken}
 use Rattle.cg_turn.proofs.Entering.{is_none}
-
--- a change of a member that the group has not changes nothing
-unfound : (id : List ℕ) (change : Member → Member) (ms : List Member) → find_member id ms ≡ None → with_member id change ms ≡ ms
-unfolding find_member with_member
-unfound id change [] e = refl
-unfound id change (m ∷ ms) e =
-    (elim (has_id id m) as (λ b. cond b (Some m) (find_member id ms) ≡ None → (if b then change m ∷ ms else m ∷ with_member id change ms) ≡ m ∷ ms) [
-      | true ↦ λ h. absurd (cc)
-      | false ↦ λ h. ap (λ xs. m ∷ xs) (unfound id change ms h)
-    ]) e
 
 module _ (r : BeatRequest) (g : Group) (id : List ℕ) (missing : is_some (find_member id g.members) ≡ false) where
   -- the BEAT is refused
@@ -32,4 +23,4 @@ module _ (r : BeatRequest) (g : Group) (id : List ℕ) (missing : is_some (find_
 
   -- no member is heard
   pub unheard : (now : ℕ) (after : List Member) → after ≡ with_member id (heard now) g.members → after ≡ g.members
-  unheard now after e = e ∙ unfound id (heard now) g.members (is_none (find_member id g.members) missing)
+  unheard now after e = e ∙ with_member_none id (heard now) g.members (is_none (find_member id g.members) missing)

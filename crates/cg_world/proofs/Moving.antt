@@ -11,11 +11,10 @@ use Rattle.cg_log.specs.Room.{Room}
 use Rattle.cg_store.specs.Batches.{has_room, refusal_of, room_after}
 use Rattle.cg_store.specs.Faults.{IsToldOf}
 use Rattle.cg_store.specs.Receipts.{batch_of}
-use Rattle.cg_desk.specs.Books.{Books, IsFlying, IsTake, IsWhy, letting_go, next_batch, settling, taking}
-use Rattle.cg_desk.specs.Desks.{Answer, State, Loading, Serving, Failed, IsOut, IsReasonAt, IsTakenFrom, failing_on, is_out, numbered_of, settle_on, settled_of}
+use Rattle.cg_desk.specs.Books.{Books, IsTake, letting_go, next_batch, settling, taking}
+use Rattle.cg_desk.specs.Desks.{Answer, State, Loading, Serving, Failed, IsOut, IsTakenFrom, failing_on, is_out, numbered_of, settle_on, settled_of}
 use Rattle.cg_desk.specs.Flights.{Course, Idle, Away, Returned, is_away, unsettled}
 use Rattle.cg_desk.specs.Fronts.{fitting}
-use Rattle.cg_desk.specs.declared.fault.SettleFault.{SettleFault}
 use Rattle.cg_desk.specs.declared.fault.SettleFault.TheVariants as settle_fault
 use Rattle.cg_desk.specs.declared.outgoing.Outgoing.{Outgoing}
 use Rattle.cg_world.specs.Agreeing.{Agree, flying, flying_in, is_serving, moving, seen, stored_in}
@@ -181,22 +180,6 @@ waiting-moves Empty batch is = absurd (cc is)
 waiting-moves (Taken b) batch is = (let same : b ≡ batch = cc in ap (λ (x : Batch). Some (seen x)) same, refl, refl)
 waiting-moves (Appended receipt) batch is = absurd (cc is)
 
--- no batch waits for the store
-pub none-waiting : (s : State) (t : Transit) (front : ℕ) (failed : Bool) → batch_in t ≡ None → Agree s t front failed → (if is_appended t then false else is_out s) ≡ false
-none-waiting s Empty front failed none h = stays s h.way
-  where
-    stays : (s : State) → None ≡ flying s → is_out s ≡ false
-    stays Loading way = refl
-    stays (Failed n m) way = refl
-    stays (Serving b) way = at-home b.course b.settled way
-      where
-        at-home : (c : Course) (settled : ℕ) → None ≡ flying_in c settled → is_away c ≡ false
-        at-home Idle settled way = refl
-        at-home (Away commands) settled way = absurd (cc)
-        at-home (Returned commands) settled way = refl
-none-waiting s (Taken batch) front failed none h = absurd (cc none)
-none-waiting s (Appended receipt) front failed none h = refl
-
 -- the batch that is to be appended, with what the store returns for it
 pub record Goes (s : State) (t : Transit) (batch : Batch) (front : ℕ) (failed : Bool) : Type 0 where
   pub flight : Flies s batch failed
@@ -218,17 +201,6 @@ goes s t batch front failed is h =
       taken = ap (λ (b : Bool). if b then false else is_out s) moved.2 ∙ f.is_out_of;
     }
 
--- the desk takes back the batch in flight, and settles it, unless an allocation fails
-not-why : (c : Course) (settled : ℕ) (batch : Batch) (fault : SettleFault) → IsFlying c settled batch → fault ≢ settle_fault.Memory → IsWhy c settled batch fault → ⊥
-not-why c settled batch settle_fault.Memory flying other why = other refl
-not-why c settled batch settle_fault.NotInFlight flying other why = false≢true (sym why ∙ ap is_away flying.0)
-not-why c settled batch settle_fault.Foreign flying other why = why.1 flying
-
-pub not-refused : (s : State) (batch : Batch) (fault : SettleFault) → IsOut s batch → fault ≢ settle_fault.Memory → IsReasonAt s batch fault → ⊥
-not-refused Loading batch fault out other why = out
-not-refused (Failed n m) batch fault out other why = out
-not-refused (Serving b) batch fault out other why = not-why b.course b.settled batch fault out other why
-
 -- Settling.
 
 pub receipt-moves : (t : Transit) (receipt : Receipt) → receipt_in t ≡ Some receipt → (moving t ≡ Some (seen (batch_of receipt))) × (stored_in t ≡ (batch_of receipt).commands) × (is_appended t ≡ true)
@@ -237,11 +209,6 @@ receipt-moves (Taken b) receipt is = absurd (cc is)
 receipt-moves (Appended r) receipt is =
     let same : r ≡ receipt = cc in
     (ap (λ (x : Receipt). Some (seen (batch_of x))) same, ap (λ (x : Receipt). (batch_of x).commands) same, refl)
-
-pub no-receipt : (t : Transit) → receipt_in t ≡ None → is_appended t ≡ false
-no-receipt Empty none = refl
-no-receipt (Taken batch) none = refl
-no-receipt (Appended receipt) none = absurd (cc none)
 
 settled-at : (s : State) (count front : ℕ) (failed : Bool) → is_serving s ≡ true → front ≡ settled_of s + count → failed ≡ false → Agree (settle_on s count).after Empty front failed
 unfolding settle_on settling letting_go
@@ -257,10 +224,6 @@ settled-agrees s after out t receipt front failed is h answers =
     subst (λ (a : Answer). Agree a.after Empty front failed) answers
     (settled-at s (length (batch_of receipt).commands) front failed f.serving (h.stored f.serving ∙ ap (λ (l : List Command). settled_of s + length l) moved.1) f.serves)
 
--- the commands of a receipt are those in flight
-pub receipt-flies : (s : State) (t : Transit) (receipt : Receipt) (front : ℕ) (failed : Bool) → receipt_in t ≡ Some receipt → Agree s t front failed → Flies s (batch_of receipt) failed
-receipt-flies s t receipt front failed is h = flies s t (batch_of receipt) front failed (receipt-moves t receipt is).0 h
-
 -- what a store returns for the batch that waits for it
 module _ (s : State) (t : Transit) (batch : Batch) (room : Room) (front : ℕ) (failed : Bool) (waits : batch_in t ≡ Some batch) (h : Agree s t front failed) where
   goes-now : Goes s t batch front failed
@@ -269,14 +232,8 @@ module _ (s : State) (t : Transit) (batch : Batch) (room : Room) (front : ℕ) (
   pub its-commands : in_flight s ≡ batch.commands
   its-commands = goes-now.flight.commands
 
-  pub it-is-out : IsOut s batch
-  it-is-out = goes-now.flight.out
-
   pub it-was-taken : (if is_appended t then false else is_out s) ≡ true
   it-was-taken = goes-now.taken
-
-  pub not-appended : is_appended t ≡ false
-  not-appended = goes-now.waits
 
   -- the store still serves, so it has its room
   room-is : room_left failed room ≡ room
@@ -374,13 +331,3 @@ way-out (Serving b) (Appended receipt) way is = ap is_away (course-away b.course
 
 pub sound-world : {D : Type 0} {g : _} (w : World D g) → (sight w).appended ≡ true → is_out (sight w).desk ≡ true
 sound-world w is = way-out (sight w).desk w.transit w.agree.way is
-
--- the transit is empty if the desk does not serve
-pub failed-rests : {D : Type 0} {g : _} (w : World D g) → is_serving (sight w).desk ≡ false → (if (sight w).appended then false else is_out (sight w).desk) ≡ false
-failed-rests w is = rests (is_appended w.transit) (sight w).desk is
-  where
-    rests : (stored : Bool) (s : State) → is_serving s ≡ false → (if stored then false else is_out s) ≡ false
-    rests true s is = refl
-    rests false Loading is = refl
-    rests false (Failed n m) is = refl
-    rests false (Serving b) is = absurd (false≢true (sym is))

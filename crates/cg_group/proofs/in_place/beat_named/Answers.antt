@@ -1,8 +1,8 @@
 use Rattle.std.proofs.Common.{◌≡◌, ℕ, Some, None, Result, Ok, Err, MatchResult, ok_or, refl, sym, ap, subst, ◌∙◌}
+use Rattle.std.proofs.lemmas.Result.{MatchResult-weaker}
 use Rattle.cg_names.specs.declared.code.Code.TheVariants.{InvalidGroupId, UnknownMemberId}
 use Rattle.cg_request.specs.declared.ticket.Ticket.{Ticket}
 use Rattle.cg_held.specs.Held.{find_group}
-use Rattle.cg_held.proofs.Beaten.{match-more}
 use Rattle.cg_group.specs.InPlace.{IsBeatIn, IsNamed}
 use Rattle.cg_group.specs.Machine.{beat, named_group}
 use Rattle.cg_group.proofs.InPlace.{beat_refused, beat_unnamed, named_is}
@@ -29,8 +29,7 @@ returns c =
           told c.beat.result _ _ UnknownMemberId missing.0 ((λ now ticket. beat_unnamed now r ticket gs UnknownMemberId unnamed), missing.1)
       | Some g ↦ λ found.
           let named : IsNamed r.group gs own g = record { named = given; found = found } in
-          match-more c.beat.result _ _ _ _
+          MatchResult-weaker c.beat.result (c.beat.ensures.beaten g found)
           (λ p e. record { own = own; group = g; named = named; beat = e.0; heard = e.1 })
           (λ code e. ((λ now ticket. beat_refused now r ticket gs g code (named_is r.group gs own g named) (e.0 now ticket)), e.1))
-          (c.beat.ensures.beaten g found)
     ]) refl

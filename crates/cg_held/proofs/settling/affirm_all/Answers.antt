@@ -1,11 +1,12 @@
 use Rattle.std.proofs.Common.{◌≡◌, true, inl, inr, subst, arith}
 use Rattle.std.specs.Prelude.{◌⊎◌}
 use Rattle.std.specs.List.{list_any}
+use Rattle.std.proofs.lemmas.List.Folds.{list_any_at}
 use Rattle.cg_member.specs.declared.calls.Calls.TheVariants.{OfSession}
 use Rattle.cg_member.specs.Waiting.{is_waiting}
 use Rattle.cg_member.specs.declared.member.Member.{Member}
 use Rattle.cg_held.specs.Sessions.{is_certain, is_home, is_known}
-use Rattle.cg_held.proofs.Homing.{affirmed, any_at, each_from_place, each_to_place}
+use Rattle.cg_held.proofs.Homing.{affirmed, each_from_place, each_to_place}
 use Rattle.cg_held.proofs.settling.affirm_all.Goals as goal
 
 pub loop-member-preserved : goal.loop-member-preserved
@@ -17,7 +18,7 @@ loop-member-preserved c =
         | inl before ↦ c.loop-member.invariant.2 q before
         | inr waits ↦
             let P : Member → Type 0 = λ m. is_waiting (OfSession q) m ≡ true in
-            inr (any_at (is_waiting (OfSession q)) c.args.members.now c.loop-member.member-index c.member-item.result (omega arith) (subst P c.member-item.is waits))
+            inr (list_any_at (is_waiting (OfSession q)) c.args.members.now c.loop-member.member-index c.member-item.result (omega arith) (subst P c.member-item.is waits))
       ],
       λ q x k. c.loop-member.invariant.3 q x (c.affirm_one.ensures.fewer q x k),
       λ q h. c.affirm_one.ensures.filled q (c.loop-member.invariant.4 q h),

@@ -1,7 +1,7 @@
-use Rattle.std.proofs.Common.{rules, ◌≡◌, [], Ok, ap, sym, subst, ◌∙◌, take}
+use Rattle.std.proofs.Common.{rules, ◌≡◌, [], Ok, ap, sym, ◌∙◌}
 use Rattle.cg_record.specs.Reading.{commands_of}
 use Rattle.cg_record.specs.Spelling.{spelling}
-use Rattle.cg_store.specs.Texts.{IsText, told, what_is_read}
+use Rattle.cg_store.specs.Texts.{told, what_is_read}
 use Rattle.cg_store.proofs.Longer.{emptied}
 use Rattle.cg_store.proofs.commands.keep_version.Goals as goal
 

@@ -1,9 +1,10 @@
 use Rattle.std.proofs.Common.{◌≡◌, ℕ, List, Some, None, refl, sym, ap, subst, ◌∙◌}
 use Rattle.std.specs.Map.{values_of}
+use Rattle.std.proofs.lemmas.Result.{MatchResult-weaker}
 use Rattle.cg_member.specs.declared.group.Group.{Group}
 use Rattle.cg_member.specs.Membership.{hearing}
 use Rattle.cg_held.specs.Held.{StandUnderIds, InOrder, find_group, with_group}
-use Rattle.cg_held.proofs.Beaten.{beaten_whole, heard_values, match-more}
+use Rattle.cg_held.proofs.Beaten.{beaten_whole, heard_values}
 use Rattle.cg_held.proofs.Mapped.{lookup-own}
 use Rattle.cg_held.proofs.loaded.Loaded.beat.Goals as goal
 
@@ -25,10 +26,9 @@ returns-clause-beaten c =
     let es = c.self.inside.groups.entries in
     let after = c.beat_among.new.groups.entries in
     let here : find_group own (values_of es) ≡ Some g = ap (find_group own) c.self.view_is ∙ found in
-    match-more c.beat_among.result _ _ _ _
+    MatchResult-weaker c.beat_among.result (c.beat_among.ensures.some g (lookup-own own es c.self.invariant.0 ∙ here))
     (λ p e. (e.0, heard_values own c.args.now g es after c.self.invariant.0 c.self.invariant.1 here p.0.now e.1 ∙ ap (λ (gs : List Group). with_group (hearing c.args.now p.0.now g) gs) c.self.view_is))
     (λ code e. (e.0, ap values_of e.1 ∙ c.self.view_is))
-    (c.beat_among.ensures.some g (lookup-own own es c.self.invariant.0 ∙ here))
 
 pub returns-clause-absent : goal.returns-clause-absent
 returns-clause-absent c =

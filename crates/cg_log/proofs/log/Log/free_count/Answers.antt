@@ -1,6 +1,7 @@
 use Rattle.std.proofs.Common.{ap, arith}
 use Rattle.cg_gate.specs.Layout.{segment_count}
-use Rattle.cg_log.proofs.Taken.{free_and_taken, segment_count-le}
+use Rattle.cg_root.proofs.Segments.{segment_count-le}
+use Rattle.cg_log.proofs.Taken.{free_and_taken}
 use Rattle.cg_log.proofs.log.Log.free_count.Goals as goal
 
 pub overflow_add-taken : goal.overflow_add-taken

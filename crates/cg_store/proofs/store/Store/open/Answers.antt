@@ -1,11 +1,12 @@
 use Rattle.std.proofs.Common.{◌≡◌, ℕ, ◌++◌, ◌∙◌, ap, sym, subst, refl, [], true}
+use Rattle.std.proofs.lemmas.Bool.{not-true, not-false}
 use Rattle.cg_disk.specs.Disk.{present}
 use Rattle.cg_log.specs.Carried.{HoldsContent, AllCarry as AllCarryLog}
 use Rattle.cg_log.specs.Log as log_model
 use Rattle.cg_log.specs.Openings.{disk_under, number_so_far}
 use Rattle.cg_store.specs.Carried.{AllCarry, Carries}
 use Rattle.cg_store.specs.Faults.{HasBadRecord, Tells}
-use Rattle.cg_store.proofs.Opened.{bad-record, carries-read, not-false, not-true}
+use Rattle.cg_store.proofs.Opened.{bad-record, carries-read}
 use Rattle.cg_store.proofs.Reading.{all-read}
 use Rattle.cg_store.proofs.Spelled.{Spell-made}
 use Rattle.cg_store.proofs.Standing.{Spell-held, StandsAt-carry}
