@@ -1,5 +1,5 @@
 //! Names that are mostly short and stored many times: those of clients and topics.
-ghost use Rattle.std.specs.Prelude.{◌≡◌, ℕ, List, IfOk, IfErr, Some, length, nat_eq, refl};
+ghost use Rattle.std.specs.Prelude.{◌≡◌, ℕ, ◌<◌, List, IfOk, IfErr, IsErrOf, OnErr, Some, length, nat_eq, refl};
 ghost use Rattle.std.specs.Ordering.{nat_cmp};
 ghost use Rattle.std.specs.Cmp.Lexicographic.{pointwise, slice_cmp, nat_list_eq_equiv, nat_list_cmp_total, texts_ties, texts_po};
 ghost use Rattle.std.specs.Cmp.{partial_equiv_from_equiv};
@@ -46,6 +46,7 @@ impl<const SORT: u8> ShortName<SORT> {
     pub fn from_bytes(alloc: Global, bytes: &[u8]) -> Result<Self, NameFault>
         ensures ok { IfOk result (λ name. (name ≡ bytes.now) × IsName NAME_BYTES_MAX bytes.now) }
         ensures err { IfErr result (λ fault. fault_of NAME_BYTES_MAX bytes.now ≡ told fault) }
+        ensures memory { IsErrOf result NameFault.Memory → SHORT_NAME_ROOM < length bytes.now }
     {
         if let Some(fault) = Name::<NAME_BYTES_MAX, SORT>::fault(bytes) {
             return Err(fault);
@@ -54,10 +55,11 @@ impl<const SORT: u8> ShortName<SORT> {
         Ok(name)
     }
 
-    /// Copies bytes that are known to be a name of this type.
+    /// Copies bytes that are known to be a name of this type. Allocates only if there are more than `SHORT_NAME_ROOM`.
     pub fn from_lawful(alloc: Global, bytes: &[u8]) -> Result<Self, AllocError>
         requires { IsName NAME_BYTES_MAX bytes.now }
-        ensures { IfOk result (λ name. name ≡ bytes.now) }
+        ensures ok { IfOk result (λ name. name ≡ bytes.now) }
+        ensures err { OnErr result (SHORT_NAME_ROOM < length bytes.now) }
     {
         let bytes = SmallBytes::from_slice(alloc, bytes)?;
         Ok(ShortName { bytes })
@@ -67,6 +69,7 @@ impl<const SORT: u8> ShortName<SORT> {
     pub fn parse(alloc: Global, text: &str) -> Result<Self, NameFault>
         ensures ok { IfOk result (λ name. (name ≡ text.now) × IsName NAME_BYTES_MAX text.now) }
         ensures err { IfErr result (λ fault. fault_of NAME_BYTES_MAX text.now ≡ told fault) }
+        ensures memory { IsErrOf result NameFault.Memory → SHORT_NAME_ROOM < length text.now }
     {
         Self::from_bytes(alloc, text.as_bytes())
     }

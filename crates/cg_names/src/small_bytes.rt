@@ -1,5 +1,5 @@
 //! Bytes that are stored in the value itself as long as they are few.
-ghost use Rattle.std.specs.Prelude.{◌≡◌, ℕ, ◌≤◌, List, length, take, IfOk, IfSome};
+ghost use Rattle.std.specs.Prelude.{◌≡◌, ℕ, ◌<◌, ◌≤◌, List, length, take, IfOk, MatchOption, OnErr};
 ghost use Rattle.cg_names.specs.Storage.{bytes_of, Fits};
 
 use std::alloc::{AllocError, Global};
@@ -44,7 +44,8 @@ fn filled<const ROOM: usize>(bytes: &[u8]) -> [u8; ROOM]
 impl<const ROOM: usize> SmallBytes<ROOM> {
     /// Copies the bytes. Allocates only if there are more than `ROOM`.
     pub fn from_slice(alloc: Global, bytes: &[u8]) -> Result<Self, AllocError>
-        ensures { IfOk result (λ copy. copy ≡ bytes.now) }
+        ensures ok { IfOk result (λ copy. copy ≡ bytes.now) }
+        ensures err { ROOM ≤ 255 → OnErr result (ROOM < length bytes.now) }
     {
         match u8::try_from(bytes.len()) {
             Ok(len) if bytes.len() <= ROOM => {
@@ -73,9 +74,9 @@ impl<const ROOM: usize> SmallBytes<ROOM> {
         }
     }
 
-    /// Returns the allocation of the bytes, if they have one.
+    /// Returns the allocation of the bytes, if they have one: more than `ROOM` of them do.
     pub fn into_vec(self) -> Option<Vec<u8>>
-        ensures { IfSome result (λ bytes. bytes.items ≡ self.entry) }
+        ensures { MatchOption result (length self.entry ≤ ROOM) (λ bytes. bytes.items ≡ self.entry) }
     {
         let SmallBytes { storage } = self;
         match storage {

@@ -1,6 +1,6 @@
 //! The metadata of a committed offset.
-ghost use Rattle.std.specs.Prelude.{◌≡◌, ℕ, ◌<◌, ◌≤◌, List, length, IfOk, MatchResult};
-ghost use Rattle.cg_record.specs.declared.metadata.TheConstants.{METADATA_BYTES_MAX};
+ghost use Rattle.std.specs.Prelude.{◌≡◌, ℕ, ◌<◌, ◌≤◌, List, length, IfOk, MatchResult, OnErr};
+ghost use Rattle.cg_record.specs.declared.metadata.TheConstants.{METADATA_BYTES_MAX, METADATA_ROOM};
 
 use cg_names::SmallBytes;
 use std::alloc::{AllocError, Global};
@@ -44,10 +44,11 @@ impl Model for Metadata {
 }
 
 impl Metadata {
-    /// Copies the bytes.
+    /// Copies the bytes. Allocates only if there are more than `METADATA_ROOM`.
     pub fn from_bytes(alloc: Global, bytes: &[u8]) -> Result<Self, AllocError>
         requires { length bytes.now ≤ METADATA_BYTES_MAX }
-        ensures { IfOk result (λ metadata. metadata ≡ bytes.now) }
+        ensures ok { IfOk result (λ metadata. metadata ≡ bytes.now) }
+        ensures err { OnErr result (METADATA_ROOM < length bytes.now) }
     {
         Ok(Metadata {
             bytes: SmallBytes::from_slice(alloc, bytes)?,
