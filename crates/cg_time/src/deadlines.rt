@@ -1,5 +1,5 @@
 //! The index of deadlines.
-ghost use Rattle.std.specs.Prelude.{◌≡◌, ◌+◌, ◌<◌, ◌≤◌, [], IfOk, IsOk, IsTrue, OnErr, OnOk, vec_len};
+ghost use Rattle.std.specs.Prelude.{◌≡◌, ◌+◌, ◌<◌, ◌≤◌, [], IfOk, IsOk, IsTrue, OnErr, OnOk, length, vec_len};
 ghost use Rattle.std.specs.Bool.{OnFalse, OnTrue};
 ghost use Rattle.std.specs.BTreeMap.{insert_entry};
 ghost use Rattle.std.specs.Map.{remove_entry};
@@ -44,6 +44,7 @@ fn fill<K: Ord + Drop>(
 ) -> Result<(), AllocError>
     ensures kept { vec_len spare.old ≤ vec_len spare.new }
     ensures ok { OnOk result (wanted ≤ vec_len spare.new) }
+    ensures err { OnErr result (vec_len spare.old < wanted) }
 {
     while spare.len() < wanted {
         let slot = Box::new(alloc, None)?;
@@ -72,6 +73,7 @@ impl<K: Ord + Drop> Deadlines<K> {
         ensures kept { self.old.spare ≤ self.new.spare }
         ensures ok { OnOk result (additional ≤ self.new.spare) }
         ensures err { OnErr result (self.new ≡ self.old) }
+        ensures err_without_room { OnErr result (self.old.spare < additional) }
     {
         let before = self.spare.len();
         let result = fill(self.alloc, &mut self.spare, additional);
@@ -146,11 +148,12 @@ impl<K: Ord + Drop> Deadlines<K> {
 
 impl<K: Ord + Clone> Deadlines<K> {
     /// Returns the keys whose deadline is at `now` or before it, in ascending order. Costs a logarithm for each of them,
-    /// and constant time if there is none. Fails only if an allocation fails.
+    /// and constant time if there is none. Allocates only if there is one.
     pub fn due(&self, now: Moment) -> Result<Vec<K>, AllocError>
         requires { IsExact K.is_clone }
         ensures keys { IfOk result (λ keys. keys.items ≡ due_keys now self.now.entries) }
         ensures ascending { IfOk result (λ keys. IsStrictlySortedBy K.cmp keys.items) }
+        ensures err { OnErr result (1 ≤ length (due_keys now self.now.entries)) }
     {
         let mut keys = Vec::new(self.alloc);
         self.tree.push_due(now, &mut keys)?;
