@@ -1,7 +1,7 @@
 //! Reading the frames of segments in large pieces, through one buffer.
 ghost use Rattle.cg_frame.specs.declared.segment.TheConstants.{SECTORS_BOUND};
 ghost use Rattle.cg_disk.specs.declared.disk.TheConstants.{SECTOR_BYTES};
-ghost use Rattle.std.specs.Prelude.{◌≡◌, ℕ, ◌+◌, ◌*◌, ◌<◌, ◌≤◌, true, length, take, min, OnOk, IfOk, IfSome, IfErr, IsErrOf, is_err};
+ghost use Rattle.std.specs.Prelude.{◌≡◌, ℕ, ◌+◌, ◌*◌, ◌<◌, ◌≤◌, true, length, take, min, OnOk, IfOk, IfSome, IfErr, IsErrOf, OnErr, is_err};
 ghost use Rattle.cg_disk.specs.Disk.{Image, present, Holds, Stays, Counts};
 ghost use Rattle.cg_frame.specs.Frames.{next_gate};
 ghost use Rattle.cg_frame.specs.Outcomes.{is_scan_device_failure};
@@ -149,6 +149,7 @@ impl SegmentReader {
         ensures segment { segment_read self.new ≡ segment }
         ensures position { position_of self.new ≡ 0 }
         ensures buffered { (image : Image) → IsBuffered image self.new }
+        ensures same_payload { payload_of self.new ≡ payload_of self.old }
     {
         self.segment = segment;
         self.filled = 0;
@@ -206,6 +207,7 @@ impl SegmentReader {
             position_of self.new ≡ next_gate (position_of self.old) (length (payload_of self.new)))) }
         ensures moves { IfOk result (λ o. IfSome o (λ _. position_of self.old < position_of self.new)) }
         ensures stays { result ≡ Ok None → position_of self.new ≡ position_of self.old }
+        ensures same_position { OnErr result (position_of self.new ≡ position_of self.old) }
         ensures counted { IfOk result (λ o. IfSome o (λ count. 1 ≤ count)) }
         ensures no_memory { ¬ IsErrOf result ScanFault.Memory }
         ensures same_segment { segment_read self.new ≡ segment_read self.old }
