@@ -1,7 +1,8 @@
 //! The durable state.
-ghost use Rattle.std.specs.Prelude.{◌≡◌, ◌++◌, IfOk, OnOk, OnErr};
+ghost use Rattle.std.specs.Prelude.{◌≡◌, ◌++◌, IfOk, IsOk, OnOk, OnErr};
 ghost use Rattle.std.specs.Option.{option_copied};
 ghost use Rattle.std.specs.FinMap as finmap;
+ghost use Rattle.cg_record.specs.declared.deleted.Deleted.{Deleted};
 ghost use Rattle.cg_fold.specs.Key.{key_of};
 ghost use Rattle.cg_fold.specs.Durable.{counts_of, effect, empty, with_record};
 ghost use Rattle.cg_fold.specs.Snapshot.{Ascending, AreListed, group_commands, groups_in, in_order, listed, snapshot_of};
@@ -56,10 +57,11 @@ impl Durable {
         }
     }
 
-    /// Applies a command. If an allocation fails, nothing changes.
+    /// Applies a command. A deletion needs no allocation. If an allocation fails, nothing changes.
     pub fn apply(&mut self, command: &Command) -> Result<(), AllocError>
         ensures ok { OnOk result (self.new ≡ effect self.old command.now) }
         ensures err { OnErr result (self.new ≡ self.old) }
+        ensures deleted { (deleted : Deleted) → command.now ≡ Command.Deleted deleted → IsOk result }
     {
         match command {
             Command::Assigned(assigned) => self.assign(assigned),
@@ -79,6 +81,7 @@ impl Durable {
     pub fn apply_owned(&mut self, command: Command) -> Result<(), AllocError>
         ensures ok { OnOk result (self.new ≡ effect self.old command) }
         ensures err { OnErr result (self.new ≡ self.old) }
+        ensures deleted { (deleted : Deleted) → command ≡ Command.Deleted deleted → IsOk result }
     {
         let mut room = Vec::new(self.alloc);
         self.apply_owned_in(&mut room, command)?;
@@ -94,6 +97,7 @@ impl Durable {
     ) -> Result<(), AllocError>
         ensures ok { OnOk result (self.new ≡ effect self.old command) }
         ensures err { OnErr result (self.new ≡ self.old) }
+        ensures deleted { (deleted : Deleted) → command ≡ Command.Deleted deleted → IsOk result }
     {
         match command {
             Command::Committed(commit) => self.take_commit(room, commit),
