@@ -83,7 +83,8 @@ fn answer_many(
     }
 }
 
-/// Appends the replies of the step `origin` in their order, each with the token of its request. Linear in the replies times the tokens.
+/// Appends the replies of the step `origin` in their order, each with the token of its request. Linear in the replies times the
+/// tokens.
 #[tactic(auto, unfolding(crate::specs::Answering::answering, crate::specs::Answering::after_answering))]
 pub fn answer_calls(
     tokens: &mut VecDeque<ReplyToken>,

@@ -156,8 +156,9 @@ impl Desk {
         }
     }
 
-    /// Handles a request. Returns the replies that leave now, which may belong to other requests. Linear in the pending
-    /// requests. If an allocation fails, returns the token, and nothing has changed.
+    /// Handles a request at the moment `now`; from the UUID `fresh` the machine draws the id of a new member. Returns the
+    /// replies that leave now, which may belong to other requests. Linear in the pending requests. If an allocation fails,
+    /// returns the token, and nothing has changed.
     #[tactic(auto, unfolding(crate::specs::Desks::request_on))]
     pub fn request(
         &mut self,

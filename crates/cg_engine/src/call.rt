@@ -22,9 +22,10 @@ use std::thread;
 use uuid::Uuid;
 
 impl<D: SectorDisk + Drop, L: Ledger> Engine<D, L> {
-    /// Calls the desk, and waits for the answer to this call. The units of the pass grow by what the answer is worth:
-    /// settled commands, of which no other answer has a unit. A pass that has made its last call is answered 15, which
-    /// is not counted as a call. Where an allocation fails the answer is -1.
+    /// Calls the desk at the moment `now`, and waits for the answer to this call. From the UUID `fresh` the desk draws the id of
+    /// a new member. The units of the pass grow by what the answer is worth: settled commands, of which no other answer has a
+    /// unit. A pass that has made its last call is answered 15, which is not counted as a call. Where an allocation fails the
+    /// answer is -1.
     pub fn call<R: Wait>(
         &self,
         rt: &R,

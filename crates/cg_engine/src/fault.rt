@@ -86,7 +86,9 @@ pub enum Skip {
 pub enum RoundEnd {
     /// Nothing is loaded, or there was nothing to take or settle.
     Nothing,
+    /// The round did its work: a batch was settled, a tick run, or a step of a compaction made.
     Done,
+    /// The round left its work for a later one.
     Skipped(Skip),
 }
 

@@ -154,9 +154,8 @@ fn tested<D: SectorDisk + Drop, L: Ledger>(
 
 impl<D: SectorDisk + Drop, L: Ledger> Engine<D, L> {
     /// Ends the engine: refuses every pending call, and gives the disk back. The passes have to be all that it made, each
-    /// once; and if a trail was kept, the trail is tested. Otherwise engine and passes are returned: first for a missing
-    /// pass, then where an allocation failed, now or when a step or an answer was to be recorded, then for a trail that
-    /// differs.
+    /// once; and if a trail was kept, the trail is tested. After a fault, returns engine and passes: the faults come in the
+    /// order MissingPass, Memory (an allocation failed, now or when a step or an answer was to be recorded), TrailDiffers.
     pub fn finish(
         self,
         passes: Vec<SessionPass<L>>,

@@ -1,6 +1,6 @@
-//! The engine: a desk (`cg_desk`) and a store (`cg_store`) behind two locks, for any number of threads. An answer that
-//! acknowledges a write carries a unit of a ledger. Only an append makes units, one for each stored command, so there are
-//! never more acknowledgements than stored commands.
+//! The engine: a desk (`cg_desk`) and a store (`cg_store`) behind two locks, for any number of threads; requests on their way
+//! to the desk wait behind a third, small one. An answer that acknowledges a write carries a unit of a ledger. Only an append
+//! makes units, one for each stored command, so there are never more acknowledgements than stored commands.
 #![tactic(auto)]
 
 mod answer;

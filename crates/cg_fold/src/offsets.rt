@@ -91,9 +91,9 @@ impl Offsets {
         shelves
     }
 
-    /// Sets the offset of each entry of a commit. Copies the metadata, and makes a list if there are several entries; if one
-    /// of their partitions is new, copies the topics too, and for a new group its id. If an allocation fails, nothing changes; more than `u64::MAX` offsets, which fit no
-    /// memory, count as a failed allocation.
+    /// Sets the offset of each entry of a commit. Copies the metadata, and makes a list if there are several entries; if one of
+    /// their partitions is new, copies the topics too, and for a new group its id. If an allocation fails, nothing changes;
+    /// more than `u64::MAX` offsets, which fit no memory, count as a failed allocation.
     pub fn commit(&mut self, commit: &Committed) -> Result<(), AllocError>
         ensures ok { OnOk result (self.new ≡ fold (with_entry commit.now.group) self.old commit.now.entries) }
         ensures err { OnErr result (self.new ≡ self.old) }

@@ -1,5 +1,5 @@
-//! JOIN (JoinGroup request) of a new member in a group that is not loaded: it makes the group. The member is alone in its group, so
-//! that its JOIN gets the reply at once, and no call is parked.
+//! JOIN (JoinGroup request) of a new member in a group that is not loaded: it makes the group. The member is alone in its
+//! group, so that its JOIN gets the reply at once, and no call is parked.
 ghost use Rattle.std.specs.Prelude.{◌≡◌, ℕ, Bool, List, None, true, length, is_ok, IfOk, OnErr};
 ghost use Rattle.cg_group.specs.Machine.{concluded};
 ghost use Rattle.cg_held.specs.Held.{at_moment, find_group, outcome};

@@ -1,4 +1,5 @@
-//! Requests that only mark a member as heard. They change the member in place and do not copy its group.
+//! Requests that change nothing of a loaded group but the moment at which a member was last heard: BEAT and COMMIT, and the end
+//! of a JOIN or a SYNC that gets its reply at once. In place.
 ghost use Rattle.std.specs.Prelude.{◌≡◌, ℕ, Some, Err, true, is_ok, IfOk, OnErr, MatchResult};
 ghost use Rattle.cg_member.specs.declared.group.Group.{Group};
 ghost use Rattle.cg_group.specs.InPlace.{IsBeatIn};

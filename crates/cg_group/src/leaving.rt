@@ -124,7 +124,8 @@ fn leaving<'a>(r: &'a LeaveRequest, groups: &Held) -> Result<&'a GroupId, Code>
     }
 }
 
-/// Processes a LEAVE, in place. One that only removes its member costs less. Only a LEAVE that is not refused needs an allocation.
+/// Processes a LEAVE, in place. One that only removes its member costs less. Only a LEAVE that is not refused needs an
+/// allocation.
 pub fn meet_leave(
     now: Moment,
     held: &mut Held,

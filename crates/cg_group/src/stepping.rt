@@ -18,7 +18,8 @@ use cg_names::GroupId;
 use cg_request::ticket::Ticket;
 use std::alloc::AllocError;
 
-/// Makes a step that may park the call of its request, in the loaded group with this id. If an allocation fails, no group changes.
+/// Makes a step that may park the call of its request, in the loaded group with this id. If an allocation fails, no group
+/// changes.
 pub fn step_parking<S: Stepping + Drop>(
     held: &mut Held,
     homes: &mut Homes,

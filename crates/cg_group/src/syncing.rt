@@ -1,5 +1,5 @@
-//! SYNC (SyncGroup request). It changes its group in place: the member gets its assignment at once, or its call is only parked, or
-//! the member leads and hands the assignments in.
+//! SYNC (SyncGroup request). It changes its group in place: the member gets its assignment at once, or its call is only parked,
+//! or the member leads and hands the assignments in.
 ghost use Rattle.std.specs.Prelude.{◌≡◌, ℕ, Bool, List, true, Err, is_ok, IfOk, OnErr, MatchResult};
 ghost use Rattle.cg_group.specs.InPlace.{IsSync};
 ghost use Rattle.cg_group.specs.Machine.{concluded, sync};

@@ -40,8 +40,8 @@ pub fn way_of<'a>(r: &'a CheckedJoin, groups: &Held) -> Result<Way<'a>, Code>
     }
 }
 
-/// Returns the id of the loaded group of a JOIN, or the error code if it is refused there. Costs a look-up of the group and passes
-/// over its members, no allocation.
+/// Returns the id of the loaded group of a JOIN, or the error code if it is refused there. Costs a look-up of the group and
+/// passes over its members, no allocation.
 pub fn changing<'a>(r: &'a CheckedJoin, fresh: Uuid, groups: &Held) -> Result<&'a GroupId, Code>
     requires found { IsFound r.now groups.now }
     ensures { MatchResult result

@@ -49,8 +49,8 @@ fn plan_touched(
     Ok(())
 }
 
-// If the group with this id is loaded: appends its plan and its effects if the tick may change it, and otherwise finds out the next
-// moment at which a tick may change it.
+// If the group with this id is loaded: appends its plan and its effects if the tick may change it, and otherwise finds out the
+// next moment at which a tick may change it.
 fn plan_named(
     held: &mut Held,
     now: Moment,

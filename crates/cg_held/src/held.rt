@@ -231,8 +231,9 @@ impl Held {
         Ok(())
     }
 
-    /// Makes a step of the loaded group with this id in place, finds out its next moment for ticks, and returns the effects of the
-    /// step. Costs three look-ups and a pass over the members after it, beside the step. If an allocation fails, nothing changes.
+    /// Makes a step of the loaded group with this id in place, finds out its next moment for ticks, and returns the effects of
+    /// the step. Costs three look-ups and a pass over the members after it, beside the step. If an allocation fails, nothing
+    /// changes.
     pub fn step<S: Stepping + Drop>(
         &mut self,
         group: &GroupId,
@@ -259,8 +260,8 @@ impl Held {
         self.deadlines.due(now)
     }
 
-    /// Notes that from now on members are heard at `now` or later, so that moments that are found out after this call are as late as
-    /// they can be.
+    /// Notes that from now on members are heard at `now` or later, so that moments that are found out after this call are as
+    /// late as they can be.
     pub fn advance(&mut self, now: Moment)
         ensures { self.new ≡ self.old }
     {

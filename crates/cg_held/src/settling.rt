@@ -116,8 +116,8 @@ fn affirm_held(homes: &mut Homes, held: &Held, id: &GroupId)
     }
 }
 
-/// Updates the index after an event in the group: `before` are its members, or its parked calls, as they were. Costs a few look-ups
-/// for each call that was or is parked there, a pass over `before`, and one over the members. No allocation.
+/// Updates the index after an event in the group: `before` are its members, or its parked calls, as they were. Costs a few
+/// look-ups for each call that was or is parked there, a pass over `before`, and one over the members. No allocation.
 pub fn settle<P: Calling>(homes: &mut Homes, held: &Held, id: &GroupId, before: &[P])
     ensures known { AreKnown (is_home homes.old) held.now → AreKnown (is_home homes.new) held.now }
     ensures gone { Each (λ p. IfParked (λ q. IsLetGo homes.new held.now id.now q) (P.call p)) before.now }
@@ -129,8 +129,8 @@ pub fn settle<P: Calling>(homes: &mut Homes, held: &Held, id: &GroupId, before: 
     leave_all(homes, id, before);
 }
 
-/// Updates the index after a request of this session in the group: `before` are its members, or its parked calls, as they were. No
-/// allocation.
+/// Updates the index after a request of this session in the group: `before` are its members, or its parked calls, as they were.
+/// No allocation.
 pub fn settle_request<P: Calling>(
     homes: &mut Homes,
     held: &Held,

@@ -134,7 +134,7 @@ fn put_groups_line(out: &mut Vec<u8>, groups: &Listed<Listing>) -> Result<(), Al
 }
 
 /// Appends the line of a reply, without a line feed. Linear in the line. If an allocation fails, a part of the line may
-/// have been appended, and what stood before it stays.
+/// have been appended, and what was there before stays.
 #[tactic(auto, unfolding(crate::specs::Replies::reply_line, crate::specs::Words::spaced))]
 pub fn print_into(reply: &Reply, out: &mut Vec<u8>) -> Result<(), AllocError>
     ensures ok { OnOk result (out.new.items ≡ out.old.items ++ reply_line reply.now) }

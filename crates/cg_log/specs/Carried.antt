@@ -59,7 +59,8 @@ KeepsLog m sectors root has = (image : Image) → IsImage m image → LogAt imag
 abbrev pub AllCarry : Moment → ℕ → ℕ → Frames → Frames → Type 0
 AllCarry m sectors n base tail = (image : Image) → IsImage m image → Carries image sectors n base tail
 
--- every crash image of a moment has this root and content, of which the last frame ends there, and the last command has this number
+-- every crash image of a moment has this root and content, of which the last frame ends there, and the last command has this
+-- number
 pub record HoldsContent (m : Moment) (sectors : ℕ) (root : Root) (end number : ℕ) (has : Content) : Type 0 where
   pub keeps : KeepsLog m sectors root has
   pub end_is : end ≡ end_of_frames 0 has.last.1

@@ -15,7 +15,8 @@ use Rattle.cg_log.specs.declared.fault.LogFault.TheVariants as log_fault
 abbrev pub id_at : Root → ℕ → ℕ
 id_at root index = slice_index (root_ids root) index
 
--- these frames were read, up to position pos of the segment at an index; with those of the tail among them the commands have this number
+-- these frames were read, up to position pos of the segment at an index; with those of the tail among them the commands have
+-- this number
 pub record IsReadTo (image : Image) (root : Root) (index pos number : ℕ) (read : Frames) : Type 0 where
   pub done : List Filled
   pub seen : Frames

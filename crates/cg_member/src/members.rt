@@ -157,8 +157,8 @@ impl Members {
         Ok(())
     }
 
-    /// Replaces the member that has this member's instance; the position in joining order stays (KIP-345). Returns the member that
-    /// was there, which brings back the list as it was.
+    /// Replaces the member that has this member's instance; the position in joining order stays (KIP-345). Returns the member
+    /// that was there, which brings back the list as it was.
     #[tactic(auto, using(crate::proofs::Tagging::seated_tags))]
     pub fn replace(&mut self, member: Member) -> Member
         requires { AreMembers (seating member self.old) }

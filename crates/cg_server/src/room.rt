@@ -36,7 +36,7 @@ impl Room {
         }
     }
 
-    /// Returns whether a compaction is under way, or fewer segments are free than one waits for.
+    /// Returns whether a compaction is under way, or fewer segments are free than those below which one begins.
     pub fn is_low<D: SectorDisk + Drop, L: Ledger, R: Wait>(
         &self,
         rt: &R,
@@ -45,8 +45,8 @@ impl Room {
         engine.compact_wanted(rt, self.least)
     }
 
-    /// Wakes the compactor when a batch left fewer segments free than it waits for: within a tick batches might take the last
-    /// ones, and no compaction can begin without any.
+    /// Wakes the compactor when a batch has left fewer segments free than those below which a compaction begins: within a tick
+    /// batches might take the last ones, and no compaction can begin without any.
     pub fn watch<D: SectorDisk + Drop, L: Ledger, R: Wait>(&self, rt: &R, engine: &Engine<D, L>) {
         let is_low = self.is_low(rt, engine);
         let was_low = self.low.swap(is_low, Ordering::SeqCst);

@@ -161,8 +161,8 @@ impl<'a, D: SectorDisk + Drop, L: Ledger> Server<'a, D, L> {
         self.wake_workers();
     }
 
-    /// Accepts no more connections, and has the workers shut down the open ones. Connects to the server once, so that the
-    /// thread that waits for a connection wakes up.
+    /// Accepts no more connections, and has the workers shut down the open ones. Connects to the server, so that the thread
+    /// that waits for a connection wakes up; without a free descriptor it tries again, up to `CONNECTS_MAX` times.
     pub fn close<R: Wait + Clock + Net>(&self, rt: &R) {
         self.refuse();
         for _ in 0..CONNECTS_MAX {

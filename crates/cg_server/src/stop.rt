@@ -9,23 +9,24 @@ use std::alloc::AllocError;
 /// Exit status of a server that has served its connections and closed.
 pub const STATUS_CLOSED: u8 = 0;
 
-/// Exit status if the disk was not opened, formatted or loaded.
+/// Exit status if the disk was not opened, formatted or loaded, an allocation failed, or no thread could be started.
 pub const STATUS_DISK: u8 = 1;
 
 /// Exit status after words on the command line that are not understood, and after a call for help.
 pub const STATUS_USAGE: u8 = 2;
 
-/// Exit status if the address was not bound, no connection could be accepted, or a line could not be written.
+/// Exit status if the address was not bound, a worker had nothing to wait with, no connection could be accepted, or a line
+/// could not be written.
 pub const STATUS_NET: u8 = 3;
 
 /// Cause that ends a server early.
 #[derive(Clone, Copy, Debug, Drop, PartialEq, Eq)]
 pub enum Stop {
-    /// The file was not opened or created.
+    /// The file was not opened or created, or its zeros could not be written.
     File,
     /// An allocation failed, or no thread could be started.
     Memory,
-    /// The disk failed.
+    /// A read, a write or a sync failed.
     Device,
     /// The disk has fewer than four sectors, or both root gates are closed.
     NoRoot,
@@ -37,7 +38,8 @@ pub enum Stop {
     BadRecord,
     /// The engine has a disk already.
     Loaded,
-    /// The address was not bound, or no connection could be accepted.
+    /// The address was not bound, a worker had nothing to wait with (no file descriptor, or no memory for it), or no connection
+    /// could be accepted.
     Net,
     /// A line could not be written.
     Write,

@@ -72,7 +72,8 @@ pub record HasWritten {D : Type 0} {g : _} (honest : D → Bool) (history : D �
   pub frames : AreFramesOf (frames_of fresh) batches
   pub snapshot : snapshot_of state ≡ joined batches ++ left
 
--- for the contracts of private functions alone: the fresh segments have the frames of the first of these commands; the others are left
+-- for the contracts of private functions alone: the fresh segments have the frames of the first of these commands; the others
+-- are left
 pub record HasCopied {D : Type 0} {g : _} (honest : D → Bool) (history : D → History) (log : Log D g) (all left : List Command) : Type 0 where
   pub fresh : List Filled
   pub holds : HasFresh honest history log fresh

@@ -188,8 +188,8 @@ pub fn join_refusal(r: &JoinRequest, fresh: Uuid, group: &Group) -> Option<Code>
     }
 }
 
-/// Processes a JOIN in a loaded group that does not refuse it (`join_refusal`), in place. If an allocation fails, the group is as it
-/// was.
+/// Processes a JOIN in a loaded group that does not refuse it (`join_refusal`), in place. If an allocation fails, the group is
+/// as it was.
 pub fn join_in(
     context: RequestContext,
     r: CheckedJoin,
@@ -226,8 +226,8 @@ pub fn unheld_refusal(r: &JoinRequest, loaded: usize) -> Option<Code>
     None
 }
 
-/// Returns the step of a JOIN in a group that is not loaded and is not refused there (`unheld_refusal`). `loaded` is the number of
-/// loaded groups.
+/// Returns the step of a JOIN in a group that is not loaded and is not refused there (`unheld_refusal`). `loaded` is the number
+/// of loaded groups.
 #[tactic(auto, unfolding(crate::specs::Admission::join_unheld, cg_member::specs::Joining::new_group, cg_member::specs::Membership::find_member, cg_member::specs::Membership::find_instance))]
 pub fn join_unheld(
     context: RequestContext,

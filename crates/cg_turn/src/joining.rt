@@ -182,8 +182,8 @@ fn refuse_call(
     Ok(())
 }
 
-// Appends the refusals by a JOIN of the member that is parked: of every parked SYNC if a rebalance begins, then of an older call of
-// the member.
+// Appends the refusals by a JOIN of the member that is parked: of every parked SYNC if a rebalance begins, then of an older
+// call of the member.
 fn refuse_older(
     begins: bool,
     id: &MemberId,

@@ -181,8 +181,8 @@ pub fn leave_refusal(r: &LeaveRequest, group: &Group) -> Option<Code>
     leaving(r, group).err()
 }
 
-/// Processes a LEAVE in a loaded group that does not refuse it (`leave_refusal`), in place: a rebalance begins or goes on without the
-/// member. If an allocation fails, nothing changes.
+/// Processes a LEAVE in a loaded group that does not refuse it (`leave_refusal`), in place: a rebalance begins or goes on
+/// without the member. If an allocation fails, nothing changes.
 pub fn leave_in(
     context: RequestContext,
     r: &LeaveRequest,

@@ -214,8 +214,8 @@ pub(crate) fn none_stays(who: &Staying, members: &[Member]) -> bool
     !some_stay(who, members)
 }
 
-/// Returns the round with which the rebalance of the members that stay completes, and appends the effects of that. The group stays
-/// as it is.
+/// Returns the round with which the rebalance of the members that stay completes, and appends the effects of that. The group
+/// stays as it is.
 pub(crate) fn completion(
     alloc: Global,
     who: &Staying,
@@ -256,8 +256,8 @@ fn completes(begins: bool, who: &Staying, group: &Group) -> bool
     is_under_way(begins, group.phase) && have_joined(who, group.members.as_slice())
 }
 
-/// Returns the round with which a rebalance of the members that stay completes, if one begins or is under way and all of them have
-/// joined, and appends the effects of that. The group stays as it is.
+/// Returns the round with which a rebalance of the members that stay completes, if one begins or is under way and all of them
+/// have joined, and appends the effects of that. The group stays as it is.
 pub fn planned(
     alloc: Global,
     begins: bool,
@@ -291,7 +291,7 @@ pub(crate) fn enter(now: Moment, round: Round, group: &mut Group)
     group.members.answer(Calls::Joins, now);
 }
 
-/// Begins a rebalance if told, and completes it if there is a round. No allocation.
+/// Begins a rebalance if `begins`, and completes it if there is a round. No allocation.
 pub fn carry_out(now: Moment, begins: bool, round: Option<Round>, group: &mut Group)
     ensures { group.new ≡ rounded now round (begun begins now group.old) }
 {
@@ -303,7 +303,7 @@ pub fn carry_out(now: Moment, begins: bool, round: Option<Round>, group: &mut Gr
     }
 }
 
-/// Begins a rebalance if told, and completes it if every member has a parked JOIN. The refusals of the parked SYNCs were
+/// Begins a rebalance if `begins`, and completes it if every member has a parked JOIN. The refusals of the parked SYNCs were
 /// appended before. If an allocation fails, the group is unchanged.
 pub fn advance(
     alloc: Global,

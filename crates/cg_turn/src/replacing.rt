@@ -256,7 +256,8 @@ fn leader_before<'a>(seat: &'a Seat, group: &'a Group) -> &'a Option<MemberId>
     }
 }
 
-// Ends a replacement: the generation continues with the new member, or that member joins a rebalance. `seat` is what the group had.
+// Ends a replacement: the generation continues with the new member, or that member joins a rebalance. `seat` is what the group
+// had.
 #[tactic(auto, unfolding(cg_member::specs::Replacing::replaced_in_place))]
 fn go_on(
     context: RequestContext,
@@ -278,8 +279,8 @@ fn go_on(
     Ok(())
 }
 
-/// Processes a JOIN that replaces the member with its instance under the new id, in place. If an allocation fails, the group is as
-/// it was.
+/// Processes a JOIN that replaces the member with its instance under the new id, in place. If an allocation fails, the group is
+/// as it was.
 #[tactic(auto, unfolding(cg_member::specs::Replacing::join_replacing, cg_member::specs::Joining::new_member))]
 pub fn join_replacing(
     context: RequestContext,

@@ -70,7 +70,7 @@ fn joined_member(
     })
 }
 
-/// What the replies to JOINs tell of their group.
+/// What the replies to JOINs say of their group.
 #[derive(Clone, Copy)]
 pub struct Told<'a> {
     pub(crate) generation: Generation,

@@ -1,4 +1,5 @@
-//! Ticks: expired sessions, and the deadline of a rebalance (KIP-62). What a tick comes to is worked out before the group changes.
+//! Ticks: expired sessions, and the deadline of a rebalance (KIP-62). What a tick comes to is worked out before the group
+//! changes.
 ghost use Rattle.std.specs.Prelude.{◌≡◌, ◌||◌, max, IfOk, if◌then◌else◌};
 ghost use Rattle.std.specs.List.{list_any};
 ghost use Rattle.cg_member.specs.declared.calls.Calls.TheVariants.{Any, Joins};
@@ -109,8 +110,8 @@ pub fn carry_out_tick(now: Moment, plan: TickPlan, group: &mut Group)
     }
 }
 
-// Returns whether the rebalance has lasted its time, once the members whose session has expired are gone. A rebalance that begins at
-// this tick ends at once if all rebalance timeouts are 0.
+// Returns whether the rebalance has lasted its time, once the members whose session has expired are gone. A rebalance that
+// begins at this tick ends at once if all rebalance timeouts are 0.
 fn is_over(now: Moment, begins: bool, group: &Group) -> bool
     ensures { result ≡ is_over now begins group.now }
 {
@@ -142,7 +143,8 @@ fn can_complete(calls: Calls, who: &Staying, members: &[Member]) -> bool
     none_stays(who, members) || staying_waits(calls, who, members)
 }
 
-// Returns the round with which the rebalance completes, if it has lasted its time and can complete, and appends the effects of that.
+// Returns the round with which the rebalance completes, if it has lasted its time and can complete, and appends the effects of
+// that.
 fn planned_end(
     alloc: Global,
     now: Moment,
@@ -181,8 +183,8 @@ fn first_effects(
     Ok(effects)
 }
 
-/// Returns what a tick comes to in the group, and its effects. The group stays as it is. Linear in the members. Allocates only if a
-/// rebalance begins or completes.
+/// Returns what a tick comes to in the group, and its effects. The group stays as it is. Linear in the members. Allocates only
+/// if a rebalance begins or completes.
 pub fn plan_tick(
     alloc: Global,
     now: Moment,

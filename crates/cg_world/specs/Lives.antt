@@ -48,7 +48,8 @@ pub record Opens {D : Type 0} {g : _} (honest : D → Bool) (history : D → His
   pub content : Stays (history disk) (history (disk_of (store_of world)))
   pub carried : (n : ℕ) (state : State) → Carries (present (history disk)).content (sectors_of (store_of world)) n state → IsOpened honest history now world n state
 
--- a life of a disk of that many sectors that begins with this image: after its last run began, and before it ended, a crash left the next image
+-- a life of a disk of that many sectors that begins with this image: after its last run began, and before it ended, a crash
+-- left the next image
 pub record IsLife {D : Type 0} {g : _} (honest : D → Bool) (history : D → History) (sectors : ℕ) (before : Image) (life : Life D (World D g)) : Type 0 where
   pub is_honest : honest life.disk ≡ true
   pub size : sectors_of (store_of life.world) ≡ sectors

@@ -41,6 +41,7 @@ pub fn put<W: Write>(writer: &mut W, bytes: &[u8]) -> Result<(), RunFault>
     Err(RunFault::Write)
 }
 
+/// Flushes the writer.
 pub fn flush<W: Write>(writer: &mut W) -> Result<(), RunFault>
     ensures same { Appends (W.contents writer.old) (W.contents writer.new) [] }
     ensures fault { IfErr result (λ fault. fault ≡ RunFault.Write) }
