@@ -2,7 +2,7 @@
 use crate::server::Server;
 use crate::stop::Stop;
 use cg_disk::SectorDisk;
-use std::io::{self, ErrorKind};
+use std::io::{self, Eprint, ErrorKind};
 use std::net::{TcpListener, TcpStream};
 use std::sync::Wait;
 use std::sync::ledger::Ledger;
@@ -59,8 +59,8 @@ fn hand_over<D: SectorDisk, L: Ledger, R: Wait>(
 }
 
 /// Accepts connections, and hands them to this many workers in turn, until the server closes or as many were accepted as
-/// the options say. After an accept that failed the server closes.
-pub fn accept_all<D: SectorDisk + Drop, L: Ledger, R: Wait + Clock>(
+/// the options say. After an accept that failed for good the server closes, and says on standard error what the system said.
+pub fn accept_all<D: SectorDisk + Drop, L: Ledger, R: Wait + Clock + Eprint>(
     rt: &R,
     server: &Server<'_, D, L>,
     listener: &TcpListener,
@@ -82,6 +82,7 @@ pub fn accept_all<D: SectorDisk + Drop, L: Ledger, R: Wait + Clock>(
                 AfterFailure::Again => {}
                 AfterFailure::Pause => thread::sleep(rt, Duration::from_millis(PAUSE_MS)),
                 AfterFailure::End => {
+                    let _ = eprintln!(rt; "cg_server: no connection is accepted: {error}");
                     server.refuse();
                     return Err(Stop::Net);
                 }

@@ -121,8 +121,9 @@ fn refuse_start<W: Write>(writer: &mut W, stop: Stop) -> u8
     refuse(writer, stop)
 }
 
-// Binds the address, unless no connection is to be served.
-fn bound<E: Net<Listener = TcpListener, Stream = TcpStream>>(
+// Binds the address, unless no connection is to be served. What the system says of an address that it refuses comes on standard
+// error.
+fn bound<E: Net<Listener = TcpListener, Stream = TcpStream> + Eprint>(
     rt: &E,
     arguments: &Arguments<'_>,
 ) -> Result<Option<TcpListener>, Stop> {
@@ -132,7 +133,11 @@ fn bound<E: Net<Listener = TcpListener, Stream = TcpStream>>(
     let address = SocketAddr::from((Ipv4Addr::LOCALHOST, arguments.port));
     match TcpListener::bind(rt, address) {
         Ok(listener) => Ok(Some(listener)),
-        Err(_) => Err(Stop::Net),
+        Err(error) => {
+            let port = arguments.port;
+            let _ = eprintln!(rt; "cg_server: 127.0.0.1:{port}: {error}");
+            Err(Stop::Net)
+        }
     }
 }
 

@@ -64,6 +64,15 @@ fn is_wanted<D: SectorDisk + Drop, L: Ledger, R: Wait>(
     may_find_room && server.room.is_low(rt, server.engine)
 }
 
+// Returns what a round asks for that ended in vain. What a compaction that was under way had taken is free again.
+fn after_none(was_under_way: bool) -> After {
+    if was_under_way {
+        After::Notify
+    } else {
+        After::Pause
+    }
+}
+
 // Does one round of a compaction if one is wanted, or goes on with the one under way. A switch, a round that was skipped and
 // a fault are followed by a pause. Each look at the store may have to wait for a batch.
 fn compact_once<D: SectorDisk + Drop, L: Ledger, R: Wait>(
@@ -90,14 +99,10 @@ fn compact_once<D: SectorDisk + Drop, L: Ledger, R: Wait>(
             if skip == Skip::NoRoom {
                 state.cramped = Some(server.engine.free_count(rt));
             }
-            // What a compaction had taken is free again.
-            if was_under_way {
-                After::Notify
-            } else {
-                After::Pause
-            }
+            after_none(was_under_way)
         }
-        Ok(RoundEnd::Nothing) | Err(RoundFault::Memory) => After::Pause,
+        Err(RoundFault::Memory) => after_none(was_under_way),
+        Ok(RoundEnd::Nothing) => After::Pause,
     }
 }
 

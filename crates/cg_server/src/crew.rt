@@ -85,7 +85,7 @@ fn accept_in<
     'e: 's,
     D: SectorDisk + Drop + Send,
     L: Ledger + Send,
-    R: Threads + Wait + Clock + RandomSource + Sync,
+    R: Threads + Wait + Clock + RandomSource + Eprint + Sync,
 >(
     rt: &'e R,
     server: &'e Server<'e, D, L>,
@@ -106,7 +106,7 @@ fn accept_in<
 fn serve_connections<
     D: SectorDisk + Drop + Send,
     L: Ledger + Send,
-    R: Threads + Wait + Clock + RandomSource + Sync,
+    R: Threads + Wait + Clock + RandomSource + Eprint + Sync,
 >(rt: &R, server: &Server<'_, D, L>, listener: &TcpListener) -> Result<(), Stop> {
     thread::scope(thread::scope_env(), rt, |scope| {
         accept_in(rt, server, scope, listener)

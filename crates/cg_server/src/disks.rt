@@ -9,6 +9,7 @@ use cg_disk::{DiskFault, FileDisk, MemDisk, SECTOR_BYTES, SectorDisk};
 use cg_gate::{FIRST_SEGMENT_SECTOR, SEGMENT_SECTORS};
 use cg_store::LogFault;
 use std::alloc::Global;
+use std::io::{self, Eprint};
 use std::rt::Files;
 
 // Returns the number of sectors of a disk with this many segments, if it is a number of sectors.
@@ -63,8 +64,14 @@ fn formatted_file<D: SectorDisk + Drop>(alloc: Global, mut disk: D) -> Result<D,
     }
 }
 
-/// Creates the file at `path`, or overwrites it, with this many segments, and formats it.
-pub fn new_file<R: Files>(
+// Says on standard error what the system said of the file.
+fn say_why<R: Eprint>(rt: &R, path: &str, error: &io::Error) {
+    let _ = eprintln!(rt; "cg_server: {path}: {error}");
+}
+
+/// Creates the file at `path`, or overwrites it, with this many segments, and formats it. What the system says of a file that
+/// cannot be opened comes on standard error.
+pub fn new_file<R: Files + Eprint>(
     rt: &R,
     alloc: Global,
     path: &str,
@@ -73,11 +80,20 @@ pub fn new_file<R: Files>(
     let sectors = sectors_of(segments).ok_or(Stop::File)?;
     match FileDisk::open(rt, path, Some(sectors)) {
         Ok(disk) => formatted_file(alloc, disk),
-        Err(_) => Err(Stop::File),
+        Err(error) => {
+            say_why(rt, path, &error);
+            Err(Stop::File)
+        }
     }
 }
 
-/// Opens the file at `path` as it is.
-pub fn found_file<R: Files>(rt: &R, path: &str) -> Result<FileDisk<R::File>, Stop> {
-    FileDisk::open(rt, path, None).map_err(|_| Stop::File)
+/// Opens the file at `path` as it is. What the system says of a file that cannot be opened comes on standard error.
+pub fn found_file<R: Files + Eprint>(rt: &R, path: &str) -> Result<FileDisk<R::File>, Stop> {
+    match FileDisk::open(rt, path, None) {
+        Ok(disk) => Ok(disk),
+        Err(error) => {
+            say_why(rt, path, &error);
+            Err(Stop::File)
+        }
+    }
 }

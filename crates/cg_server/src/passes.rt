@@ -13,8 +13,8 @@ const EXTRA_MAX: usize = PASSES_MAX / 2;
 #[derive(Drop)]
 pub struct Passes<L: Ledger> {
     idle: Mutex<Vec<SessionPass<L>>>,
-    // How many were made.
-    made: AtomicUsize,
+    // How often the engine was asked for one.
+    asked: AtomicUsize,
     // How many connections have beyond the first of each.
     extra: AtomicUsize,
 }
@@ -24,7 +24,7 @@ impl<L: Ledger> Passes<L> {
     pub fn new(alloc: Global) -> Self {
         Passes {
             idle: Mutex::new(Vec::new(alloc)),
-            made: AtomicUsize::new(0),
+            asked: AtomicUsize::new(0),
             extra: AtomicUsize::new(0),
         }
     }
@@ -39,9 +39,9 @@ impl<L: Ledger> Passes<L> {
         if let Some(pass) = idle.pop() {
             return Some(pass);
         }
-        // Room for all that were made, so that each can be given back.
-        let made = self.made.fetch_add(1, Ordering::SeqCst);
-        idle.reserve(made.saturating_add(1)).ok()?;
+        // Room for all that were made, so that each can be given back. An engine makes no more than this, however often it is asked.
+        let asked = self.asked.fetch_add(1, Ordering::SeqCst);
+        idle.reserve(asked.saturating_add(1).min(PASSES_MAX)).ok()?;
         drop(idle);
         engine.pass(rt).ok()
     }

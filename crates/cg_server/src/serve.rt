@@ -16,7 +16,7 @@ use crate::storage_thread::{load_and_print, run_storage};
 use cg_disk::SectorDisk;
 use cg_engine::{Engine, PARTS, SessionPass};
 use std::alloc::Global;
-use std::io::{Eprint, Write};
+use std::io::{self, Eprint, ErrorKind, Write};
 use std::marker::Brand;
 use std::net::{Net, SocketAddr, TcpListener};
 use std::random::RandomSource;
@@ -66,13 +66,19 @@ fn worker_count<R: Threads>(rt: &R) -> usize {
     }
 }
 
+// Returns why a worker has nothing to wait with.
+fn cause(error: &io::Error) -> Stop {
+    match error.kind() {
+        ErrorKind::OutOfMemory => Stop::Memory,
+        _ => Stop::Net,
+    }
+}
+
 // Makes an inbox for each worker.
 fn inboxes<R: Threads + Net>(rt: &R, alloc: Global) -> Result<Vec<Inbox>, Stop> {
     let mut inboxes = Vec::new(alloc);
     for _ in 0..worker_count(rt) {
-        let Ok(inbox) = Inbox::new(rt, alloc) else {
-            return Err(Stop::Net);
-        };
+        let inbox = Inbox::new(rt, alloc).map_err(|error| cause(&error))?;
         if inboxes.push(inbox).is_err() {
             return Err(Stop::Memory);
         }
