@@ -25,11 +25,4 @@ impl Receipt {
     {
         &self.batch
     }
-
-    /// Returns the appended batch, without a copy.
-    pub fn into_batch(self) -> Batch
-        ensures { result ≡ batch_of self }
-    {
-        self.batch
-    }
 }
