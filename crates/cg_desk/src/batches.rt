@@ -89,7 +89,7 @@ fn leave_again(flight: &mut Flight, commands: Commands) -> Batch
 }
 
 impl Serving {
-    ghost use Rattle.cg_desk.specs.Books.{Books, IsInFlight, IsReason, IsTake, returning, settling};
+    ghost use Rattle.cg_desk.specs.Books.{IsInFlight, IsReason, IsTake, returning, settling};
     ghost use Rattle.cg_desk.specs.Serving.{books};
     ghost use Rattle.cg_store.specs.Receipts.{batch_of as batch_in};
 

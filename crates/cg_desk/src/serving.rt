@@ -1,7 +1,7 @@
 //! A desk that serves: steps of the machine, their commands and their replies.
-ghost use Rattle.std.specs.Prelude.{◌≡◌, ◌≤◌, ◌<◌, ◌+◌, ◌^◌, ◌∷◌, [], false, true, length, vec_len, vec_capacity, IfOk, IfErr, OnOk, OnErr, MatchOption, MatchResult};
+ghost use Rattle.std.specs.Prelude.{◌≡◌, ◌≤◌, ◌<◌, ◌+◌, ◌^◌, ◌∷◌, [], false, length, vec_len, vec_capacity, IfOk, IfErr, OnErr};
 ghost use Rattle.std.specs.VecDeque.{deque_len};
-ghost use Rattle.cg_desk.specs.Flights.{course_of, first_of, is_away, unsettled};
+ghost use Rattle.cg_desk.specs.Flights.{course_of, first_of, unsettled};
 ghost use Rattle.cg_desk.specs.Queues.{commands_of};
 
 use crate::bounds::{SPARE_NUMBERS, SPARE_NUMBERS_PER_GROUP};
@@ -48,7 +48,7 @@ impl Serving {
     ghost use Rattle.cg_request.specs.declared.event.Event.TheVariants as event;
     ghost use Rattle.cg_desk.specs.Owed.{IsOwed};
     ghost use Rattle.cg_desk.specs.Laws.{AreRefusedOnce};
-    ghost use Rattle.cg_desk.specs.Books.{Books, failing, is_short, letting_go, numbering, served};
+    ghost use Rattle.cg_desk.specs.Books.{failing, is_short, letting_go, numbering, served};
     ghost use Rattle.cg_desk.specs.Held.{is_waiting};
     ghost use Rattle.cg_desk.specs.Serving.{HasRoom, books};
     ghost use Rattle.cg_desk.specs.Tokens.{call_of};

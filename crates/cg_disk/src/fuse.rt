@@ -1,5 +1,5 @@
 //! Fault injection.
-ghost use Rattle.std.specs.Prelude.{◌≡◌, ℕ, ◌+◌, ◌-◌, ◌^◌, ◌≤◌, min, true, Some, OnOk, is_err, IsErr, ◌↔◌, if◌then◌else◌};
+ghost use Rattle.std.specs.Prelude.{◌≡◌, ◌+◌, ◌-◌, ◌^◌, ◌≤◌, min, true, Some, OnOk, is_err, IsErr, ◌↔◌, if◌then◌else◌};
 ghost use Rattle.cg_disk.specs.Disk.{present, sector_count, IsWhole, Holds, IsUnsynced, IsSynced, Changes, Stays, TakesCalls, Counts};
 ghost use Rattle.cg_disk.specs.Burning.{burnt};
 

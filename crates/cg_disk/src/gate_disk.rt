@@ -1,6 +1,6 @@
 //! A disk on which a gate decides about one sync, for tests of threads. The gate byte of a frame on disk is another
 //! thing: see `cg_gate`.
-ghost use Rattle.std.specs.Prelude.{◌≡◌, ◌≢◌, ℕ, ◌+◌, ◌≤◌, Bool, true, false, not, is_err, Some, OnOk};
+ghost use Rattle.std.specs.Prelude.{◌≡◌, ◌≢◌, ◌+◌, ◌≤◌, Bool, true, false, not, is_err, Some, OnOk};
 ghost use Rattle.cg_disk.specs.GatedSync.{left_before, left_after_sync, has_refused};
 ghost use Rattle.cg_disk.specs.Disk.{present, sector_count, IsWhole, Holds, IsUnsynced, IsSynced, Changes, Stays, TakesCalls, Counts};
 

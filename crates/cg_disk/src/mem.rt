@@ -1,7 +1,7 @@
 //! A disk in memory.
-ghost use Rattle.std.specs.Prelude.{◌≡◌, ℕ, ◌+◌, ◌*◌, ◌/◌, ◌^◌, ◌<◌, ◌≤◌, true, false, IfOk, OnOk, length, slice_index, is_err, OnErr};
+ghost use Rattle.std.specs.Prelude.{◌≡◌, ℕ, ◌+◌, ◌*◌, ◌/◌, ◌<◌, true, IfOk, length, slice_index};
 ghost use Rattle.std.specs.List.{list_all};
-ghost use Rattle.cg_disk.specs.Disk.{present, sector, sector_count, IsWhole, Holds, IsImage, IsSynced};
+ghost use Rattle.cg_disk.specs.Disk.{present, IsWhole, IsImage, IsSynced};
 ghost use Rattle.cg_disk.specs.Record.{is_within};
 ghost use Rattle.cg_disk.specs.Crash.{IsLastSynced};
 

@@ -1,7 +1,7 @@
 //! The sectors of a frame while it is encoded, and numbers of eight bytes.
 ghost use Rattle.cg_frame.specs.declared.segment.TheConstants.{HEAD_BYTES, SECTORS_BOUND};
 ghost use Rattle.cg_disk.specs.declared.disk.TheConstants.{SECTOR_BYTES};
-ghost use Rattle.std.specs.Prelude.{◌≡◌, ℕ, ◌+◌, ◌*◌, ◌/◌, ◌<◌, ◌≤◌, ◌++◌, IfOk, length, take, drop, slice_index};
+ghost use Rattle.std.specs.Prelude.{◌≡◌, ℕ, ◌+◌, ◌*◌, ◌<◌, ◌≤◌, IfOk, length, take, drop, slice_index};
 ghost use Rattle.cg_frame.specs.Frames.{word, body, body_sectors};
 
 use crate::segment::sectors_of;

@@ -2,9 +2,9 @@
 ghost use Rattle.cg_frame.specs.declared.segment.TheConstants.{HEAD_BYTES, SECTORS_BOUND};
 ghost use Rattle.cg_frame.specs.declared.reading.TheConstants.{FRONT_BYTES, START_BYTES};
 ghost use Rattle.cg_disk.specs.declared.disk.TheConstants.{SECTOR_BYTES};
-ghost use Rattle.std.specs.Prelude.{◌≡◌, ◌≢◌, ℕ, ◌+◌, ◌-◌, ◌*◌, ◌/◌, ◌%◌, ◌^◌, ◌<◌, ◌≤◌, ◌++◌, ◌↔◌, true, IsTrue, length, take, drop, slice_index, OnOk, IfOk, IfSome, IfErr, IsErr, IsErrOf, is_err, List};
+ghost use Rattle.std.specs.Prelude.{◌≡◌, ◌≢◌, ℕ, ◌+◌, ◌-◌, ◌*◌, ◌/◌, ◌%◌, ◌^◌, ◌<◌, ◌≤◌, ◌++◌, true, length, take, drop, slice_index, OnOk, IfOk, IfSome, IfErr, IsErr, IsErrOf, is_err, List};
 ghost use Rattle.cg_disk.specs.Disk.{present, span, Holds, Stays, Counts};
-ghost use Rattle.cg_frame.specs.Frames.{IsOpen, IsClosed, FrameAt, HeadAt, IsFront, word, body_sectors, next_gate};
+ghost use Rattle.cg_frame.specs.Frames.{IsOpen, IsClosed, FrameAt, HeadAt, IsFront, body_sectors, next_gate};
 ghost use Rattle.cg_frame.specs.Outcomes.{is_scan_device_failure};
 
 use crate::buffer::number;

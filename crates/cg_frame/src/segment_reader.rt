@@ -1,7 +1,7 @@
 //! Reading the frames of segments in large pieces, through one buffer.
 ghost use Rattle.cg_frame.specs.declared.segment.TheConstants.{SECTORS_BOUND};
 ghost use Rattle.cg_disk.specs.declared.disk.TheConstants.{SECTOR_BYTES};
-ghost use Rattle.std.specs.Prelude.{◌≡◌, ℕ, ◌+◌, ◌*◌, ◌<◌, ◌≤◌, true, length, take, min, OnOk, IfOk, IfSome, IfErr, IsErrOf, OnErr, is_err};
+ghost use Rattle.std.specs.Prelude.{◌≡◌, ◌+◌, ◌*◌, ◌<◌, ◌≤◌, true, length, take, min, OnOk, IfOk, IfSome, IfErr, IsErrOf, OnErr, is_err};
 ghost use Rattle.cg_disk.specs.Disk.{Image, present, Holds, Stays, Counts};
 ghost use Rattle.cg_frame.specs.Frames.{next_gate};
 ghost use Rattle.cg_frame.specs.Outcomes.{is_scan_device_failure};

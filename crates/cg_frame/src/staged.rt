@@ -1,10 +1,10 @@
 //! Frames that are encoded, to be appended later without an allocation.
 ghost use Rattle.cg_frame.specs.declared.segment.TheConstants.{SECTORS_BOUND};
 ghost use Rattle.cg_disk.specs.declared.disk.TheConstants.{SECTOR_BYTES};
-ghost use Rattle.std.specs.Prelude.{◌≡◌, ℕ, ◌+◌, ◌*◌, ◌<◌, ◌≤◌, [], ◌∷◌, ◌++◌, true, length, OnOk, IfOk, is_err, List};
+ghost use Rattle.std.specs.Prelude.{◌≡◌, ℕ, ◌+◌, ◌*◌, ◌<◌, ◌≤◌, true, length, OnOk, IfOk, is_err, List};
 ghost use Rattle.cg_disk.specs.Disk.{Image, present, IsImage, IsSynced, Changes, LeavesOnly, TakesCalls, Counts};
 ghost use Rattle.cg_frame.specs.Frames.{IsClosed, body_sectors, next_gate};
-ghost use Rattle.cg_frame.specs.Outcomes.{StandsLast, Appended, KeepsFramesTo, IsBeforeOrAfter};
+ghost use Rattle.cg_frame.specs.Outcomes.{StandsLast, Appended};
 
 use crate::Segment;
 use crate::buffer::staged;

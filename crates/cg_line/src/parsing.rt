@@ -2,8 +2,7 @@
 ghost use Rattle.std.specs.Prelude.{◌≡◌, ◌↔◌, ◌<◌, ◌≤◌, ◌⊎◌, map, length, Ok, Err, IfOk};
 ghost use Rattle.cg_request.specs.declared.asking.Request.{Request};
 ghost use Rattle.cg_line.specs.Parsing.{Reads, group_call_of, is_member_call, member_call_of, request_of};
-ghost use Rattle.cg_line.specs.Requests.{IsRequest, Spells};
-ghost use Rattle.cg_line.specs.Splitting.{words_of};
+ghost use Rattle.cg_line.specs.Requests.{Spells};
 
 mod bytes;
 mod calls;

@@ -1,5 +1,5 @@
 //! One more frame in the last tail.
-ghost use Rattle.std.specs.Prelude.{◌≡◌, ◌⊎◌, ℕ, ◌+◌, ◌^◌, ◌≤◌, ◌<◌, [], ◌∷◌, ◌++◌, List, Bool, ◌≢◌, true, false, length, IfErr, IfOk, OnErr, OnOk, IsErrOf, MatchResult, is_err};
+ghost use Rattle.std.specs.Prelude.{◌≡◌, ◌⊎◌, ℕ, ◌+◌, ◌≤◌, ◌<◌, [], ◌∷◌, ◌++◌, List, Bool, ◌≢◌, true, false, length, IfErr, IfOk, OnErr, OnOk, IsErrOf, MatchResult, is_err};
 ghost use Rattle.cg_disk.specs.Disk.{Counts, LeavesOnly, TakesCalls, present};
 ghost use Rattle.cg_frame.specs.Frames.{next_gate};
 ghost use Rattle.cg_frame.specs.declared.segment.TheConstants.{LARGEST_PAYLOAD_BYTES};

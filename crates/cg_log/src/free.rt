@@ -1,5 +1,5 @@
 //! Free segments: those that the root does not name and no compaction has taken.
-ghost use Rattle.std.specs.Prelude.{◌≡◌, ◌<◌, ◌≤◌, ◌++◌};
+ghost use Rattle.std.specs.Prelude.{◌≡◌, ◌<◌, ◌++◌};
 ghost use Rattle.std.specs.Option.{MatchOption};
 ghost use Rattle.cg_gate.specs.Layout.{segment_count};
 ghost use Rattle.cg_log.specs.Free.{is_among, IsLeastFree, NoneIsFree};

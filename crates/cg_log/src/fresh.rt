@@ -1,5 +1,5 @@
 //! Fresh segments: a compaction appends frames to them before a root names them.
-ghost use Rattle.std.specs.Prelude.{◌≡◌, ◌≢◌, ◌⊎◌, ℕ, ◌+◌, ◌≤◌, ◌<◌, [], ◌∷◌, ◌++◌, List, true, false, length, vec_len, vec_capacity, IfErr, IfOk, OnErr, OnOk, IsErrOf, MatchResult, is_err};
+ghost use Rattle.std.specs.Prelude.{◌≡◌, ◌≢◌, ◌⊎◌, ℕ, ◌+◌, ◌≤◌, ◌<◌, [], ◌∷◌, ◌++◌, List, true, false, length, vec_len, vec_capacity, IfErr, IfOk, OnOk, IsErrOf, is_err};
 ghost use Rattle.cg_disk.specs.Disk.{Changes, Counts, Image, IsImage, LeavesOnly, TakesCalls, present};
 ghost use Rattle.cg_frame.specs.Frames.{HasFrames, next_gate};
 ghost use Rattle.cg_frame.specs.declared.segment.TheConstants.{LARGEST_PAYLOAD_BYTES};

@@ -1,5 +1,5 @@
 //! Reading the root of a log.
-ghost use Rattle.std.specs.Prelude.{◌≡◌, ◌+◌, ◌≤◌, ◌<◌, ◌↔◌, true, IfOk, IfErr, IsTrue, OnOk};
+ghost use Rattle.std.specs.Prelude.{◌≡◌, ◌≤◌, ◌<◌, ◌↔◌, true, IfOk, IfErr, IsTrue, OnOk};
 ghost use Rattle.cg_disk.specs.Disk.{BeginsWithSync, Counts, IsSynced, Stays, present};
 ghost use Rattle.cg_gate.specs.Gates.{IsOpen};
 ghost use Rattle.cg_root.specs.Roots.{CountingRoot, IsLawful};

@@ -1,5 +1,5 @@
 //! The log, and its opening.
-ghost use Rattle.std.specs.Prelude.{◌≡◌, [], ℕ, ◌++◌, ◌≤◌, ◌<◌, true, false, length, IfOk, IfErr, MatchResult};
+ghost use Rattle.std.specs.Prelude.{◌≡◌, [], ℕ, ◌++◌, ◌≤◌, ◌<◌, true, false, IfOk, IfErr, MatchResult};
 ghost use Rattle.cg_disk.specs.Disk.{Counts, Stays, present};
 ghost use Rattle.cg_gate.specs.Layout.{segment_count};
 ghost use Rattle.cg_gate.specs.declared.layout.TheConstants.{SEGMENT_SECTORS};
@@ -49,7 +49,7 @@ pub struct Log<D: SectorDisk> {
 }
 
 impl<D: SectorDisk> Log<D> {
-    ghost use Rattle.cg_log.specs.Log.{LogHas, disk_after, disk_of, fresh_of, has_failed, number_of, root_of, taken_of};
+    ghost use Rattle.cg_log.specs.Log.{LogHas, disk_after, disk_of, fresh_of, has_failed, number_of, taken_of};
 
     /// Opens the log on a disk. Syncs the disk once, writes nothing, and reads each frame once. The faults are reported
     /// in the order `NoRoot`, `BadRoot`, `BadFrame`, where no allocation and no call of the device fails; a fault comes

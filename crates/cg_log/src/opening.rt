@@ -1,8 +1,7 @@
 //! Opening a log in one pass, which hands out its frames.
-ghost use Rattle.std.specs.Prelude.{◌≡◌, ◌≢◌, ◌↔◌, ℕ, ◌+◌, ◌≤◌, ◌<◌, [], ◌∷◌, ◌++◌, true, false, length, slice_index, OnOk, IfOk, IfErr, IfSome, IsErr, IsErrOf, MatchResult};
+ghost use Rattle.std.specs.Prelude.{◌≡◌, ◌≢◌, ◌↔◌, ℕ, ◌+◌, ◌≤◌, ◌<◌, [], ◌∷◌, ◌++◌, true, false, length, OnOk, IfOk, IfErr, IfSome, IsErr, IsErrOf, MatchResult};
 ghost use Rattle.cg_disk.specs.Disk.{BeginsWithSync, Counts, Image, Stays, present};
 ghost use Rattle.cg_frame.specs.Reader.{IsBuffered, position_of, segment_read};
-ghost use Rattle.cg_gate.specs.declared.layout.TheConstants.{SEGMENT_SECTORS};
 ghost use Rattle.cg_root.specs.Roots.{IsLawful, root_ids};
 ghost use Rattle.cg_log.specs.Carried.{AllCarry, Carries, Content};
 ghost use Rattle.cg_log.specs.Faults.{IsReadingFault, Tells, is_device_failure, is_opening_failure};

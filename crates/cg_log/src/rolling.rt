@@ -1,6 +1,6 @@
 //! A new tail: a free segment, and the root that names it.
 ghost use Rattle.std.specs.Prelude.{◌≡◌, ℕ, ◌+◌, ◌^◌, ◌≤◌, ◌<◌, ◌⊎◌, ◌≢◌, ◌++◌, List, true, false, IfErr, IfOk, OnErr, OnOk, IsErrOf, MatchResult, is_err};
-ghost use Rattle.cg_disk.specs.Disk.{Changes, Counts, IsSynced, LeavesOnly, present};
+ghost use Rattle.cg_disk.specs.Disk.{Changes, Counts, LeavesOnly, present};
 ghost use Rattle.cg_gate.specs.Layout.{segment_count};
 ghost use Rattle.cg_root.specs.Roots.{CountingRoot, IsLawful, KeepsRoot, root_ids};
 ghost use Rattle.cg_root.specs.Slots.{gate_of, other_slot};

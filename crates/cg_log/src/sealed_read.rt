@@ -1,9 +1,8 @@
 //! Reading the frames of a log in order.
-ghost use Rattle.std.specs.Prelude.{◌≡◌, ◌≢◌, ℕ, ◌+◌, ◌≤◌, ◌<◌, [], ◌∷◌, ◌++◌, List, true, false, length, take, slice_index, IfErr, IfSome, IsTrue, IsErrOf, IfOk, MatchResult, ◌⊎◌, nat_lt};
+ghost use Rattle.std.specs.Prelude.{◌≡◌, ◌≢◌, ◌+◌, ◌≤◌, ◌<◌, ◌++◌, List, true, false, length, take, IfErr, IfSome, IsTrue, IsErrOf, IfOk, MatchResult, ◌⊎◌, nat_lt};
 ghost use Rattle.std.specs.List.{list_all};
 ghost use Rattle.cg_disk.specs.Disk.{Counts, Stays, present};
 ghost use Rattle.cg_gate.specs.Layout.{segment_count};
-ghost use Rattle.cg_gate.specs.declared.layout.TheConstants.{SEGMENT_SECTORS};
 ghost use Rattle.cg_log.specs.Carried.{Content, segments_of};
 ghost use Rattle.cg_log.specs.Cursors.{IsAt, Reads, index_of, read_limit, segment_index, segments_before};
 ghost use Rattle.cg_log.specs.Faults.{is_device_failure, IsReadingFault};

@@ -1,8 +1,7 @@
 //! The switch to the fresh segments: the next root names them as its base.
-ghost use Rattle.std.specs.Prelude.{◌≡◌, ◌≢◌, ◌⊎◌, ℕ, ◌+◌, ◌^◌, ◌≤◌, ◌<◌, [], ◌++◌, List, true, false, length, IfErr, IfOk, OnErr, OnOk, IsErrOf, MatchResult, is_err};
+ghost use Rattle.std.specs.Prelude.{◌≡◌, ◌≢◌, ◌⊎◌, ◌+◌, ◌^◌, ◌≤◌, ◌<◌, [], List, true, false, IfErr, IfOk, OnErr, OnOk, IsErrOf, MatchResult, is_err};
 ghost use Rattle.cg_disk.specs.Disk.{Changes, Counts, LeavesOnly, present};
-ghost use Rattle.cg_gate.specs.Layout.{segment_count};
-ghost use Rattle.cg_root.specs.Roots.{AreSegments, IsLawful, IsOldOrNew, KeepsRoot, root_ids};
+ghost use Rattle.cg_root.specs.Roots.{IsLawful, IsOldOrNew, KeepsRoot};
 ghost use Rattle.cg_root.specs.Slots.{gate_of, other_slot};
 ghost use Rattle.cg_root.specs.declared.format.TheConstants.{EPOCH_MAX};
 ghost use Rattle.cg_log.specs.Carried.{Content};

@@ -1,9 +1,9 @@
 //! The members of a group.
 ghost use Rattle.std.specs.Prelude.{◌≡◌, ◌<◌, [], ◌∷◌, ◌++◌, false, Some, length, List, not, OnOk, OnErr, IfOk, filter, map, is_some};
 ghost use Rattle.std.specs.Option.{option_copied};
-ghost use Rattle.std.specs.List.{position, list_any, list_all};
+ghost use Rattle.std.specs.List.{list_any, list_all};
 ghost use Rattle.cg_record.specs.declared.roster.TheConstants.{MEMBERS_MAX};
-ghost use Rattle.cg_member.specs.Members.{AreMembers, instances};
+ghost use Rattle.cg_member.specs.Members.{AreMembers};
 ghost use Rattle.cg_member.specs.Membership.{has_id, has_instance, find_member, find_instance, with_member, heard};
 ghost use Rattle.cg_member.specs.Replacing.{seating};
 ghost use Rattle.cg_member.specs.Waiting.{after_answers, is_waiting, recalled};

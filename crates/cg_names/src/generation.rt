@@ -1,5 +1,5 @@
 //! The generation of a group.
-ghost use Rattle.std.specs.Prelude.{◌≡◌, ℕ, ◌≤◌, SomeIff, IfSome};
+ghost use Rattle.std.specs.Prelude.{◌≡◌, ℕ, ◌≤◌, SomeIff};
 ghost use Rattle.cg_names.specs.Generations.{next_generation};
 
 use std::marker::Model;

@@ -2,7 +2,7 @@
 
 ghost use Rattle.std.specs.Prelude.{◌≡◌, ◌<◌, [], ◌∷◌, length, IfOk};
 ghost use Rattle.cg_record.specs.Decoding.{after_front, left_in};
-ghost use Rattle.cg_record.specs.Keys.{AreEntries, HasDistinctKeys};
+ghost use Rattle.cg_record.specs.Keys.{HasDistinctKeys};
 ghost use Rattle.cg_record.specs.Lawful.{IsCommand, IsKey, IsKept};
 ghost use Rattle.cg_record.specs.Reading.{Builds, entry_at, entries_at, committed_at, body_at, command_at, commands_to_end, commands_of};
 

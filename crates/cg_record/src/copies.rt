@@ -3,7 +3,7 @@
 ghost use Rattle.std.specs.Prelude.{◌≡◌, IfOk, IfSome};
 ghost use Rattle.std.specs.Option.{option_copied};
 ghost use Rattle.cg_names.specs.Grammar.{IsName};
-ghost use Rattle.cg_record.specs.Members.{IsProfile, member_of, profile_of};
+ghost use Rattle.cg_record.specs.Members.{IsProfile, member_of};
 
 use crate::member::Member;
 use crate::millis::{RebalanceTimeout, SessionTimeout};

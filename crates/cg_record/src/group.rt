@@ -1,6 +1,6 @@
 //! Fields of a group at the start of the bytes, decoded without a copy.
 
-ghost use Rattle.std.specs.Prelude.{◌≡◌, ◌≤◌, IfOk};
+ghost use Rattle.std.specs.Prelude.{◌≤◌, IfOk};
 ghost use Rattle.cg_record.specs.Fields.{only, is_from_to, byte_at, four_at};
 ghost use Rattle.cg_record.specs.Reading.{Gives};
 

@@ -3,7 +3,7 @@
 ghost use Rattle.std.specs.Prelude.{◌≡◌, [], length, IfOk};
 ghost use Rattle.std.specs.List.{list_any};
 ghost use Rattle.std.specs.Option.{option_copied};
-ghost use Rattle.cg_record.specs.Rosters.{AreApart, AreMembers, has_id, has_instance, is_one_instance};
+ghost use Rattle.cg_record.specs.Rosters.{AreApart, AreMembers, has_instance, is_one_instance};
 ghost use Rattle.cg_record.specs.Members.{member_at};
 ghost use Rattle.cg_record.specs.Reading.{Builds, members_at, listed_at, roster_at, assigned_at, emptied_at, replaced_at, deleted_at};
 

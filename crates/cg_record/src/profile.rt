@@ -1,7 +1,7 @@
 //! The fields of a member after its id and instance, decoded without a copy.
 
-ghost use Rattle.std.specs.Prelude.{◌≡◌, IfOk};
-ghost use Rattle.cg_record.specs.Members.{Profile, IsProfile, profile_at};
+ghost use Rattle.std.specs.Prelude.{IfOk};
+ghost use Rattle.cg_record.specs.Members.{IsProfile, profile_at};
 ghost use Rattle.cg_record.specs.Reading.{Gives};
 
 use crate::fault::RecordFault;

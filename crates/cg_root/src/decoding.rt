@@ -1,6 +1,6 @@
 //! Decoding and checking the body of a root.
 ghost use Rattle.cg_disk.specs.declared.disk.TheConstants.{SECTOR_BYTES};
-ghost use Rattle.std.specs.Prelude.{◌≡◌, ◌↔◌, ◌+◌, ◌*◌, ◌≤◌, ◌==◌, IfOk, IsTrue, length, take, drop};
+ghost use Rattle.std.specs.Prelude.{◌≡◌, ◌↔◌, ◌+◌, ◌*◌, ◌≤◌, ◌==◌, IfOk, IsTrue, length};
 ghost use Rattle.std.specs.Int.{w16, w32, w64};
 ghost use Rattle.std.specs.List.{list_any};
 ghost use Rattle.cg_gate.specs.Layout.{segment_count};

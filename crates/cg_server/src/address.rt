@@ -1,5 +1,5 @@
 //! The address to listen on, as a word of the command line.
-ghost use Rattle.std.specs.Prelude.{◌≡◌, ◌≤◌, IfSome};
+ghost use Rattle.std.specs.Prelude.{◌≡◌};
 ghost use Rattle.cg_server.specs.Address.{port_of};
 
 use cg_line::decimal;

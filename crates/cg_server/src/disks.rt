@@ -1,5 +1,5 @@
 //! New disks, formatted.
-ghost use Rattle.std.specs.Prelude.{◌≡◌, true, OnOk, IfOk};
+ghost use Rattle.std.specs.Prelude.{◌≡◌, true, IfOk};
 ghost use Rattle.cg_disk.specs.Mem.{mem_history, mem_size};
 ghost use Rattle.cg_fold.specs.Durable.{empty};
 ghost use Rattle.cg_store.specs.Carried.{AllCarry};

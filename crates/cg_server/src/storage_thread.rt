@@ -1,5 +1,4 @@
 //! The thread that has the writer: it loads the disk, and stores what waits for it.
-ghost use Rattle.std.specs.Prelude.{◌≡◌};
 ghost use Rattle.cg_server.specs.Ending.{Alarms, Loads, Reports};
 
 use crate::flusher::{FlushEnd, flush_until_over, wait_until_over};

@@ -1,7 +1,6 @@
 //! A desk and its store, after a load.
-ghost use Rattle.std.specs.Prelude.{◌≡◌, ◌≤◌, IfErr};
+ghost use Rattle.std.specs.Prelude.{◌≡◌, IfErr};
 ghost use Rattle.cg_disk.specs.Fuse.{inner_of};
-ghost use Rattle.cg_disk.specs.Mem.{mem_size};
 ghost use Rattle.cg_store.specs.Store.{disk_of};
 ghost use Rattle.cg_world.specs.Sights.{store_of};
 ghost use Rattle.cg_sim.specs.Disk.{sectors_of};

@@ -1,7 +1,6 @@
 //! A loaded disk with pokes that wait for its next crash.
-ghost use Rattle.std.specs.Prelude.{◌≡◌, ◌<◌, ◌≤◌, ◌++◌, ◌∷◌, [], true, OnOk};
+ghost use Rattle.std.specs.Prelude.{◌≡◌, ◌<◌, ◌++◌, ◌∷◌, [], true, OnOk};
 ghost use Rattle.cg_disk.specs.Fuse.{inner_of};
-ghost use Rattle.cg_disk.specs.Mem.{mem_size};
 ghost use Rattle.cg_sim.specs.Disk.{sectors_of};
 ghost use Rattle.cg_sim.specs.Poking.{are_within, sector_of};
 ghost use Rattle.cg_sim.specs.LoadedDisk.{loaded_disk};

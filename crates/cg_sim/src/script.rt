@@ -1,10 +1,10 @@
 //! Running a script, line by line, until its end, a bad line or a fault.
-ghost use Rattle.std.specs.Prelude.{◌≡◌, ◌⊎◌, ◌≤◌, ◌++◌, ℕ, Ok, Err, Some, [], IfOk, IfErr, IfSome, OnOk, List};
+ghost use Rattle.std.specs.Prelude.{◌≡◌, ◌⊎◌, ℕ, Ok, Err, Some, [], IfOk, IfErr, IfSome, OnOk, List};
 ghost use Rattle.std.specs.Io.KnownBytes.{Appends};
 ghost use Rattle.cg_disk.specs.Mem.{mem_size};
 ghost use Rattle.cg_sim.specs.CommandLine.{RefusedForMemory};
 ghost use Rattle.cg_sim.specs.Disk.{disk_sectors};
-ghost use Rattle.cg_sim.specs.Ending.{Ends, WritesThen, status_of};
+ghost use Rattle.cg_sim.specs.Ending.{Ends, status_of};
 ghost use Rattle.cg_sim.specs.Telling.{bad_line, stop_text};
 
 use crate::advice::{Problem, problem_of};

@@ -1,5 +1,5 @@
 //! The state of a script: its disk, with or without something loaded.
-ghost use Rattle.std.specs.Prelude.{◌≡◌, ◌⊎◌, ◌<◌, ◌≤◌, ◌++◌, ◌∷◌, [], true, false, IfErr, OnErr, OnOk};
+ghost use Rattle.std.specs.Prelude.{◌≡◌, ◌⊎◌, ◌<◌, ◌++◌, ◌∷◌, [], true, false, IfErr, OnErr, OnOk};
 ghost use Rattle.cg_disk.specs.Crash.{IsLastSynced};
 ghost use Rattle.cg_disk.specs.Disk.{Image};
 ghost use Rattle.cg_disk.specs.Fuse.{inner_of};

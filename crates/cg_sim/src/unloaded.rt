@@ -1,8 +1,8 @@
 //! A disk from which nothing is loaded.
-ghost use Rattle.std.specs.Prelude.{◌≡◌, ◌<◌, ◌≤◌, ◌∷◌, [], IfErr, OnOk, is_err};
+ghost use Rattle.std.specs.Prelude.{◌≡◌, ◌<◌, ◌∷◌, [], IfErr, OnOk, is_err};
 ghost use Rattle.cg_disk.specs.Disk.{Counts};
 ghost use Rattle.cg_disk.specs.Fuse.{calls_left, inner_of};
-ghost use Rattle.cg_disk.specs.Mem.{mem_failures, mem_size};
+ghost use Rattle.cg_disk.specs.Mem.{mem_failures};
 ghost use Rattle.cg_sim.specs.Disk.{moment_of, sectors_of};
 ghost use Rattle.cg_sim.specs.Poking.{IsPoked, sector_of};
 

@@ -1,5 +1,5 @@
 //! The append of a batch.
-ghost use Rattle.std.specs.Prelude.{◌≡◌, ◌≢◌, ℕ, ◌+◌, ◌≤◌, true, false, length, Option, IfErr, OnErr, OnOk, IsErrOf, MatchResult, None, is_err};
+ghost use Rattle.std.specs.Prelude.{◌≡◌, ◌≢◌, ℕ, ◌+◌, ◌≤◌, true, length, IfErr, OnErr, OnOk, IsErrOf, MatchResult, None, is_err};
 ghost use Rattle.cg_disk.specs.Disk.{Counts, LeavesOnly, TakesCalls};
 ghost use Rattle.cg_fold.specs.Durable.{State, after};
 ghost use Rattle.cg_log.specs.Room.{fits_tail};

@@ -1,17 +1,16 @@
 //! The calls of a compaction. Each does the work of one frame or of one root, and keeps the number and the state of the
 //! store in every crash image. Appends may come between any two of them. A compaction takes segments that they could
 //! use, and changes nothing else for them.
-ghost use Rattle.std.specs.Prelude.{◌≡◌, ◌≢◌, ◌⊎◌, ℕ, ◌+◌, ◌-◌, ◌≤◌, ◌<◌, ◌++◌, [], true, false, None, Some, IfErr, IfOk, IfSome, OnOk, IsErrOf, MatchResult, Ok};
+ghost use Rattle.std.specs.Prelude.{◌≡◌, ◌≢◌, ◌⊎◌, ℕ, ◌+◌, ◌-◌, ◌<◌, ◌++◌, true, false, None, Some, IfErr, IfOk, IfSome, OnOk, IsErrOf, MatchResult, Ok};
 ghost use Rattle.cg_disk.specs.Disk.{Counts, LeavesOnly};
 ghost use Rattle.cg_fold.specs.Durable.{State};
-ghost use Rattle.cg_fold.specs.Snapshot.{snapshot_of};
 ghost use Rattle.cg_log.specs.Carried.{tails};
 ghost use Rattle.cg_log.specs.Free.{free_count_of};
 ghost use Rattle.cg_log.specs.Room.{room_at};
 ghost use Rattle.cg_log.specs.Segments.{frames_of};
 ghost use Rattle.cg_log.specs.Switched.{IsSwitchedRoot};
 ghost use Rattle.cg_root.specs.Roots.{root_ids};
-ghost use Rattle.cg_store.specs.Carried.{Carries, Spell};
+ghost use Rattle.cg_store.specs.Carried.{Carries};
 ghost use Rattle.cg_store.specs.Compacting.{IsFrameRead, IsWritten, NeedsSegment};
 ghost use Rattle.cg_store.specs.Phases.{IsCompactFaultOf, IsEnd, abort_result, begun_room, can_begin, is_compact_failure, phase_after, phase_refusal};
 

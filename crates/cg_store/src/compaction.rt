@@ -1,5 +1,4 @@
 //! A compaction: what it keeps from call to call.
-ghost use Rattle.std.specs.Prelude.{◌≡◌};
 
 use crate::commands::Commands;
 use crate::snapshot_frames::SnapshotFrames;

@@ -1,13 +1,10 @@
 //! Recovery: the commands of a log are read back from the disk alone.
-ghost use Rattle.std.specs.Prelude.{◌≡◌, ◌⊎◌, ℕ, ◌∷◌, [], ◌++◌, true, length, List, IfOk, IfErr, OnOk};
-ghost use Rattle.std.specs.Option.{MatchOption};
+ghost use Rattle.std.specs.Prelude.{◌≡◌, ◌∷◌, [], ◌++◌, true, IfOk, IfErr, OnOk};
 ghost use Rattle.cg_disk.specs.Disk.{Counts, Image, Stays};
-ghost use Rattle.cg_fold.specs.Durable.{State, after, empty};
 ghost use Rattle.cg_log.specs.Openings.{HasRead as HasReadTo, disk_under, is_at_end};
 ghost use Rattle.cg_log.specs.Segments.{Frames};
-ghost use Rattle.cg_store.specs.Carried.{IsFrameOf};
 ghost use Rattle.cg_store.specs.Faults.{Tells};
-ghost use Rattle.cg_store.specs.Loading.{Adds, HasRead, HasReadAll, IsNoText, IsRead, failed_loading};
+ghost use Rattle.cg_store.specs.Loading.{Adds, HasRead, HasReadAll, IsRead, failed_loading};
 
 use crate::fault::OpenFault;
 use cg_disk::SectorDisk;

@@ -1,11 +1,11 @@
 //! The work of each phase of a compaction, on its log. Each fault ends the compaction.
-ghost use Rattle.std.specs.Prelude.{◌≡◌, ◌≢◌, ◌⊎◌, ℕ, ◌+◌, ◌≤◌, ◌<◌, ◌∷◌, ◌++◌, [], true, false, List, IfErr, IfOk, IfSome, OnErr, OnOk, IsErrOf, MatchResult};
+ghost use Rattle.std.specs.Prelude.{◌≡◌, ◌≢◌, ℕ, ◌+◌, ◌≤◌, ◌<◌, ◌++◌, [], true, false, List, IfErr, IfOk, IfSome, OnErr, OnOk, IsErrOf, MatchResult};
 ghost use Rattle.std.specs.Option.{ForSome};
 ghost use Rattle.cg_disk.specs.Disk.{Counts, LeavesOnly, Stays};
 ghost use Rattle.cg_fold.specs.Durable.{State};
 ghost use Rattle.cg_fold.specs.Snapshot.{snapshot_of};
 ghost use Rattle.cg_log.specs.Carried.{Carries, Content, tails};
-ghost use Rattle.cg_log.specs.Free.{IsLeastFree, NoneIsFree, is_among};
+ghost use Rattle.cg_log.specs.Free.{NoneIsFree, is_among};
 ghost use Rattle.cg_log.specs.Log.{IsUnchanged, LogHas, disk_of, end_of, fresh_end_of, fresh_of, has_failed, number_of, room_of, root_of, taken_of};
 ghost use Rattle.cg_log.specs.Rolled.{IsFullFor};
 ghost use Rattle.cg_log.specs.Room.{HasNext, rolled_room};

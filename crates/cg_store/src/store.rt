@@ -3,7 +3,6 @@ ghost use Rattle.std.specs.Prelude.{◌≡◌, ◌≤◌, [], true};
 ghost use Rattle.std.specs.Option.{ForSome};
 ghost use Rattle.cg_log.specs.Free.{is_among};
 ghost use Rattle.cg_log.specs.Log as log_model;
-ghost use Rattle.cg_log.specs.declared.numbers.TheConstants.{COMMAND_NUMBER_MAX};
 ghost use Rattle.cg_store.specs.Compacting.{cut_in, phase_in};
 ghost use Rattle.cg_store.specs.declared.phase.Phase.TheVariants as phase;
 

@@ -1,7 +1,7 @@
 //! A search tree by key, seen as its entries in order.
-ghost use Rattle.std.specs.Prelude.{◌≡◌, ℕ, ◌≤◌, [], ◌∷◌, ◌++◌, min, MatchOption, option_copied};
+ghost use Rattle.std.specs.Prelude.{◌≡◌, ℕ, [], ◌∷◌, ◌++◌, min, MatchOption};
 ghost use Rattle.cg_time.specs.Entries.{earliest_of, IsAscending};
-ghost use Rattle.cg_time.specs.Tree.{IsBranchOf, branch_entries};
+ghost use Rattle.cg_time.specs.Tree.{IsBranchOf};
 
 use cg_names::Moment;
 use std::marker::Model;

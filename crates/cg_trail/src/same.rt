@@ -1,5 +1,5 @@
 //! Equality of values as contracts see them.
-ghost use Rattle.std.specs.Prelude.{◌≡◌, ◌↔◌, IsTrue, take, length};
+ghost use Rattle.std.specs.Prelude.{◌≡◌, ◌↔◌, IsTrue};
 
 use cg_member::few::Few;
 use cg_names::{Code, Name, ShortName};

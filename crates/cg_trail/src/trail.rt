@@ -1,5 +1,5 @@
 //! A trail: what was loaded, and what was asked and replied since.
-ghost use Rattle.std.specs.Prelude.{◌≡◌, ◌<◌, ◌≤◌, ◌-◌, ◌++◌, ◌∷◌, [], OnOk, OnErr};
+ghost use Rattle.std.specs.Prelude.{◌≡◌, ◌<◌, ◌≤◌, ◌-◌, ◌++◌, ◌∷◌, [], OnOk};
 
 use crate::entry::TrailEntry;
 use cg_group::Listed;

@@ -1,7 +1,6 @@
 //! Commits per second, beside the calls that the disk gets for them.
 ghost use Rattle.std.specs.Prelude.{◌≡◌, ◌≤◌, ◌+◌, IfOk, OnOk};
 ghost use Rattle.std.specs.VecDeque.{deque_len};
-ghost use Rattle.cg_disk.specs.Mem.{mem_size};
 ghost use Rattle.cg_store.specs.Store.{front_of};
 ghost use Rattle.bench.specs.declared.desk.store.TheConstants.{DISK_SECTORS};
 

@@ -1,5 +1,5 @@
 //! Bytes on a line. Checking a word does not allocate; decoding it allocates one byte for two digits.
-ghost use Rattle.std.specs.Prelude.{◌≡◌, ◌≤◌, ◌/◌, drop, length, true, false, IsTrue, IfOk, MatchOption};
+ghost use Rattle.std.specs.Prelude.{◌≡◌, ◌/◌, drop, true, false, IsTrue, IfOk, MatchOption};
 ghost use Rattle.std.specs.List.{list_all};
 ghost use Rattle.cg_line.specs.Fields.{are_pairs, begins_with_x, bytes_in, decoded, is_bytes, is_lower_hex_digit, is_opaque};
 

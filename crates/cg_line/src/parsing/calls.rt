@@ -1,5 +1,5 @@
 //! SYNC, BEAT, LEAVE and COMMIT, from the words after the first.
-ghost use Rattle.std.specs.Prelude.{◌≡◌, map, IsTrue, IfOk};
+ghost use Rattle.std.specs.Prelude.{◌≡◌, map};
 ghost use Rattle.cg_line.specs.Parsing.{Reads, beat_of, commit_of, is_call, leave_of, sync_of};
 
 use crate::line_fault::LineFault::{self, Malformed};

@@ -1,5 +1,5 @@
 //! Words of a key, `=` and bytes. No function here allocates.
-ghost use Rattle.std.specs.Prelude.{◌≡◌, ◌∷◌, map};
+ghost use Rattle.std.specs.Prelude.{◌≡◌, map};
 ghost use Rattle.std.specs.List.{list_any};
 ghost use Rattle.cg_request.specs.Names.{are_distinct, is_same};
 ghost use Rattle.cg_line.specs.Parsing.{given_to, key_of};

@@ -1,5 +1,5 @@
 //! Names on a line. Checking a word does not allocate; the name is a copy of the word.
-ghost use Rattle.std.specs.Prelude.{◌≡◌, ℕ, List, Option, IsTrue, IfOk};
+ghost use Rattle.std.specs.Prelude.{◌≡◌, Option, IsTrue, IfOk};
 ghost use Rattle.cg_names.specs.Grammar.{is_dash};
 ghost use Rattle.cg_line.specs.Fields.{is_name, is_optional, optional_in};
 

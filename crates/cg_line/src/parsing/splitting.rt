@@ -1,5 +1,5 @@
 //! Splitting text at a mark. No function here allocates: the parts are slices of the text.
-ghost use Rattle.std.specs.Prelude.{◌≡◌, ◌+◌, ◌<◌, ◌≤◌, [], ◌∷◌, map, length, MatchOption, IfSome};
+ghost use Rattle.std.specs.Prelude.{◌≡◌, ◌+◌, ◌<◌, [], ◌∷◌, map, length, MatchOption, IfSome};
 ghost use Rattle.cg_line.specs.Splitting.{before, behind, words_of};
 
 use arrayvec::ArrayVec;

@@ -1,5 +1,5 @@
 //! Serving one line.
-ghost use Rattle.std.specs.Prelude.{◌≡◌, ◌++◌, ℕ, List, Option, Some, MatchResult, IfErr, OnOk};
+ghost use Rattle.std.specs.Prelude.{◌≡◌, ℕ, List, Option, MatchResult, IfErr, OnOk};
 ghost use Rattle.cg_request.specs.declared.asking.Request.{Request};
 ghost use Rattle.cg_member.specs.declared.reply.Reply.{Reply};
 ghost use Rattle.cg_line.specs.Lines.{Asks};
