@@ -248,21 +248,21 @@ module _ (s : State) (t : Transit) (batch : Batch) (room : Room) (front : ℕ) (
 
   pub never-out-of-order : (fault : StoreFault) → fault ≡ store_fault.OutOfOrder → IsToldOf (refusal_of failed room front batch.first batch.commands) fault → ⊥
   unfolding Means
-  never-out-of-order fault is told = subst (λ (f : StoreFault). Means (has_room (room_left failed room) (settled_of s) (in_flight s)) f) is (told-of fault told)
+  never-out-of-order fault same told = subst (λ (f : StoreFault). Means (has_room (room_left failed room) (settled_of s) (in_flight s)) f) same (told-of fault told)
 
   pub never-failed : (fault : StoreFault) → fault ≡ store_fault.Failed → IsToldOf (refusal_of failed room front batch.first batch.commands) fault → ⊥
   unfolding Means
-  never-failed fault is told = subst (λ (f : StoreFault). Means (has_room (room_left failed room) (settled_of s) (in_flight s)) f) is (told-of fault told)
+  never-failed fault same told = subst (λ (f : StoreFault). Means (has_room (room_left failed room) (settled_of s) (in_flight s)) f) same (told-of fault told)
 
   pub full-for : (fault : StoreFault) → fault ≡ store_fault.Full → IsToldOf (refusal_of failed room front batch.first batch.commands) fault
       → has_room (room_left failed room) (settled_of s) (in_flight s) ≡ false
   unfolding Means
-  full-for fault is told = subst (λ (f : StoreFault). Means (has_room (room_left failed room) (settled_of s) (in_flight s)) f) is (told-of fault told)
+  full-for fault same told = subst (λ (f : StoreFault). Means (has_room (room_left failed room) (settled_of s) (in_flight s)) f) same (told-of fault told)
 
   pub room-for : (fault : StoreFault) → fault ≡ store_fault.Device → IsToldOf (refusal_of failed room front batch.first batch.commands) fault
       → has_room (room_left failed room) (settled_of s) (in_flight s) ≡ true
   unfolding Means
-  room-for fault is told = subst (λ (f : StoreFault). Means (has_room (room_left failed room) (settled_of s) (in_flight s)) f) is (told-of fault told)
+  room-for fault same told = subst (λ (f : StoreFault). Means (has_room (room_left failed room) (settled_of s) (in_flight s)) f) same (told-of fault told)
 
   pub done-for : refusal_of failed room front batch.first batch.commands ≡ None → has_room (room_left failed room) (settled_of s) (in_flight s) ≡ true
   done-for none =
