@@ -1,49 +1,61 @@
 //! Fault injection.
-ghost use Rattle.std.specs.Prelude.{◌≡◌, ◌+◌, ◌-◌, ◌^◌, ◌≤◌, min, true, Some, OnOk, is_err, IsErr, ◌↔◌, if◌then◌else◌};
+ghost use Rattle.std.specs.Prelude.{◌≡◌, ◌+◌, ◌-◌, ◌^◌, ◌≤◌, min, true, OnOk, is_err, if◌then◌else◌};
 ghost use Rattle.cg_disk.specs.Disk.{present, sector_count, IsWhole, Holds, IsUnsynced, IsSynced, Changes, Stays, TakesCalls, Counts};
-ghost use Rattle.cg_disk.specs.Burning.{burnt};
+ghost use Rattle.cg_disk.specs.Burning.{burnt, fails_next};
 
 use crate::{DiskFault, SectorDisk};
 
-/// A disk for fault injection: it passes a number of calls of `read`, `write` and `sync` to another disk and then fails
-/// each. A call that it fails writes nothing and leaves the buffer unchanged.
+/// Which calls of `read`, `write` and `sync` a `FuseDisk` fails.
+#[derive(Clone, Copy, Debug, PartialEq, Eq)]
+pub enum Fuse {
+    /// None.
+    Intact,
+    /// Each, after this many that pass.
+    EachAfter(u64),
+    /// One, after this many that pass; each later one passes. A write that it fails is done all the same: the sectors have
+    /// the bytes, though the disk reported a failure.
+    OnceAfter(u64),
+}
+
+/// A disk for fault injection: it passes calls of `read`, `write` and `sync` to another disk, or fails them, as its fuse
+/// says. A call that it fails writes nothing and leaves the buffer unchanged, except for a write that fails once.
 #[derive(Drop)]
 pub struct FuseDisk<D: SectorDisk> {
     inner: D,
-    left: Option<u64>,
+    fuse: Fuse,
     blown: u64,
 }
 
 impl<D: SectorDisk> FuseDisk<D> {
-    ghost use Rattle.cg_disk.specs.Fuse.{inner_of, calls_left, blown_calls};
+    ghost use Rattle.cg_disk.specs.Fuse.{blown_calls, fuse_of, inner_of};
 
-    /// Wraps a disk that passes this many calls.
+    /// Wraps a disk that passes this many calls, and then fails each.
     pub fn new(disk: D, calls: u64) -> FuseDisk<D>
         ensures inner { inner_of result ≡ disk }
-        ensures left { calls_left result ≡ Some calls }
+        ensures fuse { fuse_of result ≡ Fuse.EachAfter calls }
         ensures blown { blown_calls result ≡ 0 }
     {
         FuseDisk {
             inner: disk,
-            left: Some(calls),
+            fuse: Fuse::EachAfter(calls),
             blown: 0,
         }
     }
 
-    /// Sets how many more calls pass; `None` passes every call.
-    pub fn set(&mut self, calls: Option<u64>)
+    /// Sets which calls fail from now on.
+    pub fn set(&mut self, fuse: Fuse)
         ensures inner { inner_of self.new ≡ inner_of self.old }
-        ensures left { calls_left self.new ≡ calls }
+        ensures fuse { fuse_of self.new ≡ fuse }
         ensures blown { blown_calls self.new ≡ blown_calls self.old }
     {
-        self.left = calls;
+        self.fuse = fuse;
     }
 
-    /// Returns how many more calls pass; `None` if every call does.
-    pub fn calls_left(&self) -> Option<u64>
-        ensures { result ≡ calls_left self.now }
+    /// Returns which calls fail from now on.
+    pub fn fuse(&self) -> Fuse
+        ensures { result ≡ fuse_of self.now }
     {
-        self.left
+        self.fuse
     }
 
     /// Returns the wrapped disk, without a disk call.
@@ -55,27 +67,31 @@ impl<D: SectorDisk> FuseDisk<D> {
     }
 }
 
-/// Uses up one of the calls that pass, or fails if none is left.
-fn burn(left: &mut Option<u64>, blown: &mut u64) -> Result<(), DiskFault>
-    ensures burns { left.new ≡ burnt left.old }
-    ensures fails { IsErr result ↔ (left.old ≡ Some 0) }
+/// Burns the fuse down by one call, and returns whether that call fails.
+fn burn(fuse: &mut Fuse, blown: &mut u64) -> Result<(), DiskFault>
+    ensures burns { fuse.new ≡ burnt fuse.old }
+    ensures fails { is_err result ≡ fails_next fuse.old }
     ensures counts { blown.new ≡ (if is_err result then min (blown.old + 1) (2 ^ 64 - 1) else blown.old) }
 {
-    match *left {
-        None => Ok(()),
-        Some(0) => {
-            *blown = blown.saturating_add(1);
-            Err(DiskFault::Device)
+    match *fuse {
+        Fuse::Intact => return Ok(()),
+        Fuse::EachAfter(0) => {}
+        Fuse::OnceAfter(0) => *fuse = Fuse::Intact,
+        Fuse::EachAfter(calls) => {
+            *fuse = Fuse::EachAfter(calls - 1);
+            return Ok(());
         }
-        Some(n) => {
-            *left = Some(n - 1);
-            Ok(())
+        Fuse::OnceAfter(calls) => {
+            *fuse = Fuse::OnceAfter(calls - 1);
+            return Ok(());
         }
     }
+    *blown = blown.saturating_add(1);
+    Err(DiskFault::Device)
 }
 
 impl<D: SectorDisk> SectorDisk for FuseDisk<D> {
-    ghost use Rattle.cg_disk.specs.Fuse.{inner_of, calls_left, failures_of, PassesOrFails};
+    ghost use Rattle.cg_disk.specs.Fuse.{inner_of, fuse_of, failures_of, HasPassed, PassesOrFails};
 
     ghost size = { λ disk. D.size disk.inner };
 
@@ -94,7 +110,8 @@ impl<D: SectorDisk> SectorDisk for FuseDisk<D> {
         requires in_range { at + sector_count bytes.old ≤ D.size (inner_of self.old) }
 
         ensures fuse { PassesOrFails D.failures self.old self.new (is_err result) }
-        ensures buffer { calls_left self.old ≡ Some 0 → bytes.new ≡ bytes.old }
+        ensures untouched { fails_next (fuse_of self.old) ≡ true → inner_of self.new ≡ inner_of self.old }
+        ensures buffer { fails_next (fuse_of self.old) ≡ true → bytes.new ≡ bytes.old }
 
         // The clauses of every `SectorDisk`.
         ensures same_size { D.size (inner_of self.new) ≡ D.size (inner_of self.old) }
@@ -105,7 +122,7 @@ impl<D: SectorDisk> SectorDisk for FuseDisk<D> {
         ensures clock { D.is_honest (inner_of self.old) ≡ true → TakesCalls 1 (D.history (inner_of self.old)) (D.history (inner_of self.new)) (is_err result) }
         ensures cause { Counts (failures_of D.failures self.old) (failures_of D.failures self.new) (is_err result) }
     {
-        burn(&mut self.left, &mut self.blown)?;
+        burn(&mut self.fuse, &mut self.blown)?;
         self.inner.read(at, bytes)
     }
 
@@ -114,6 +131,11 @@ impl<D: SectorDisk> SectorDisk for FuseDisk<D> {
         requires in_range { at + sector_count bytes.now ≤ D.size (inner_of self.old) }
 
         ensures fuse { PassesOrFails D.failures self.old self.new (is_err result) }
+        ensures untouched { fuse_of self.old ≡ Fuse.EachAfter 0 → inner_of self.new ≡ inner_of self.old }
+        // Unless the wrapped disk failed too, a write that fails once is done.
+        ensures written { D.is_honest (inner_of self.old) ≡ true → fuse_of self.old ≡ Fuse.OnceAfter 0
+            → HasPassed (D.failures (inner_of self.old)) (D.failures (inner_of self.new))
+            → Holds (present (D.history (inner_of self.new))).content at (sector_count bytes.now) bytes.now }
 
         // The clauses of every `SectorDisk`.
         ensures same_size { D.size (inner_of self.new) ≡ D.size (inner_of self.old) }
@@ -127,12 +149,20 @@ impl<D: SectorDisk> SectorDisk for FuseDisk<D> {
         ensures clock { D.is_honest (inner_of self.old) ≡ true → TakesCalls 1 (D.history (inner_of self.old)) (D.history (inner_of self.new)) (is_err result) }
         ensures cause { Counts (failures_of D.failures self.old) (failures_of D.failures self.new) (is_err result) }
     {
-        burn(&mut self.left, &mut self.blown)?;
-        self.inner.write(at, bytes)
+        let reaches_disk = self.fuse != Fuse::EachAfter(0);
+        let burnt = burn(&mut self.fuse, &mut self.blown);
+        let written = if reaches_disk {
+            self.inner.write(at, bytes)
+        } else {
+            Ok(())
+        };
+        burnt?;
+        written
     }
 
     fn sync(&mut self) -> Result<(), DiskFault>
         ensures fuse { PassesOrFails D.failures self.old self.new (is_err result) }
+        ensures untouched { fails_next (fuse_of self.old) ≡ true → inner_of self.new ≡ inner_of self.old }
 
         // The clauses of every `SectorDisk`.
         ensures same_size { D.size (inner_of self.new) ≡ D.size (inner_of self.old) }
@@ -142,7 +172,7 @@ impl<D: SectorDisk> SectorDisk for FuseDisk<D> {
         ensures clock { D.is_honest (inner_of self.old) ≡ true → TakesCalls 1 (D.history (inner_of self.old)) (D.history (inner_of self.new)) (is_err result) }
         ensures cause { Counts (failures_of D.failures self.old) (failures_of D.failures self.new) (is_err result) }
     {
-        burn(&mut self.left, &mut self.blown)?;
+        burn(&mut self.fuse, &mut self.blown)?;
         self.inner.sync()
     }
 }

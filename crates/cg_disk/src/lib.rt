@@ -16,6 +16,6 @@ mod tests;
 pub use disk::{SECTOR_BYTES, SectorDisk};
 pub use fault::DiskFault;
 pub use file::FileDisk;
-pub use fuse::FuseDisk;
+pub use fuse::{Fuse, FuseDisk};
 pub use gate_disk::{Gate, GateDisk};
 pub use mem::{Crash, MemDisk};

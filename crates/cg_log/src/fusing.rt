@@ -1,18 +1,18 @@
 //! Fault injection below a log.
 ghost use Rattle.std.specs.Prelude.{◌≡◌, List};
-ghost use Rattle.cg_disk.specs.Fuse.{blown_calls, calls_left, inner_of};
+ghost use Rattle.cg_disk.specs.Fuse.{blown_calls, fuse_of, inner_of};
 
 use crate::log::Log;
-use cg_disk::{FuseDisk, SectorDisk};
+use cg_disk::{Fuse, FuseDisk, SectorDisk};
 
 impl<D: SectorDisk> Log<FuseDisk<D>> {
     ghost use Rattle.cg_log.specs.Carried.{Content};
     ghost use Rattle.cg_log.specs.Log.{HasFresh, LogHas, disk_of, end_of, fresh_end_of, fresh_of, has_failed, number_of, root_of};
     ghost use Rattle.cg_log.specs.Segments.{Filled};
 
-    /// Sets how many more calls the disk passes before it fails each; `None` passes every call. Nothing else changes.
-    pub fn set_fuse(&mut self, calls: Option<u64>)
-        ensures fuse { calls_left (disk_of self.new) ≡ calls }
+    /// Sets which calls the disk fails from now on. Nothing else changes.
+    pub fn set_fuse(&mut self, fuse: Fuse)
+        ensures fuse { fuse_of (disk_of self.new) ≡ fuse }
         ensures disk { inner_of (disk_of self.new) ≡ inner_of (disk_of self.old) }
         ensures blown { blown_calls (disk_of self.new) ≡ blown_calls (disk_of self.old) }
         ensures root { root_of self.new ≡ root_of self.old }
@@ -28,6 +28,6 @@ impl<D: SectorDisk> Log<FuseDisk<D>> {
             LogHas (⟦<FuseDisk<D> as SectorDisk>⟧.is_honest) (⟦<FuseDisk<D> as SectorDisk>⟧.history) (⟦<FuseDisk<D> as SectorDisk>⟧.size) self.old has →
             LogHas (⟦<FuseDisk<D> as SectorDisk>⟧.is_honest) (⟦<FuseDisk<D> as SectorDisk>⟧.history) (⟦<FuseDisk<D> as SectorDisk>⟧.size) self.new has }
     {
-        self.disk.set(calls);
+        self.disk.set(fuse);
     }
 }

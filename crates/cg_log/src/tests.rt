@@ -6,7 +6,7 @@ ghost use Rattle.cg_log.specs.Free.{is_among};
 ghost use Rattle.cg_log.specs.Log.{number_of, root_of};
 
 use crate::{Cursor, Log, LogFault, format};
-use cg_disk::{Crash, FuseDisk, MemDisk, SectorDisk};
+use cg_disk::{Crash, Fuse, FuseDisk, MemDisk, SectorDisk};
 use cg_root::{SegmentId, read_root};
 use std::alloc::{AllocError, Global};
 use std::process::Abort;
@@ -30,7 +30,7 @@ fn blank(alloc: Global, sectors: u64) -> Result<FuseDisk<MemDisk>, AllocError>
     ensures { IfOk result (λ disk. mem_size (inner_of disk) ≡ sectors) }
 {
     let mut disk = FuseDisk::new(MemDisk::new(alloc, sectors)?, 0);
-    disk.set(None);
+    disk.set(Fuse::Intact);
     Ok(disk)
 }
 
@@ -129,7 +129,7 @@ fn number_after(
     kind: Crash,
 ) -> Result<(bool, u64), Fail> {
     let mut disk = with_a_frame(alloc)?;
-    disk.set(Some(calls));
+    disk.set(Fuse::EachAfter(calls));
     let (disk, outcome) = write_more(rt, alloc, disk, rolls);
     let log = opened(alloc, disk.into_inner().crash(kind))?;
     Ok((outcome.is_ok(), log.number()))
@@ -305,7 +305,7 @@ fn fresh_segments_are_taken_until_they_are_dropped(rt: HostRuntime) -> Result<()
 fn switched_after(alloc: Global, calls: u64, kind: Crash) -> Result<(bool, u64, u64), Fail> {
     let mut log = with_four_segments(alloc)?;
     let (cut, number) = ready_to_switch(&mut log)?;
-    log.set_fuse(Some(calls));
+    log.set_fuse(Fuse::EachAfter(calls));
     let is_ok = log.switch(cut, number).is_ok();
     let mut log = opened(alloc, log.into_disk().into_inner().crash(kind))?;
     let (first, _) = next_count(&mut log, Cursor::start(), None, &mut Vec::new(alloc))?.ok_or(

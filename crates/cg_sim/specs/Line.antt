@@ -2,6 +2,7 @@
 use Rattle.std.specs.Prelude.{ℕ, List, length, nat_lt, Bool, true, false, Option, None, Some, if◌then◌else◌, codes}
 use Rattle.std.specs.Option.{option_map}
 use Rattle.std.specs.Str.{bytes_eq}
+use Rattle.cg_disk.specs.declared.fuse.Fuse.TheVariants.{EachAfter, OnceAfter}
 use Rattle.cg_disk.specs.declared.mem.Crash.TheVariants.{Keep, Lose}
 use Rattle.cg_line.specs.Numbers.{number_of}
 use Rattle.cg_sim.specs.Text.{◌>>=◌, cut_of, is_skipped, session_of}
@@ -60,9 +61,10 @@ word_line_of word rest =
     if bytes_eq word (codes "at") then option_map At (number_of NUMBER_MAX rest)
     else (if bytes_eq word (codes "tick") then option_map Tick (number_of NUMBER_MAX rest)
     else (if bytes_eq word (codes "gone") then option_map Gone (session_of rest)
-    else (if bytes_eq word (codes "fuse") then option_map Fuse (number_of NUMBER_MAX rest)
+    else (if bytes_eq word (codes "fuse") then option_map (λ calls. Fuse (EachAfter calls)) (number_of NUMBER_MAX rest)
+    else (if bytes_eq word (codes "once") then option_map (λ calls. Fuse (OnceAfter calls)) (number_of NUMBER_MAX rest)
     else (if bytes_eq word (codes "poke") then poke_line_of rest
-    else option_map (λ session. Ask session rest) (session_of word)))))
+    else option_map (λ session. Ask session rest) (session_of word))))))
 
 -- a line with a first word and a rest
 unfoldable pub worded_line_of : List ℕ → Option Line

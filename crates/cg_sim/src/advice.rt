@@ -114,7 +114,7 @@ impl fmt::Display for Problem {
             ),
             Problem::UnknownLine => write!(
                 f,
-                "a line is s<digits> REQUEST, at, tick, gone, take, append, settle, flush, compact, fuse, poke, stop keep, stop lose, load, reload or close"
+                "a line is s<digits> REQUEST, at, tick, gone, take, append, settle, flush, compact, fuse, once, poke, stop keep, stop lose, load, reload or close"
             ),
         }
     }
@@ -151,7 +151,7 @@ fn problem_after(word: &[u8], rest: &[u8]) -> Problem {
     if word == b"compact".as_slice() {
         return Problem::Compact;
     }
-    if [b"at".as_slice(), b"tick", b"fuse"]
+    if [b"at".as_slice(), b"tick", b"fuse", b"once"]
         .iter()
         .any(|own| *own == word)
     {

@@ -26,6 +26,8 @@ Script lines (blank lines and lines that begin with # are skipped):
   compact start, read, write, switch, abort
                               one step of it, or its end
   fuse K                      the disk passes K more calls, then fails each
+  once K                      the disk passes K more calls, then fails one; a write that
+                              it fails has reached the disk all the same
   poke S xBYTES               sector S holds these bytes, then zeros; on a loaded
                               disk only pokes may follow before stop, reload or close
   stop keep, stop lose        power loss; unsynced writes are kept or lost

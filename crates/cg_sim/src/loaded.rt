@@ -11,7 +11,7 @@ use crate::stage::Disk;
 use crate::stop::Stop;
 use crate::telling;
 use cg_desk::Outgoing;
-use cg_disk::MemDisk;
+use cg_disk::{Fuse, MemDisk};
 use cg_world::{Step, StepNote, World};
 use std::alloc::Global;
 
@@ -171,9 +171,9 @@ impl Loaded {
         }
     }
 
-    /// Sets how many more calls the disk passes before it fails each.
-    pub fn set_fuse(&mut self, calls: u64) {
-        self.world.set_fuse(Some(calls));
+    /// Sets which calls the disk fails from now on.
+    pub fn set_fuse(&mut self, fuse: Fuse) {
+        self.world.set_fuse(fuse);
     }
 
     /// Refuses every pending request. Returns the refusals, and the disk without its fuse.

@@ -19,7 +19,7 @@ use crate::stop::Stop;
 use crate::telling;
 use crate::unloaded::Unloaded;
 use cg_desk::Outgoing;
-use cg_disk::{Crash, FuseDisk, MemDisk};
+use cg_disk::{Crash, Fuse, FuseDisk, MemDisk};
 use cg_world::Step;
 use std::alloc::Global;
 
@@ -104,11 +104,11 @@ impl Stage {
         }
     }
 
-    /// Sets how many more calls the disk passes before it fails each.
-    pub fn set_fuse(&mut self, calls: u64) {
+    /// Sets which calls the disk fails from now on.
+    pub fn set_fuse(&mut self, fuse: Fuse) {
         match self {
-            Stage::Unloaded(unloaded) => unloaded.set_fuse(calls),
-            Stage::Loaded(loaded) => loaded.set_fuse(calls),
+            Stage::Unloaded(unloaded) => unloaded.set_fuse(fuse),
+            Stage::Loaded(loaded) => loaded.set_fuse(fuse),
             Stage::Poked(_) => {}
         }
     }

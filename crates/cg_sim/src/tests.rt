@@ -81,13 +81,14 @@ fn has_all_acknowledged(alloc: Global, output: &str) -> Result<bool, AllocError>
 // FETCH, for each k until a run has no fault. Returns whether that run came, and no run lost an acknowledged offset.
 fn no_offset_is_missing(
     alloc: Global,
+    fuse: &str,
     before: &str,
     behind: &str,
     stop: &str,
 ) -> Result<bool, AllocError> {
     for calls in 0..64 {
         let text = format!(in alloc;
-            "{before}fuse {calls}\n{behind}flush\nstop {stop}\nload\ns1 FETCH g t:0\n"
+            "{before}{fuse} {calls}\n{behind}flush\nstop {stop}\nload\ns1 FETCH g t:0\n"
         )?;
         let output = output(alloc, text.as_str())?;
         if !has_all_acknowledged(alloc, output.as_str())? {
@@ -105,11 +106,13 @@ fn a_stop_after_each_call(rt: HostRuntime) -> Result<(), Fail> {
     let commit = "s1 COMMIT g -1 - - t:0:42:x\n";
     let three = "s1 COMMIT g -1 - - t:0:42:x\nflush\ns1 COMMIT g -1 - - t:0:43:x\n\
                  s2 COMMIT g -1 - - t:0:44:x\ns3 COMMIT g -1 - - t:0:45:x\n";
-    for stop in ["keep", "lose"] {
-        assert!(rt; no_offset_is_missing(rt.alloc(), "", commit, stop)?);
-        assert!(rt; no_offset_is_missing(rt.alloc(), commit, "", stop)?);
-        assert!(rt; no_offset_is_missing(rt.alloc(), three, "", stop)?);
-        assert!(rt; no_offset_is_missing(rt.alloc(), commit, "take\nappend\nsettle\n", stop)?);
+    let steps = "take\nappend\nsettle\n";
+    for fuse in ["fuse", "once"] {
+        for stop in ["keep", "lose"] {
+            for (before, behind) in [("", commit), (commit, ""), (three, ""), (commit, steps)] {
+                assert!(rt; no_offset_is_missing(rt.alloc(), fuse, before, behind, stop)?);
+            }
+        }
     }
     Ok(())
 }

@@ -1,7 +1,7 @@
 //! A disk from which nothing is loaded.
 ghost use Rattle.std.specs.Prelude.{◌≡◌, ◌<◌, ◌∷◌, [], IfErr, OnOk, is_err};
 ghost use Rattle.cg_disk.specs.Disk.{Counts};
-ghost use Rattle.cg_disk.specs.Fuse.{calls_left, inner_of};
+ghost use Rattle.cg_disk.specs.Fuse.{fuse_of, inner_of};
 ghost use Rattle.cg_disk.specs.Mem.{mem_failures};
 ghost use Rattle.cg_sim.specs.Disk.{moment_of, sectors_of};
 ghost use Rattle.cg_sim.specs.Poking.{IsPoked, sector_of};
@@ -13,7 +13,7 @@ use crate::stage::{Disk, Stage};
 use crate::stop::Stop;
 use crate::telling;
 use cg_desk::{Desk, ReplyToken};
-use cg_disk::{FuseDisk, MemDisk, SectorDisk};
+use cg_disk::{Fuse, FuseDisk, MemDisk, SectorDisk};
 use cg_names::{Code, Moment};
 use cg_world::World;
 use std::alloc::Global;
@@ -32,7 +32,7 @@ impl Unloaded {
         ensures { inner_of (unloaded_disk result) ≡ disk }
     {
         let mut disk = FuseDisk::new(disk, 0);
-        disk.set(None);
+        disk.set(Fuse::Intact);
         match Desk::loading(alloc) {
             Ok(desk) => Unloaded { desk, disk },
             Err(_) => unreachable!(),
@@ -76,9 +76,9 @@ impl Unloaded {
         Ok(())
     }
 
-    /// Sets how many more calls the disk passes before it fails each.
-    pub fn set_fuse(&mut self, calls: u64) {
-        self.disk.set(Some(calls));
+    /// Sets which calls the disk fails from now on.
+    pub fn set_fuse(&mut self, fuse: Fuse) {
+        self.disk.set(fuse);
     }
 
     /// Returns the number of sectors of the disk.
@@ -92,16 +92,16 @@ impl Unloaded {
     pub fn poke(self, poke: &Poke) -> (Self, Result<(), Stop>)
         requires { sector_of poke.now < sectors_of (unloaded_disk self) }
         ensures put { OnOk result.1 (IsPoked (poke.now ∷ []) (moment_of (inner_of (unloaded_disk self))).content (moment_of (inner_of (unloaded_disk result.0)))) }
-        ensures fuse { calls_left (unloaded_disk result.0) ≡ calls_left (unloaded_disk self) }
+        ensures fuse { fuse_of (unloaded_disk result.0) ≡ fuse_of (unloaded_disk self) }
         ensures cause { Counts (mem_failures (inner_of (unloaded_disk self))) (mem_failures (inner_of (unloaded_disk result.0))) (is_err result.1) }
         ensures err { IfErr result.1 (λ stop. stop ≡ Stop.Device) }
     {
         let Unloaded { desk, disk } = self;
-        let calls = disk.calls_left();
+        let fuse = disk.fuse();
         let mut disk = disk.into_inner();
         let put = poke.put(&mut disk);
         let mut disk = FuseDisk::new(disk, 0);
-        disk.set(calls);
+        disk.set(fuse);
         let unloaded = Unloaded { desk, disk };
         match put {
             Ok(()) => (unloaded, Ok(())),

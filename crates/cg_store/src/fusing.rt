@@ -1,17 +1,17 @@
 //! Fault injection below a store.
 ghost use Rattle.std.specs.Prelude.{◌≡◌, ℕ};
-ghost use Rattle.cg_disk.specs.Fuse.{blown_calls, calls_left, inner_of};
+ghost use Rattle.cg_disk.specs.Fuse.{blown_calls, fuse_of, inner_of};
 ghost use Rattle.cg_fold.specs.Durable.{State};
 
 use crate::store::Store;
-use cg_disk::{FuseDisk, SectorDisk};
+use cg_disk::{Fuse, FuseDisk, SectorDisk};
 
 impl<D: SectorDisk> Store<FuseDisk<D>> {
     ghost use Rattle.cg_store.specs.Store.{StandsAt, disk_of, front_of, has_failed, phase_of, room_of, sectors_of};
 
-    /// Sets how many more calls the disk passes before it fails each; `None` passes every call. Nothing else changes.
-    pub fn set_fuse(&mut self, calls: Option<u64>)
-        ensures fuse { calls_left (disk_of self.new) ≡ calls }
+    /// Sets which calls the disk fails from now on. Nothing else changes.
+    pub fn set_fuse(&mut self, fuse: Fuse)
+        ensures fuse { fuse_of (disk_of self.new) ≡ fuse }
         ensures disk { inner_of (disk_of self.new) ≡ inner_of (disk_of self.old) }
         ensures blown { blown_calls (disk_of self.new) ≡ blown_calls (disk_of self.old) }
         ensures room { room_of self.new ≡ room_of self.old }
@@ -22,6 +22,6 @@ impl<D: SectorDisk> Store<FuseDisk<D>> {
         ensures stands { (n : ℕ) (state : State) → StandsAt (⟦<FuseDisk<D> as SectorDisk>⟧.is_honest) (⟦<FuseDisk<D> as SectorDisk>⟧.history) self.old n state
             → StandsAt (⟦<FuseDisk<D> as SectorDisk>⟧.is_honest) (⟦<FuseDisk<D> as SectorDisk>⟧.history) self.new n state }
     {
-        self.log.set_fuse(calls);
+        self.log.set_fuse(fuse);
     }
 }

@@ -3,7 +3,7 @@ ghost use Rattle.std.specs.Prelude.{◌≡◌, ◌≤◌, IfOk, length};
 ghost use Rattle.cg_disk.specs.Mem.{mem_size};
 
 use super::*;
-use cg_disk::{Crash, FuseDisk, MemDisk, SectorDisk};
+use cg_disk::{Crash, Fuse, FuseDisk, MemDisk, SectorDisk};
 use cg_gate::{FIRST_SEGMENT_SECTOR, SEGMENT_SECTORS};
 use cg_names::{Name, Topic};
 use cg_record::{
@@ -54,7 +54,7 @@ fn batch(alloc: Global, first: u64) -> Result<Batch, Fail> {
 // Returns the number of commands after a crash, where the disk failed with this many calls of an append of two.
 fn left_after(rt: &impl Abort, alloc: Global, calls: u64, kind: Crash) -> Result<u64, Fail> {
     let mut store = opened(alloc, FuseDisk::new(formatted(alloc)?, u64::MAX))?;
-    store.set_fuse(Some(calls));
+    store.set_fuse(Fuse::EachAfter(calls));
     if let Err((fault, back)) = store.append(batch(alloc, 1)?) {
         let again = store.append(back).err().map(|(fault, _)| fault);
         assert_eq!(rt;
@@ -443,7 +443,7 @@ impl Stopped {
 fn stop_after(alloc: Global, calls: u64, kind: Crash) -> Result<Stopped, Fail> {
     let disk = FuseDisk::new(disk_of(alloc, 10_244)?, u64::MAX);
     let mut store = opened(alloc, disk)?;
-    store.set_fuse(Some(calls));
+    store.set_fuse(Fuse::EachAfter(calls));
     let failed = first_failure(alloc, &mut store)?;
     let appended = store.front();
     let disk = store.into_disk().into_inner().crash(kind);
