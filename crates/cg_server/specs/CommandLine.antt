@@ -5,10 +5,11 @@ use Rattle.clap.specs.Walk.{first_of}
 use Rattle.clap.specs.Words.{App, Kinds, Row, Rule, Text, fault_of, matches_of, new_app, new_rule, one_of, with_rule}
 use Rattle.clap.specs.declared.builder.action.ArgAction.TheVariants as action
 use Rattle.clap.specs.declared.builder.value_parser.ValueParser.TheVariants as parser
+use Rattle.cg_gate.specs.declared.layout.TheConstants.{SEGMENTS_MAX}
 use Rattle.cg_server.specs.Address.{port_of}
 use Rattle.cg_server.specs.declared.address.TheConstants.{PORT_DEFAULT}
 use Rattle.cg_server.specs.declared.command_line.Arguments.{Arguments}
-use Rattle.cg_server.specs.declared.command_line.TheConstants.{COMPACT_FREE_DEFAULT, COMPACT_FREE_MAX, CONNECTIONS_MAX, SEGMENTS_DEFAULT, SEGMENTS_MAX, TICK_MS_DEFAULT, TICK_MS_MAX, TICK_MS_MIN}
+use Rattle.cg_server.specs.declared.command_line.TheConstants.{COMPACT_FREE_DEFAULT, COMPACT_FREE_MAX, CONNECTIONS_MAX, SEGMENTS_DEFAULT, TICK_MS_DEFAULT, TICK_MS_MAX, TICK_MS_MIN}
 
 -- an option with a text
 abbrev pub text_rule : Text → Rule

@@ -6,15 +6,13 @@ ghost use Rattle.cg_server.specs.Refusing.{RefusesBy};
 
 use crate::address::{PORT_DEFAULT, port_of};
 use crate::options::Options;
+use cg_gate::SEGMENTS_MAX;
 use clap::{Arg, ArgAction, ArgMatches, Command, Error, value_parser};
 use std::alloc::{AllocError, Global};
 use std::convert::AsStr;
 
 /// Number of segments of a new disk without `--segments`.
 pub const SEGMENTS_DEFAULT: u64 = 8;
-
-/// Greatest number of segments of a disk.
-pub const SEGMENTS_MAX: u64 = 200;
 
 /// Milliseconds between ticks without `--tick-ms`.
 pub const TICK_MS_DEFAULT: u64 = 500;
@@ -29,7 +27,7 @@ pub const TICK_MS_MAX: u64 = 60_000;
 pub const COMPACT_FREE_DEFAULT: u64 = 4;
 
 /// Greatest number for `--compact-free`.
-pub const COMPACT_FREE_MAX: u64 = 199;
+pub const COMPACT_FREE_MAX: u64 = SEGMENTS_MAX - 1;
 
 /// Greatest number of connections to serve.
 pub const CONNECTIONS_MAX: u64 = 4_294_967_295;

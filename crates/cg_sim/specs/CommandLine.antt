@@ -4,7 +4,8 @@ use Rattle.std.specs.Io.KnownBytes.{Appends}
 use Rattle.std.specs.Str.Parse.{IsNumeral, digits_value, without_leading_plus}
 use Rattle.clap.specs.Words.{App, Kinds, Rule, Text, fault_of, matches_of, new_app, new_rule, one_of, with_rule}
 use Rattle.clap.specs.declared.builder.value_parser.ValueParser.TheVariants as parser
-use Rattle.cg_sim.specs.declared.command_line.TheConstants.{SEGMENTS_DEFAULT, SEGMENTS_MAX}
+use Rattle.cg_gate.specs.declared.layout.TheConstants.{SEGMENTS_MAX}
+use Rattle.cg_sim.specs.declared.command_line.TheConstants.{SEGMENTS_DEFAULT}
 use Rattle.cg_sim.specs.declared.script.TheConstants.{STATUS_IO, STATUS_SHORT}
 use Rattle.cg_sim.specs.declared.stop.Stop.TheVariants as stop
 use Rattle.cg_sim.specs.Telling.{stop_text}

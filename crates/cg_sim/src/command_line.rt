@@ -3,15 +3,13 @@ ghost use Rattle.std.specs.Prelude.{◌≡◌, false, map, codes, IfOk};
 ghost use Rattle.clap.specs.Words.{FailsBy, app_of, found_of, one_text, rule_of};
 ghost use Rattle.cg_sim.specs.CommandLine.{AsksFor, WordsAskFor, faults_of, segments_rule, sim_app};
 
+use cg_gate::SEGMENTS_MAX;
 use clap::{Arg, ArgMatches, Command, Error, value_parser};
 use std::alloc::{AllocError, Global};
 use std::convert::AsStr;
 
 /// Number of segments of the disk without `--segments`.
 pub const SEGMENTS_DEFAULT: u64 = 8;
-
-/// Greatest number of segments of the disk.
-pub const SEGMENTS_MAX: u64 = 200;
 
 /// What help says of script lines.
 const SCRIPT_HELP: &str = "\

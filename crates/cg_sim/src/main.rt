@@ -26,7 +26,7 @@ mod text;
 mod unloaded;
 
 pub use command::command;
-pub use command_line::{SEGMENTS_DEFAULT, SEGMENTS_MAX};
+pub use command_line::SEGMENTS_DEFAULT;
 pub use script::{STATUS_BAD_LINE, STATUS_DONE, STATUS_IO, STATUS_SHORT, STATUS_USAGE, script};
 use std::env;
 use std::io::{self, BufReader, ErrorKind, Write};
