@@ -1,6 +1,7 @@
 //! What other threads hand to a worker, and what wakes it.
 use mio::{Events, Poll, Registry, Token, Waker};
 use std::alloc::Global;
+use std::collections::VecDeque;
 use std::io;
 use std::net::{Net, TcpStream};
 use std::sync::atomic::{AtomicBool, Ordering};
@@ -48,7 +49,7 @@ impl Watch {
 /// The streams that a worker has still to serve, and what wakes it while it waits.
 #[derive(Drop)]
 pub struct Inbox {
-    streams: Mutex<Vec<TcpStream>>,
+    streams: Mutex<VecDeque<TcpStream>>,
     // What the worker waits with, until it begins.
     watch: Mutex<Option<Watch>>,
     waker: Waker,
@@ -64,7 +65,7 @@ impl Inbox {
         let watch = Watch::new(rt, alloc)?;
         let waker = Waker::new(watch.registry(), WOKEN)?;
         Ok(Inbox {
-            streams: Mutex::new(Vec::new(alloc)),
+            streams: Mutex::new(VecDeque::new(alloc)),
             watch: Mutex::new(Some(watch)),
             waker,
             is_asleep: AtomicBool::new(false),
@@ -79,17 +80,13 @@ impl Inbox {
 
     /// Hands a stream to the worker. If an allocation fails, the stream is closed.
     pub fn put<R: Wait>(&self, rt: &R, stream: TcpStream) {
-        let _ = self.streams.lock(rt).push(stream);
+        let _ = self.streams.lock(rt).push_back(stream);
         self.wake();
     }
 
     /// Takes the first stream that is still to be served.
     pub fn take<R: Wait>(&self, rt: &R) -> Option<TcpStream> {
-        let mut streams = self.streams.lock(rt);
-        if streams.is_empty() {
-            return None;
-        }
-        Some(streams.remove(0))
+        self.streams.lock(rt).pop_front()
     }
 
     /// Returns whether no stream is still to be served.
