@@ -14,7 +14,6 @@ use std::collections::VecDeque;
 pub fn spell(
     alloc: Global,
     text: &mut Option<Commands>,
-    room: &mut Vec<u8>,
     command: &Command,
 ) -> Result<bool, AllocError>
     requires { FitsFrame text.old }
@@ -25,10 +24,10 @@ pub fn spell(
     ensures err { OnErr result (spelled text.new ≡ spelled text.old) }
 {
     match text {
-        Some(text) => text.push_if_fits(room, command),
+        Some(text) => text.push_if_fits(command),
         None => {
             let mut begun = Commands::new(alloc, &[])?;
-            let is_put = begun.push_if_fits(room, command)?;
+            let is_put = begun.push_if_fits(command)?;
             *text = Some(begun);
             Ok(is_put)
         }
@@ -40,7 +39,6 @@ pub fn spell(
 pub fn spell_front(
     alloc: Global,
     text: &mut Option<Commands>,
-    room: &mut Vec<u8>,
     front: &mut VecDeque<Command>,
 ) -> Result<(), AllocError>
     requires { FitsFrame text.old }
@@ -50,7 +48,7 @@ pub fn spell_front(
     ensures first { OnOk result (spelled text.new ≡ [] → front.new.items ≡ []) }
 {
     while let Some(next) = front.front() {
-        let is_put = spell(alloc, text, room, next)?;
+        let is_put = spell(alloc, text, next)?;
         if !is_put {
             break;
         }

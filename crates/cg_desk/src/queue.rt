@@ -21,8 +21,6 @@ use std::mem;
 pub struct Queue {
     alloc: Global,
     pub text: Option<Commands>,
-    // Scratch buffer in which a command is encoded.
-    room: Vec<u8>,
     pub front: VecDeque<Command>,
     pub lists: VecDeque<Few<Command>>,
     ghost fits: { FitsFrame text },
@@ -63,7 +61,6 @@ impl Queue {
         Queue {
             alloc,
             text: None,
-            room: Vec::new(alloc),
             front: VecDeque::new(alloc),
             lists: VecDeque::new(alloc),
         }
@@ -89,7 +86,7 @@ impl Queue {
             return false;
         }
         match commands.as_slice() {
-            [command] => match spell(self.alloc, &mut self.text, &mut self.room, command) {
+            [command] => match spell(self.alloc, &mut self.text, command) {
                 Ok(is_put) => is_put,
                 Err(_) => false,
             },
@@ -132,7 +129,7 @@ impl Queue {
         ensures first { OnOk result (spelled self.new.text ≡ [] → self.new.front.items ≡ []) }
     {
         self.gather()?;
-        spell_front(self.alloc, &mut self.text, &mut self.room, &mut self.front)
+        spell_front(self.alloc, &mut self.text, &mut self.front)
     }
 
     /// Removes the longest prefix that fits one frame. Returns it and a copy of it, or `None` if nothing is queued. If

@@ -1,4 +1,5 @@
 pub mod Keys
+pub mod Kept
 pub mod Laws
 pub mod FieldLaws
 pub mod ManyLaws

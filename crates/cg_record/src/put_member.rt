@@ -1,6 +1,7 @@
 //! The encoder of members.
 
-ghost use Rattle.std.specs.Prelude.{◌≡◌, ◌≤◌, ◌++◌, length, OnOk, IfSome};
+ghost use Rattle.std.specs.Prelude.{◌≡◌, ◌≤◌, ◌++◌, length, OnErr, OnOk, IfSome};
+ghost use Rattle.std.specs.Io.{StartsWith};
 ghost use Rattle.std.specs.List.{flat_map, AllByRecursion};
 ghost use Rattle.cg_names.specs.Grammar.{IsName};
 ghost use Rattle.cg_record.specs.Lawful.{IsJoined};
@@ -16,6 +17,7 @@ use std::alloc::AllocError;
 
 fn put_instance(out: &mut Vec<u8>, instance: &Option<InstanceId>) -> Result<(), AllocError>
     ensures ok { OnOk result (out.new.items ≡ out.old.items ++ optional_text instance.now) }
+    ensures err { OnErr result (StartsWith out.new.items out.old.items) }
     ensures lawful { OnOk result (IfSome instance.now (IsName NAME_BYTES_MAX)) }
 {
     match instance {
@@ -25,12 +27,14 @@ fn put_instance(out: &mut Vec<u8>, instance: &Option<InstanceId>) -> Result<(), 
     Ok(())
 }
 
+#[tactic(auto, using(crate::proofs::Kept::front_kept))]
 fn put_opaque<const MAX: usize, const SORT: u8>(
     out: &mut Vec<u8>,
     opaque: &Opaque<MAX, SORT>,
 ) -> Result<(), AllocError>
     requires { MAX ≤ 4_096 }
     ensures ok { OnOk result (out.new.items ≡ out.old.items ++ bytes_text opaque.now) }
+    ensures err { OnErr result (StartsWith out.new.items out.old.items) }
     ensures lawful { length opaque.now ≤ MAX }
 {
     let bytes = opaque.as_bytes();
@@ -39,9 +43,10 @@ fn put_opaque<const MAX: usize, const SORT: u8>(
     Ok(())
 }
 
-#[tactic(auto, unfolding(crate::specs::Members::profile_text))]
+#[tactic(auto, using(crate::proofs::Kept::front_kept), unfolding(crate::specs::Members::profile_text))]
 fn put_profile(out: &mut Vec<u8>, member: &Member) -> Result<(), AllocError>
     ensures ok { OnOk result (out.new.items ≡ out.old.items ++ profile_text (profile_of member.now)) }
+    ensures err { OnErr result (StartsWith out.new.items out.old.items) }
     ensures lawful { OnOk result (IsProfile (profile_of member.now)) }
 {
     put_short_name(out, &member.client)?;
@@ -53,9 +58,10 @@ fn put_profile(out: &mut Vec<u8>, member: &Member) -> Result<(), AllocError>
 }
 
 /// Appends the encoding of a member. If an allocation fails, a part of it may have been appended.
-#[tactic(auto, unfolding(crate::specs::Members::member_text))]
+#[tactic(auto, using(crate::proofs::Kept::front_kept), unfolding(crate::specs::Members::member_text))]
 pub fn put_member(out: &mut Vec<u8>, member: &Member) -> Result<(), AllocError>
     ensures ok { OnOk result (out.new.items ≡ out.old.items ++ member_text member.now) }
+    ensures err { OnErr result (StartsWith out.new.items out.old.items) }
     ensures lawful { OnOk result (IsMember member.now) }
 {
     put_name(out, &member.id)?;
@@ -64,8 +70,10 @@ pub fn put_member(out: &mut Vec<u8>, member: &Member) -> Result<(), AllocError>
     Ok(())
 }
 
+#[tactic(auto, using(crate::proofs::Kept::front_kept))]
 fn put_members(out: &mut Vec<u8>, members: &[Member]) -> Result<(), AllocError>
     ensures ok { OnOk result (out.new.items ≡ out.old.items ++ flat_map member_text members.now) }
+    ensures err { OnErr result (StartsWith out.new.items out.old.items) }
     ensures lawful { OnOk result (AllByRecursion IsMember members.now) }
 {
     for member in members {
@@ -75,9 +83,10 @@ fn put_members(out: &mut Vec<u8>, members: &[Member]) -> Result<(), AllocError>
 }
 
 /// Appends the encoding of a roster. If an allocation fails, a part of it may have been appended.
-#[tactic(auto, unfolding(crate::specs::Spelling::roster_text))]
+#[tactic(auto, using(crate::proofs::Kept::front_kept), unfolding(crate::specs::Spelling::roster_text))]
 pub fn put_roster(out: &mut Vec<u8>, roster: &Roster) -> Result<(), AllocError>
     ensures ok { OnOk result (out.new.items ≡ out.old.items ++ roster_text roster.now) }
+    ensures err { OnErr result (StartsWith out.new.items out.old.items) }
     ensures lawful { OnOk result (IsJoined roster.now) }
 {
     let members = roster.members();

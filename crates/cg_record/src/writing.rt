@@ -1,5 +1,6 @@
 //! The encoder of commands.
 ghost use Rattle.std.specs.Prelude.{◌≡◌, ◌<◌, ◌≤◌, ◌+◌, ◌++◌, Ok, length, sum_by, IfOk, OnOk, OnErr};
+ghost use Rattle.std.specs.Io.{StartsWith};
 ghost use Rattle.std.specs.List.{flat_map, AllByRecursion};
 ghost use Rattle.cg_names.specs.Grammar.{IsName};
 ghost use Rattle.cg_record.specs.Lawful.{IsEntry, IsAssigned, IsEmptied, IsReplaced, IsDeleted, IsCommitted, IsCommand, AreCommands};
@@ -25,22 +26,26 @@ use std::alloc::{AllocError, Global};
 /// Appends a big-endian number of four bytes.
 #[tactic(auto, unfolding(crate::specs::Texts::number))]
 pub fn put_four(out: &mut Vec<u8>, n: u32) -> Result<(), AllocError>
-    ensures { OnOk result (out.new.items ≡ out.old.items ++ four n) }
+    ensures ok { OnOk result (out.new.items ≡ out.old.items ++ four n) }
+    ensures err { OnErr result (StartsWith out.new.items out.old.items) }
 {
     out.extend_from_slice(&n.to_be_bytes())
 }
 
 #[tactic(auto, unfolding(crate::specs::Texts::number))]
 fn put_eight(out: &mut Vec<u8>, n: u64) -> Result<(), AllocError>
-    ensures { OnOk result (out.new.items ≡ out.old.items ++ eight n) }
+    ensures ok { OnOk result (out.new.items ≡ out.old.items ++ eight n) }
+    ensures err { OnErr result (StartsWith out.new.items out.old.items) }
 {
     out.extend_from_slice(&n.to_be_bytes())
 }
 
 // Appends the bytes of a name, with their length byte.
+#[tactic(auto, using(crate::proofs::Kept::front_kept))]
 fn put_bytes_of_name(out: &mut Vec<u8>, bytes: &[u8]) -> Result<(), AllocError>
     requires { length bytes.now < 256 }
-    ensures { OnOk result (out.new.items ≡ out.old.items ++ name_text bytes.now) }
+    ensures ok { OnOk result (out.new.items ≡ out.old.items ++ name_text bytes.now) }
+    ensures err { OnErr result (StartsWith out.new.items out.old.items) }
 {
     out.push(bytes.len() as u8)?;
     out.extend_from_slice(bytes)?;
@@ -55,6 +60,7 @@ pub fn put_name<const MAX: usize, const SORT: u8>(
 ) -> Result<(), AllocError>
     requires { MAX < 256 }
     ensures ok { OnOk result (out.new.items ≡ out.old.items ++ name_text name.now) }
+    ensures err { OnErr result (StartsWith out.new.items out.old.items) }
     ensures lawful { IsName MAX name.now }
 {
     put_bytes_of_name(out, name.as_bytes())?;
@@ -68,14 +74,17 @@ pub fn put_short_name<const SORT: u8>(
     name: &ShortName<SORT>,
 ) -> Result<(), AllocError>
     ensures ok { OnOk result (out.new.items ≡ out.old.items ++ name_text name.now) }
+    ensures err { OnErr result (StartsWith out.new.items out.old.items) }
     ensures lawful { IsName NAME_BYTES_MAX name.now }
 {
     put_bytes_of_name(out, name.as_bytes())?;
     Ok(())
 }
 
+#[tactic(auto, using(crate::proofs::Kept::front_kept))]
 fn put_metadata(out: &mut Vec<u8>, metadata: &Metadata) -> Result<(), AllocError>
     ensures ok { OnOk result (out.new.items ≡ out.old.items ++ bytes_text metadata.now) }
+    ensures err { OnErr result (StartsWith out.new.items out.old.items) }
     ensures lawful { length metadata.now ≤ METADATA_BYTES_MAX }
 {
     let bytes = metadata.as_bytes();
@@ -84,9 +93,10 @@ fn put_metadata(out: &mut Vec<u8>, metadata: &Metadata) -> Result<(), AllocError
     Ok(())
 }
 
-#[tactic(auto, unfolding(crate::specs::Spelling::entry_text))]
+#[tactic(auto, using(crate::proofs::Kept::front_kept), unfolding(crate::specs::Spelling::entry_text))]
 fn put_entry(out: &mut Vec<u8>, entry: &Entry) -> Result<(), AllocError>
     ensures ok { OnOk result (out.new.items ≡ out.old.items ++ entry_text entry.now) }
+    ensures err { OnErr result (StartsWith out.new.items out.old.items) }
     ensures lawful { OnOk result (IsEntry entry.now) }
 {
     let metadata = &entry.metadata;
@@ -97,8 +107,10 @@ fn put_entry(out: &mut Vec<u8>, entry: &Entry) -> Result<(), AllocError>
     Ok(())
 }
 
+#[tactic(auto, using(crate::proofs::Kept::front_kept))]
 fn put_entries(out: &mut Vec<u8>, entries: &[Entry]) -> Result<(), AllocError>
     ensures ok { OnOk result (out.new.items ≡ out.old.items ++ flat_map entry_text entries.now) }
+    ensures err { OnErr result (StartsWith out.new.items out.old.items) }
     ensures lawful { OnOk result (AllByRecursion IsEntry entries.now) }
 {
     for entry in entries {
@@ -107,9 +119,10 @@ fn put_entries(out: &mut Vec<u8>, entries: &[Entry]) -> Result<(), AllocError>
     Ok(())
 }
 
-#[tactic(auto, unfolding(crate::specs::Spelling::committed_text))]
+#[tactic(auto, using(crate::proofs::Kept::front_kept), unfolding(crate::specs::Spelling::committed_text))]
 fn put_committed(out: &mut Vec<u8>, committed: &Committed) -> Result<(), AllocError>
     ensures ok { OnOk result (out.new.items ≡ out.old.items ++ committed_text committed.now) }
+    ensures err { OnErr result (StartsWith out.new.items out.old.items) }
     ensures lawful { OnOk result (IsCommitted committed.now) }
 {
     put_name(out, &committed.group)?;
@@ -118,9 +131,10 @@ fn put_committed(out: &mut Vec<u8>, committed: &Committed) -> Result<(), AllocEr
     Ok(())
 }
 
-#[tactic(auto, unfolding(crate::specs::Spelling::assigned_text))]
+#[tactic(auto, using(crate::proofs::Kept::front_kept), unfolding(crate::specs::Spelling::assigned_text))]
 fn put_assigned(out: &mut Vec<u8>, assigned: &Assigned) -> Result<(), AllocError>
     ensures ok { OnOk result (out.new.items ≡ out.old.items ++ assigned_text assigned.now) }
+    ensures err { OnErr result (StartsWith out.new.items out.old.items) }
     ensures lawful { OnOk result (IsAssigned assigned.now) }
 {
     put_name(out, &assigned.group)?;
@@ -130,9 +144,10 @@ fn put_assigned(out: &mut Vec<u8>, assigned: &Assigned) -> Result<(), AllocError
     Ok(())
 }
 
-#[tactic(auto, unfolding(crate::specs::Spelling::replaced_text))]
+#[tactic(auto, using(crate::proofs::Kept::front_kept), unfolding(crate::specs::Spelling::replaced_text))]
 fn put_replaced(out: &mut Vec<u8>, replaced: &Replaced) -> Result<(), AllocError>
     ensures ok { OnOk result (out.new.items ≡ out.old.items ++ replaced_text replaced.now) }
+    ensures err { OnErr result (StartsWith out.new.items out.old.items) }
     ensures lawful { OnOk result (IsReplaced replaced.now) }
 {
     let member = replaced.member.member();
@@ -141,9 +156,10 @@ fn put_replaced(out: &mut Vec<u8>, replaced: &Replaced) -> Result<(), AllocError
     Ok(())
 }
 
-#[tactic(auto, unfolding(crate::specs::Spelling::emptied_text))]
+#[tactic(auto, using(crate::proofs::Kept::front_kept), unfolding(crate::specs::Spelling::emptied_text))]
 fn put_emptied(out: &mut Vec<u8>, emptied: &Emptied) -> Result<(), AllocError>
     ensures ok { OnOk result (out.new.items ≡ out.old.items ++ emptied_text emptied.now) }
+    ensures err { OnErr result (StartsWith out.new.items out.old.items) }
     ensures lawful { OnOk result (IsEmptied emptied.now) }
 {
     put_name(out, &emptied.group)?;
@@ -155,15 +171,17 @@ fn put_emptied(out: &mut Vec<u8>, emptied: &Emptied) -> Result<(), AllocError>
 #[tactic(auto, unfolding(crate::specs::Spelling::deleted_text))]
 fn put_deleted(out: &mut Vec<u8>, deleted: &Deleted) -> Result<(), AllocError>
     ensures ok { OnOk result (out.new.items ≡ out.old.items ++ deleted_text deleted.now) }
+    ensures err { OnErr result (StartsWith out.new.items out.old.items) }
     ensures lawful { OnOk result (IsDeleted deleted.now) }
 {
     put_name(out, &deleted.group)?;
     Ok(())
 }
 
-#[tactic(auto, unfolding(crate::specs::Spelling::command_text))]
+#[tactic(auto, using(crate::proofs::Kept::front_kept), unfolding(crate::specs::Spelling::command_text))]
 fn put_command(out: &mut Vec<u8>, command: &Command) -> Result<(), AllocError>
     ensures ok { OnOk result (out.new.items ≡ out.old.items ++ command_text command.now) }
+    ensures err { OnErr result (StartsWith out.new.items out.old.items) }
     ensures lawful { OnOk result (IsCommand command.now) }
 {
     match command {
@@ -191,21 +209,22 @@ fn put_command(out: &mut Vec<u8>, command: &Command) -> Result<(), AllocError>
     Ok(())
 }
 
-/// Appends the encoding of a command, `size` bytes. The command is encoded in `room` first, whose contents are
-/// overwritten. If an allocation fails, `text` is unchanged.
-pub fn append_command(
-    text: &mut Vec<u8>,
-    room: &mut Vec<u8>,
-    command: &Command,
-) -> Result<(), AllocError>
-    ensures ok { OnOk result (text.new.items ≡ text.old.items ++ command_text command.now) }
+/// Appends the encoding of a command, `size` bytes, for which room is reserved first. If an allocation fails, nothing is
+/// appended.
+pub fn append_command(out: &mut Vec<u8>, command: &Command) -> Result<(), AllocError>
+    ensures ok { OnOk result (out.new.items ≡ out.old.items ++ command_text command.now) }
     ensures lawful { OnOk result (IsCommand command.now) }
-    ensures err { OnErr result (text.new.items ≡ text.old.items) }
+    ensures err { OnErr result (out.new.items ≡ out.old.items) }
 {
-    room.clear();
-    put_command(room, command)?;
-    text.extend_from_slice(room.as_slice())?;
-    Ok(())
+    let before = out.len();
+    out.reserve(size(command) as usize)?;
+    match put_command(out, command) {
+        Ok(()) => Ok(()),
+        Err(error) => {
+            out.truncate(before);
+            Err(error)
+        }
+    }
 }
 
 // Only a capacity: it saves allocations while `write` appends, and no contract depends on it.

@@ -43,7 +43,7 @@ fn spelling_of(bytes: &[u8]) -> &[u8]
 }
 
 // Appends the encoding of a command to a payload.
-fn put_text(bytes: &mut Vec<u8>, room: &mut Vec<u8>, command: &Command) -> Result<(), AllocError>
+fn put_text(bytes: &mut Vec<u8>, command: &Command) -> Result<(), AllocError>
     requires { IsText bytes.old.items }
     ensures text { OnOk result (IsText bytes.new.items) }
     ensures told { OnOk result (told bytes.new.items ≡ told bytes.old.items ++ command.now ∷ []) }
@@ -52,7 +52,7 @@ fn put_text(bytes: &mut Vec<u8>, room: &mut Vec<u8>, command: &Command) -> Resul
 {
     // The call only brings the contract of `spelling_of` into scope.
     let _text = spelling_of(bytes.as_slice());
-    append_command(bytes, room, command)?;
+    append_command(bytes, command)?;
     Ok(())
 }
 
@@ -77,24 +77,19 @@ impl Commands {
         Ok(Commands { len, bytes })
     }
 
-    /// Appends a command. It is encoded in `room` first, whose contents are overwritten. If an allocation fails, the
-    /// commands are unchanged.
-    pub fn push(&mut self, room: &mut Vec<u8>, command: &Command) -> Result<(), AllocError>
+    /// Appends a command. If an allocation fails, the commands are unchanged.
+    pub fn push(&mut self, command: &Command) -> Result<(), AllocError>
         ensures ok { OnOk result (self.new ≡ self.old ++ command.now ∷ []) }
         ensures err { OnErr result (self.new ≡ self.old) }
     {
-        put_text(&mut self.bytes, room, command)?;
+        put_text(&mut self.bytes, command)?;
         self.len += 1;
         Ok(())
     }
 
-    /// Appends a command if one frame holds all of them; one command fits alone. Returns whether it did. It is encoded
-    /// in `room` first, whose contents are overwritten. If an allocation fails, the commands are unchanged.
-    pub fn push_if_fits(
-        &mut self,
-        room: &mut Vec<u8>,
-        command: &Command,
-    ) -> Result<bool, AllocError>
+    /// Appends a command if one frame holds all of them; one command fits alone. Returns whether it did. If an
+    /// allocation fails, the commands are unchanged.
+    pub fn push_if_fits(&mut self, command: &Command) -> Result<bool, AllocError>
         ensures put { IfOk result (λ is_put. self.new ≡ self.old ++ (if is_put then command.now ∷ [] else [])) }
         ensures fits { length (spelling self.old) ≤ LARGEST_PAYLOAD_BYTES → length (spelling self.new) ≤ LARGEST_PAYLOAD_BYTES }
         ensures full { IfOk result (λ is_put. is_put ≡ false → LARGEST_PAYLOAD_BYTES < length (spelling self.old) + length (command_text command.now)) }
@@ -105,7 +100,7 @@ impl Commands {
         if used.saturating_add(size(command)) > LARGEST_PAYLOAD_BYTES {
             return Ok(false);
         }
-        self.push(room, command)?;
+        self.push(command)?;
         Ok(true)
     }
 

@@ -24,11 +24,7 @@ fn look_ahead(ahead: &mut Option<Command>, snapshot: &mut Snapshot) -> Result<()
 }
 
 // Appends the command ahead to the payload. Returns `false` if there is none, or it does not fit.
-fn put_ahead(
-    text: &mut Commands,
-    room: &mut Vec<u8>,
-    ahead: &Option<Command>,
-) -> Result<bool, AllocError>
+fn put_ahead(text: &mut Commands, ahead: &Option<Command>) -> Result<bool, AllocError>
     ensures put { IfOk result (λ is. is ≡ true → text.new ≡ text.old ++ option_to_list ahead.now) }
     ensures same { IfOk result (λ is. is ≡ false → text.new ≡ text.old) }
     ensures fits { length (spelling text.old) ≤ LARGEST_PAYLOAD_BYTES → length (spelling text.new) ≤ LARGEST_PAYLOAD_BYTES }
@@ -38,7 +34,7 @@ fn put_ahead(
 {
     match ahead {
         Some(command) => {
-            let is_put = text.push_if_fits(room, command)?;
+            let is_put = text.push_if_fits(command)?;
             Ok(is_put)
         }
         None => Ok(false),
@@ -48,7 +44,6 @@ fn put_ahead(
 // Moves the next command to the payload. Returns `false` if there is none, or it does not fit: then it is the one ahead.
 fn move_one(
     text: &mut Commands,
-    room: &mut Vec<u8>,
     ahead: &mut Option<Command>,
     snapshot: &mut Snapshot,
 ) -> Result<bool, AllocError>
@@ -59,7 +54,7 @@ fn move_one(
     ensures some { IfOk result (λ is. is ≡ false → text.new ≡ [] → option_to_list ahead.new ++ snapshot.new ≡ []) }
 {
     look_ahead(ahead, snapshot)?;
-    let is_put = put_ahead(text, room, ahead)?;
+    let is_put = put_ahead(text, ahead)?;
     if is_put {
         *ahead = None;
     }
@@ -69,7 +64,6 @@ fn move_one(
 // Moves commands to the payload until the next does not fit, which is the one ahead then.
 fn fill(
     text: &mut Commands,
-    room: &mut Vec<u8>,
     ahead: &mut Option<Command>,
     snapshot: &mut Snapshot,
 ) -> Result<(), AllocError>
@@ -79,7 +73,7 @@ fn fill(
     ensures full { OnOk result (IsFull text.new (option_to_list ahead.new ++ snapshot.new)) }
     ensures some { OnOk result (text.new ≡ [] → option_to_list ahead.new ++ snapshot.new ≡ []) }
 {
-    while move_one(text, room, ahead, snapshot)? {}
+    while move_one(text, ahead, snapshot)? {}
     Ok(())
 }
 
@@ -89,8 +83,6 @@ pub(crate) struct SnapshotFrames {
     snapshot: Snapshot,
     // The command that did not fit the last frame.
     ahead: Option<Command>,
-    // Room in which a command is encoded before it joins a payload.
-    room: Vec<u8>,
 }
 
 impl Model for SnapshotFrames {
@@ -112,7 +104,6 @@ impl SnapshotFrames {
         Ok(SnapshotFrames {
             snapshot,
             ahead: None,
-            room: Vec::new(alloc),
         })
     }
 
@@ -123,7 +114,7 @@ impl SnapshotFrames {
         ensures none { IfOk result (λ is. is ≡ false → (self.old ≡ []) × (self.new ≡ [])) }
     {
         text.clear();
-        fill(text, &mut self.room, &mut self.ahead, &mut self.snapshot)?;
+        fill(text, &mut self.ahead, &mut self.snapshot)?;
         Ok(text.len() > 0)
     }
 }

@@ -4,7 +4,7 @@ use Rattle.cg_store.specs.Texts.{IsText, told}
 use Rattle.cg_store.proofs.Longer.{IsLonger, longer}
 use Rattle.cg_store.proofs.commands.put_text.Goals as goal
 
-new_text : (c : goal.In_ok-append_command) → c.append_command.new.text.items ≡ c.args.bytes.now.items ++ command_text c.args.command.now
+new_text : (c : goal.In_ok-append_command) → c.append_command.new.out.items ≡ c.args.bytes.now.items ++ command_text c.args.command.now
 new_text c = search rules
 
 is_longer : (c : goal.In_ok-append_command) → IsLonger c.args.bytes.now.items c.args.command.now
@@ -21,5 +21,5 @@ returns-clause-told c = ap told (new_text c) ∙ (is_longer c).commands
 
 pub returns-clause-few : goal.returns-clause-few
 returns-clause-few c =
-    let fit : length c.append_command.new.text.items < 2 ^ 63 = search rules in
+    let fit : length c.append_command.new.out.items < 2 ^ 63 = search rules in
     omega (arith, fit, (is_longer c).few, ap length (ap told (new_text c)), ap length (new_text c))
