@@ -7,7 +7,7 @@ use Rattle.cg_held.specs.Held.{Machine}
 use Rattle.cg_names.specs.declared.code.Code.TheVariants.{CoordinatorLoadInProgress, CoordinatorNotAvailable}
 use Rattle.cg_store.specs.declared.batch.Batch.{Batch}
 use Rattle.cg_desk.specs.Books.{Books, Served, IsInFlight, IsReason, IsTake, failing, is_short, returning, served, settling}
-use Rattle.cg_desk.specs.Flights.{Idle, is_away}
+use Rattle.cg_desk.specs.Flights.{Idle, is_away, is_returned}
 use Rattle.cg_desk.specs.Outgoings.{answer}
 use Rattle.cg_desk.specs.Serving.{books}
 use Rattle.cg_desk.specs.Tokens.{call_of}
@@ -85,6 +85,12 @@ abbrev pub is_out : State → Bool
 is_out Loading = false
 is_out (Failed n s) = false
 is_out (Serving b) = is_away b.course
+
+-- a batch was given back
+abbrev pub is_back : State → Bool
+is_back Loading = false
+is_back (Failed n s) = false
+is_back (Serving b) = is_returned b.course
 
 -- this batch is in flight
 abbrev pub IsOut : State → Batch → Type 0

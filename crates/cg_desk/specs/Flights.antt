@@ -14,7 +14,7 @@ pub data Course : Type 0 where
 abbrev pub course_of : Flight → Course
 course_of flight.Idle = Idle
 course_of (flight.Away commands) = Away commands
-course_of (flight.Returned batch) = Returned batch.commands
+course_of (flight.Returned returned) = Returned returned.batch.commands
 
 -- the commands of a batch that is not settled
 abbrev pub unsettled : Course → List Command
@@ -26,7 +26,7 @@ unsettled (Returned commands) = commands
 abbrev pub first_of : Flight → ℕ → ℕ
 first_of flight.Idle next = next
 first_of (flight.Away commands) next = next
-first_of (flight.Returned batch) next = batch.first
+first_of (flight.Returned returned) next = returned.batch.first
 
 -- a batch is in flight
 abbrev pub is_away : Course → Bool

@@ -1,12 +1,12 @@
 //! Taking, giving back and settling batches.
-ghost use Rattle.std.specs.Prelude.{◌≡◌, ◌≢◌, ◌<◌, ◌+◌, ◌^◌, ◌↔◌, ℕ, ⊤, [], true, false, length, take, drop, IfOk, IfErr, OnOk, OnErr, IsTrue, MatchOption, MatchResult};
+ghost use Rattle.std.specs.Prelude.{◌≡◌, ◌≢◌, ◌<◌, ◌+◌, ◌^◌, ◌↔◌, ℕ, ⊤, [], true, false, length, take, drop, IfNone, IfOk, IfErr, IfSome, OnOk, OnErr, OnSome, IsTrue, MatchOption, MatchResult};
 ghost use Rattle.cg_desk.specs.Flights.{Away, Returned, course_of, first_of, is_away, is_returned};
 ghost use Rattle.cg_desk.specs.Fronts.{in_frame};
 ghost use Rattle.cg_desk.specs.Books.{IsFlying, IsWhy};
 ghost use Rattle.cg_desk.specs.Queues.{commands_of};
 
 use crate::fault::{SettleFault, TakeFault};
-use crate::flight::Flight;
+use crate::flight::{Flight, ReturnedBatch};
 use crate::held::HeldStep;
 use crate::outgoing::Outgoing;
 use crate::permit::Permit;
@@ -16,8 +16,8 @@ use cg_store::{Batch, Commands, Receipt};
 use std::alloc::AllocError;
 use std::mem;
 
-// Removes the longest prefix of the queue that fits one frame. Returns it as a batch, and a copy that recognises the
-// batch when it comes back. If an allocation fails, the queue is unchanged.
+// Removes the longest prefix of the queue that fits one frame. Returns it as a batch, and what shares its commands, to
+// recognise it when it comes back. If an allocation fails, the queue is unchanged.
 fn take_front(queue: &mut Queue, settled: u64) -> Result<Option<(Batch, Commands)>, AllocError>
     requires { settled + length (commands_of queue.old) < 2 ^ 64 }
     ensures none { IfOk result (λ o. MatchOption o (commands_of queue.old ≡ []) (λ t. ⊤)) }
@@ -59,31 +59,37 @@ fn check(flight: &Flight, settled: u64, batch: &Batch) -> Result<(), SettleFault
     }
 }
 
-// Returns a copy of the commands of the batch that was given back, if there is one.
-fn returned_commands(flight: &Flight) -> Result<Option<Commands>, AllocError>
-    ensures { IfOk result (λ o. MatchOption o
-        (is_returned (course_of flight.now) ≡ false)
-        (λ commands. course_of flight.now ≡ Returned commands)) }
+// Returns the batch that was given back, if there is one, and puts it in flight again.
+fn leave_again(flight: &mut Flight) -> Option<Batch>
+    ensures none { IfNone result ((is_returned (course_of flight.old) ≡ false) × (flight.new ≡ flight.old)) }
+    ensures batch { IfSome result (λ batch. course_of flight.old ≡ Returned batch.commands) }
+    ensures first { IfSome result (λ batch. (next : ℕ) → first_of flight.old next ≡ batch.first) }
+    ensures flight { IfSome result (λ batch. course_of flight.new ≡ Away batch.commands) }
+    ensures idle { OnSome result ((next : ℕ) → first_of flight.new next ≡ next) }
 {
-    match flight {
-        Flight::Returned(batch) => {
-            let commands = batch.commands.clone()?;
-            Ok(Some(commands))
+    match mem::replace(flight, Flight::Idle) {
+        Flight::Returned(returned) => {
+            let ReturnedBatch { batch, commands } = returned;
+            *flight = Flight::Away(commands);
+            Some(batch)
         }
-        _ => Ok(None),
+        other => {
+            *flight = other;
+            None
+        }
     }
 }
 
-// Returns the batch that was given back, and puts it in flight again.
-fn leave_again(flight: &mut Flight, commands: Commands) -> Batch
-    requires { course_of flight.old ≡ Returned commands }
-    ensures batch { result.commands ≡ commands }
-    ensures first { (next : ℕ) → first_of flight.old next ≡ result.first }
-    ensures flight { course_of flight.new ≡ Away commands }
-    ensures idle { (next : ℕ) → first_of flight.new next ≡ next }
+// Puts back the batch in flight, with what shares its commands.
+fn come_back(flight: &mut Flight, batch: Batch)
+    requires { course_of flight.old ≡ Away batch.commands }
+    ensures flight { course_of flight.new ≡ Returned batch.commands }
+    ensures first { (next : ℕ) → first_of flight.new next ≡ batch.first }
 {
-    match mem::replace(flight, Flight::Away(commands)) {
-        Flight::Returned(batch) => batch,
+    match mem::replace(flight, Flight::Idle) {
+        Flight::Away(commands) => {
+            *flight = Flight::Returned(ReturnedBatch { batch, commands });
+        }
         _ => unreachable!(),
     }
 }
@@ -97,9 +103,10 @@ impl Serving {
         requires { is_away (books self.old).course ≡ false }
         ensures ok { IfOk result (λ o. IsTake (books self.old) o (books self.new)) }
         ensures err { OnErr result (books self.new ≡ books self.old) }
+        ensures returned { OnErr result (is_returned (books self.old).course ≡ false) }
     {
-        if let Some(commands) = returned_commands(&self.flight)? {
-            return Ok(Some(leave_again(&mut self.flight, commands)));
+        if let Some(batch) = leave_again(&mut self.flight) {
+            return Ok(Some(batch));
         }
         // Reads the number because the prover takes its range from the type.
         let _numbered = self.numbered;
@@ -114,10 +121,12 @@ impl Serving {
     }
 
     /// Returns the next batch: the one that was given back, or the longest prefix of the queue that fits one frame.
-    /// Returns `None` if no command is queued. Linear in the bytes of the batch.
+    /// Returns `None` if no command is queued. Linear in the bytes of the commands that are not yet encoded; only a new
+    /// batch may need an allocation.
     pub fn take_batch(&mut self) -> Result<Option<Batch>, TakeFault>
         ensures ok { IfOk result (λ o. IsTake (books self.old) o (books self.new)) }
         ensures in_flight { is_away (books self.old).course ≡ true → result ≡ Err TakeFault.InFlight }
+        ensures returned { OnErr result (is_returned (books self.old).course ≡ false) }
         ensures err { OnErr result (books self.new ≡ books self.old) }
         ensures memory { is_away (books self.old).course ≡ false → IfErr result (λ fault. fault ≡ TakeFault.Memory) }
     {
@@ -139,7 +148,7 @@ impl Serving {
         match check(&self.flight, self.settled, &batch) {
             Err(fault) => Err((fault, batch)),
             Ok(()) => {
-                self.flight = Flight::Returned(batch);
+                come_back(&mut self.flight, batch);
                 Ok(())
             }
         }

@@ -10,15 +10,16 @@ use cg_frame::LARGEST_PAYLOAD_BYTES;
 use cg_record::{Command, append_command, size};
 use std::alloc::{AllocError, Global};
 use std::marker::Model;
+use std::sync::Arc;
 
 /// Commands in their order, stored as the payload of a frame. Contracts see the commands, as each list of them has
-/// exactly one encoding.
+/// exactly one encoding. A clone shares the payload; what changes a shared one copies it first.
 #[derive(Debug, Drop)]
 pub struct Commands {
     len: usize,
-    bytes: Vec<u8>,
-    ghost whole: { IsText bytes.items },
-    ghost counted: { len ≡ length (told bytes.items) },
+    bytes: Arc<Vec<u8>>,
+    ghost whole: { IsText bytes.value.items },
+    ghost counted: { len ≡ length (told bytes.value.items) },
 }
 
 impl Model for Commands {
@@ -28,7 +29,7 @@ impl Model for Commands {
 
     ghost Value = { List Command };
 
-    ghost view = { λ c. told c.bytes.items };
+    ghost view = { λ c. told c.bytes.value.items };
 }
 
 // States in its contract that bytes which decode are the only encoding of their commands.
@@ -56,6 +57,19 @@ fn put_text(bytes: &mut Vec<u8>, command: &Command) -> Result<(), AllocError>
     Ok(())
 }
 
+// Appends the encoding of a command to a payload, which is copied first if it is shared.
+fn put_shared(bytes: &mut Arc<Vec<u8>>, command: &Command) -> Result<(), AllocError>
+    requires { IsText bytes.old.value.items }
+    ensures text { OnOk result (IsText bytes.new.value.items) }
+    ensures told { OnOk result (told bytes.new.value.items ≡ told bytes.old.value.items ++ command.now ∷ []) }
+    ensures few { OnOk result (length (told bytes.new.value.items) < 2 ^ 64) }
+    ensures err { OnErr result (bytes.new.value.items ≡ bytes.old.value.items) }
+{
+    let own = Arc::make_mut(bytes)?;
+    put_text(own, command)?;
+    Ok(())
+}
+
 // Removes the commands of a payload: the version is left.
 fn keep_version(bytes: &mut Vec<u8>)
     requires { IsText bytes.old.items }
@@ -67,13 +81,26 @@ fn keep_version(bytes: &mut Vec<u8>)
     bytes.truncate(1);
 }
 
+// Removes the commands of a payload, which is copied first if it is shared.
+fn clear_shared(bytes: &mut Arc<Vec<u8>>) -> Result<(), AllocError>
+    requires { IsText bytes.old.value.items }
+    ensures text { OnOk result (IsText bytes.new.value.items) }
+    ensures told { OnOk result (told bytes.new.value.items ≡ []) }
+    ensures err { OnErr result (bytes.new.value.items ≡ bytes.old.value.items) }
+{
+    let own = Arc::make_mut(bytes)?;
+    keep_version(own);
+    Ok(())
+}
+
 impl Commands {
     /// Encodes these commands, in one allocation of the size of the payload.
     pub fn new(alloc: Global, commands: &[Command]) -> Result<Self, AllocError>
         ensures { IfOk result (λ made. made ≡ commands.now) }
     {
         let len = commands.len();
-        let bytes = cg_record::write(alloc, commands)?;
+        let payload = cg_record::write(alloc, commands)?;
+        let bytes = Arc::new(alloc, payload)?;
         Ok(Commands { len, bytes })
     }
 
@@ -82,7 +109,7 @@ impl Commands {
         ensures ok { OnOk result (self.new ≡ self.old ++ command.now ∷ []) }
         ensures err { OnErr result (self.new ≡ self.old) }
     {
-        put_text(&mut self.bytes, command)?;
+        put_shared(&mut self.bytes, command)?;
         self.len += 1;
         Ok(())
     }
@@ -104,12 +131,14 @@ impl Commands {
         Ok(true)
     }
 
-    /// Removes all commands. The memory stays for the next ones.
-    pub(crate) fn clear(&mut self)
-        ensures { self.new ≡ [] }
+    /// Removes all commands. The memory stays for the next ones. If an allocation fails, the commands are unchanged.
+    pub(crate) fn clear(&mut self) -> Result<(), AllocError>
+        ensures ok { OnOk result (self.new ≡ []) }
+        ensures err { OnErr result (self.new ≡ self.old) }
     {
-        keep_version(&mut self.bytes);
+        clear_shared(&mut self.bytes)?;
         self.len = 0;
+        Ok(())
     }
 
     /// Returns the number of commands, in constant time.

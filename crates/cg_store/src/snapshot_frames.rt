@@ -113,7 +113,7 @@ impl SnapshotFrames {
         ensures next { IfOk result (λ is. is ≡ true → IsNextFrame text.new self.old self.new) }
         ensures none { IfOk result (λ is. is ≡ false → (self.old ≡ []) × (self.new ≡ [])) }
     {
-        text.clear();
+        text.clear()?;
         fill(text, &mut self.ahead, &mut self.snapshot)?;
         Ok(text.len() > 0)
     }

@@ -1,6 +1,6 @@
 use Rattle.std.proofs.Common.{◌≡◌, ◌+◌, [], sym, ap, ◌∙◌, rules}
 use Rattle.cg_desk.specs.Books.{next_batch}
-use Rattle.cg_desk.specs.Flights.{Course, Idle, Away, Returned, course_of}
+use Rattle.cg_desk.specs.Flights.{Course, Idle, Away, course_of}
 use Rattle.cg_desk.specs.Queues.{commands_of}
 use Rattle.cg_desk.specs.Serving.{books}
 use Rattle.cg_desk.proofs.Taken.{idle, taken_again, taken_new}
@@ -8,10 +8,10 @@ use Rattle.cg_desk.proofs.serving.Serving.take_next.Goals as goal
 
 pub returns-in-Some-clause-ok : goal.returns-in-Some-clause-ok
 returns-in-Some-clause-ok c =
-    let is : course_of c.args.self.now.flight ≡ Returned c.in-Some.commands = search rules in (
-      sym (c.leave_again.ensures.first (c.args.self.now.settled + 1)) ∙ c.args.self.now.first,
-      c.leave_again.ensures.batch ∙ ap (λ (k : Course). next_batch k (commands_of c.args.self.now.queue)) (sym is),
-      taken_again (books c.args.self.now) c.in-Some.commands (course_of c.leave_again.new.flight) is c.leave_again.ensures.flight,
+    let is = c.in-Some.ensures.batch in (
+      sym (c.in-Some.ensures.first (c.args.self.now.settled + 1)) ∙ c.args.self.now.first,
+      ap (λ (k : Course). next_batch k (commands_of c.args.self.now.queue)) (sym is),
+      taken_again (books c.args.self.now) c.in-Some.batch.commands (course_of c.leave_again.new.flight) is c.in-Some.ensures.flight,
     )
 
 pub returns-in-Some-2-clause-ok : goal.returns-in-Some-2-clause-ok

@@ -5,4 +5,4 @@ use Rattle.cg_store.proofs.Lengths.{no_command}
 use Rattle.cg_store.proofs.snapshot_frames.SnapshotFrames.next.Goals as goal
 
 pub fill-requires : goal.fill-requires
-fill-requires c = omega (arith, no_command, ap (λ (cs : List Command). length (spelling cs)) c.clear.ensures)
+fill-requires c = omega (arith, no_command, ap (λ (cs : List Command). length (spelling cs)) c.in_ok-clear.ensures.ok)
