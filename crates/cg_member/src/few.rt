@@ -1,5 +1,5 @@
 //! A list that stores a single value without an allocation.
-ghost use Rattle.std.specs.Prelude.{◌≡◌, [], ◌∷◌, ◌++◌, length, OnOk, OnErr};
+ghost use Rattle.std.specs.Prelude.{◌≡◌, ◌≤◌, [], ◌∷◌, ◌++◌, length, OnOk, OnErr};
 ghost use Rattle.cg_member.specs.Few.{AreFirst, items_of};
 
 use std::alloc::{AllocError, Global};
@@ -78,6 +78,7 @@ impl<T: Drop> Few<T> {
     pub fn push(&mut self, value: T) -> Result<(), AllocError>
         ensures ok { OnOk result (self.new ≡ self.old ++ value ∷ []) }
         ensures err { OnErr result (self.new ≡ self.old) }
+        ensures err_later { OnErr result (1 ≤ length self.old) }
     {
         if self.len() == 0 {
             self.items = Items::One([value]);
