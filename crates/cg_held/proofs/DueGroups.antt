@@ -1,7 +1,8 @@
 -- What a tick comes to in the groups that are due, one after another.
 use Rattle.std.proofs.Common.{◌≡◌, ℕ, false, List, [], ◌∷◌, ◌++◌, is_some, Some, None, refl, sym, ap, ◌∙◌, subst}
 use Rattle.std.proofs.lemmas.List.{map-append}
-use Rattle.std.specs.List.{flat_map}
+use Rattle.std.proofs.lemmas.Bool.{or_parts}
+use Rattle.std.specs.List.{flat_map, list_any}
 use Rattle.std.specs.Cmp.Lexicographic.{slice_cmp}
 use Rattle.std.specs.Ordering.{nat_cmp}
 use Rattle.std.specs.declared.cmp.Ordering.TheVariants.{Less}
@@ -148,6 +149,13 @@ HaveCarried now groups after front = HaveStepped (ticked now) groups after (due_
 each-middle : {X : Type 0} (P : X → Type 0) (front : List X) (x : X) (rest : List X) → Each P (front ++ x ∷ rest) → P x
 each-middle P [] x rest h = h.0
 each-middle P (y ∷ ys) x rest h = each-middle P ys x rest h.1
+
+-- where a tick changes no group, none is due
+pub untouched : (now : ℕ) (ids : List (List ℕ)) (groups : List Group) → list_any (tick_touches now) groups ≡ false → Each (λ (g : Group). is_one_of ids g.id ≡ false → ticked now g ≡ turn_of g) groups
+untouched now ids [] calm = tt
+untouched now ids (g ∷ gs) calm =
+    let parts = or_parts (tick_touches now g) (list_any (tick_touches now) gs) calm in
+    (λ _. calm_ticked now g parts.0, untouched now ids gs parts.1)
 
 -- a group that is changed as its plan says has its step
 pub due_stepped : (now : ℕ) (groups after : List Group) (due : Due) → IsDue now groups due → ((g : Group) → find_group due.id groups ≡ Some g → after ≡ with_group (carried now due.plan g) groups) → (g : Group) → find_group due.id groups ≡ Some g → after ≡ with_group (ticked now g).group groups

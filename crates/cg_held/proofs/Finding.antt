@@ -1,6 +1,8 @@
 -- Which group has an id after one is inserted, replaced or removed.
-use Rattle.std.proofs.Common.{◌≡◌, ℕ, true, false, cond, List, [], ◌∷◌, Some, None, refl, sym, ap, ◌∙◌}
-use Rattle.std.specs.Prelude.{if◌then◌else◌}
+use Rattle.std.proofs.Common.{◌≡◌, ℕ, Bool, true, false, cond, List, [], ◌∷◌, find, Some, None, refl, sym, ap, ◌∙◌}
+use Rattle.std.specs.Prelude.{◌||◌, if◌then◌else◌}
+use Rattle.std.specs.List.{list_any}
+use Rattle.std.proofs.lemmas.Bool.{or_left, or_right}
 use Rattle.std.proofs.lemmas.Cmp.{nat_list_eq_equiv}
 use Rattle.std.specs.Cmp.Lexicographic.{slice_cmp}
 use Rattle.std.specs.Ordering.{nat_cmp, match_ordering}
@@ -45,3 +47,16 @@ find-without id x (g ∷ gs) d =
       | true ↦ λ e. sym (ap (λ b. cond b (Some g) (find_group x gs)) (ap (λ i. is_same i x) (same_names g.id id e) ∙ d))
       | false ↦ λ e. ap (λ o. cond (is_same g.id x) (Some g) o) (find-without id x gs d)
     ]) refl
+
+-- an element that is found passes a test, so some element does
+pub any_found : {X : Type 0} (p q : X → Bool) (xs : List X) (x : X) → find p xs ≡ Some x → q x ≡ true → list_any q xs ≡ true
+any_found p q [] x e h = cc
+any_found p q (y ∷ ys) x e h =
+    (elim (p y) as (λ b. cond b (Some y) (find p ys) ≡ Some x → (q y || list_any q ys) ≡ true) [
+      | true ↦ λ e. let same : y ≡ x = cc in or_left (q y) (list_any q ys) (ap q same ∙ h)
+      | false ↦ λ e. or_right (q y) (list_any q ys) (any_found p q ys x e h)
+    ]) e
+
+pub any_group : (q : Group → Bool) (id : List ℕ) (gs : List Group) (g : Group) → find_group id gs ≡ Some g → q g ≡ true → list_any q gs ≡ true
+unfolding find_group
+any_group q id gs g e h = any_found (λ x. is_same x.id id) q gs g e h

@@ -1,10 +1,12 @@
 -- The session index has no more than the parked calls.
-use Rattle.std.proofs.Common.{◌≡◌, ℕ, Bool, true, false, List, [], ◌∷◌, ◌++◌, inl, inr, Option, Some, None, refl, sym, ap, ◌∙◌, subst}
+use Rattle.std.proofs.Common.{◌≡◌, ℕ, Bool, true, false, cond, List, [], ◌∷◌, ◌++◌, inl, inr, Option, Some, None, refl, sym, ap, ◌∙◌, subst}
 use Rattle.std.specs.Prelude.{◌⊎◌, ◌||◌, ◌==◌, if◌then◌else◌, is_some, option_to_list}
 use Rattle.std.proofs.lemmas.Bool.{eqb-true, false≢true}
 use Rattle.std.specs.BTreeMap.{BTreeMap, get, is_at}
 use Rattle.std.specs.Map.{lookup}
+use Rattle.std.specs.Cmp.Lexicographic.{slice_cmp}
 use Rattle.std.specs.Ordering.{nat_cmp}
+use Rattle.std.proofs.lemmas.Map.Text.{is_eq-slice_cmp}
 use Rattle.std.specs.List.{list_any}
 use Rattle.cg_member.specs.declared.calls.Calls.TheVariants.{Any, OfSession}
 use Rattle.cg_member.specs.declared.group.Group.{Group}
@@ -17,8 +19,9 @@ use Rattle.cg_request.specs.declared.ticket.Ticket.{Ticket}
 use Rattle.cg_held.specs.declared.sessions.Home.{Home}
 use Rattle.cg_held.specs.Held.{find_group, with_group, without_group}
 use Rattle.cg_held.specs.Kept.{Each}
-use Rattle.cg_held.specs.Sessions.{IfParked, IsFilled, IsLetGo, IsSettled, IsTight, StayParked, is_certain, is_noted, is_parked, parked_calls}
-use Rattle.cg_held.proofs.Finding.{find-other, find-own, find-without}
+use Rattle.cg_held.specs.Sessions.{IfParked, IsFilled, IsLetGo, IsSettled, IsTight, StayParked, has_homes, is_certain, is_noted, is_parked, parked_calls}
+use Rattle.cg_turn.specs.Touching.{gone_touches}
+use Rattle.cg_held.proofs.Finding.{any_group, find-other, find-own, find-without}
 use Rattle.cg_held.proofs.InOrder.{found_named}
 use Rattle.cg_held.proofs.KeptLists.{same_names, same_self}
 use Rattle.cg_held.proofs.Mapped.{id-hearing}
@@ -100,6 +103,25 @@ tight_put g gs before after noted tight fewer gone q x here =
             | inr n ↦ absurd (false≢true (sym d ∙ ap (is_same g.id) n.1 ∙ same_self g.id))
           ]
     ]) refl
+
+-- a session that the index has has a parked call
+pub has_parked : (homes : BTreeMap ℕ (BTreeMap (List ℕ) Home)) (groups : List Group) (session : ℕ) → IsTight homes groups → has_homes homes session ≡ true → list_any (gone_touches session) groups ≡ true
+has_parked homes groups session tight known = go (get nat_cmp homes session) refl known (tight.1 session)
+  where
+    named : (id : List ℕ) (found : Option Group) → find_group id groups ≡ found → is_parked session found ≡ true → list_any (gone_touches session) groups ≡ true
+    named id None e h = absurd (false≢true h)
+    named id (Some g) e h = any_group (gone_touches session) id groups g e h
+
+    at_first : (ids : BTreeMap (List ℕ) Home) (es : List (List ℕ × Home)) → get nat_cmp homes session ≡ Some ids → ids.entries ≡ es → IsFilled (Some ids) → list_any (gone_touches session) groups ≡ true
+    at_first ids [] at e filled = absurd (filled e)
+    at_first ids (x ∷ es) at e filled =
+        let here : is_some (lookup (is_at (slice_cmp nat_cmp x.0)) (x ∷ es)) ≡ true = ap (λ b. is_some (cond b (Some x.1) (lookup (is_at (slice_cmp nat_cmp x.0)) es))) (is_eq-slice_cmp x.0 x.0 ∙ same_self x.0) in
+        let noted : is_noted x.0 (Some ids) ≡ true = ap (λ l. is_some (lookup (is_at (slice_cmp nat_cmp x.0)) l)) e ∙ here in
+        named x.0 (find_group x.0 groups) refl (tight.0 session x.0 (ap (is_noted x.0) at ∙ noted))
+
+    go : (o : Option (BTreeMap (List ℕ) Home)) → get nat_cmp homes session ≡ o → is_some o ≡ true → IsFilled o → list_any (gone_touches session) groups ≡ true
+    go None at known filled = absurd (false≢true known)
+    go (Some ids) at known filled = at_first ids ids.entries at refl filled
 
 -- the index of groups in which all parked calls stay
 pub tight_stay : (homes : BTreeMap ℕ (BTreeMap (List ℕ) Home)) (groups others : List Group) → StayParked groups others → IsTight homes groups → IsTight homes others

@@ -59,6 +59,10 @@ is_noted id (Some groups) = is_some (map.get (slice_cmp nat_cmp) groups id)
 abbrev pub is_home : BTreeMap ℕ (BTreeMap (List ℕ) Home) → ℕ → List ℕ → Bool
 is_home homes session id = is_noted id (map.get nat_cmp homes session)
 
+-- the index has the session
+abbrev pub has_homes : BTreeMap ℕ (BTreeMap (List ℕ) Home) → ℕ → Bool
+has_homes homes session = is_some (map.get nat_cmp homes session)
+
 -- the entry says that a call is parked
 abbrev pub is_lived_in : Option Home → Bool
 is_lived_in None = false

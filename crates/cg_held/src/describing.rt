@@ -1,5 +1,5 @@
 //! DESCRIBE (DescribeGroups request) and LIST (ListGroups request).
-ghost use Rattle.std.specs.Prelude.{◌≡◌, [], IfOk, map, if◌then◌else◌};
+ghost use Rattle.std.specs.Prelude.{◌≡◌, ◌≤◌, [], IfOk, OnErr, length, map, if◌then◌else◌};
 ghost use Rattle.cg_member.specs.Membership.{is_stable};
 ghost use Rattle.cg_held.specs.Describing.{shown_protocol, shown_member, description, listing};
 ghost use Rattle.cg_member.specs.Rebalance.{subscription_for};
@@ -118,9 +118,10 @@ fn listing(group: &Group) -> Result<Listing, AllocError>
     })
 }
 
-/// Returns the list of all loaded groups, by the bytes of their ids. Linear in the groups.
+/// Returns the list of all loaded groups, by the bytes of their ids. Linear in the groups. Allocates only if there is one.
 pub fn listings(alloc: Global, groups: &Held) -> Result<Listed<Listing>, AllocError>
-    ensures { IfOk result (λ ls. ls ≡ map listing groups.now) }
+    ensures ok { IfOk result (λ ls. ls ≡ map listing groups.now) }
+    ensures err { OnErr result (1 ≤ length groups.now) }
 {
     let mut list = Listed::new(alloc);
     for group in groups.iter() {

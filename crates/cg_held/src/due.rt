@@ -1,12 +1,14 @@
 //! Ticks: only the groups whose moment in the index of deadlines has come are visited, and what the tick comes to in each is
 //! worked out before the first one changes.
-ghost use Rattle.std.specs.Prelude.{◌≡◌, ℕ, List, ◌∷◌, [], ◌++◌, Some, false, IfOk, OnOk};
+ghost use Rattle.std.specs.Prelude.{◌≡◌, ℕ, List, ◌∷◌, [], ◌++◌, Some, true, false, IfOk, OnErr, OnOk};
+ghost use Rattle.std.specs.List.{list_any};
 ghost use Rattle.cg_held.specs.Changes.{is_one_of};
 ghost use Rattle.cg_held.specs.DueGroups.{AreDue, HavePlanned};
 ghost use Rattle.cg_held.specs.Held.{InOrder, effects_of, find_group};
 ghost use Rattle.cg_held.specs.Kept.{Ascending, ComeBefore, Each};
 ghost use Rattle.cg_member.specs.Rebalance.{turn_of};
 ghost use Rattle.cg_member.specs.Ticking.{ticked};
+ghost use Rattle.cg_turn.specs.Touching.{tick_touches};
 
 use crate::calling::parked_calls;
 use crate::held::Held;
@@ -61,6 +63,7 @@ fn plan_named(
     ensures same { held.new ≡ held.old }
     ensures planned { OnOk result ((ids : List (List ℕ)) → ComeBefore ids id → HavePlanned now held.old ids dues.old.items effects.old
         → HavePlanned now held.old (ids ++ id ∷ []) dues.new.items effects.new) }
+    ensures touched { OnErr result (list_any (tick_touches now) held.old ≡ true) }
 {
     let Some(group) = held.find(&id) else {
         return Ok(());
@@ -87,6 +90,7 @@ pub fn plan_due(
     ensures same { held.new ≡ held.old }
     ensures due { IfOk result (λ p. AreDue now held.old p.0.items) }
     ensures effects { IfOk result (λ p. p.1 ≡ effects_of (ticked now) held.old) }
+    ensures touched { OnErr result (list_any (tick_touches now) held.old ≡ true) }
 {
     let alloc = held.allocator();
     held.advance(now);

@@ -1,6 +1,7 @@
 //! The loaded groups, with an index of the moments at which ticks may change them.
-ghost use Rattle.std.specs.Prelude.{◌≡◌, ℕ, Err, MatchResult, ◌<◌, List, Some, None, [], length, false, slice_get, IfOk, OnErr, OnOk};
+ghost use Rattle.std.specs.Prelude.{◌≡◌, ℕ, Err, MatchResult, ◌<◌, List, Some, None, [], length, true, false, slice_get, IfOk, OnErr, OnOk};
 ghost use Rattle.std.specs.Map.Iter.{ShowsInOrder, deref};
+ghost use Rattle.std.specs.List.{list_any};
 ghost use Rattle.std.specs.Option.{option_copied};
 ghost use Rattle.cg_member.specs.declared.group.Group.{Group};
 ghost use Rattle.cg_held.specs.Changes.{ChangeKeepsId, KeepIds, effects_in, is_one_of};
@@ -10,6 +11,7 @@ ghost use Rattle.cg_held.specs.Timed.{AreTimed};
 ghost use Rattle.cg_member.specs.Membership.{hearing};
 ghost use Rattle.cg_names.specs.declared.code.Code.TheVariants.{UnknownMemberId};
 ghost use Rattle.cg_turn.specs.Beating.{IsBeat, IsBeatRefused};
+ghost use Rattle.cg_turn.specs.Touching.{tick_touches};
 ghost use Rattle.cg_member.specs.Rebalance.{turn_of};
 ghost use Rattle.cg_member.specs.Ticking.{ticked};
 ghost use Rattle.cg_member.specs.Waiting.{waiting_calls};
@@ -25,7 +27,7 @@ use cg_names::{Code, GroupId, MemberId, Moment};
 use cg_request::request::BeatRequest;
 use cg_request::ticket::Ticket;
 use cg_time::Deadlines;
-use cg_turn::touching::next_deadline;
+use cg_turn::touching::{next_deadline, tick_touches};
 use std::alloc::{AllocError, Global};
 use std::collections::btree_map::Values;
 use std::marker::Model;
@@ -145,6 +147,7 @@ impl Held {
         ensures ok { OnOk result (self.new ≡ with_group group self.old) }
         ensures before { IfOk result (λ o. o ≡ find_group group.id self.old) }
         ensures err { OnErr result (self.new ≡ self.old) }
+        ensures err_absent { OnErr result (find_group group.id self.old ≡ None) }
     {
         if self.find(&group.id).is_some() {
             let mut group = group;
@@ -251,13 +254,38 @@ impl Held {
         Ok(effects)
     }
 
-    /// Returns the ids of the groups that a tick at this moment may change, in their order. Costs a logarithm for each
-    /// of them, and constant time if there is none.
-    pub fn due(&self, now: Moment) -> Result<Vec<GroupId>, AllocError>
+    // Returns whether a tick at this moment changes a group. Linear in the members of all groups, no allocation.
+    fn is_touched(&self, now: Moment) -> bool
+        ensures { result ≡ list_any (tick_touches now) self.now }
+    {
+        self.iter().any(|g| tick_touches(now, g))
+    }
+
+    // Returns the ids of the groups whose moment in the index has come, in their order.
+    fn due_in_index(&self, now: Moment) -> Result<Vec<GroupId>, AllocError>
         ensures ascending { IfOk result (λ ids. Ascending ids.items) }
         ensures others { IfOk result (λ ids. Each (λ g. is_one_of ids.items g.id ≡ false → ticked now g ≡ turn_of g) self.now) }
     {
         self.deadlines.due(now)
+    }
+
+    /// Returns the ids of the groups that a tick at this moment may change, in their order. Costs a logarithm for each
+    /// of them, and constant time if there is none. Where an allocation fails, it visits all groups, and reports that only if
+    /// the tick changes one.
+    pub fn due(&self, now: Moment) -> Result<Vec<GroupId>, AllocError>
+        ensures ascending { IfOk result (λ ids. Ascending ids.items) }
+        ensures others { IfOk result (λ ids. Each (λ g. is_one_of ids.items g.id ≡ false → ticked now g ≡ turn_of g) self.now) }
+        ensures touched { OnErr result (list_any (tick_touches now) self.now ≡ true) }
+    {
+        match self.due_in_index(now) {
+            Ok(ids) => Ok(ids),
+            Err(wanting) => {
+                if self.is_touched(now) {
+                    return Err(wanting);
+                }
+                Ok(Vec::new(self.allocator()))
+            }
+        }
     }
 
     /// Notes that from now on members are heard at `now` or later, so that moments that are found out after this call are as

@@ -1,8 +1,8 @@
 //! Closed sessions: only the groups that the session index has for the session are visited, and they change in place.
-ghost use Rattle.std.specs.Prelude.{◌≡◌, ◌++◌, Some, None, false, IfOk, OnErr, OnOk};
+ghost use Rattle.std.specs.Prelude.{◌≡◌, ◌++◌, Some, None, true, false, IfOk, OnErr, OnOk};
 ghost use Rattle.cg_held.specs.Held.{InOrder, effects_of, find_group, groups_after};
 ghost use Rattle.cg_held.specs.Kept.{Each};
-ghost use Rattle.cg_held.specs.Sessions.{is_home, is_noted, refusals};
+ghost use Rattle.cg_held.specs.Sessions.{has_homes, is_home, is_noted, refusals};
 ghost use Rattle.cg_member.specs.declared.calls.Calls.TheVariants.{OfSession};
 ghost use Rattle.cg_member.specs.declared.group.Group.{Group};
 ghost use Rattle.cg_member.specs.Leaving.{gone_in};
@@ -96,7 +96,8 @@ fn answer_homes(held: &mut Held, ids: &BTreeMap<GroupId, Home>, session: u64, no
 }
 
 /// Ends the session in the groups that the index has for it, in place: its parked calls get 15, and their members count as heard.
-/// Costs four look-ups for each of these groups, and three passes over its members. If an allocation fails, nothing changes.
+/// Costs four look-ups for each of these groups, and three passes over its members. Allocates only if the index has the session;
+/// if an allocation fails, nothing changes.
 pub fn end_session(
     held: &mut Held,
     homes: &Homes,
@@ -107,6 +108,7 @@ pub fn end_session(
     ensures groups { OnOk result (held.new ≡ groups_after (gone_in now session) held.old) }
     ensures effects { IfOk result (λ e. e ≡ effects_of (gone_in now session) held.old) }
     ensures err { OnErr result (held.new ≡ held.old) }
+    ensures err_known { OnErr result (has_homes homes.now session ≡ true) }
 {
     let alloc = held.allocator();
     let Some(ids) = homes.get(&session) else {

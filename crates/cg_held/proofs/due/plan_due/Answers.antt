@@ -1,8 +1,10 @@
-use Rattle.std.proofs.Common.{◌≡◌, List, ◌++◌, ◌∷◌, [], ap, rules, length, sym, ◌∙◌, subst, arith}
+use Rattle.std.proofs.Common.{◌≡◌, true, List, ◌++◌, ◌∷◌, [], ap, rules, length, sym, ◌∙◌, subst, arith}
 use Rattle.std.proofs.lemmas.List.{nil_from_length}
+use Rattle.std.specs.List.{list_any}
 use Rattle.std.specs.Vec.Iter.{into_iter_items}
 use Rattle.cg_member.specs.declared.effects.Effects.{Effects}
 use Rattle.cg_member.specs.declared.group.Group.{Group}
+use Rattle.cg_turn.specs.Touching.{tick_touches}
 use Rattle.cg_held.specs.DueGroups.{HavePlanned}
 use Rattle.cg_held.specs.declared.due.Due.{Due}
 use Rattle.cg_held.proofs.DueGroups.{effects_all, planned_all, planned_none}
@@ -40,6 +42,12 @@ loop-id-preserved c =
 
 pub returns-in_err-plan_named-clause-same : goal.returns-in_err-plan_named-clause-same
 returns-in_err-plan_named-clause-same c = c.plan_named.ensures.same ∙ c.loop-id.invariant.same
+
+pub returns-in_err-plan_named-clause-touched : goal.returns-in_err-plan_named-clause-touched
+returns-in_err-plan_named-clause-touched c =
+    let P : List Group → Type 0 = λ gs. list_any (tick_touches c.args.now) gs ≡ true in
+    let some : P c.args.held.now = subst P c.loop-id.invariant.same c.in_err-plan_named.ensures.touched in
+    search rules
 
 pub returns-clause-same : goal.returns-clause-same
 returns-clause-same c = c.loop-id.invariant.same

@@ -1,23 +1,14 @@
-use Rattle.std.proofs.Common.{◌≡◌, ℕ, false, List, sym, subst}
-use Rattle.std.proofs.lemmas.Result.{IfOk-weaker}
-use Rattle.cg_time.specs.Entries.{due_keys}
-use Rattle.cg_member.specs.declared.group.Group.{Group}
-use Rattle.cg_member.specs.Rebalance.{turn_of}
-use Rattle.cg_member.specs.Ticking.{ticked}
-use Rattle.cg_held.specs.Changes.{is_one_of}
-use Rattle.cg_held.specs.Kept.{Each}
-use Rattle.cg_held.proofs.InOrder.{ascending_from_sorted}
-use Rattle.cg_held.proofs.Timed.{timed-calm}
+use Rattle.std.proofs.Common.{◌≡◌, ℕ, false, List, rules, sym, subst}
+use Rattle.std.specs.List.{list_any}
+use Rattle.cg_turn.specs.Touching.{tick_touches}
+use Rattle.cg_held.specs.Kept.{Ascending}
+use Rattle.cg_held.proofs.DueGroups.{untouched}
 use Rattle.cg_held.proofs.held.Held.due.Goals as goal
 
-pub returns-clause-ascending : goal.returns-clause-ascending
-returns-clause-ascending c = IfOk-weaker c.due.result _ _ (λ keys h. ascending_from_sorted keys.items h) c.due.ensures.ascending
+pub returns-else-is_touched-clause-ascending : goal.returns-else-is_touched-clause-ascending
+returns-else-is_touched-clause-ascending c = let P : List (List ℕ) → Type 0 = λ ids. Ascending ids in subst P (sym c.new.ensures.items) tt
 
-pub returns-clause-others : goal.returns-clause-others
-returns-clause-others c =
-    let now = c.args.now in
-    let O : List (List ℕ) → List Group → Type 0 = λ ids gs. Each (λ (g : Group). is_one_of ids g.id ≡ false → ticked now g ≡ turn_of g) gs in
-    let K : List (List ℕ) → Type 0 = λ ids. O ids c.args.self.now in
-    let G : List Group → Type 0 = λ gs. O (due_keys now c.self.inside.deadlines.entries) gs in
-    let calm = subst G c.self.view_is (timed-calm c.self.inside.since now c.self.inside.deadlines.entries c.self.inside.loaded c.self.invariant) in
-    IfOk-weaker c.due.result _ _ (λ keys h. subst K (sym h) calm) c.due.ensures.keys
+pub returns-else-is_touched-clause-others : goal.returns-else-is_touched-clause-others
+returns-else-is_touched-clause-others c =
+    let calm : list_any (tick_touches c.args.now) c.args.self.now ≡ false = search rules in
+    untouched c.args.now c.new.result.items c.args.self.now calm
