@@ -33,11 +33,12 @@ use Rattle.cg_member.specs.Syncing.{kept_member}
 use Rattle.cg_member.specs.Ticking.{ticked}
 use Rattle.cg_group.proofs.Earned.{replies_are_earned}
 use Rattle.cg_held.proofs.Framed.{each-append}
+use Rattle.cg_held.proofs.Finding.{any_found}
 use Rattle.cg_held.proofs.KeptLists.{same_self}
 use Rattle.cg_group.proofs.KeptMachine.{each-over}
 use Rattle.cg_group.proofs.Making.{makes-beat_taken, makes-gone_in, makes-join_known, makes-join_new, makes-leave_taken, makes-rejoined, makes-sync_taken, makes-ticked}
 use Rattle.cg_group.proofs.Requests.{Fine, fine-beat, fine-commit, fine-join, fine-leave, fine-sync}
-use Rattle.cg_group.proofs.Succeeding.{any_found, found_passes}
+use Rattle.cg_group.proofs.Succeeding.{found_passes}
 
 -- a command other than Replaced
 abbrev is_plain : Command → Bool

@@ -3,7 +3,7 @@ use Rattle.std.proofs.Common.{◌≡◌, ℕ, Bool, true, false, not, ◌&&◌, 
 use Rattle.std.specs.Prelude.{if◌then◌else◌}
 use Rattle.std.specs.List.{list_any}
 use Rattle.std.specs.Option.{option_map}
-use Rattle.std.proofs.lemmas.Bool.{and_from, or_from, or_left, or_parts, or_right}
+use Rattle.std.proofs.lemmas.Bool.{and_from, or_from, or_parts}
 use Rattle.std.proofs.lemmas.Cmp.{nat_list_eq_equiv}
 use Rattle.cg_record.specs.declared.member.Member.{Member as KeptMember}
 use Rattle.cg_record.specs.Rosters.{RosterParts, has_id_of_other, is_one_instance, leader_after, leads_and_goes as record_goes, may_replace, replaced_in, roster_of, seated as record_seated, takes_place_of}
@@ -20,8 +20,9 @@ use Rattle.cg_member.specs.Membership.{find_instance, find_member, has_instance,
 use Rattle.cg_member.specs.Replacing.{leads_and_goes, replacing, seated, seating, successor}
 use Rattle.cg_member.specs.Syncing.{kept_member}
 use Rattle.cg_member.proofs.Together.{fresh_from_find}
+use Rattle.cg_held.proofs.Finding.{any_found}
 
--- a found element passes the test, and so some element does
+-- a found element passes the test
 pub found_passes : (p : Member → Bool) (ms : List Member) (m : Member) → find p ms ≡ Some m → p m ≡ true
 found_passes p [] m e = cc
 found_passes p (x ∷ xs) m e =
@@ -29,14 +30,6 @@ found_passes p (x ∷ xs) m e =
       | true ↦ λ h e. let same : x ≡ m = cc in let Q : Member → Type 0 = λ y. p y ≡ true in subst Q same h
       | false ↦ λ h e. found_passes p xs m e
     ]) refl e
-
-pub any_found : (p q : Member → Bool) (ms : List Member) (m : Member) → find p ms ≡ Some m → q m ≡ true → list_any q ms ≡ true
-any_found p q [] m e h = cc
-any_found p q (x ∷ xs) m e h =
-    (elim (p x) as (λ b. cond b (Some x) (find p xs) ≡ Some m → (q x || list_any q xs) ≡ true) [
-      | true ↦ λ e. let same : x ≡ m = cc in or_left (q x) (list_any q xs) (ap q same ∙ h)
-      | false ↦ λ e. or_right (q x) (list_any q xs) (any_found p q xs m e h)
-    ]) e
 
 -- the command and the machine compare instances alike
 takes_same : (o : Option (List ℕ)) (m : Member) → is_one_instance m.instance o ≡ has_instance o m

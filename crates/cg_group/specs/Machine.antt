@@ -1,6 +1,7 @@
 -- The machine: the effect of an event on the loaded groups and the offsets. The moment of an event is its own or the
 -- last one, whichever is later.
-use Rattle.std.specs.Prelude.{not, ℕ, max, List, [], ◌∷◌, map, length, Option, Some, None, Result, Ok, Err, Bool, true, is_ok, is_some, option_map, ok_or}
+use Rattle.std.specs.Prelude.{◌≡◌, ◌≤◌, not, ℕ, max, List, [], ◌∷◌, map, length, Option, Some, None, Result, Ok, Err, true, is_ok, is_some, option_map, ok_or}
+use Rattle.std.specs.List.{list_any}
 use Rattle.cg_names.specs.declared.code.Code.{Code}
 use Rattle.cg_names.specs.declared.code.Code.TheVariants.{GroupIdNotFound, InvalidGroupId, InvalidSessionTimeout, NonEmptyGroup, UnknownMemberId}
 use Rattle.cg_record.specs.declared.command.Command.TheVariants as command
@@ -21,6 +22,7 @@ use Rattle.cg_member.specs.declared.turn.Turn.{Turn}
 use Rattle.cg_turn.specs.Admission.{join_held, join_unheld}
 use Rattle.cg_turn.specs.Beating.{beat_held}
 use Rattle.cg_turn.specs.Committing.{commit_held, commit_unheld}
+use Rattle.cg_turn.specs.Touching.{gone_touches, tick_touches}
 use Rattle.cg_held.specs.Describing.{description, listing}
 use Rattle.cg_member.specs.Fetching.{fetched}
 use Rattle.cg_held.specs.Held.{Machine, Outcome, find_group, with_group, without_group, everywhere}
@@ -133,19 +135,20 @@ met s (event.List ticket) = replying s ticket (reply.Groups (map listing s.group
 met s (Gone session) = everywhere (gone_in s.last session) s
 met s Tick = everywhere (ticked s.last) s
 
--- the event is not refused
-unfoldable pub is_taken : Machine → Event → Bool
-is_taken s (Join ticket r fresh) = is_ok (join s.last r fresh ticket s.groups)
-is_taken s (Sync ticket r) = is_ok (sync s.last r ticket s.groups)
-is_taken s (Beat ticket r) = is_ok (beat s.last r ticket s.groups)
-is_taken s (Leave ticket r) = is_ok (leave s.last r ticket s.groups)
-is_taken s (Commit ticket r) = is_ok (commit s.last r ticket s.groups)
-is_taken s (Fetch ticket r) = is_some r.group
-is_taken s (Delete ticket id) = is_ok (deleting id s.groups)
-is_taken s (Describe ticket id) = is_some id
-is_taken s (event.List ticket) = true
-is_taken s (Gone session) = true
-is_taken s Tick = true
+-- the event may need memory: a request only if it is not refused, and a BEAT never; a DESCRIBE and a LIST only if there is a
+-- group to show, the end of a session only if a call of it is parked, and a tick only if it changes a group
+unfoldable pub MayNeedMemory : Machine → Event → Type 0
+MayNeedMemory s (Join ticket r fresh) = is_ok (join s.last r fresh ticket s.groups) ≡ true
+MayNeedMemory s (Sync ticket r) = is_ok (sync s.last r ticket s.groups) ≡ true
+MayNeedMemory s (Beat ticket r) = ⊥
+MayNeedMemory s (Leave ticket r) = is_ok (leave s.last r ticket s.groups) ≡ true
+MayNeedMemory s (Commit ticket r) = is_ok (commit s.last r ticket s.groups) ≡ true
+MayNeedMemory s (Fetch ticket r) = is_some r.group ≡ true
+MayNeedMemory s (Delete ticket id) = is_ok (deleting id s.groups) ≡ true
+MayNeedMemory s (Describe ticket id) = is_ok (named_group id s.groups) ≡ true
+MayNeedMemory s (event.List ticket) = 1 ≤ length s.groups
+MayNeedMemory s (Gone session) = list_any (gone_touches session) s.groups ≡ true
+MayNeedMemory s Tick = list_any (tick_touches s.last) s.groups ≡ true
 
 -- the commands change the offsets
 abbrev pub with_offsets : Outcome → Outcome

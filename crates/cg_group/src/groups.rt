@@ -1,12 +1,12 @@
 //! The group machine: the loaded groups, and the step function.
-ghost use Rattle.std.specs.Prelude.{◌≡◌, true, IfOk, IfErr, OnErr, length, slice_get};
+ghost use Rattle.std.specs.Prelude.{◌≡◌, IfOk, IfErr, OnErr, length, slice_get};
 ghost use Rattle.std.specs.Map.Iter.{ShowsInOrder, deref};
 ghost use Rattle.cg_member.specs.declared.group.Group.{Group};
 ghost use Rattle.cg_held.specs.Props.{AreKnown-prop, IsTight-prop};
 ghost use Rattle.cg_held.specs.Sessions.{AreKnown, IsTight, is_home};
 ghost use Rattle.cg_member.specs.Waiting.{waiting_calls};
 ghost use Rattle.cg_held.specs.Held.{outcome};
-ghost use Rattle.cg_group.specs.Machine.{at_event, is_taken, step};
+ghost use Rattle.cg_group.specs.Machine.{MayNeedMemory, at_event, step};
 ghost use Rattle.cg_held.specs.Reviving.{revive};
 
 use crate::meeting::met;
@@ -96,13 +96,13 @@ impl Groups {
         self.held.parked(i)
     }
 
-    /// Processes an event. An earlier moment counts as the last one. If an allocation fails, nothing changes; a request
-    /// that is refused needs no allocation.
+    /// Processes an event. An earlier moment counts as the last one. If an allocation fails, nothing changes. A BEAT, a request
+    /// that is refused, the end of a session without a parked call and a tick that changes no group need no allocation.
     #[tactic(auto, unfolding(crate::specs::Machine::step))]
     pub fn step(&mut self, event: Event, now: Moment) -> Result<Effects, AllocError>
         ensures ok { IfOk result (λ effects. step self.old event now ≡ outcome self.new effects) }
         ensures err { OnErr result (self.new ≡ self.old) }
-        ensures taken { OnErr result (is_taken (at_event self.old now) event ≡ true) }
+        ensures memory { OnErr result (MayNeedMemory (at_event self.old now) event) }
     {
         let now = self.last.max(now);
         let effects = met(

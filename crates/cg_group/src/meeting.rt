@@ -1,11 +1,13 @@
 //! The processing of each event on the loaded groups.
-ghost use Rattle.std.specs.Prelude.{◌≡◌, ℕ, false, Ok, Err, None, true, is_ok, is_some, length, IfOk, OnErr, MatchResult};
+ghost use Rattle.std.specs.Prelude.{◌≡◌, ℕ, false, Ok, Err, None, true, is_ok, length, IfOk, OnErr, MatchResult};
+ghost use Rattle.std.specs.List.{list_any};
 ghost use Rattle.cg_member.specs.Leaving.{gone_in};
 ghost use Rattle.cg_turn.specs.Committing.{commit_unheld, keeping_entries};
+ghost use Rattle.cg_turn.specs.Touching.{gone_touches};
 ghost use Rattle.cg_member.specs.Joining.{new_group};
 ghost use Rattle.cg_member.specs.Offsets.{offsets_after};
 ghost use Rattle.cg_held.specs.Sessions.{AreKnown, IsTight, StayParked, is_home, is_parked};
-ghost use Rattle.cg_group.specs.Machine.{concluded, commit, deleting, deleted, deleted_alone, describe, is_taken, met};
+ghost use Rattle.cg_group.specs.Machine.{MayNeedMemory, concluded, commit, deleting, deleted, deleted_alone, describe, met, named_group};
 ghost use Rattle.cg_held.specs.Held.{at_moment, everywhere, find_group, outcome, standing};
 
 use crate::in_place::{commit_in, meet_beat, reply_alone};
@@ -37,7 +39,7 @@ use std::alloc::{AllocError, Global};
 #[tactic(auto, unfolding(crate::specs::Machine::describe))]
 fn describe(alloc: Global, id: &Option<GroupId>, groups: &Held) -> Result<Reply, AllocError>
     ensures ok { IfOk result (λ reply. reply ≡ describe id.now groups.now) }
-    ensures taken { OnErr result (is_some id.now ≡ true) }
+    ensures loaded { OnErr result (is_ok (named_group id.now groups.now) ≡ true) }
 {
     match id {
         None => Ok(Reply::Refused(Code::InvalidGroupId)),
@@ -234,6 +236,7 @@ fn meet_gone(
     ensures ok { IfOk result
         (λ e. everywhere (gone_in now session) (at_moment now held.old) ≡ outcome (at_moment now held.new) e) }
     ensures err { OnErr result (held.new ≡ held.old) }
+    ensures parked { OnErr result (list_any (gone_touches session) held.old ≡ true) }
 {
     let effects = end_session(held, homes, session, now)?;
     forget(homes, session);
@@ -242,7 +245,7 @@ fn meet_gone(
 
 /// Processes an event at this moment, which becomes the last one. A closed session costs only the groups in which its
 /// calls may be parked.
-#[tactic(auto, unfolding(crate::specs::Machine::met, crate::specs::Machine::is_taken))]
+#[tactic(auto, unfolding(crate::specs::Machine::met, crate::specs::Machine::MayNeedMemory))]
 pub fn met(
     now: Moment,
     held: &mut Held,
@@ -257,7 +260,7 @@ pub fn met(
     ensures ok { IfOk result (λ e. met (standing now held.old offsets.old) event ≡ outcome (standing now held.new offsets.old) e) }
     ensures offsets { IfOk result (λ e. offsets.new ≡ offsets_after offsets.old e.commands) }
     ensures err { OnErr result ((held.new ≡ held.old) × (offsets.new ≡ offsets.old)) }
-    ensures taken { OnErr result (is_taken (standing now held.old offsets.old) event ≡ true) }
+    ensures memory { OnErr result (MayNeedMemory (standing now held.old offsets.old) event) }
 {
     let alloc = held.allocator();
     match event {

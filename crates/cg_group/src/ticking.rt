@@ -1,10 +1,12 @@
 //! Ticks: what a tick comes to is worked out for each group that it changes, and then the groups are changed in place.
-ghost use Rattle.std.specs.Prelude.{◌≡◌, Some, IfOk, OnErr};
+ghost use Rattle.std.specs.Prelude.{◌≡◌, Some, true, IfOk, OnErr};
+ghost use Rattle.std.specs.List.{list_any};
 ghost use Rattle.cg_held.specs.DueGroups.{AreDue, IsDue};
 ghost use Rattle.cg_held.specs.Held.{InOrder, at_moment, everywhere, find_group, groups_after, outcome, with_group};
 ghost use Rattle.cg_held.specs.Sessions.{AreKnown, IsTight, is_home};
 ghost use Rattle.cg_member.specs.declared.group.Group.{Group};
 ghost use Rattle.cg_member.specs.Ticking.{ticked};
+ghost use Rattle.cg_turn.specs.Touching.{tick_touches};
 
 use cg_held::changing::Changing;
 use cg_held::due::{Due, plan_due};
@@ -77,6 +79,7 @@ pub fn meet_tick(now: Moment, held: &mut Held, homes: &mut Homes) -> Result<Effe
     ensures ok { IfOk result
         (λ e. everywhere (ticked now) (at_moment now held.old) ≡ outcome (at_moment now held.new) e) }
     ensures err { OnErr result (held.new ≡ held.old) }
+    ensures touched { OnErr result (list_any (tick_touches now) held.old ≡ true) }
 {
     let ids = held.due(now)?;
     let (dues, effects) = plan_due(held, now, ids)?;
