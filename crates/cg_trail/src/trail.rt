@@ -1,5 +1,5 @@
 //! A trail: what was loaded, and what was asked and replied since.
-ghost use Rattle.std.specs.Prelude.{◌≡◌, ◌<◌, ◌≤◌, ◌-◌, ◌++◌, ◌∷◌, [], OnOk};
+ghost use Rattle.std.specs.Prelude.{◌≡◌, ◌<◌, ◌≤◌, ◌-◌, ◌++◌, ◌∷◌, [], OnErr, OnOk};
 
 use crate::entry::TrailEntry;
 use cg_group::Listed;
@@ -44,11 +44,12 @@ impl Trail {
         }
     }
 
-    /// Makes room for one more entry. If an allocation fails, nothing changes.
+    /// Makes room for one more entry. Allocates only if there is none; if an allocation fails, nothing changes.
     pub fn reserve(&mut self) -> Result<(), AllocError>
         ensures kept { self.new ≡ record self.old { spare = self.new.spare } }
         ensures room { self.old.spare ≤ self.new.spare }
         ensures ok { OnOk result (0 < self.new.spare) }
+        ensures err_without_room { OnErr result (self.old.spare ≡ 0) }
     {
         self.entries.reserve(1)?;
         Ok(())
