@@ -1,6 +1,6 @@
 -- Words that repeat no key, and the values that they spell.
-use Rattle.std.proofs.Common.{◌≡◌, Bool, true, false, List, [], ◌∷◌, ◌∙◌, map, not, refl, sym, ap}
-use Rattle.std.specs.Prelude.{ℕ, ◌||◌, ◌&&◌, ◌↔◌, IsTrue}
+use Rattle.std.proofs.Common.{◌≡◌, Bool, true, List, [], ◌∷◌, ◌∙◌, map, not, refl, sym, ap}
+use Rattle.std.specs.Prelude.{ℕ, ◌||◌, ◌↔◌, IsTrue}
 use Rattle.std.specs.List.{list_all, list_any, IsDistinct}
 use Rattle.std.proofs.lemmas.Bool.{not-true}
 use Rattle.cg_record.proofs.Keys.{all_fail, none_passes}

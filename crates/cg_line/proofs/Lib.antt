@@ -8,7 +8,6 @@ pub mod Each
 pub mod Generations
 pub mod Hexed
 pub mod Joined
-pub mod Kept
 pub mod Keyed
 pub mod Lists
 pub mod Optionals

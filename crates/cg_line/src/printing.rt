@@ -17,7 +17,7 @@ use entry::{put_described_members, put_fetched, put_joined_members, put_listings
 use word::{put_bytes, put_name, put_number, state_name};
 
 // Appends the generation, type and protocol.
-#[tactic(auto, using(crate::proofs::Kept::front_kept), unfolding(crate::specs::Words::spaced))]
+#[tactic(auto, using(cg_record::proofs::Kept::front_kept), unfolding(crate::specs::Words::spaced))]
 fn put_round(
     out: &mut Vec<u8>,
     generation: Generation,
@@ -36,7 +36,7 @@ fn put_round(
 }
 
 // Appends a JOINED reply up to its list of members.
-#[tactic(auto, using(crate::proofs::Kept::front_kept), unfolding(crate::specs::Words::spaced))]
+#[tactic(auto, using(cg_record::proofs::Kept::front_kept), unfolding(crate::specs::Words::spaced))]
 fn put_joined_head(out: &mut Vec<u8>, joined: &Joined) -> Result<(), AllocError>
     ensures ok { OnOk result (out.new.items ≡ out.old.items ++ spaced (codes "JOINED" ∷ decimal joined.now.generation ∷ name_word joined.now.kind
         ∷ name_word joined.now.protocol ∷ name_word joined.now.leader ∷ joined.now.member ∷ [])) }
@@ -61,7 +61,7 @@ fn put_joined(out: &mut Vec<u8>, joined: &Joined) -> Result<(), AllocError>
 }
 
 // Appends a GROUP reply up to its list of members.
-#[tactic(auto, using(crate::proofs::Kept::front_kept), unfolding(crate::specs::Words::spaced))]
+#[tactic(auto, using(cg_record::proofs::Kept::front_kept), unfolding(crate::specs::Words::spaced))]
 fn put_held_head(out: &mut Vec<u8>, described: &Described) -> Result<(), AllocError>
     ensures ok { OnOk result (out.new.items ≡ out.old.items ++ spaced (codes "GROUP" ∷ state_word described.now.phase ∷ decimal described.now.generation
         ∷ name_word described.now.kind ∷ name_word described.now.protocol ∷ [])) }

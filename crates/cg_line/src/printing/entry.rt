@@ -10,7 +10,7 @@ use cg_fold::StoredOffset;
 use cg_group::{DescribedMember, FetchedPartition, JoinedMember, Listing};
 use std::alloc::AllocError;
 
-#[tactic(auto, using(crate::proofs::Kept::front_kept), unfolding(crate::specs::Replies::joined_word))]
+#[tactic(auto, using(cg_record::proofs::Kept::front_kept), unfolding(crate::specs::Replies::joined_word))]
 fn put_joined_member(out: &mut Vec<u8>, member: &JoinedMember) -> Result<(), AllocError>
     ensures ok { OnOk result (out.new.items ≡ out.old.items ++ codes " " ++ joined_word member.now) }
     ensures err { OnErr result (StartsWith out.new.items out.old.items) }
@@ -25,7 +25,7 @@ fn put_joined_member(out: &mut Vec<u8>, member: &JoinedMember) -> Result<(), All
 }
 
 /// Appends the members of a JOINED reply.
-#[tactic(auto, using(crate::proofs::Kept::front_kept))]
+#[tactic(auto, using(cg_record::proofs::Kept::front_kept))]
 pub fn put_joined_members(out: &mut Vec<u8>, members: &[JoinedMember]) -> Result<(), AllocError>
     ensures ok { OnOk result (out.new.items ≡ out.old.items ++ flat_map (λ m. codes " " ++ joined_word m) members.now) }
     ensures err { OnErr result (StartsWith out.new.items out.old.items) }
@@ -51,7 +51,7 @@ fn put_stored(out: &mut Vec<u8>, stored: &Option<StoredOffset>) -> Result<(), Al
     Ok(())
 }
 
-#[tactic(auto, using(crate::proofs::Kept::front_kept), unfolding(crate::specs::Replies::fetched_word))]
+#[tactic(auto, using(cg_record::proofs::Kept::front_kept), unfolding(crate::specs::Replies::fetched_word))]
 fn put_fetched_partition(out: &mut Vec<u8>, fetched: &FetchedPartition) -> Result<(), AllocError>
     ensures ok { OnOk result (out.new.items ≡ out.old.items ++ codes " " ++ fetched_word fetched.now) }
     ensures err { OnErr result (StartsWith out.new.items out.old.items) }
@@ -66,7 +66,7 @@ fn put_fetched_partition(out: &mut Vec<u8>, fetched: &FetchedPartition) -> Resul
 }
 
 /// Appends the partitions of a FETCHED reply.
-#[tactic(auto, using(crate::proofs::Kept::front_kept))]
+#[tactic(auto, using(cg_record::proofs::Kept::front_kept))]
 pub fn put_fetched(out: &mut Vec<u8>, partitions: &[FetchedPartition]) -> Result<(), AllocError>
     ensures ok { OnOk result (out.new.items ≡ out.old.items ++ flat_map (λ p. codes " " ++ fetched_word p) partitions.now) }
     ensures err { OnErr result (StartsWith out.new.items out.old.items) }
@@ -78,7 +78,7 @@ pub fn put_fetched(out: &mut Vec<u8>, partitions: &[FetchedPartition]) -> Result
 }
 
 // Appends the id, instance and client.
-#[tactic(auto, using(crate::proofs::Kept::front_kept))]
+#[tactic(auto, using(cg_record::proofs::Kept::front_kept))]
 fn put_described_names(out: &mut Vec<u8>, member: &DescribedMember) -> Result<(), AllocError>
     ensures ok { OnOk result (out.new.items ≡ out.old.items ++ codes " " ++ member.now.id ++ codes ":" ++ name_word member.now.instance ++ codes ":" ++ member.now.client) }
     ensures err { OnErr result (StartsWith out.new.items out.old.items) }
@@ -92,7 +92,7 @@ fn put_described_names(out: &mut Vec<u8>, member: &DescribedMember) -> Result<()
     Ok(())
 }
 
-#[tactic(auto, using(crate::proofs::Kept::front_kept), unfolding(crate::specs::Replies::described_word))]
+#[tactic(auto, using(cg_record::proofs::Kept::front_kept), unfolding(crate::specs::Replies::described_word))]
 fn put_described_member(out: &mut Vec<u8>, member: &DescribedMember) -> Result<(), AllocError>
     ensures ok { OnOk result (out.new.items ≡ out.old.items ++ codes " " ++ described_word member.now) }
     ensures err { OnErr result (StartsWith out.new.items out.old.items) }
@@ -106,7 +106,7 @@ fn put_described_member(out: &mut Vec<u8>, member: &DescribedMember) -> Result<(
 }
 
 /// Appends the members of a GROUP reply.
-#[tactic(auto, using(crate::proofs::Kept::front_kept))]
+#[tactic(auto, using(cg_record::proofs::Kept::front_kept))]
 pub fn put_described_members(
     out: &mut Vec<u8>,
     members: &[DescribedMember],
@@ -120,7 +120,7 @@ pub fn put_described_members(
     Ok(())
 }
 
-#[tactic(auto, using(crate::proofs::Kept::front_kept), unfolding(crate::specs::Replies::listing_word))]
+#[tactic(auto, using(cg_record::proofs::Kept::front_kept), unfolding(crate::specs::Replies::listing_word))]
 fn put_listing(out: &mut Vec<u8>, listing: &Listing) -> Result<(), AllocError>
     ensures ok { OnOk result (out.new.items ≡ out.old.items ++ codes " " ++ listing_word listing.now) }
     ensures err { OnErr result (StartsWith out.new.items out.old.items) }
@@ -135,7 +135,7 @@ fn put_listing(out: &mut Vec<u8>, listing: &Listing) -> Result<(), AllocError>
 }
 
 /// Appends the groups of a GROUPS reply.
-#[tactic(auto, using(crate::proofs::Kept::front_kept))]
+#[tactic(auto, using(cg_record::proofs::Kept::front_kept))]
 pub fn put_listings(out: &mut Vec<u8>, groups: &[Listing]) -> Result<(), AllocError>
     ensures ok { OnOk result (out.new.items ≡ out.old.items ++ flat_map (λ l. codes " " ++ listing_word l) groups.now) }
     ensures err { OnErr result (StartsWith out.new.items out.old.items) }
