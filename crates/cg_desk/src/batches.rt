@@ -16,8 +16,8 @@ use cg_store::{Batch, Commands, Receipt};
 use std::alloc::AllocError;
 use std::mem;
 
-// Removes the longest prefix of the queue that fits one frame. Returns it as a batch, and what shares its commands, to
-// recognise it when it comes back. If an allocation fails, the queue is unchanged.
+// Removes the longest prefix of the queue that fits one frame. Returns it as a batch, and a clone of its commands that
+// recognises the batch when it comes back. If an allocation fails, the queue is unchanged.
 fn take_front(queue: &mut Queue, settled: u64) -> Result<Option<(Batch, Commands)>, AllocError>
     requires { settled + length (commands_of queue.old) < 2 ^ 64 }
     ensures none { IfOk result (λ o. MatchOption o (commands_of queue.old ≡ []) (λ t. ⊤)) }
@@ -80,7 +80,7 @@ fn leave_again(flight: &mut Flight) -> Option<Batch>
     }
 }
 
-// Puts back the batch in flight, with what shares its commands.
+// Notes that the batch in flight was given back, and keeps the clone of its commands with it.
 fn come_back(flight: &mut Flight, batch: Batch)
     requires { course_of flight.old ≡ Away batch.commands }
     ensures flight { course_of flight.new ≡ Returned batch.commands }

@@ -3,7 +3,7 @@ ghost use Rattle.std.specs.Prelude.{◌≡◌};
 
 use cg_store::{Batch, Commands};
 
-/// A batch that was given back, and what shares its commands, to recognise it when it has been taken again.
+/// A batch that was given back, and the clone of its commands that recognises it once it is in flight again.
 #[derive(Debug, Drop)]
 pub struct ReturnedBatch {
     pub batch: Batch,
@@ -16,7 +16,7 @@ pub struct ReturnedBatch {
 pub enum Flight {
     /// No batch is unsettled.
     Idle,
-    /// The batch is in flight. Shares its commands, to recognise it when it comes back.
+    /// The batch is in flight. Holds a clone of its commands, which recognises the batch when it comes back.
     Away(Commands),
     /// The batch was given back.
     Returned(ReturnedBatch),

@@ -132,8 +132,8 @@ impl Queue {
         spell_front(self.alloc, &mut self.text, &mut self.front)
     }
 
-    /// Removes the longest prefix that fits one frame. Returns it twice, sharing one payload, or `None` if nothing is
-    /// queued. If an allocation fails, the queue has the same commands as before. Linear in the bytes of the commands
+    /// Removes the longest prefix that fits one frame. Returns it as two `Commands` that share one payload, or `None`
+    /// if nothing is queued. If an allocation fails, the queue has the same commands as before. Linear in the bytes of the commands
     /// that are not yet encoded.
     pub fn take(&mut self) -> Result<Option<(Commands, Commands)>, AllocError>
         ensures none { IfOk result (λ o. MatchOption o (commands_of self.old ≡ []) (λ t. IsBatch t.0)) }

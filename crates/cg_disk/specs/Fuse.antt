@@ -21,7 +21,7 @@ blown_calls disk = disk.blown
 abbrev pub failures_of : {D : Type 0} → (D → ℕ) → FuseDisk D → ℕ
 failures_of failures disk = min (failures disk.inner + disk.blown) (2 ^ 64 - 1)
 
--- one call: the fuse fails it, or the wrapped disk runs it
+-- one call: the fuse fails it, or it ends as on the wrapped disk
 pub record PassesOrFails {D : Type 0} (failures : D → ℕ) (old new : FuseDisk D) (failed : Bool) : Type 0 where
   pub burns : fuse_of new ≡ burnt (fuse_of old)
   pub fails : fails_next (fuse_of old) ≡ true → failed ≡ true

@@ -8,17 +8,17 @@ use crate::{DiskFault, SectorDisk};
 /// Which calls of `read`, `write` and `sync` a `FuseDisk` fails.
 #[derive(Clone, Copy, Debug, PartialEq, Eq)]
 pub enum Fuse {
-    /// None.
+    /// No call.
     Intact,
-    /// Each, after this many that pass.
+    /// Every call after this many that pass.
     EachAfter(u64),
-    /// One, after this many that pass; each later one passes. A write that it fails is done all the same: the sectors have
+    /// One call, after this many that pass; later calls pass. A write that it fails is done all the same: the sectors have
     /// the bytes, though the disk reported a failure.
     OnceAfter(u64),
 }
 
 /// A disk for fault injection: it passes calls of `read`, `write` and `sync` to another disk, or fails them, as its fuse
-/// says. A call that it fails writes nothing and leaves the buffer unchanged, except for a write that fails once.
+/// says. A call that it fails writes nothing and leaves the buffer unchanged; only a write that `OnceAfter` fails is done.
 #[derive(Drop)]
 pub struct FuseDisk<D: SectorDisk> {
     inner: D,
@@ -67,7 +67,7 @@ impl<D: SectorDisk> FuseDisk<D> {
     }
 }
 
-/// Burns the fuse down by one call, and returns whether that call fails.
+/// Burns the fuse down by one call. Reports `Device` if that call fails.
 fn burn(fuse: &mut Fuse, blown: &mut u64) -> Result<(), DiskFault>
     ensures burns { fuse.new ≡ burnt fuse.old }
     ensures fails { is_err result ≡ fails_next fuse.old }
@@ -132,7 +132,7 @@ impl<D: SectorDisk> SectorDisk for FuseDisk<D> {
 
         ensures fuse { PassesOrFails D.failures self.old self.new (is_err result) }
         ensures untouched { fuse_of self.old ≡ Fuse.EachAfter 0 → inner_of self.new ≡ inner_of self.old }
-        // Unless the wrapped disk failed too, a write that fails once is done.
+        // A write that `OnceAfter` fails is done, unless the wrapped disk fails it too.
         ensures written { D.is_honest (inner_of self.old) ≡ true → fuse_of self.old ≡ Fuse.OnceAfter 0
             → HasPassed (D.failures (inner_of self.old)) (D.failures (inner_of self.new))
             → Holds (present (D.history (inner_of self.new))).content at (sector_count bytes.now) bytes.now }

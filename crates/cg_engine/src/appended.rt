@@ -89,7 +89,7 @@ fn are_same(a: &[Command], b: &[Command]) -> bool
 impl Appended {
     ghost use Rattle.cg_engine.specs.Appended.{appended_in, state_in};
 
-    /// Makes room for one more batch, and clones its commands for it, which share their payload.
+    /// Makes room for one more batch. Returns a clone of its commands, which shares their payload.
     pub fn reserve(&mut self, commands: &Commands) -> Result<Commands, AllocError>
         ensures copy { IfOk result (λ copy. copy ≡ commands.now) }
         ensures room { OnOk result (vec_len self.new.batches < vec_capacity self.new.batches) }

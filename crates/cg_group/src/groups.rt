@@ -96,8 +96,9 @@ impl Groups {
         self.held.parked(i)
     }
 
-    /// Processes an event. An earlier moment counts as the last one. If an allocation fails, nothing changes. A BEAT, a request
-    /// that is refused, the end of a session without a parked call and a tick that changes no group need no allocation.
+    /// Processes an event. An earlier moment counts as the last one. If an allocation fails, nothing changes. No allocation is
+    /// needed by a BEAT, a request that is refused, a DESCRIBE or LIST that shows no group, the end of a session without a
+    /// parked request, or a tick that changes no group.
     #[tactic(auto, unfolding(crate::specs::Machine::step))]
     pub fn step(&mut self, event: Event, now: Moment) -> Result<Effects, AllocError>
         ensures ok { IfOk result (λ effects. step self.old event now ≡ outcome self.new effects) }

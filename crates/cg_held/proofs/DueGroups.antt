@@ -150,7 +150,7 @@ each-middle : {X : Type 0} (P : X → Type 0) (front : List X) (x : X) (rest : L
 each-middle P [] x rest h = h.0
 each-middle P (y ∷ ys) x rest h = each-middle P ys x rest h.1
 
--- where a tick changes no group, none is due
+-- where a tick changes no group, it leaves each as it is, whichever ids are due
 pub untouched : (now : ℕ) (ids : List (List ℕ)) (groups : List Group) → list_any (tick_touches now) groups ≡ false → Each (λ (g : Group). is_one_of ids g.id ≡ false → ticked now g ≡ turn_of g) groups
 untouched now ids [] calm = tt
 untouched now ids (g ∷ gs) calm =

@@ -48,7 +48,7 @@ find-without id x (g ∷ gs) d =
       | false ↦ λ e. ap (λ o. cond (is_same g.id x) (Some g) o) (find-without id x gs d)
     ]) refl
 
--- an element that is found passes a test, so some element does
+-- if the element that is found passes a test, some element passes it
 pub any_found : {X : Type 0} (p q : X → Bool) (xs : List X) (x : X) → find p xs ≡ Some x → q x ≡ true → list_any q xs ≡ true
 any_found p q [] x e h = cc
 any_found p q (y ∷ ys) x e h =

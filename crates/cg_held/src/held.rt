@@ -270,8 +270,8 @@ impl Held {
     }
 
     /// Returns the ids of the groups that a tick at this moment may change, in their order. Costs a logarithm for each
-    /// of them, and constant time if there is none. Where an allocation fails, it visits all groups, and reports that only if
-    /// the tick changes one.
+    /// of them, and constant time if there is none. If an allocation fails, it visits all groups, and reports the failure
+    /// only if the tick changes one of them.
     pub fn due(&self, now: Moment) -> Result<Vec<GroupId>, AllocError>
         ensures ascending { IfOk result (λ ids. Ascending ids.items) }
         ensures others { IfOk result (λ ids. Each (λ g. is_one_of ids.items g.id ≡ false → ticked now g ≡ turn_of g) self.now) }
@@ -279,9 +279,9 @@ impl Held {
     {
         match self.due_in_index(now) {
             Ok(ids) => Ok(ids),
-            Err(wanting) => {
+            Err(error) => {
                 if self.is_touched(now) {
-                    return Err(wanting);
+                    return Err(error);
                 }
                 Ok(Vec::new(self.allocator()))
             }

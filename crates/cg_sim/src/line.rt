@@ -37,7 +37,7 @@ pub enum Line<'a> {
     Flush,
     /// `compact`, alone or with a word: a compaction, or a part of one.
     Compact(Compaction),
-    /// `fuse K` or `once K`: the disk passes K more calls, and then fails each, or one (fault injection).
+    /// `fuse K` or `once K`: the disk passes K more calls, and then fails every call or one call (fault injection).
     Fuse(Fuse),
     /// `poke S xBYTES`: the sector with this number holds these bytes, then zeros.
     Poke(u64, SectorText<'a>),

@@ -13,7 +13,7 @@ use std::marker::Model;
 use std::sync::Arc;
 
 /// Commands in their order, stored as the payload of a frame. Contracts see the commands, as each list of them has
-/// exactly one encoding. A clone shares the payload; what changes a shared one copies it first.
+/// exactly one encoding. A clone shares the payload; a change to a shared payload copies it first.
 #[derive(Debug, Drop)]
 pub struct Commands {
     len: usize,
@@ -94,7 +94,7 @@ fn clear_shared(bytes: &mut Arc<Vec<u8>>) -> Result<(), AllocError>
 }
 
 impl Commands {
-    /// Encodes these commands, in one allocation of the size of the payload.
+    /// Encodes these commands. Allocates the payload, at its size, and the block of the `Arc` that shares it.
     pub fn new(alloc: Global, commands: &[Command]) -> Result<Self, AllocError>
         ensures { IfOk result (λ made. made ≡ commands.now) }
     {
@@ -131,7 +131,8 @@ impl Commands {
         Ok(true)
     }
 
-    /// Removes all commands. The memory stays for the next ones. If an allocation fails, the commands are unchanged.
+    /// Removes all commands. The memory stays for the next ones, unless it is shared. If an allocation fails, the commands
+    /// are unchanged.
     pub(crate) fn clear(&mut self) -> Result<(), AllocError>
         ensures ok { OnOk result (self.new ≡ []) }
         ensures err { OnErr result (self.new ≡ self.old) }
