@@ -133,8 +133,8 @@ impl Queue {
     }
 
     /// Removes the longest prefix that fits one frame. Returns it as two `Commands` that share one payload, or `None`
-    /// if nothing is queued. If an allocation fails, the queue has the same commands as before. Linear in the bytes of the commands
-    /// that are not yet encoded.
+    /// if nothing is queued. If an allocation fails, the queue has the same commands as before. Linear in the bytes of
+    /// the commands that are not yet encoded.
     pub fn take(&mut self) -> Result<Option<(Commands, Commands)>, AllocError>
         ensures none { IfOk result (λ o. MatchOption o (commands_of self.old ≡ []) (λ t. IsBatch t.0)) }
         ensures taken { IfOk result (λ o. MatchOption o ⊤ (λ t. (t.0 ≡ take (in_frame (commands_of self.old)) (commands_of self.old)) × (t.1 ≡ t.0))) }

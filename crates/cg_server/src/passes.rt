@@ -39,7 +39,8 @@ impl<L: Ledger> Passes<L> {
         if let Some(pass) = idle.pop() {
             return Some(pass);
         }
-        // Room for all that were made, so that each can be given back. An engine makes no more than this, however often it is asked.
+        // Room for all that were made, so that each can be given back. An engine makes no more than this, however often it
+        // is asked.
         let asked = self.asked.fetch_add(1, Ordering::SeqCst);
         idle.reserve(asked.saturating_add(1).min(PASSES_MAX)).ok()?;
         drop(idle);

@@ -77,8 +77,9 @@ fn has_all_acknowledged(alloc: Global, output: &str) -> Result<bool, AllocError>
     Ok(acknowledged == 0 && output.ends_with("s1 FETCHED t:0:-1:x\n"))
 }
 
-// Runs commits of offsets from 42 on, with the line `fuse k` or `once k` before the second part, then a flush, a stop, a load and a
-// FETCH, for each k until a run has no fault. Returns whether that run came, and no run lost an acknowledged offset.
+// Runs commits of offsets from 42 on, with the line `fuse k` or `once k` before the second part, then a flush, a stop, a
+// load and a FETCH, for each k until a run has no fault. Returns whether that run came, and no run lost an acknowledged
+// offset.
 fn no_offset_is_missing(
     alloc: Global,
     fuse: &str,
