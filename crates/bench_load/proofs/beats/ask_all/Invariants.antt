@@ -1,5 +1,0 @@
-use Rattle.std.specs.VecDeque.{deque_len}
-use Rattle.bench_load.proofs.beats.ask_all.Given as goal
-
-abbrev pub decreases-loop-beat : goal.decreases-loop-beat
-decreases-loop-beat l = deque_len l.beats
