@@ -18,8 +18,6 @@ mod permit;
 mod queue;
 mod refusing;
 mod serving;
-#[cfg(test)]
-mod tests;
 mod token;
 
 pub use bounds::{SPARE_NUMBERS, SPARE_NUMBERS_PER_GROUP};

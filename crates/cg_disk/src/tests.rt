@@ -1,11 +1,10 @@
 //! A crash of a disk in memory, a disk in a file, and a disk with a gated sync.
-ghost use Rattle.std.specs.Prelude.{◌≡◌, ◌*◌, ◌^◌, ◌<◌, IfOk, OnOk, length};
+ghost use Rattle.std.specs.Prelude.{◌≡◌, ◌*◌, ◌^◌, ◌<◌, ◌≤◌, IfOk, length};
 
 use crate::{Crash, FileDisk, Gate, GateDisk, MemDisk, SECTOR_BYTES, SectorDisk};
 use std::alloc::{AllocError, Global};
 use std::fs;
 use std::process::Abort;
-use std::test::Fail;
 
 fn sectors(alloc: Global, byte: u8, count: u64) -> Result<Vec<u8>, AllocError>
     requires { count < 2 ^ 32 }
@@ -15,64 +14,74 @@ fn sectors(alloc: Global, byte: u8, count: u64) -> Result<Vec<u8>, AllocError>
 }
 
 // Returns the first byte of each sector of a disk of four.
-fn first_bytes<D: SectorDisk>(
-    rt: &impl Abort,
-    alloc: Global,
-    disk: &mut D,
-) -> Result<(u8, u8, u8, u8), Fail>
-    ensures { OnOk result (D.size disk.new ≡ 4) }
+fn first_bytes<D: SectorDisk>(rt: &impl Abort, alloc: Global, disk: &mut D) -> (u8, u8, u8, u8)
+    ensures { D.size disk.new ≡ 4 }
 {
     assert_eq!(rt; disk.sectors(), 4);
-    let mut bytes = sectors(alloc, 9, 4)?;
-    disk.read(0, &mut bytes)?;
-    Ok((bytes[0], bytes[512], bytes[1024], bytes[1536]))
+    let mut bytes = sectors(alloc, 9, 4).expect(rt, "sectors");
+    disk.read(0, &mut bytes).expect(rt, "a read");
+    (bytes[0], bytes[512], bytes[1024], bytes[1536])
+}
+
+// Writes and syncs sector 1, and then writes sectors 1 and 2.
+fn write_twice<D: SectorDisk>(rt: &impl Abort, alloc: Global, disk: &mut D)
+    requires { 3 ≤ D.size disk.old }
+{
+    let one = sectors(alloc, 5, 1).expect(rt, "a sector");
+    let two = sectors(alloc, 7, 2).expect(rt, "sectors");
+    disk.write(1, &one).expect(rt, "a write");
+    disk.sync().expect(rt, "a sync");
+    disk.write(1, &two).expect(rt, "a write");
 }
 
 // Returns a disk whose sector 1 was written and synced, and then sectors 1 and 2 written.
-fn written(rt: &impl Abort, alloc: Global) -> Result<MemDisk, Fail> {
-    let mut disk = MemDisk::new(alloc, 4)?;
-    assert_eq!(rt; first_bytes(rt, alloc, &mut disk)?, (0, 0, 0, 0));
-    let one = sectors(alloc, 5, 1)?;
-    let two = sectors(alloc, 7, 2)?;
-    disk.write(1, &one)?;
-    disk.sync()?;
-    disk.write(1, &two)?;
-    assert_eq!(rt; first_bytes(rt, alloc, &mut disk)?, (0, 7, 7, 0));
-    Ok(disk)
+fn written(rt: &impl Abort, alloc: Global) -> MemDisk {
+    let mut disk = MemDisk::new(alloc, 4).expect(rt, "a disk");
+    assert_eq!(rt; first_bytes(rt, alloc, &mut disk), (0, 0, 0, 0));
+    write_twice(rt, alloc, &mut disk);
+    assert_eq!(rt; first_bytes(rt, alloc, &mut disk), (0, 7, 7, 0));
+    disk
+}
+
+// Crashes such a disk, and then once more so that it loses what is not synced. After both it has these bytes.
+fn crashes(rt: &impl Abort, alloc: Global, kind: Crash, want: (u8, u8, u8, u8)) {
+    let mut disk = written(rt, alloc).crash(kind);
+    let after = first_bytes(rt, alloc, &mut disk);
+    let mut again = disk.crash(Crash::Lose);
+    let after_both = first_bytes(rt, alloc, &mut again);
+    assert_eq!(rt; (after, after_both), (want, want), "after {kind:?}");
 }
 
 #[test]
-fn a_crash_keeps_or_loses_what_is_not_synced(rt: HostRuntime) -> Result<(), Fail> {
-    let alloc = rt.alloc();
-    for (kind, want) in [(Crash::Keep, (0, 7, 7, 0)), (Crash::Lose, (0, 5, 0, 0))] {
-        let mut disk = written(&rt, alloc)?.crash(kind);
-        assert_eq!(rt; first_bytes(&rt, alloc, &mut disk)?, want, "after {kind:?}");
-        let mut again = disk.crash(Crash::Lose);
-        assert_eq!(rt;
-            first_bytes(&rt, alloc, &mut again)?,
-            want,
-            "after {kind:?}, then Lose"
-        );
-    }
-    Ok(())
+fn a_crash_keeps_or_loses_what_is_not_synced(rt: HostRuntime) {
+    crashes(&rt, rt.alloc(), Crash::Keep, (0, 7, 7, 0));
+    crashes(&rt, rt.alloc(), Crash::Lose, (0, 5, 0, 0));
+}
+
+// Fills the last two sectors of a disk of four that has zeros, and syncs.
+fn write_last_two<D: SectorDisk>(rt: &impl Abort, alloc: Global, disk: &mut D) {
+    assert_eq!(rt; first_bytes(rt, alloc, disk), (0, 0, 0, 0));
+    let bytes = sectors(alloc, 6, 2).expect(rt, "sectors");
+    disk.write(2, &bytes).expect(rt, "a write");
+    disk.sync().expect(rt, "a sync");
+}
+
+// Returns whether a disk can be opened.
+fn is_opened(rt: &HostRuntime, path: &str, sectors: Option<u64>) -> bool {
+    FileDisk::open(rt, path, sectors).is_ok()
 }
 
 #[test]
-fn a_file_keeps_what_was_written(rt: HostRuntime) -> Result<(), Fail> {
-    let alloc = rt.alloc();
+fn a_file_keeps_what_was_written(rt: HostRuntime) {
     let path = "disk_of_four_sectors";
-    let bytes = sectors(alloc, 6, 2)?;
-    let mut made = FileDisk::open(&rt, path, Some(4))?;
-    assert_eq!(rt; first_bytes(&rt, alloc, &mut made)?, (0, 0, 0, 0));
-    made.write(2, &bytes)?;
-    made.sync()?;
-    let mut found = FileDisk::open(&rt, path, None)?;
-    assert_eq!(rt; first_bytes(&rt, alloc, &mut found)?, (0, 0, 6, 6));
-    fs::remove_file(&rt, path)?;
-    assert!(rt; FileDisk::open(&rt, path, None).is_err());
-    assert!(rt; FileDisk::open(&rt, path, Some(u64::MAX)).is_err());
-    assert!(rt; FileDisk::open(&rt, "no such folder/disk", Some(4)).is_err());
-    Ok(())
+    let mut made = FileDisk::open(&rt, path, Some(4)).expect(&rt, "a disk");
+    write_last_two(&rt, rt.alloc(), &mut made);
+    let mut found = FileDisk::open(&rt, path, None).expect(&rt, "a disk");
+    assert_eq!(rt; first_bytes(&rt, rt.alloc(), &mut found), (0, 0, 6, 6));
+    fs::remove_file(&rt, path).expect(&rt, "a file");
+    assert!(rt; !is_opened(&rt, path, None));
+    assert!(rt; !is_opened(&rt, path, Some(u64::MAX)));
+    assert!(rt; !is_opened(&rt, "no such folder/disk", Some(4)));
 }
 
 // A gate that returns this value at the first call, and the opposite later.
@@ -95,11 +104,11 @@ fn write_and_sync(
     alloc: Global,
     disk: &mut GateDisk<MemDisk, Once>,
     sector: u8,
-) -> Result<bool, Fail> {
+) -> bool {
     assert!(rt; sector < 4 && (sector as u64) < disk.sectors());
-    let bytes = sectors(alloc, sector + 1, 1)?;
-    disk.write(sector as u64, &bytes)?;
-    Ok(disk.sync().is_ok())
+    let bytes = sectors(alloc, sector + 1, 1).expect(rt, "a sector");
+    disk.write(sector as u64, &bytes).expect(rt, "a write");
+    disk.sync().is_ok()
 }
 
 // Writes and syncs the first sectors of a disk, one sync each, then crashes it. Returns the first byte of each sector.
@@ -110,12 +119,12 @@ fn gated(
     is_open: bool,
     written: u8,
     failing: Option<u8>,
-) -> Result<(u8, u8, u8, u8), Fail> {
-    let mut disk = GateDisk::new(MemDisk::new(alloc, 4)?, syncs, Once { is_open });
+) -> (u8, u8, u8, u8) {
+    let disk = MemDisk::new(alloc, 4).expect(rt, "a disk");
+    let mut disk = GateDisk::new(disk, syncs, Once { is_open });
     for sector in 0..written {
-        let is_synced = write_and_sync(rt, alloc, &mut disk, sector)?;
         assert_eq!(rt;
-            is_synced,
+            write_and_sync(rt, alloc, &mut disk, sector),
             failing != Some(sector),
             "sector {sector}, {syncs} syncs"
         );
@@ -123,26 +132,28 @@ fn gated(
     first_bytes(rt, alloc, &mut disk.into_inner().crash(Crash::Lose))
 }
 
+// Number of syncs before the gated one, whether the gate is open then, how many sectors are written, the one whose sync fails,
+// and the first byte of each sector after a crash.
+const GATED: &[(u64, bool, u8, Option<u8>, (u8, u8, u8, u8))] = &[
+    (0, true, 4, None, (1, 2, 3, 4)),
+    (0, false, 1, Some(0), (0, 0, 0, 0)),
+    (0, false, 2, Some(0), (1, 2, 0, 0)),
+    (1, true, 4, None, (1, 2, 3, 4)),
+    (1, false, 2, Some(1), (1, 0, 0, 0)),
+    (1, false, 3, Some(1), (1, 2, 3, 0)),
+    (2, true, 4, None, (1, 2, 3, 4)),
+    (2, false, 3, Some(2), (1, 2, 0, 0)),
+    (2, false, 4, Some(2), (1, 2, 3, 4)),
+    (4, false, 4, None, (1, 2, 3, 4)),
+];
+
 #[test]
-fn only_the_gated_sync_depends_on_the_gate(rt: HostRuntime) -> Result<(), Fail> {
-    let alloc = rt.alloc();
-    for (syncs, is_open, written, failing, want) in [
-        (0, true, 4, None, (1, 2, 3, 4)),
-        (0, false, 1, Some(0), (0, 0, 0, 0)),
-        (0, false, 2, Some(0), (1, 2, 0, 0)),
-        (1, true, 4, None, (1, 2, 3, 4)),
-        (1, false, 2, Some(1), (1, 0, 0, 0)),
-        (1, false, 3, Some(1), (1, 2, 3, 0)),
-        (2, true, 4, None, (1, 2, 3, 4)),
-        (2, false, 3, Some(2), (1, 2, 0, 0)),
-        (2, false, 4, Some(2), (1, 2, 3, 4)),
-        (4, false, 4, None, (1, 2, 3, 4)),
-    ] {
+fn only_the_gated_sync_depends_on_the_gate(rt: HostRuntime) {
+    for &(syncs, is_open, written, failing, want) in GATED {
         assert_eq!(rt;
-            gated(&rt, alloc, syncs, is_open, written, failing)?,
+            gated(&rt, rt.alloc(), syncs, is_open, written, failing),
             want,
             "{syncs} syncs, open: {is_open}, {written} written"
         );
     }
-    Ok(())
 }

@@ -40,6 +40,3 @@ pub use kind::CallKind;
 pub use pass::SessionPass;
 pub use pending_call::{BegunCall, PendingCall};
 pub use taken::{Taken, TakenBatch};
-
-#[cfg(test)]
-mod tests;

@@ -18,8 +18,6 @@ mod shelves;
 mod snapshot;
 mod snapshots;
 mod taking;
-#[cfg(test)]
-mod tests;
 
 pub use durable::Durable;
 pub use key::StoredOffset;

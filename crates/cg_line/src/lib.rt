@@ -9,8 +9,6 @@ mod line_fault;
 mod parsing;
 mod printing;
 mod running;
-#[cfg(test)]
-mod tests;
 mod words;
 
 pub use backend::Backend;

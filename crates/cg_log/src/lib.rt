@@ -20,8 +20,6 @@ mod scanning;
 mod sealed_read;
 mod segment;
 mod switch;
-#[cfg(test)]
-mod tests;
 
 pub use cursor::Cursor;
 pub use fault::LogFault;

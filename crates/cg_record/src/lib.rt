@@ -34,8 +34,6 @@ mod reading;
 mod replaced;
 mod roster;
 mod sizes;
-#[cfg(test)]
-mod tests;
 mod writing;
 
 pub use assigned::Assigned;

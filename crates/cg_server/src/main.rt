@@ -23,8 +23,6 @@ mod server;
 mod session;
 mod stop;
 mod storage_thread;
-#[cfg(test)]
-mod tests;
 mod ticker;
 mod unsent;
 mod worker;

@@ -20,8 +20,6 @@ mod sector_text;
 mod stage;
 mod stop;
 mod telling;
-#[cfg(test)]
-mod tests;
 mod text;
 mod unloaded;
 

@@ -29,6 +29,3 @@ pub use laws::{images_carry_commands, images_carry_one_pair};
 pub use phase::{Phase, Progress};
 pub use receipt::Receipt;
 pub use store::Store;
-
-#[cfg(test)]
-mod tests;

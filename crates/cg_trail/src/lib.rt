@@ -10,8 +10,6 @@ mod replay;
 mod same;
 mod same_command;
 mod same_reply;
-#[cfg(test)]
-mod tests;
 mod trail;
 
 pub use entry::{Replies, RequestEntry, TickEntry, TrailEntry};
