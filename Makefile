@@ -1,29 +1,49 @@
 # demo: runs the script of examples/ without waiting for a proof.
-# sim: proves the script program, builds it and runs it on standard input.
+# programs: proves and builds both programs. What this machine has proved before is not proved again.
+# sim: the same for the script program, and runs it on standard input.
 # try: runs the script program on a script, without proof: make try < SCRIPT
-# server: proves the server, builds it and starts it on a file: make server ARGS="--listen 127.0.0.1:9200"
-# install: proves both programs, and installs them with their manual pages: make install PREFIX=/usr/local
-# check [CRATE ..]: proves crates and runs their tests, over kept work.
+# server: proves and builds the server, and starts it on a file: make server ARGS="--listen 127.0.0.1:9200"
+# install: proves and installs both programs with their manual pages: make install PREFIX=/usr/local
+# check [CRATE ..]: proves crates and what they use, with their tests and edits.
+# test: the gate. fresh: the gate, which proves again what this machine has proved before.
+# mutants [CRATE ..]: tries every edit that the prover must refuse, or some of them: make mutants SAMPLE=20
+# dear [CRATE ..]: prints the functions over which the last rt check took longest.
 # prose: looks for phrases that docs and comments do not use.
-# test: the whole gate.
-# mutants [CRATE ..]: tries every edit that the prover must refuse, over kept work.
-# dear [CRATE ..]: prints the functions over which the prover took longest in the last checks.
+# bench [PART ..]: measures the built programs: machine, server, load, compact (all by default); options as in
+# make bench server ARGS="--slow 1"
 PREFIX ?= /usr/local
-.PHONY: demo sim try server install check prose test mutants dear
+.PHONY: demo programs sim try server install check test fresh mutants dear prose bench
 
-# The words after `check`, `mutants` and `dear` are names of crates.
-ifneq (,$(filter check mutants dear,$(firstword $(MAKECMDGOALS))))
-crates := $(wordlist 2,$(words $(MAKECMDGOALS)),$(MAKECMDGOALS))
-.PHONY: $(crates)
-$(crates):
+.DEFAULT_GOAL := demo
+first := $(firstword $(MAKECMDGOALS))
+
+check:
+	@python3 scripts/gate check $(words)
+
+mutants:
+	@python3 scripts/gate mutants $(if $(SAMPLE),--sample $(SAMPLE)) $(words)
+
+dear:
+	@python3 scripts/gate dear $(words)
+
+bench:
+	@python3 -B -m bench $(words) $(ARGS)
+
+ifneq (,$(filter check mutants dear bench,$(first)))
+# The words after these targets are names of crates, or of parts of the benchmark, and no targets.
+words := $(wordlist 2,$(words $(MAKECMDGOALS)),$(MAKECMDGOALS))
+.PHONY: $(words)
+$(words):
 	@:
-endif
-
+else
 demo:
 	@bash scripts/demo.sh
 
+programs:
+	@python3 scripts/gate build cg_sim cg_server
+
 sim:
-	@python3 scripts/gate sim
+	@python3 scripts/gate build cg_sim && crates/cg_sim/out/cg_sim
 
 try:
 	@bash scripts/try.sh
@@ -34,17 +54,12 @@ server:
 install:
 	@bash scripts/install.sh "$(PREFIX)"
 
-check:
-	@python3 scripts/gate check $(crates)
-
-prose:
-	@python3 scripts/gate prose
-
 test:
 	@python3 scripts/gate test
 
-mutants:
-	@python3 scripts/gate mutants $(crates)
+fresh:
+	@python3 scripts/gate test --anew
 
-dear:
-	@python3 scripts/gate dear $(crates)
+prose:
+	@python3 scripts/gate prose
+endif

@@ -1,5 +1,5 @@
 #!/usr/bin/env bash
-# install.sh PREFIX: proves and builds both programs over kept work, and installs them with their manual pages and the
+# install.sh PREFIX: proves and builds both programs, and installs them with their manual pages and the
 # documents that these name. With DESTDIR set, below that folder.
 set -eu
 cd "$(dirname "$0")/.."

@@ -1,5 +1,5 @@
 #!/usr/bin/env bash
-# Proves and builds the server over kept work, and starts it on the file berymohi.log of the working folder, which is made
+# Proves and builds the server, and starts it on the file berymohi.log of the working folder, which is made
 # and formatted if it is not there. Further words go to the server, but not --disk and --format.
 set -eu
 cd "$(dirname "$0")/.."

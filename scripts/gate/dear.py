@@ -3,7 +3,8 @@ files counts for the function of the second. With more than one job, and on a bu
 import os
 from collections import Counter
 
-from kit import KEPT
+# Where `rt check` keeps its work, in a crate's folder.
+KEPT = "out/incremental"
 
 # A file of the proof library, and of a function's theorem in it.
 SUFFIX, THEOREM = ".oantt", ".Met"

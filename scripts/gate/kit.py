@@ -1,46 +1,52 @@
-"""The kit's command `rt` as a module: its crates, its refusals and its way to run what was built."""
-import importlib.machinery
-import importlib.util
+"""The kit's gate, `rt ci`: runs it, shows what a reader wants of its output, and returns how it ended."""
 import os
 import re
-import shutil
-import sys
+import subprocess
+
+from times import Times
+
+LAST = re.compile(r"(\d+) passed, (\d+) failed")
 
 
-def _load():
-    sys.dont_write_bytecode = True
-    path = shutil.which("rt")
-    if path is None:
-        sys.exit("gate: the command rt of the Rattle kit is not on the PATH")
-    loader = importlib.machinery.SourceFileLoader("rt_of_the_kit", os.path.realpath(path))
-    spec = importlib.util.spec_from_loader(loader.name, loader)
-    module = importlib.util.module_from_spec(spec)
-    loader.exec_module(module)
-    return module
+def version():
+    """Returns the kit's line, which names what proves."""
+    return subprocess.run(["rt", "version"], capture_output=True, text=True, check=True).stdout.strip()
 
 
-rt = _load()
-rtlib = rt.rtlib
+def _shown(lines):
+    """Yields the lines to show. What the prover wrote of a crate comes between `== NAME` and its verdict, and is shown where that is not
+    `proved`."""
+    held, name = [], None
+    for line in lines:
+        if line.startswith("== "):
+            held, name = [line], line[3:].partition(":")[0].strip()
+        elif name and re.match(rf"rt: {re.escape(name)}\b.* (NOT PROVED|proved)$", line):
+            yield from held if line.rstrip().endswith("NOT PROVED") else []
+            yield line
+            held, name = [], None
+        elif name:
+            held.append(line)
+        elif line.strip():
+            yield line
+    yield from held
 
-# A crate is held to what the kit's own gate asks of its last line. Here it is proved into a folder of kept work that began empty,
-# and the libraries below it are those that this run proved, so two more words may follow.
-rtlib.VERDICT = re.compile(rtlib.VERDICT.pattern.replace(r"\n\Z", r"( incremental=trusted)?\n\Z"), re.M)
-rtlib.Crate = rt.Crate
 
-KEPT = "out/incremental"
-
-
-def crates_of(root):
-    """Returns the repository's crates, lowest first, each held to the handles that the file HANDLES allows."""
-    rt.Crate.allowed = rt.handles_of(root)
-    # (the first call sets a signal handler, which only the main thread may)
-    rtlib.guarded()
-    return sorted(rtlib.crates_below(root), key=lambda it: (len(it.below()), it.name))
-
-
-def processors():
-    """Returns the number of checks to run side by side: one a processor, fewer where one would find less than 5 GB."""
-    with open("/proc/meminfo") as file:
-        available = next(int(line.split()[1]) for line in file if line.startswith("MemAvailable:"))
-    number = os.environ.get("RT_JOBS", "")
-    return int(number) if number.isdigit() and int(number) else max(1, min(len(os.sched_getaffinity(0)), available // 5_000_000))
+def ci(room=".", anew=False, on_line=print):
+    """Runs `rt ci` at the top of a repository, and calls on_line(line) for each line to show. Returns how many passed and how many failed,
+    and what each crate took of processor time."""
+    words = ["rt", "ci", *["--anew"][: anew]]
+    with subprocess.Popen(words, cwd=room, stdin=subprocess.DEVNULL, stdout=subprocess.PIPE, stderr=subprocess.STDOUT, text=True) as process:
+        with Times(process.pid) as times:
+            last = ""
+            for line in _shown(process.stdout):
+                last = line.rstrip("\n")
+                if not LAST.fullmatch(last):
+                    on_line(last)
+        _, status, usage = os.wait4(process.pid, 0)
+        process.returncode = os.waitstatus_to_exitcode(status)
+    times.whole = usage.ru_utime + usage.ru_stime
+    counts = LAST.fullmatch(last)
+    if not counts or (process.returncode == 0) != (counts[2] == "0"):
+        on_line(f"rt ci ended with status {process.returncode}, and its last line is not that of a gate: {last}")
+        return 0, 1, times
+    return int(counts[1]), int(counts[2]), times
