@@ -6,7 +6,8 @@ from dataclasses import dataclass
 from .fault import Fault
 
 PARTS = ["machine", "server", "load", "compact"]
-DEFAULT_FOLDER = "/var/tmp/berymohi-bench"
+# On a disk: a folder for temporary files is often in memory.
+DEFAULT_FOLDER = os.path.join(os.environ.get("TMPDIR", "/var/tmp"), "berymohi-bench")
 
 
 @dataclass(frozen=True)

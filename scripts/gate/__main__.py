@@ -110,6 +110,8 @@ def test(anew):
 def mutants(words):
     number = None
     if words[:1] == ["--sample"]:
+        if not words[1:2] or not words[1].isdigit() or not int(words[1]):
+            sys.exit("gate: a sample is a number of edits, at least 1")
         number, words = int(words[1]), words[2:]
     every = every_crate()
     return try_edits(every, chosen_of(every, words), number)

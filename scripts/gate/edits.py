@@ -68,6 +68,9 @@ def try_edits(every, chosen, number=None):
     """Tries the edits of the chosen crates, or this many of them, by `rt ci` over a copy in which they are the crates' must-fail edits.
     Results are kept on the machine, so a run that was stopped goes on. Returns the exit status."""
     edits = [(crate, it) for crate in chosen for it in edits_of(crate)]
+    if not edits:
+        print("0 refused, 0 not refused")
+        return 0
     edits = sampled(edits, number) if number else edits
     names = [crate.name for crate, _ in edits]
     outcomes = {}
