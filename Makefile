@@ -2,8 +2,8 @@
 # programs: proves and builds both programs. What this machine has proved before is not proved again.
 # sim: the same for the script program, and runs it on standard input.
 # try: runs the script program on a script, without proof: make try < SCRIPT
-# server: proves and builds the server, and starts it on a file: make server ARGS="--listen 127.0.0.1:9200"
-# install: proves and installs both programs with their manual pages: make install PREFIX=/usr/local
+# server: starts the server on the file berymohi.log, without waiting for a proof: make server ARGS="--listen 127.0.0.1:9200"
+# install: proves and installs both programs with their manual pages and a unit file: make install PREFIX=/usr/local
 # check [CRATE ..]: proves crates and what they use, with their tests and edits.
 # test: the gate. fresh: the gate, which proves again what this machine has proved before.
 # mutants [CRATE ..]: tries every edit that the prover must refuse, or some of them: make mutants SAMPLE=20
@@ -49,7 +49,7 @@ try:
 	@bash scripts/try.sh
 
 server:
-	@bash scripts/server.sh $(ARGS)
+	@exec bash scripts/server.sh "$(PWD)" $(ARGS)
 
 install:
 	@bash scripts/install.sh "$(PREFIX)"

@@ -95,7 +95,7 @@ class Coordinator(Process):
 
 def start_coordinator(stack, settings, folder, env):
     log = os.path.join(folder, "log")
-    words = ["--disk", log, "--format", "--segments", "200", "--compact-free", "120"]
+    words = ["--disk", log, "--overwrite", "--segments", "200", "--compact-free", "120"]
     process = stack.enter_context(Coordinator(settings.server, folder, words, env))
     return Target("`cg_server`", "line", process, process.port, process.stored)
 

@@ -2,6 +2,7 @@
 # Shows examples/power-loss and what the script program prints for it, without waiting for a proof.
 set -eu
 cd "$(dirname "$0")/.."
+. scripts/needs_rt.sh
 said=$(mktemp)
 trap 'rm -f "$said"' EXIT
 echo "The script, examples/power-loss:"

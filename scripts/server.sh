@@ -1,14 +1,22 @@
 #!/usr/bin/env bash
-# Proves and builds the server, and starts it on the file berymohi.log of the working folder, which is made
-# and formatted if it is not there. Further words go to the server, but not --disk and --format.
+# server.sh FOLDER [WORD ..]: starts the server with these words in FOLDER. Without --disk it serves the file berymohi.log there,
+# which is made if it is not there. The program is the proved one if these files were proved, or else one without proofs.
 set -eu
+folder=$1
+shift
 cd "$(dirname "$0")/.."
-python3 scripts/gate build cg_server
-server=crates/cg_server/out/cg_server
+. scripts/needs_rt.sh
+server=$PWD/$(python3 scripts/gate unproved cg_server)
+cd "$folder"
+for word in "$@"; do
+    case $word in
+        --disk | --disk=* | --help | -h | --version | -V) exec "$server" "$@" ;;
+    esac
+done
 if [ ! -e berymohi.log ]; then
-    # A log that was cut short by a kill is refused, so the file gets its name once it is whole.
-    "$server" --disk berymohi.log.new --format --connections 0
-    sync
+    # The file gets its name once it is whole: a log that was cut short by a kill is refused.
+    "$server" --disk berymohi.log.new --overwrite --connections 0 > /dev/null
     mv berymohi.log.new berymohi.log
+    sync .
 fi
 exec "$server" --disk berymohi.log "$@"

@@ -4,6 +4,7 @@
                           'N passed, M failed'. --anew proves again what this machine has proved before
   gate check [CRATE ..]   `rt ci` for these crates (all by default) and those that they use
   gate build PROGRAM ..   proves and builds programs, unless they were built from the same files
+  gate unproved PROGRAM   builds a program without proofs, unless it was built from the same files, and prints its path
   gate scripts PROGRAM    runs the example scripts through a built script program
   gate prose              looks for phrases that docs and comments do not use, and for files without a first line on them
   gate mutants [--sample N] [CRATE ..]
@@ -17,6 +18,7 @@ import sys
 
 import kit
 import programs
+import unproved
 from cases import run_cases
 from crates import every_crate
 from dear import seconds_of
@@ -126,6 +128,9 @@ def main(words):
         return test(bool(rest))
     if verb == ["scripts"] and len(rest) == 1:
         return scripts(rest[0])
+    if verb == ["unproved"] and len(rest) == 1:
+        print(unproved.build(chosen_of(every_crate(), rest)[0].name))
+        return 0
     if words == ["prose"]:
         return prose()
     if verb and verb[0] in VERBS:

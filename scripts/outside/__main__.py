@@ -17,7 +17,8 @@ sys.path.insert(0, os.path.dirname(os.path.dirname(os.path.abspath(__file__))))
 
 from outside.report import Report  # noqa: E402
 
-SUBJECTS = ["command_lines", "written_log", "snapshots", "read_log", "damaged_logs", "stops", "lines", "loading", "runs"]
+SUBJECTS = ["command_lines", "log_files", "faults", "status", "written_log", "snapshots", "read_log", "damaged_logs", "stops",
+            "lines", "loading", "drawn_logs", "drawn_lines", "client", "runs"]
 
 
 @dataclass(frozen=True)

@@ -4,8 +4,7 @@ import socket
 import subprocess
 import tty
 
-from outside.logfile import SECTOR, Root, sectors_of, slot_bytes
-from outside.serving import WAIT_SECONDS
+from outside.serving import WAIT_SECONDS, run
 
 # Words, the status over an empty script, what is printed, and a text that standard error has.
 SIM = [
@@ -23,6 +22,7 @@ SIM = [
     ("-h", 2, "", "poke S xBYTES"),
 ]
 
+VERSION = "0.12.0"
 EMPTY = "LOADED 0 0 0\nCLOSED 0\n"
 SERVER = [
     ("--connections 0", 0, EMPTY, ""),
@@ -43,6 +43,10 @@ SERVER = [
     ("--listen 127.0.0.1:65536", 2, "", "an address is 127.0.0.1:"),
     ("--listen 127.0.0.1", 2, "", "an address is 127.0.0.1:"),
     ("9192", 2, "", "unexpected argument '9192'"),
+    ("--connections 0 --exit-on-fault --status-seconds 86400", 0, EMPTY, ""),
+    ("--status-seconds 86401", 2, "", "86401 is not in 0..=86400"),
+    ("--connections 0 --overwrite", 0, EMPTY, ""),
+    ("--overwrite=yes", 2, "", "unexpected value 'yes'"),
     ("--help", 2, "", "--compact-free"),
     ("-h", 2, "", "--compact-free"),
 ]
@@ -53,15 +57,11 @@ def check(report, programs, folder):
         for words, *wanted in table:
             with report.check(words):
                 check_words(report, program, words, *wanted)
-    checks = (port_that_is_taken, full_output_of_the_server, format_of_a_file, full_output_of_a_script, full_output_in_a_script,
+    checks = (version, port_that_is_taken, full_output_of_the_server, full_output_of_a_script, full_output_in_a_script,
               input_that_fails)
     for it in checks:
         with report.check(it.__name__):
             it(report, programs, folder)
-
-
-def run(program, *words, output=subprocess.PIPE, script=b""):
-    return subprocess.run([program, *words], input=script, stdout=output, stderr=subprocess.PIPE, timeout=WAIT_SECONDS)
 
 
 def check_words(report, program, words, status, output, problem):
@@ -69,6 +69,16 @@ def check_words(report, program, words, status, output, problem):
     ran = run(program, *words.split())
     report.equal(name, (ran.returncode, ran.stdout.decode()), (status, output))
     report.holds(f"{name}: standard error", problem in ran.stderr.decode(), f"no {problem!r} in {ran.stderr[:300]!r}")
+
+
+def version(report, programs, folder):
+    """The version names the kit that proves the program, as `rt version` does."""
+    kit = subprocess.run(["rt", "version"], capture_output=True, timeout=WAIT_SECONDS, text=True).stdout.strip()
+    for words in (["--version"], ["-V"]):
+        ran = run(programs.server, *words)
+        report.equal(f"{words}", (ran.returncode, ran.stdout.decode(), ran.stderr), (0, f"cg_server {VERSION} ({kit})\n", b""))
+        with open("/dev/full", "wb") as full:
+            report.equal(f"{words} with a full output", run(programs.server, *words, output=full).returncode, 3)
 
 
 def port_that_is_taken(report, programs, folder):
@@ -82,19 +92,6 @@ def full_output_of_the_server(report, programs, folder):
     for words in (["--connections", "0"], ["--listen", "127.0.0.1:0"]):
         with open("/dev/full", "wb") as full:
             report.equal(f"{words} with a full output", run(programs.server, *words, output=full).returncode, 3)
-
-
-def format_of_a_file(report, programs, folder):
-    """A format overwrites what the file had: a root of epoch 1 in slot 0, then zeros up to the end of the last segment."""
-    path = os.path.join(folder, "formatted")
-    with open(path, "wb") as file:
-        file.write(b"\x01" * 10_000)
-    ran = run(programs.server, "--disk", path, "--format", "--segments", "3", "--connections", "0")
-    report.equal("a format of three segments", (ran.returncode, ran.stdout.decode()), (0, EMPTY))
-    with open(path, "rb") as file:
-        content = file.read()
-    wanted = slot_bytes(Root(1)) + bytes(SECTOR * (sectors_of(3) - 2))
-    report.holds("the bytes of a format", content == wanted, f"{len(content)} bytes, {content[:SECTOR + 26].hex()}")
 
 
 def full_output_of_a_script(report, programs, folder):

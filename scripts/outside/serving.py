@@ -11,12 +11,18 @@ import threading
 WAIT_SECONDS = 60
 
 
+def run(program, *words, output=subprocess.PIPE, script=b"", **how):
+    """Runs a program to its end."""
+    how = {"input": script, "stdout": output, "stderr": subprocess.PIPE, "timeout": WAIT_SECONDS, **how}
+    return subprocess.run([program, *words], **how)
+
+
 class Server:
     """A cg_server on a free port. It is killed at the end of a `with` block if it did not end before."""
 
-    def __init__(self, program, *words):
+    def __init__(self, program, *words, **how):
         self.process = subprocess.Popen([program, "--listen", "127.0.0.1:0", *words], stdin=subprocess.DEVNULL,
-                                        stdout=subprocess.PIPE, stderr=subprocess.PIPE, text=True)
+                                        stdout=subprocess.PIPE, stderr=subprocess.PIPE, text=True, **how)
         self._lines = queue.Queue()
         self.warnings = []
         self._readers = [threading.Thread(target=it, daemon=True) for it in (self._read_output, self._read_warnings)]

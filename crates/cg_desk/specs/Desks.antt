@@ -1,9 +1,11 @@
 -- The desk by its phase, and what each of its calls does.
-use Rattle.std.specs.Prelude.{◌≡◌, ℕ, Bool, false, List, [], ◌∷◌, if◌then◌else◌, Option, None}
+use Rattle.std.specs.Prelude.{◌≡◌, ℕ, Bool, false, List, [], ◌∷◌, length, if◌then◌else◌, Option, None}
+use Rattle.std.specs.FinMap as finmap
 use Rattle.cg_request.specs.declared.event.Event.{Event}
 use Rattle.cg_request.specs.declared.event.Event.TheVariants as event
 use Rattle.cg_member.specs.declared.reply.Reply.TheVariants.{Refused}
 use Rattle.cg_held.specs.Held.{Machine}
+use Rattle.cg_group.specs.Machine.{member_count}
 use Rattle.cg_names.specs.declared.code.Code.TheVariants.{CoordinatorLoadInProgress, CoordinatorNotAvailable}
 use Rattle.cg_store.specs.declared.batch.Batch.{Batch}
 use Rattle.cg_desk.specs.Books.{Books, Served, IsInFlight, IsReason, IsTake, failing, is_short, returning, served, settling}
@@ -11,6 +13,7 @@ use Rattle.cg_desk.specs.Flights.{Idle, is_away, is_returned}
 use Rattle.cg_desk.specs.Outgoings.{answer}
 use Rattle.cg_desk.specs.Serving.{books}
 use Rattle.cg_desk.specs.Tokens.{call_of}
+use Rattle.cg_desk.specs.declared.desk.Counts.{Counts}
 use Rattle.cg_desk.specs.declared.desk.Desk.{Desk}
 use Rattle.cg_desk.specs.declared.desk.Phase.{Phase}
 use Rattle.cg_desk.specs.declared.desk.Phase.TheVariants as phase
@@ -133,6 +136,18 @@ abbrev pub settled_of : State → ℕ
 settled_of Loading = 0
 settled_of (Failed n s) = s
 settled_of (Serving b) = b.settled
+
+-- what a desk has: groups, members and offsets of its machine, pending requests, and settled commands
+abbrev pub counts_of : State → Counts
+counts_of Loading = record { groups = 0; members = 0; offsets = 0; pending = 0; settled = 0 }
+counts_of (Failed n s) = record { groups = 0; members = 0; offsets = 0; pending = 0; settled = s }
+counts_of (Serving b) = record {
+  groups = length b.machine.groups;
+  members = member_count b.machine.groups;
+  offsets = finmap.len b.machine.offsets;
+  pending = length b.tokens;
+  settled = b.settled;
+}
 
 -- the held steps, in the order in which they were made
 abbrev pub held_of : State → List HeldStep

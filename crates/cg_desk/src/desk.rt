@@ -26,6 +26,21 @@ pub enum Phase {
     Failed(u64, u64),
 }
 
+/// What a desk has.
+#[derive(Clone, Copy, Debug, Drop, PartialEq, Eq)]
+pub struct Counts {
+    /// Loaded groups.
+    pub groups: u64,
+    /// Members of all loaded groups.
+    pub members: u64,
+    /// Committed offsets.
+    pub offsets: u64,
+    /// Requests that have no reply yet, parked ones among them.
+    pub pending: u64,
+    /// Number of the last settled command.
+    pub settled: u64,
+}
+
 /// The desk: a group machine, the numbered commands that wait for the disk, and the replies that wait for these
 /// commands.
 pub struct Desk {
@@ -59,7 +74,7 @@ impl Desk {
     ghost use Rattle.cg_request.specs.Asking.{asked};
     ghost use Rattle.cg_held.specs.Reviving.{revive};
     ghost use Rattle.cg_store.specs.Receipts.{batch_of};
-    ghost use Rattle.cg_desk.specs.Desks.{IsOut, IsReasonAt, IsTakenFrom, failing_on, gone_on, held_of, is_back, is_out, numbered_of, opened, request_on, return_to, settle_on, settled_of, state_of, tick_on};
+    ghost use Rattle.cg_desk.specs.Desks.{IsOut, IsReasonAt, IsTakenFrom, counts_of, failing_on, gone_on, held_of, is_back, is_out, numbered_of, opened, request_on, return_to, settle_on, settled_of, state_of, tick_on};
     ghost use Rattle.cg_desk.specs.Balanced.{IsOwedAt};
     ghost use Rattle.cg_desk.specs.Held.{last_replies};
     ghost use Rattle.cg_desk.specs.Laws.{AreRefusedOnce, tokens_of};
@@ -129,6 +144,36 @@ impl Desk {
             Phase::Loading => 0,
             Phase::Serving(serving) => serving.settled,
             Phase::Failed(_, settled) => *settled,
+        }
+    }
+
+    /// Returns how many groups, members and offsets the machine has, how many requests are pending, and the number of the last
+    /// settled command. Without a machine it has none. Linear in the groups, no allocation.
+    pub fn counts(&self) -> Counts
+        ensures { result ≡ counts_of (state_of self.now) }
+    {
+        match &self.phase {
+            Phase::Loading => Counts {
+                groups: 0,
+                members: 0,
+                offsets: 0,
+                pending: 0,
+                settled: 0,
+            },
+            Phase::Failed(_, settled) => Counts {
+                groups: 0,
+                members: 0,
+                offsets: 0,
+                pending: 0,
+                settled: *settled,
+            },
+            Phase::Serving(serving) => Counts {
+                groups: serving.groups.held(),
+                members: serving.groups.member_count(),
+                offsets: serving.groups.offset_count(),
+                pending: serving.tokens.len() as u64,
+                settled: serving.settled,
+            },
         }
     }
 

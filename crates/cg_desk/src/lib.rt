@@ -21,7 +21,7 @@ mod serving;
 mod token;
 
 pub use bounds::{SPARE_NUMBERS, SPARE_NUMBERS_PER_GROUP};
-pub use desk::Desk;
+pub use desk::{Counts, Desk};
 pub use fault::{SettleFault, TakeFault};
 pub use laws::{
     batches_are_longest, commands_are_counted_once, desks_have_distinct_members,

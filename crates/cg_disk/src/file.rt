@@ -1,9 +1,9 @@
 //! A disk in a file.
 ghost use Rattle.cg_disk.specs.declared.disk.TheConstants.{SECTOR_BYTES};
-ghost use Rattle.std.specs.Prelude.{◌≡◌, ◌*◌, ◌^◌, ◌<◌, false, IfOk, IfSome};
-ghost use Rattle.cg_disk.specs.Disk.{unknown_history};
+ghost use Rattle.std.specs.Prelude.{◌≡◌, ◌*◌, ◌^◌, ◌<◌, false, IfOk, IfErr, IfSome, OnOk, is_err, Some};
+ghost use Rattle.std.specs.Option.{option_copied};
+ghost use Rattle.cg_disk.specs.Disk.{Counts, unknown_history};
 
-use crate::fault::count;
 use crate::{DiskFault, SECTOR_BYTES, SectorDisk};
 use std::fs::{OpenFile, OpenOptions};
 use std::io::{self, ErrorKind, Read, Seek, SeekFrom, Write};
@@ -17,6 +17,8 @@ pub struct FileDisk<F> {
     file: F,
     sectors: u64,
     failures: u64,
+    /// What the system said of the last call that failed.
+    error: Option<io::Error>,
     ghost fits: { SECTOR_BYTES * sectors < 2 ^ 64 },
 }
 
@@ -33,45 +35,74 @@ impl<F: Read + Write + Seek + OpenFile + Drop> FileDisk<F> {
         ensures made { IfOk result (λ disk. IfSome sectors (λ n. file_size disk ≡ n)) }
         ensures failures { IfOk result (λ disk. file_failures disk ≡ 0) }
     {
+        let is_new = sectors.is_some();
+        let file = OpenOptions::new()
+            .read(true)
+            .write(true)
+            .create(is_new)
+            .truncate(is_new)
+            .open(rt, path)?;
         match sectors {
-            Some(sectors) => made(rt, path, sectors),
-            None => found(rt, path),
+            Some(sectors) => FileDisk::zeroed(file, sectors),
+            None => FileDisk::whole(file),
         }
     }
-}
 
-fn made<R: Files>(rt: &R, path: &str, sectors: u64) -> io::Result<FileDisk<R::File>>
-    ensures sectors { IfOk result (λ disk. disk.sectors ≡ sectors) }
-    ensures failures { IfOk result (λ disk. disk.failures ≡ 0) }
-{
-    let Some(length) = sectors.checked_mul(SECTOR_BYTES_U64) else {
-        return Err(ErrorKind::InvalidInput.into());
-    };
-    let file = OpenOptions::new()
-        .read(true)
-        .write(true)
-        .create(true)
-        .truncate(true)
-        .open(rt, path)?;
-    file.set_len(length)?;
-    file.sync_all()?;
-    Ok(FileDisk {
-        file,
-        sectors,
-        failures: 0,
-    })
-}
+    /// Makes a disk of a file that is open for reading and writing: of the whole sectors within its length.
+    pub fn whole(file: F) -> io::Result<FileDisk<F>>
+        ensures failures { IfOk result (λ disk. file_failures disk ≡ 0) }
+    {
+        let sectors = file.metadata()?.len() / SECTOR_BYTES_U64;
+        Ok(FileDisk {
+            file,
+            sectors,
+            failures: 0,
+            error: None,
+        })
+    }
 
-fn found<R: Files>(rt: &R, path: &str) -> io::Result<FileDisk<R::File>>
-    ensures { IfOk result (λ disk. disk.failures ≡ 0) }
-{
-    let file = OpenOptions::new().read(true).write(true).open(rt, path)?;
-    let sectors = file.metadata()?.len() / SECTOR_BYTES_U64;
-    Ok(FileDisk {
-        file,
-        sectors,
-        failures: 0,
-    })
+    /// Makes a disk of this many sectors of a file that is open for reading and writing. What the file had is gone, and reads
+    /// give zeros. The file system may give the file its room only when the sectors are written.
+    pub fn zeroed(file: F, sectors: u64) -> io::Result<FileDisk<F>>
+        ensures sectors { IfOk result (λ disk. file_size disk ≡ sectors) }
+        ensures failures { IfOk result (λ disk. file_failures disk ≡ 0) }
+    {
+        let Some(length) = sectors.checked_mul(SECTOR_BYTES_U64) else {
+            return Err(ErrorKind::InvalidInput.into());
+        };
+        file.set_len(0)?;
+        file.set_len(length)?;
+        file.sync_all()?;
+        Ok(FileDisk {
+            file,
+            sectors,
+            failures: 0,
+            error: None,
+        })
+    }
+
+    /// Returns what the system said of the last call that failed.
+    pub fn last_error(&self) -> Option<&io::Error>
+        ensures { option_copied result ≡ self.now.error }
+    {
+        self.error.as_ref()
+    }
+
+    // Counts the call if it failed, and keeps what the system said. The count stops at `u64::MAX`.
+    fn note(&mut self, outcome: io::Result<()>) -> Result<(), DiskFault>
+        ensures same { is_err result ≡ is_err outcome }
+        ensures size { file_size self.new ≡ file_size self.old }
+        ensures counts { Counts (file_failures self.old) (file_failures self.new) (is_err outcome) }
+        ensures kept { OnOk outcome (self.new.error ≡ self.old.error) }
+        ensures error { IfErr outcome (λ error. self.new.error ≡ Some error) }
+    {
+        let Err(error) = outcome else {
+            return Ok(());
+        };
+        self.failures = self.failures.saturating_add(1);
+        self.error = Some(error);
+        Err(DiskFault::Device)
+    }
 }
 
 impl<F: Read + Write + Seek + OpenFile + Drop> SectorDisk for FileDisk<F> {
@@ -91,17 +122,17 @@ impl<F: Read + Write + Seek + OpenFile + Drop> SectorDisk for FileDisk<F> {
 
     fn read(&mut self, at: u64, bytes: &mut [u8]) -> Result<(), DiskFault> {
         let outcome = read_at(&mut self.file, at, bytes);
-        count(&mut self.failures, outcome)
+        self.note(outcome)
     }
 
     fn write(&mut self, at: u64, bytes: &[u8]) -> Result<(), DiskFault> {
         let outcome = write_at(&mut self.file, at, bytes);
-        count(&mut self.failures, outcome)
+        self.note(outcome)
     }
 
     fn sync(&mut self) -> Result<(), DiskFault> {
         let outcome = self.file.sync_data();
-        count(&mut self.failures, outcome)
+        self.note(outcome)
     }
 }
 

@@ -3,8 +3,12 @@ ghost use Rattle.std.specs.Prelude.{◌≡◌, ◌*◌, ◌^◌, ◌<◌, ◌≤
 
 use crate::{Crash, FileDisk, Gate, GateDisk, MemDisk, SECTOR_BYTES, SectorDisk};
 use std::alloc::{AllocError, Global};
-use std::fs;
+use std::fs::{self, File};
+use std::io;
 use std::process::Abort;
+
+/// `errno` of a write to a file that is open for reading alone (Linux, EBADF).
+const BAD_DESCRIPTOR: i32 = 9;
 
 fn sectors(alloc: Global, byte: u8, count: u64) -> Result<Vec<u8>, AllocError>
     requires { count < 2 ^ 32 }
@@ -82,6 +86,19 @@ fn a_file_keeps_what_was_written(rt: HostRuntime) {
     assert!(rt; !is_opened(&rt, path, None));
     assert!(rt; !is_opened(&rt, path, Some(u64::MAX)));
     assert!(rt; !is_opened(&rt, "no such folder/disk", Some(4)));
+}
+
+#[test]
+fn a_failed_write_keeps_what_the_system_said(rt: HostRuntime) {
+    let path = "disk_without_leave_to_write";
+    FileDisk::open(&rt, path, Some(1)).expect(&rt, "a disk");
+    let file = File::open(&rt, path).expect(&rt, "a file to read");
+    let mut disk = FileDisk::whole(file).expect(&rt, "a disk");
+    assert!(rt; disk.sectors() == 1 && disk.last_error().is_none());
+    assert!(rt; disk.write(0, &[1; SECTOR_BYTES]).is_err());
+    let said = disk.last_error().and_then(io::Error::raw_os_error);
+    assert_eq!(rt; said, Some(BAD_DESCRIPTOR));
+    fs::remove_file(&rt, path).expect(&rt, "a file");
 }
 
 // A gate that returns this value at the first call, and the opposite later.

@@ -16,7 +16,7 @@ use crate::recorder::{Begun, Recorder};
 use crate::session::{Session, Waiting};
 use crate::taken::{Taken, TakenBatch};
 use crate::units::{Part, Pool};
-use cg_desk::{Desk, Outgoing, ReplyToken, SettleFault, TakeFault};
+use cg_desk::{Counts, Desk, Outgoing, ReplyToken, SettleFault, TakeFault};
 use cg_fold::Durable;
 use cg_group::{Request, Ticket};
 use cg_names::{Code, Moment};
@@ -175,6 +175,11 @@ impl<L: Ledger> DeskSide<L> {
     /// Returns the number of the last command.
     pub fn numbered(&self) -> u64 {
         self.desk.numbered()
+    }
+
+    /// Returns what the desk has.
+    pub fn counts(&self) -> Counts {
+        self.desk.counts()
     }
 
     /// Begins to serve a state, and a trail where the commands of its snapshot are given. If an allocation fails,

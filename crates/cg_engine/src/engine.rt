@@ -15,6 +15,7 @@ use crate::intake::Intake;
 use crate::loading::opened;
 use crate::pass::SessionPass;
 use crate::store_side::{BlankBook, StoreSide};
+use cg_desk::Counts;
 use cg_disk::SectorDisk;
 use cg_names::Moment;
 use cg_store::CompactFault;
@@ -75,6 +76,12 @@ impl<D: SectorDisk + Drop, L: Ledger> Engine<D, L> {
     /// be stored yet. With nothing loaded it is 0.
     pub fn numbered<R: Wait>(&self, rt: &R) -> u64 {
         self.desk.lock(rt).numbered()
+    }
+
+    /// Returns how many groups, members and offsets there are, how many requests are pending, and the number of the last settled
+    /// command. Linear in the groups, under the desk lock.
+    pub fn counts<R: Wait>(&self, rt: &R) -> Counts {
+        self.desk.lock(rt).counts()
     }
 
     /// Returns the number of the last command that is stored: at least the number of the loaded commands and the units of the

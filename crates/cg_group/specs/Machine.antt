@@ -1,6 +1,6 @@
 -- The machine: the effect of an event on the loaded groups and the offsets. The moment of an event is its own or the
 -- last one, whichever is later.
-use Rattle.std.specs.Prelude.{◌≡◌, ◌≤◌, not, ℕ, max, List, [], ◌∷◌, map, length, Option, Some, None, Result, Ok, Err, true, is_ok, is_some, option_map, ok_or}
+use Rattle.std.specs.Prelude.{◌≡◌, ◌≤◌, ◌+◌, ◌-◌, ◌^◌, not, ℕ, min, max, fold, List, [], ◌∷◌, map, length, Option, Some, None, Result, Ok, Err, true, is_ok, is_some, option_map, ok_or}
 use Rattle.std.specs.List.{list_any}
 use Rattle.cg_names.specs.declared.code.Code.{Code}
 use Rattle.cg_names.specs.declared.code.Code.TheVariants.{GroupIdNotFound, InvalidGroupId, InvalidSessionTimeout, NonEmptyGroup, UnknownMemberId}
@@ -161,3 +161,7 @@ at_event s now = record s { last = max s.last now }
 -- the step: an event at a moment
 unfoldable pub step : Machine → Event → ℕ → Outcome
 step s event now = with_offsets (met (at_event s now) event)
+
+-- the number of members of all groups, as far as 64 bits hold it
+abbrev pub member_count : List Group → ℕ
+member_count groups = fold (λ n g. min (n + length g.members) (2 ^ 64 - 1)) 0 groups

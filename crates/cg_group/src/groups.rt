@@ -1,12 +1,13 @@
 //! The group machine: the loaded groups, and the step function.
 ghost use Rattle.std.specs.Prelude.{◌≡◌, IfOk, IfErr, OnErr, length, slice_get};
+ghost use Rattle.std.specs.FinMap as finmap;
 ghost use Rattle.std.specs.Map.Iter.{ShowsInOrder, deref};
 ghost use Rattle.cg_member.specs.declared.group.Group.{Group};
 ghost use Rattle.cg_held.specs.Props.{AreKnown-prop, IsTight-prop};
 ghost use Rattle.cg_held.specs.Sessions.{AreKnown, IsTight, is_home};
 ghost use Rattle.cg_member.specs.Waiting.{waiting_calls};
 ghost use Rattle.cg_held.specs.Held.{outcome};
-ghost use Rattle.cg_group.specs.Machine.{MayNeedMemory, at_event, step};
+ghost use Rattle.cg_group.specs.Machine.{MayNeedMemory, at_event, member_count, step};
 ghost use Rattle.cg_held.specs.Reviving.{revive};
 
 use crate::meeting::met;
@@ -78,6 +79,23 @@ impl Groups {
         ensures { result ≡ length self.now.groups }
     {
         self.held.len() as u64
+    }
+
+    /// Returns the number of members of all loaded groups. Linear in the groups, no allocation.
+    pub fn member_count(&self) -> u64
+        ensures { result ≡ member_count self.now.groups }
+    {
+        self.held.iter().fold(
+            0,
+            |count: u64, group| count.saturating_add(group.members.len() as u64),
+        )
+    }
+
+    /// Returns the number of committed offsets, in constant time.
+    pub fn offset_count(&self) -> u64
+        ensures { result ≡ finmap.len self.now.offsets }
+    {
+        self.offsets.len()
     }
 
     /// Returns an iterator over the loaded groups, by the bytes of their ids.

@@ -15,6 +15,7 @@ use Rattle.cg_server.proofs.options.Options.TheSendSync as options
 use Rattle.cg_server.proofs.inbox.Inbox.TheSendSync as inbox
 use Rattle.cg_server.proofs.room.Room.TheSendSync as room
 use Rattle.cg_server.proofs.passes.Passes.TheSendSync as passes
+use Rattle.cg_server.proofs.tally.Tally.TheSendSync as tally
 
 module _ (n : NamedLft) (D : RattleType) (L : RattleType) (k : disk.Ghosts D.Denot) (l : ledger.Ghosts L.Denot) (s : IsSend D) where
   pub server_shared : IsSync (Server.the_row n D L k l)
@@ -33,20 +34,29 @@ module _ (n : NamedLft) (D : RattleType) (L : RattleType) (k : disk.Ghosts D.Den
               (
                 bell.the_field_sync,
                 (
-                  room.the_field_sync,
+                  bell.the_field_sync,
                   (
-                    passes.the_field_sync L l,
+                    room.the_field_sync,
                     (
-                      search (sendable, one.crosses) depth 20,
+                      passes.the_field_sync L l,
                       (
-                        search (sendable, one.crosses) depth 10,
+                        tally.the_field_sync,
                         (
-                          search (sendable, one.crosses) depth 10,
+                          search (sendable, one.crosses) depth 20,
                           (
                             search (sendable, one.crosses) depth 10,
                             (
                               search (sendable, one.crosses) depth 10,
-                              (search (sendable, one.crosses) depth 10, tt),
+                              (
+                                search (sendable, one.crosses) depth 10,
+                                (
+                                  search (sendable, one.crosses) depth 10,
+                                  (
+                                    search (sendable, one.crosses) depth 10,
+                                    (search (sendable, one.crosses) depth 10, tt),
+                                  ),
+                                ),
+                              ),
                             ),
                           ),
                         ),

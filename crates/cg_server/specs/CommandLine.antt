@@ -9,7 +9,7 @@ use Rattle.cg_gate.specs.declared.layout.TheConstants.{SEGMENTS_MAX}
 use Rattle.cg_server.specs.Address.{port_of}
 use Rattle.cg_server.specs.declared.address.TheConstants.{PORT_DEFAULT}
 use Rattle.cg_server.specs.declared.command_line.Arguments.{Arguments}
-use Rattle.cg_server.specs.declared.command_line.TheConstants.{COMPACT_FREE_DEFAULT, COMPACT_FREE_MAX, CONNECTIONS_MAX, SEGMENTS_DEFAULT, TICK_MS_DEFAULT, TICK_MS_MAX, TICK_MS_MIN}
+use Rattle.cg_server.specs.declared.command_line.TheConstants.{COMPACT_FREE_DEFAULT, COMPACT_FREE_MAX, CONNECTIONS_MAX, SEGMENTS_DEFAULT, STATUS_SECONDS_MAX, TICK_MS_DEFAULT, TICK_MS_MAX, TICK_MS_MIN}
 
 -- an option with a text
 abbrev pub text_rule : Text → Rule
@@ -32,6 +32,9 @@ disk_rule = text_rule (codes "disk")
 abbrev pub format_rule : Rule
 format_rule = flag_rule (codes "format")
 
+abbrev pub overwrite_rule : Rule
+overwrite_rule = flag_rule (codes "overwrite")
+
 abbrev pub segments_rule : Rule
 segments_rule = number_rule (codes "segments") 1 SEGMENTS_MAX
 
@@ -44,17 +47,31 @@ compact_free_rule = number_rule (codes "compact-free") 0 COMPACT_FREE_MAX
 abbrev pub connections_rule : Rule
 connections_rule = number_rule (codes "connections") 0 CONNECTIONS_MAX
 
+abbrev pub exit_rule : Rule
+exit_rule = flag_rule (codes "exit-on-fault")
+
+abbrev pub status_rule : Rule
+status_rule = number_rule (codes "status-seconds") 0 STATUS_SECONDS_MAX
+
 -- with the options that say where to listen and where the log is
 abbrev pub with_place_rules : App → App
-with_place_rules app = with_rule (with_rule (with_rule app listen_rule) disk_rule) format_rule
+with_place_rules app = with_rule (with_rule (with_rule (with_rule app listen_rule) disk_rule) format_rule) overwrite_rule
 
 -- with the options that have numbers
 abbrev pub with_number_rules : App → App
 with_number_rules app = with_rule (with_rule (with_rule (with_rule app segments_rule) tick_rule) compact_free_rule) connections_rule
 
--- a command line with these options, whose first word is not the program's name
+-- with the options that say what the server reports
+abbrev pub with_report_rules : App → App
+with_report_rules app = with_rule (with_rule app exit_rule) status_rule
+
+-- a program with a version, whose command line does not begin with its name
+abbrev pub bare_app : App
+bare_app = let named = new_app (codes "cg_server") in record named { top = record named.top { no_binary_name = true; has_version = true } }
+
+-- a command line with these options
 abbrev pub server_app : App
-server_app = let named = new_app (codes "cg_server") in with_number_rules (with_place_rules (record named { top = record named.top { no_binary_name = true } }))
+server_app = with_report_rules (with_number_rules (with_place_rules bare_app))
 
 -- what clap refuses the words for; nothing, if it takes them
 abbrev pub faults_of : List Text → Kinds
@@ -70,6 +87,7 @@ abbrev pub HasNumbers : (Text → Option Text) → Arguments → Type 0
 HasNumbers found arguments = AsksFor SEGMENTS_DEFAULT (found (codes "segments")) arguments.segments
     × AsksFor TICK_MS_DEFAULT (found (codes "tick-ms")) arguments.options.tick_ms
     × AsksFor COMPACT_FREE_DEFAULT (found (codes "compact-free")) arguments.options.compact_free
+    × AsksFor 0 (found (codes "status-seconds")) arguments.options.status_seconds
 
 -- the port that a text asks for; nothing, if it is no address on loopback
 abbrev pub asked_port : Option Text → Option ℕ

@@ -2,17 +2,20 @@
 ghost use Rattle.std.specs.Prelude.{◌≡◌, ◌≢◌, ◌⊎◌, None, map, []};
 ghost use Rattle.clap.specs.Words.{kind_of};
 ghost use Rattle.cg_server.specs.CommandLine.{faults_of, port_in};
-ghost use Rattle.cg_server.specs.Ending.{EndsSomehow, IsRefused, Refuses};
+ghost use Rattle.cg_server.specs.Ending.{EndsSomehow, IsRefused, RefusesWords, ShowsVersion};
 
 use crate::command_line::{Arguments, LogPlace, Refusal, parse_words};
-use crate::disks::{found_file, new_file, new_memory};
+use crate::disks::{new_log, new_memory};
+use crate::log_file::found_file;
+use crate::output::print_version;
 use crate::serve::{refuse, serve};
-use crate::stop::{STATUS_USAGE, Stop};
+use crate::stop::{STATUS_CLOSED, STATUS_NET, STATUS_USAGE, Stop};
 use cg_disk::SectorDisk;
 use clap::Error;
 use clap::error::ErrorKind;
 use std::alloc::Global;
 use std::convert::AsStr;
+use std::fs::File;
 use std::io::{Eprint, Write};
 use std::net::{Ipv4Addr, Net, SocketAddr, TcpListener, TcpStream};
 use std::random::RandomSource;
@@ -20,6 +23,9 @@ use std::rt::Files;
 use std::sync::Wait;
 use std::thread::Threads;
 use std::time::Clock;
+
+/// What standard error calls a log in memory, or one of which nothing is known.
+pub const NO_LOG: &str = "the log in memory";
 
 /// What standard error has of an address that is not on loopback.
 const BAD_ADDRESS: &[u8] = b"\
@@ -32,7 +38,7 @@ For more information, try '--help'.
 /// exit status. Prints what is wrong with the words, and help, to `faults`.
 pub fn command<
     E: Alloc<A = Global>
-        + Files
+        + Files<File = File>
         + Threads
         + Wait
         + Clock
@@ -44,15 +50,13 @@ pub fn command<
     W: Write,
     F: Write,
 >(rt: &E, words: &[S], writer: &mut W, faults: &mut F) -> u8
-where
-    E::File: Send,
     ensures serves { faults_of (map S.text words.now) ≡ [] → port_in (map S.text words.now) ≢ None → EndsSomehow result (W.contents writer.old) (W.contents writer.new) }
-    ensures address { port_in (map S.text words.now) ≡ None → IsRefused result (W.contents writer.old) (W.contents writer.new) }
-    ensures refuses { faults_of (map S.text words.now) ≢ [] → IsRefused result (W.contents writer.old) (W.contents writer.new) }
+    ensures address { port_in (map S.text words.now) ≡ None → IsRefused (faults_of (map S.text words.now)) result (W.contents writer.old) (W.contents writer.new) }
+    ensures refuses { faults_of (map S.text words.now) ≢ [] → IsRefused (faults_of (map S.text words.now)) result (W.contents writer.old) (W.contents writer.new) }
 {
     match parse_words(rt.alloc(), words) {
         Ok(arguments) => serve_place(rt, &arguments, writer),
-        Err(Refusal::Words(error)) => refuse_words(&error, writer, faults),
+        Err(Refusal::Words(error)) => refuse_words(rt, &error, writer, faults),
         Err(Refusal::Address) => refuse_address(faults),
     }
 }
@@ -60,7 +64,7 @@ where
 // Serves the log where the words say that it is.
 fn serve_place<
     E: Alloc<A = Global>
-        + Files
+        + Files<File = File>
         + Threads
         + Wait
         + Clock
@@ -70,26 +74,28 @@ fn serve_place<
         + Sync,
     W: Write,
 >(rt: &E, arguments: &Arguments<'_>, writer: &mut W) -> u8
-where
-    E::File: Send,
     ensures { EndsSomehow result (W.contents writer.old) (W.contents writer.new) }
 {
     let segments = arguments.segments;
     match arguments.place {
-        LogPlace::Memory => serve_made(rt, new_memory(rt.alloc(), segments), arguments, writer),
-        LogPlace::NewFile(path) => {
+        LogPlace::Memory => {
             serve_made(
                 rt,
-                new_file(rt, rt.alloc(), path, segments),
+                new_memory(rt.alloc(), segments),
+                NO_LOG,
                 arguments,
                 writer,
             )
         }
-        LogPlace::File(path) => serve_made(rt, found_file(rt, path), arguments, writer),
+        LogPlace::NewFile(path, overwrite) => {
+            let made = new_log(rt, rt.alloc(), path, segments, overwrite);
+            serve_made(rt, made, path, arguments, writer)
+        }
+        LogPlace::File(path) => serve_made(rt, found_file(rt, path), path, arguments, writer),
     }
 }
 
-// Serves a disk, unless it was not made.
+// Serves a disk, unless it was not made. Its log is called `log` on standard error.
 fn serve_made<
     D: SectorDisk + Drop + Send,
     E: Alloc<A = Global>
@@ -101,24 +107,24 @@ fn serve_made<
         + Eprint
         + Sync,
     W: Write,
->(rt: &E, made: Result<D, Stop>, arguments: &Arguments<'_>, writer: &mut W) -> u8
+>(rt: &E, made: Result<D, Stop>, log: &str, arguments: &Arguments<'_>, writer: &mut W) -> u8
     ensures { EndsSomehow result (W.contents writer.old) (W.contents writer.new) }
 {
     let disk = match made {
         Ok(disk) => disk,
-        Err(stop) => return refuse_start(writer, stop),
+        Err(stop) => return refuse_start(rt, writer, log, stop),
     };
     match bound(rt, arguments) {
-        Ok(listener) => serve(rt, listener, disk, arguments.options, writer),
-        Err(stop) => refuse_start(writer, stop),
+        Ok(listener) => serve(rt, listener, disk, log, arguments.options, writer),
+        Err(stop) => refuse_start(rt, writer, log, stop),
     }
 }
 
 // Prints why the server does not begin. Returns the exit status.
-fn refuse_start<W: Write>(writer: &mut W, stop: Stop) -> u8
+fn refuse_start<R: Eprint, W: Write>(rt: &R, writer: &mut W, log: &str, stop: Stop) -> u8
     ensures { EndsSomehow result (W.contents writer.old) (W.contents writer.new) }
 {
-    refuse(writer, stop)
+    refuse(rt, writer, log, stop)
 }
 
 // Binds the address, unless no connection is to be served. What the system says of an address that it refuses comes on standard
@@ -141,13 +147,29 @@ fn bound<E: Net<Listener = TcpListener, Stream = TcpStream> + Eprint>(
     }
 }
 
-// Prints the text of `clap` for words that it refused, unless it ran out of memory.
-fn refuse_words<W: Write, F: Write>(error: &Error, writer: &mut W, faults: &mut F) -> u8
-    ensures { ((kind_of error.now ≡ ErrorKind.OutOfMemory) × Refuses Stop.Memory result (W.contents writer.old) (W.contents writer.new))
-        ⊎ ((kind_of error.now ≢ ErrorKind.OutOfMemory) × (result ≡ STATUS_USAGE) × (W.contents writer.new ≡ W.contents writer.old)) }
+// Prints the version. Returns the exit status.
+fn show_version<R: Alloc<A = Global> + Eprint, W: Write>(rt: &R, writer: &mut W) -> u8
+    ensures { ShowsVersion result (W.contents writer.old) (W.contents writer.new) }
+{
+    match print_version(rt.alloc(), writer) {
+        Ok(()) => STATUS_CLOSED,
+        Err(Stop::Memory) => refuse(rt, writer, NO_LOG, Stop::Memory),
+        Err(_) => STATUS_NET,
+    }
+}
+
+// Prints the version where it was asked for, and else the text of `clap` for words that it refused, unless it ran out of memory.
+fn refuse_words<R: Alloc<A = Global> + Eprint, W: Write, F: Write>(
+    rt: &R,
+    error: &Error,
+    writer: &mut W,
+    faults: &mut F,
+) -> u8
+    ensures { RefusesWords (kind_of error.now) result (W.contents writer.old) (W.contents writer.new) }
 {
     match error.kind() {
-        ErrorKind::OutOfMemory => refuse(writer, Stop::Memory),
+        ErrorKind::OutOfMemory => refuse(rt, writer, NO_LOG, Stop::Memory),
+        ErrorKind::DisplayVersion => show_version(rt, writer),
         _ => {
             let _unwritten = write!(faults, "{error}");
             STATUS_USAGE

@@ -1,11 +1,12 @@
 //! The words of the command line.
 ghost use Rattle.std.specs.Prelude.{◌≡◌, None, Some, false, map, codes, IfErr, IfOk, IfSome, option_map};
 ghost use Rattle.clap.specs.Words.{FailsBy, app_of, first_value, found_of, one_text, rows_of, rule_of};
-ghost use Rattle.cg_server.specs.CommandLine.{AreAsked, AsksFor, HasNumbers, asked_port, compact_free_rule, connections_rule, disk_rule, faults_of, format_rule, listen_rule, port_in, rows_in, segments_rule, server_app, text_rule, tick_rule, with_number_rules, with_place_rules};
+ghost use Rattle.cg_server.specs.CommandLine.{AreAsked, AsksFor, HasNumbers, asked_port, compact_free_rule, connections_rule, disk_rule, exit_rule, faults_of, format_rule, listen_rule, overwrite_rule, port_in, rows_in, segments_rule, server_app, status_rule, text_rule, tick_rule, with_number_rules, with_place_rules, with_report_rules};
 ghost use Rattle.cg_server.specs.Refusing.{RefusesBy};
 
 use crate::address::{PORT_DEFAULT, port_of};
 use crate::options::Options;
+use crate::version::VERSION;
 use cg_gate::SEGMENTS_MAX;
 use clap::{Arg, ArgAction, ArgMatches, Command, Error, value_parser};
 use std::alloc::{AllocError, Global};
@@ -32,28 +33,34 @@ pub const COMPACT_FREE_MAX: u64 = SEGMENTS_MAX - 1;
 /// Greatest number of connections to serve.
 pub const CONNECTIONS_MAX: u64 = 4_294_967_295;
 
+/// Greatest number of seconds between two statuses: a day.
+pub const STATUS_SECONDS_MAX: u64 = 86_400;
+
 /// What help says after the options.
 const EXAMPLES: &str = "\
 The server listens on the loopback address alone. It prints LISTENING, LOADED and,
-at its end, CLOSED; FAULT and a name say why it ends early or that the disk failed.
+at its end, CLOSED; FAULT and a name say why it ends early or that the disk failed,
+and standard error says more. A log is locked while a server has it.
 
 Examples:
   cg_server --disk berymohi.log --format --segments 64
-      makes the file, formats it with 64 segments and serves on port 9192
+      makes the file, formats it with 64 segments and serves on port 9192; if the
+      file has anything already, it leaves it as it is and ends with FAULT File
   cg_server --disk berymohi.log --listen 127.0.0.1:9200 --tick-ms 100
       opens the file as it is and serves on port 9200
 
-Exit status: 0 the connections were served; 1 the disk was not opened, formatted or
-loaded, or no memory or thread was to be had; 2 usage; 3 the address was not bound,
-no connection could be accepted, or a line could not be written.";
+Exit status: 0 the connections were served, or the version was printed; 1 the disk
+was not opened, formatted or loaded, it failed and the server was to end then, or no
+memory or thread was to be had; 2 usage; 3 the address was not bound, no connection
+could be accepted, or a line could not be written.";
 
 /// Where the log is.
 #[derive(Clone, Copy)]
 pub enum LogPlace<'a> {
     /// A new disk in memory.
     Memory,
-    /// A file that is made and formatted.
-    NewFile(&'a str),
+    /// A file that is made and formatted, also where it is not empty if that is true.
+    NewFile(&'a str, bool),
     /// A file that is opened as it is.
     File(&'a str),
 }
@@ -120,7 +127,19 @@ fn format_arg<'a>(alloc: Global) -> Arg<'a>
     Arg::new(alloc, "format")
         .long("format")
         .action(ArgAction::SetTrue)
-        .help("Makes the file, or overwrites it, with an empty log [default: opens it as it is]")
+        .help(
+            "Makes the file with an empty log; a file that is not empty is refused [default: opens it as it is]",
+        )
+}
+
+fn overwrite_arg<'a>(alloc: Global) -> Arg<'a>
+    ensures rule { rule_of result ≡ overwrite_rule }
+    ensures local { result.global ≡ false }
+{
+    Arg::new(alloc, "overwrite")
+        .long("overwrite")
+        .action(ArgAction::SetTrue)
+        .help("As --format, but a file that is not empty is overwritten: what it has is lost")
 }
 
 fn segments_arg<'a>(alloc: Global) -> Arg<'a>
@@ -175,6 +194,31 @@ fn connections_arg<'a>(alloc: Global) -> Arg<'a>
     .value_parser(value_parser!(u64).range(0..=CONNECTIONS_MAX as i64))
 }
 
+fn exit_arg<'a>(alloc: Global) -> Arg<'a>
+    ensures rule { rule_of result ≡ exit_rule }
+    ensures local { result.global ≡ false }
+{
+    Arg::new(alloc, "exit-on-fault")
+        .long("exit-on-fault")
+        .action(ArgAction::SetTrue)
+        .help(
+            "Ends after FAULT Device with status 1 [default: goes on, and refuses each request with 15]",
+        )
+}
+
+fn status_arg<'a>(alloc: Global) -> Arg<'a>
+    ensures rule { rule_of result ≡ status_rule }
+    ensures local { result.global ≡ false }
+{
+    text_arg(
+        alloc,
+        "status-seconds",
+        "N",
+        "Prints a STATUS line every N seconds, 0 to 86400; 0 prints none [default: 0]",
+    )
+    .value_parser(value_parser!(u64).range(0..=STATUS_SECONDS_MAX as i64))
+}
+
 // Adds the options that say where to listen and where the log is.
 fn with_place_args<'a>(alloc: Global, command: Command<'a>) -> Result<Command<'a>, AllocError>
     ensures { IfOk result (λ more. app_of more ≡ with_place_rules (app_of command.entry)) }
@@ -182,7 +226,8 @@ fn with_place_args<'a>(alloc: Global, command: Command<'a>) -> Result<Command<'a
     let command = command
         .arg(listen_arg(alloc))?
         .arg(disk_arg(alloc))?
-        .arg(format_arg(alloc))?;
+        .arg(format_arg(alloc))?
+        .arg(overwrite_arg(alloc))?;
     Ok(command)
 }
 
@@ -198,15 +243,25 @@ fn with_number_args<'a>(alloc: Global, command: Command<'a>) -> Result<Command<'
     Ok(command)
 }
 
+// Adds the options that say what the server reports.
+fn with_report_args<'a>(alloc: Global, command: Command<'a>) -> Result<Command<'a>, AllocError>
+    ensures { IfOk result (λ more. app_of more ≡ with_report_rules (app_of command.entry)) }
+{
+    let command = command.arg(exit_arg(alloc))?.arg(status_arg(alloc))?;
+    Ok(command)
+}
+
 fn command<'a>(alloc: Global) -> Result<Command<'a>, AllocError>
     ensures { IfOk result (λ command. app_of command ≡ server_app) }
 {
     let command = Command::new(alloc, "cg_server")
         .no_binary_name(true)
         .about("A coordinator of consumer groups on the loopback address")
+        .version(VERSION)
         .after_help(EXAMPLES);
     let command = with_place_args(alloc, command)?;
     let command = with_number_args(alloc, command)?;
+    let command = with_report_args(alloc, command)?;
     Ok(command)
 }
 
@@ -234,7 +289,8 @@ fn port_in(matches: &ArgMatches<'_>) -> Option<u16>
 fn place_in<'a>(matches: &ArgMatches<'a>) -> LogPlace<'a> {
     match matches.get_str("disk") {
         None => LogPlace::Memory,
-        Some(path) if matches.get_flag("format") => LogPlace::NewFile(path),
+        Some(path) if matches.get_flag("overwrite") => LogPlace::NewFile(path, true),
+        Some(path) if matches.get_flag("format") => LogPlace::NewFile(path, false),
         Some(path) => LogPlace::File(path),
     }
 }
@@ -243,11 +299,14 @@ fn place_in<'a>(matches: &ArgMatches<'a>) -> LogPlace<'a> {
 fn options_in(matches: &ArgMatches<'_>) -> Options
     ensures tick { AsksFor TICK_MS_DEFAULT (one_text (found_of matches.now) (codes "tick-ms")) result.tick_ms }
     ensures free { AsksFor COMPACT_FREE_DEFAULT (one_text (found_of matches.now) (codes "compact-free")) result.compact_free }
+    ensures status { AsksFor 0 (one_text (found_of matches.now) (codes "status-seconds")) result.status_seconds }
 {
     Options {
         tick_ms: number_in(matches, "tick-ms", TICK_MS_DEFAULT),
         compact_free: number_in(matches, "compact-free", COMPACT_FREE_DEFAULT),
         connections: matches.get_one::<u32>("connections"),
+        exit_on_fault: matches.get_flag("exit-on-fault"),
+        status_seconds: number_in(matches, "status-seconds", 0),
     }
 }
 
@@ -274,7 +333,7 @@ fn arguments_in<'a>(matches: &ArgMatches<'a>) -> Option<Arguments<'a>>
 }
 
 /// Returns what these words ask for, without the program's name. Refuses words that `clap` does not take, a call for
-/// help among them, and an address that is not on loopback.
+/// help or for the version among them, and an address that is not on loopback.
 pub fn parse_words<'a, S: AsStr>(alloc: Global, words: &'a [S]) -> Result<Arguments<'a>, Refusal>
     ensures refuses { RefusesBy (faults_of (map S.text words.now)) result }
     ensures address { IfErr result (λ refusal. refusal ≡ Refusal.Address → port_in (map S.text words.now) ≡ None) }

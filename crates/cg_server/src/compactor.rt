@@ -87,6 +87,7 @@ fn compact_once<D: SectorDisk + Drop, L: Ledger, R: Wait>(
     match server.engine.compact_round(rt) {
         Ok(RoundEnd::Done) if is_under_way(rt, server) => After::Again,
         Ok(RoundEnd::Done) => {
+            server.tally.add_compaction();
             state.cramped = None;
             After::Notify
         }

@@ -12,7 +12,6 @@ use mio::{Interest, Registry, Token};
 use std::alloc::{AllocError, Global};
 use std::io::{self, ErrorKind, Read};
 use std::mem;
-use std::net::Shutdown;
 use std::random::RandomSource;
 use std::sync::Wait;
 use std::sync::ledger::Ledger;
@@ -41,6 +40,8 @@ pub struct Connection<L: Ledger> {
     is_ending: bool,
     // Whether no more is sent.
     is_broken: bool,
+    // Whether no more is served, and it is over once no reply is owed.
+    is_leaving: bool,
     // How many calls it began whose requests the worker does not know of yet.
     begun_calls: usize,
     // Whether the worker looks for the answers to its calls.
@@ -85,6 +86,7 @@ impl<L: Ledger> Connection<L> {
             is_closed_there: false,
             is_ending: false,
             is_broken: false,
+            is_leaving: false,
             begun_calls: 0,
             is_listed: false,
             next: Next::Stream,
@@ -108,13 +110,13 @@ impl<L: Ledger> Connection<L> {
         self.next
     }
 
-    /// Reads and sends no more.
+    /// Reads and serves no more. Sends the replies that are there, and later those to the calls that wait for answers, as far as
+    /// the stream takes them at once; then it is over.
     pub fn shut_down(&mut self) {
-        let _ = self.stream.shutdown(Shutdown::Both);
-        self.break_off();
-        if !self.is_calling() {
-            self.next = Next::Over;
-        }
+        self.is_ending = true;
+        self.is_leaving = true;
+        self.send();
+        self.next = self.after_visit();
     }
 
     /// Returns how many calls it began since it was last asked: their requests are to be handed over.
@@ -195,6 +197,7 @@ impl<L: Ledger> Connection<L> {
     fn may_serve(&self) -> bool {
         self.has_unserved()
             && !self.is_broken
+            && !self.is_leaving
             && self.session.takes_more()
             && !self.unsent.is_full()
     }
@@ -267,6 +270,7 @@ impl<L: Ledger> Connection<L> {
             let added = self.unsent.add(&reply);
             self.keep(added);
         }
+        server.tally.add_commits(self.session.take_commits());
         self.session.owed() < owed
     }
 
@@ -287,11 +291,12 @@ impl<L: Ledger> Connection<L> {
 
     fn after_visit(&self) -> Next {
         let is_calling = self.session.owes();
-        if is_calling && (self.is_broken || !self.session.takes_more()) {
+        let is_leaving = self.is_leaving || self.is_broken;
+        if is_calling && (is_leaving || !self.session.takes_more()) {
             return Next::Answer;
         }
         let has_ended = self.is_ending && !self.has_unserved() && self.unsent.is_empty();
-        if !is_calling && (self.is_broken || has_ended) {
+        if !is_calling && (is_leaving || has_ended) {
             return Next::Over;
         }
         let has_more = self.has_unserved() || (self.is_readable && !self.is_ending);

@@ -1,6 +1,7 @@
-//! The threads beside the flusher.
+//! The threads beside the reporter.
 use crate::acceptor::accept_all;
 use crate::compactor::compact_until_over;
+use crate::flusher::flush_until_over;
 use crate::inbox::Inbox;
 use crate::server::Server;
 use crate::stop::Stop;
@@ -15,7 +16,7 @@ use std::sync::ledger::Ledger;
 use std::thread::{self, Scope, Threads};
 use std::time::Clock;
 
-/// Ticks, compacts, accepts connections and serves them in workers. Returns once all these threads have ended: after as
+/// Flushes, ticks, compacts, accepts connections and serves them in workers. Returns once all these threads have ended: after as
 /// many connections as the options say, or once the server closes.
 pub fn run_crew<
     D: SectorDisk + Drop + Send,
@@ -26,6 +27,17 @@ pub fn run_crew<
     thread::scope(thread::scope_env(), rt, |scope| {
         run_in(rt, server, scope, listener)
     })
+}
+
+// Starts the flusher in the scope. Returns whether there was a thread for it.
+fn start_flusher<
+    's,
+    'e: 's,
+    D: SectorDisk + Drop + Send,
+    L: Ledger + Send,
+    R: Threads + Wait + Clock + RandomSource + Eprint + Sync,
+>(rt: &'e R, server: &'e Server<'e, D, L>, scope: &'s Scope<'s, &'e ()>) -> bool {
+    scope.spawn(move || flush_until_over(rt, server)).is_ok()
 }
 
 // Starts the ticker in the scope. Returns whether there was a thread for it.
@@ -126,7 +138,9 @@ fn run_in<
     scope: &'s Scope<'s, &'e ()>,
     listener: &TcpListener,
 ) -> Result<(), Stop> {
-    let started = start_ticker(rt, server, scope) && start_compactor(rt, server, scope);
+    let started = start_flusher(rt, server, scope)
+        && start_ticker(rt, server, scope)
+        && start_compactor(rt, server, scope);
     let served = if started {
         serve_connections(rt, server, listener)
     } else {

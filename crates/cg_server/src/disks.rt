@@ -4,12 +4,14 @@ ghost use Rattle.cg_disk.specs.Mem.{mem_history, mem_size};
 ghost use Rattle.cg_fold.specs.Durable.{empty};
 ghost use Rattle.cg_store.specs.Carried.{AllCarry};
 
+use crate::log_file::{LogFile, new_file};
 use crate::stop::Stop;
-use cg_disk::{DiskFault, FileDisk, MemDisk, SECTOR_BYTES, SectorDisk};
+use cg_disk::{MemDisk, SectorDisk};
 use cg_gate::{FIRST_SEGMENT_SECTOR, SEGMENT_SECTORS};
 use cg_store::LogFault;
 use std::alloc::Global;
-use std::io::{self, Eprint};
+use std::fs::File;
+use std::io::Eprint;
 use std::rt::Files;
 
 // Returns the number of sectors of a disk with this many segments, if it is a number of sectors.
@@ -39,61 +41,15 @@ pub fn new_memory(alloc: Global, segments: u64) -> Result<MemDisk, Stop>
     formatted(alloc, disk)
 }
 
-// Writes zeros to a sector.
-fn clear<D: SectorDisk>(disk: &mut D, at: u64) -> Result<(), DiskFault> {
-    if at >= disk.sectors() {
-        return Ok(());
-    }
-    disk.write(at, &[0; SECTOR_BYTES])
-}
-
-// Writes zeros to all sectors. The file system gives a file its blocks when they are first written, and a sync after that
-// also stores where they are, which takes several times as long. So no batch is the first to write its sectors.
-fn clear_all<D: SectorDisk>(disk: &mut D) -> Result<(), DiskFault> {
-    for at in 0..disk.sectors() {
-        clear(disk, at)?;
-    }
-    disk.sync()
-}
-
-// Writes a new file full of zeros, and formats it.
-fn formatted_file<D: SectorDisk + Drop>(alloc: Global, mut disk: D) -> Result<D, Stop> {
-    match clear_all(&mut disk) {
-        Ok(()) => formatted(alloc, disk),
-        Err(_) => Err(Stop::File),
-    }
-}
-
-// Says on standard error what the system said of the file.
-fn say_why<R: Eprint>(rt: &R, path: &str, error: &io::Error) {
-    let _ = eprintln!(rt; "cg_server: {path}: {error}");
-}
-
-/// Creates the file at `path`, or overwrites it, with this many segments, and formats it. What the system says of a file that
-/// cannot be opened comes on standard error.
-pub fn new_file<R: Files + Eprint>(
-    rt: &R,
+/// Makes the file at `path` with this many segments, and formats it. A file that is not empty is refused, unless it is to be
+/// overwritten. Says on standard error what the system says, or why the file is refused.
+pub fn new_log<'a, R: Files<File = File> + Eprint>(
+    rt: &'a R,
     alloc: Global,
-    path: &str,
+    path: &'a str,
     segments: u64,
-) -> Result<FileDisk<R::File>, Stop> {
+    overwrite: bool,
+) -> Result<LogFile<'a, R>, Stop> {
     let sectors = sectors_of(segments).ok_or(Stop::File)?;
-    match FileDisk::open(rt, path, Some(sectors)) {
-        Ok(disk) => formatted_file(alloc, disk),
-        Err(error) => {
-            say_why(rt, path, &error);
-            Err(Stop::File)
-        }
-    }
-}
-
-/// Opens the file at `path` as it is. What the system says of a file that cannot be opened comes on standard error.
-pub fn found_file<R: Files + Eprint>(rt: &R, path: &str) -> Result<FileDisk<R::File>, Stop> {
-    match FileDisk::open(rt, path, None) {
-        Ok(disk) => Ok(disk),
-        Err(error) => {
-            say_why(rt, path, &error);
-            Err(Stop::File)
-        }
-    }
+    formatted(alloc, new_file(rt, path, sectors, overwrite)?)
 }

@@ -7,15 +7,6 @@ use std::sync::Wait;
 use std::sync::ledger::Ledger;
 use std::time::{Clock, Duration};
 
-/// How flushing ends.
-#[derive(Clone, Copy, Debug, Drop, PartialEq, Eq)]
-pub enum FlushEnd {
-    /// The server is over.
-    Over,
-    /// The disk failed.
-    Device,
-}
-
 // What a flush round asks for.
 #[derive(Clone, Copy, Drop, PartialEq, Eq)]
 enum After {
@@ -67,16 +58,16 @@ fn end_full<D: SectorDisk + Drop, L: Ledger, R: Wait + Eprint>(rt: &R, server: &
     }
 }
 
-/// Stores what waits for the disk until the server is over or the disk fails. Goes to the next batch at once while
+/// Stores what waits for the disk until the server is over, or the disk fails, which it notes. Goes to the next batch at once while
 /// commands wait, and sleeps where none does. Waits for a compaction that needs the last free segments.
 pub fn flush_until_over<D: SectorDisk + Drop, L: Ledger, R: Wait + Clock + Eprint>(
     rt: &R,
     server: &Server<'_, D, L>,
-) -> FlushEnd {
+) {
     let tick = Duration::from_millis(server.options.tick_ms);
     for _ in rt.forever() {
         if server.is_over() {
-            return FlushEnd::Over;
+            return;
         }
         if server.room.is_tight(rt, server.engine) {
             server.note_flushing(false);
@@ -105,22 +96,10 @@ pub fn flush_until_over<D: SectorDisk + Drop, L: Ledger, R: Wait + Clock + Eprin
             After::Tick => {
                 server.flush.wait(rt, tick);
             }
-            After::End => return FlushEnd::Device,
+            After::End => {
+                server.note_failed(rt);
+                return;
+            }
         }
-    }
-    unreachable!()
-}
-
-/// Waits until the server is over.
-pub fn wait_until_over<D: SectorDisk + Drop, L: Ledger, R: Wait + Clock>(
-    rt: &R,
-    server: &Server<'_, D, L>,
-) {
-    let tick = Duration::from_millis(server.options.tick_ms);
-    for _ in rt.forever() {
-        if server.is_over() {
-            return;
-        }
-        server.flush.wait(rt, tick);
     }
 }

@@ -13,25 +13,30 @@ mod crew;
 mod disks;
 mod flusher;
 mod inbox;
+mod log_file;
 mod moments;
 mod options;
 mod output;
 mod passes;
+mod reporter;
 mod room;
 mod serve;
 mod server;
 mod session;
+mod status;
 mod stop;
-mod storage_thread;
+mod tally;
 mod ticker;
 mod unsent;
+mod version;
 mod worker;
 
-pub use command::command;
+pub use command::{NO_LOG, command};
 pub use options::Options;
 pub use serve::serve;
+pub use status::Status;
 use std::env;
-use std::io::{self, ErrorKind, Write};
+use std::io::{self, Eprint, ErrorKind, Write};
 use std::process::ExitCode;
 pub use stop::{STATUS_CLOSED, STATUS_DISK, STATUS_NET, STATUS_USAGE, Stop};
 
@@ -44,7 +49,7 @@ fn main(rt: HostRuntime) -> ExitCode {
             let words = after_name(words.as_slice());
             ExitCode::from(command(&rt, words, &mut writer, &mut faults))
         }
-        Err(error) => ExitCode::from(refuse_encoding(&error, &mut writer, &mut faults)),
+        Err(error) => ExitCode::from(refuse_encoding(&rt, &error, &mut writer, &mut faults)),
     }
 }
 
@@ -62,9 +67,14 @@ fn after_name(words: &[String]) -> &[String] {
 }
 
 // Reports why the words could not be copied: one is not text, or an allocation failed.
-fn refuse_encoding<W: Write, F: Write>(error: &io::Error, writer: &mut W, faults: &mut F) -> u8 {
+fn refuse_encoding<R: Eprint, W: Write, F: Write>(
+    rt: &R,
+    error: &io::Error,
+    writer: &mut W,
+    faults: &mut F,
+) -> u8 {
     match error.kind() {
-        ErrorKind::OutOfMemory => serve::refuse(writer, Stop::Memory),
+        ErrorKind::OutOfMemory => serve::refuse(rt, writer, NO_LOG, Stop::Memory),
         _ => {
             let _unwritten = faults.write_all(b"error: a word on the command line is not UTF-8\n");
             STATUS_USAGE

@@ -9,4 +9,8 @@ pub struct Options {
     pub compact_free: u64,
     /// The server ends after this many connections. `None`: it goes on.
     pub connections: Option<u32>,
+    /// The server ends after the disk has failed.
+    pub exit_on_fault: bool,
+    /// Seconds from one status line to the next; 0: there is none.
+    pub status_seconds: u64,
 }

@@ -10,11 +10,13 @@ use crate::crew::run_crew;
 use crate::inbox::Inbox;
 use crate::options::Options;
 use crate::output::{print_closed, print_listening, print_stop};
+use crate::reporter::{load_and_print, run_reports};
 use crate::server::Server;
-use crate::stop::{STATUS_CLOSED, STATUS_NET, Stop};
-use crate::storage_thread::{load_and_print, run_storage};
+use crate::stop::{STATUS_CLOSED, STATUS_DISK, STATUS_NET, ServerEnd, Stop, say_cause};
+use crate::tally::Tally;
 use cg_disk::SectorDisk;
 use cg_engine::{Engine, PARTS, SessionPass};
+use cg_gate::segment_count;
 use std::alloc::Global;
 use std::io::{self, Eprint, ErrorKind, Write};
 use std::marker::Brand;
@@ -31,19 +33,27 @@ const WORKERS_MIN: usize = 2;
 /// Most workers.
 const WORKERS_MAX: usize = 8;
 
-/// Prints why the server ends early. Returns the exit status.
-pub fn refuse<W: Write>(writer: &mut W, stop: Stop) -> u8
+/// Prints why the server ends early, and says more of it on standard error, where `log` is what the log is called. Returns the
+/// exit status.
+pub fn refuse<R: Eprint, W: Write>(rt: &R, writer: &mut W, log: &str, stop: Stop) -> u8
     ensures { Refuses stop result (W.contents writer.old) (W.contents writer.new) }
 {
+    say_cause(rt, log, stop);
     match print_stop(writer, stop) {
         Ok(()) => stop.status(),
         Err(_) => STATUS_NET,
     }
 }
 
+// Says on standard error what the system said.
+fn say<R: Eprint>(rt: &R, error: &io::Error) {
+    let _ = eprintln!(rt; "cg_server: {error}");
+}
+
 // Prints the address of a listener.
 #[tactic(auto, using(crate::proofs::Written::appends_nothing))]
-fn print_address<W: Write>(
+fn print_address<R: Eprint, W: Write>(
+    rt: &R,
     alloc: Global,
     listener: &TcpListener,
     writer: &mut W,
@@ -51,11 +61,16 @@ fn print_address<W: Write>(
     ensures ok { IfOk result (λ address. Appends (W.contents writer.old) (W.contents writer.new) (listening_text (socket_text address))) }
     ensures err { IfErr result (λ cause. Broke cause (W.contents writer.old) (W.contents writer.new)) }
 {
-    let Ok(address) = listener.local_addr() else {
-        return Err(Stop::Net);
-    };
-    print_listening(alloc, writer, address)?;
-    Ok(address)
+    match listener.local_addr() {
+        Ok(address) => {
+            print_listening(alloc, writer, address)?;
+            Ok(address)
+        }
+        Err(error) => {
+            say(rt, &error);
+            Err(Stop::Net)
+        }
+    }
 }
 
 // Returns how many workers serve the connections: half as many as there are processors, which batches and clients use too.
@@ -66,8 +81,9 @@ fn worker_count<R: Threads>(rt: &R) -> usize {
     }
 }
 
-// Returns why a worker has nothing to wait with.
-fn cause(error: &io::Error) -> Stop {
+// Returns why a worker has nothing to wait with, and says on standard error what the system said.
+fn cause<R: Eprint>(rt: &R, error: &io::Error) -> Stop {
+    say(rt, error);
     match error.kind() {
         ErrorKind::OutOfMemory => Stop::Memory,
         _ => Stop::Net,
@@ -75,10 +91,10 @@ fn cause(error: &io::Error) -> Stop {
 }
 
 // Makes an inbox for each worker.
-fn inboxes<R: Threads + Net>(rt: &R, alloc: Global) -> Result<Vec<Inbox>, Stop> {
+fn inboxes<R: Threads + Net + Eprint>(rt: &R, alloc: Global) -> Result<Vec<Inbox>, Stop> {
     let mut inboxes = Vec::new(alloc);
     for _ in 0..worker_count(rt) {
-        let inbox = Inbox::new(rt, alloc).map_err(|error| cause(&error))?;
+        let inbox = Inbox::new(rt, alloc).map_err(|error| cause(rt, &error))?;
         if inboxes.push(inbox).is_err() {
             return Err(Stop::Memory);
         }
@@ -86,7 +102,7 @@ fn inboxes<R: Threads + Net>(rt: &R, alloc: Global) -> Result<Vec<Inbox>, Stop> 
     Ok(inboxes)
 }
 
-// Runs the threads of a server until it is over.
+// Runs the threads of a server until it is over. Returns how it came to its end.
 fn run_threads<
     D: SectorDisk + Drop + Send,
     L: Ledger + Send,
@@ -98,20 +114,20 @@ fn run_threads<
     listener: &TcpListener,
     disk: D,
     writer: &mut W,
-) -> Result<(), Stop>
+) -> Result<ServerEnd, Stop>
     ensures { Reports result (W.contents writer.old) (W.contents writer.new) }
 {
     let mut disk = Some(disk);
-    let (accepted, stored) = join_mut(
+    let (accepted, reported) = join_mut(
         rt,
         &mut move || -> Result<(), Stop>
             requires { IsSync R.row × IsSend D.row × IsSend L.row }
         { run_crew(rt, server, listener) },
-        &mut || run_storage(rt, server, &mut disk, writer),
+        &mut || run_reports(rt, server, &mut disk, writer),
     );
-    stored?;
+    let end = reported?;
     accepted?;
-    Ok(())
+    Ok(end)
 }
 
 // Ends an engine. Returns the number of its last command.
@@ -125,7 +141,7 @@ fn close<D: SectorDisk + Drop, L: Ledger>(
     }
 }
 
-// Serves connections. Returns the number of the last command.
+// Serves connections. Returns the number of the last command, and how the server came to its end.
 fn serve_connections<
     D: SectorDisk + Drop + Send,
     L: Ledger + Send,
@@ -139,31 +155,32 @@ fn serve_connections<
     options: Options,
     writer: &mut W,
     blank: Blank,
-) -> Result<u64, Stop>
+) -> Result<(u64, ServerEnd), Stop>
     requires { (blank.name ≡ L.name) × (blank.parts ≡ L.parts) × (PARTS ≤ blank.parts) }
     ensures { Serves true result (W.contents writer.old) (W.contents writer.new) }
 {
-    let address = print_address(alloc, listener, writer)?;
+    let address = print_address(rt, alloc, listener, writer)?;
     let inboxes = inboxes(rt, alloc)?;
     let engine: Engine<D, L> = Engine::new(alloc, blank, false)?;
-    let server = Server::new(alloc, &engine, options, address, inboxes);
+    let tally = Tally::new(segment_count(disk.sectors()));
+    let server = Server::new(alloc, &engine, options, address, inboxes, tally);
     let ran = run_threads(rt, &server, listener, disk, writer);
     let passes = server.into_passes();
     let front = close(engine, passes);
     match ran {
-        Ok(()) => Ok(front),
+        Ok(end) => Ok((front, end)),
         Err(stop) => Err(stop),
     }
 }
 
-// Loads a disk and serves no connection. Returns the number of the last command.
+// Loads a disk and serves no connection. Returns the number of the last command, and that the server is over.
 fn load_alone<D: SectorDisk + Drop, L: Ledger, R: Wait, W: Write>(
     rt: &R,
     alloc: Global,
     disk: D,
     writer: &mut W,
     blank: Blank,
-) -> Result<u64, Stop>
+) -> Result<(u64, ServerEnd), Stop>
     requires { (blank.name ≡ L.name) × (blank.parts ≡ L.parts) × (PARTS ≤ blank.parts) }
     ensures { Serves false result (W.contents writer.old) (W.contents writer.new) }
 {
@@ -171,10 +188,11 @@ fn load_alone<D: SectorDisk + Drop, L: Ledger, R: Wait, W: Write>(
     let loaded = load_and_print(rt, alloc, &engine, &mut Some(disk), writer);
     let front = close(engine, Vec::new(alloc));
     loaded?;
-    Ok(front)
+    Ok((front, ServerEnd::Over))
 }
 
-// Serves connections, or only loads the disk where there is no listener. Returns the number of the last command.
+// Serves connections, or only loads the disk where there is no listener. Returns the number of the last command, and how the server
+// came to its end.
 fn serve_or_load<
     D: SectorDisk + Drop + Send,
     L: Ledger + Send,
@@ -187,26 +205,27 @@ fn serve_or_load<
     options: Options,
     writer: &mut W,
     blank: Blank,
-) -> Result<u64, Stop>
+) -> Result<(u64, ServerEnd), Stop>
     requires { (blank.name ≡ L.name) × (blank.parts ≡ L.parts) × (PARTS ≤ blank.parts) }
     ensures { Serves (is_some listener) result (W.contents writer.old) (W.contents writer.new) }
 {
     let alloc = rt.alloc();
     match listener {
         Some(listener) => {
-            let front = serve_connections::<D, L, R, W>(
+            let served = serve_connections::<D, L, R, W>(
                 rt, alloc, &listener, disk, options, writer, blank,
             )?;
-            Ok(front)
+            Ok(served)
         }
         None => {
-            let front = load_alone::<D, L, R, W>(rt, alloc, disk, writer, blank)?;
-            Ok(front)
+            let served = load_alone::<D, L, R, W>(rt, alloc, disk, writer, blank)?;
+            Ok(served)
         }
     }
 }
 
-// Serves a disk, and prints the end.
+// Serves a disk, and prints the number of the last command, unless the disk failed and the server was to end then. Returns how it
+// came to its end.
 fn run<
     D: SectorDisk + Drop + Send,
     L: Ledger + Send,
@@ -219,28 +238,33 @@ fn run<
     options: Options,
     writer: &mut W,
     blank: Blank,
-) -> Result<(), Stop>
+) -> Result<ServerEnd, Stop>
     requires { (blank.name ≡ L.name) × (blank.parts ≡ L.parts) × (PARTS ≤ blank.parts) }
     ensures { Closes (is_some listener) result (W.contents writer.old) (W.contents writer.new) }
 {
-    let front = serve_or_load::<D, L, R, W>(rt, listener, disk, options, writer, blank)?;
-    print_closed(rt.alloc(), writer, front)?;
-    Ok(())
+    let (front, end) = serve_or_load::<D, L, R, W>(rt, listener, disk, options, writer, blank)?;
+    match end {
+        ServerEnd::Over => print_closed(rt.alloc(), writer, front)?,
+        ServerEnd::Failed => {}
+    }
+    Ok(end)
 }
 
 /// Serves a disk to the connections of a listener, and returns the exit status. Prints `LISTENING`, then `LOADED` once
-/// the disk is loaded, and `CLOSED` after as many connections as the options say; or `FAULT` and why it ends early. A disk
-/// that fails later is reported by `FAULT Device`, and every request gets 15 then. Without a listener it only loads the
-/// disk.
+/// the disk is loaded, `STATUS` as often as the options say, and `CLOSED` after as many connections as they say; or `FAULT` and
+/// why it ends early, of which standard error has more, with `log` as the name of the log. A disk that fails later is reported by
+/// `FAULT Device`, and every request gets 15 then; where the options say so the server ends then. Without a listener it only
+/// loads the disk.
 pub fn serve<
     D: SectorDisk + Drop + Send,
     R: Alloc<A = Global> + Threads + Wait + Clock + RandomSource + Net + Eprint + Sync,
     W: Write,
->(rt: &R, listener: Option<TcpListener>, disk: D, options: Options, writer: &mut W) -> u8
+>(rt: &R, listener: Option<TcpListener>, disk: D, log: &str, options: Options, writer: &mut W) -> u8
     ensures { Ends (is_some listener) result (W.contents writer.old) (W.contents writer.new) }
 {
     match run::<D, Brand, R, W>(rt, listener, disk, options, writer, Blank::new(PARTS)) {
-        Ok(()) => STATUS_CLOSED,
-        Err(stop) => refuse(writer, stop),
+        Ok(ServerEnd::Over) => STATUS_CLOSED,
+        Ok(ServerEnd::Failed) => STATUS_DISK,
+        Err(stop) => refuse(rt, writer, log, stop),
     }
 }

@@ -5,6 +5,7 @@ use crate::moments::Moments;
 use crate::options::Options;
 use crate::passes::Passes;
 use crate::room::Room;
+use crate::tally::Tally;
 use cg_disk::SectorDisk;
 use cg_engine::{Engine, RoundEnd, RoundFault, SessionPass, Taken};
 use std::alloc::Global;
@@ -30,14 +31,18 @@ pub struct Server<'a, D: SectorDisk, L: Ledger> {
     pub moments: Moments,
     /// What is handed to each worker.
     pub inboxes: Vec<Inbox>,
-    /// Wakes the flusher while the log is full, an allocation failed or the disk failed.
+    /// Wakes the flusher while the log is full or an allocation failed.
     pub flush: Bell,
+    /// Wakes the reporter.
+    pub report: Bell,
     /// Wakes the ticker.
     pub tick: Bell,
     /// The room of the log.
     pub room: Room,
     /// The passes that no connection has.
     pub passes: Passes<L>,
+    /// What is counted for a status.
+    pub tally: Tally,
     /// The address that the server listens on.
     address: SocketAddr,
     // Whether the thread that accepts connections runs.
@@ -50,6 +55,8 @@ pub struct Server<'a, D: SectorDisk, L: Ledger> {
     over: AtomicBool,
     // Whether the flusher is awake.
     flushing: AtomicBool,
+    // Whether the disk has failed.
+    failed: AtomicBool,
 }
 
 impl<'a, D: SectorDisk + Drop, L: Ledger> Server<'a, D, L> {
@@ -60,6 +67,7 @@ impl<'a, D: SectorDisk + Drop, L: Ledger> Server<'a, D, L> {
         options: Options,
         address: SocketAddr,
         inboxes: Vec<Inbox>,
+        tally: Tally,
     ) -> Self {
         Server {
             alloc,
@@ -68,15 +76,18 @@ impl<'a, D: SectorDisk + Drop, L: Ledger> Server<'a, D, L> {
             moments: Moments::new(),
             inboxes,
             flush: Bell::new(),
+            report: Bell::new(),
             tick: Bell::new(),
             room: Room::new(options.compact_free),
             passes: Passes::new(alloc),
+            tally,
             address,
             begun: AtomicBool::new(false),
             closing: AtomicBool::new(false),
             done: AtomicBool::new(false),
             over: AtomicBool::new(false),
             flushing: AtomicBool::new(false),
+            failed: AtomicBool::new(false),
         }
     }
 
@@ -150,6 +161,17 @@ impl<'a, D: SectorDisk + Drop, L: Ledger> Server<'a, D, L> {
         self.flushing.store(flushing, Ordering::SeqCst);
     }
 
+    /// Notes that the disk has failed, and wakes the reporter.
+    pub fn note_failed<R: Wait>(&self, rt: &R) {
+        self.failed.store(true, Ordering::SeqCst);
+        self.report.ring(rt);
+    }
+
+    /// Returns whether the disk has failed.
+    pub fn has_failed(&self) -> bool {
+        self.failed.load(Ordering::SeqCst)
+    }
+
     /// Returns whether the last worker has ended.
     pub fn is_over(&self) -> bool {
         self.over.load(Ordering::SeqCst)
@@ -186,6 +208,7 @@ impl<'a, D: SectorDisk + Drop, L: Ledger> Server<'a, D, L> {
         self.wake_flusher(rt);
         self.room.compactor.ring(rt);
         self.tick.ring(rt);
+        self.report.ring(rt);
     }
 
     /// Returns the passes, once no worker is left.

@@ -6,6 +6,7 @@ use cg_group::{Reply, Request};
 use cg_names::Code;
 use std::alloc::{AllocError, Global};
 use std::collections::VecDeque;
+use std::mem;
 use std::random::RandomSource;
 use std::sync::Wait;
 use std::sync::ledger::Ledger;
@@ -32,6 +33,8 @@ enum Due<L: Ledger> {
 struct Owed<L: Ledger> {
     /// Length of the line.
     bytes: usize,
+    /// Whether the line is a COMMIT.
+    is_commit: bool,
     due: Due<L>,
 }
 
@@ -48,6 +51,8 @@ pub struct Session<L: Ledger> {
     is_last: bool,
     // Whether no pass, or no memory, was to be had for another call. It is tried again once a reply has left.
     is_short: bool,
+    // How many COMMITs were answered by OK since this was last asked for.
+    commits: u64,
 }
 
 // Returns the UUID for a request: a random one for a JOIN, from which a member id may be drawn. `None` if the system
@@ -77,6 +82,7 @@ impl<L: Ledger> Session<L> {
             bytes: 0,
             is_last: false,
             is_short: false,
+            commits: 0,
         }
     }
 
@@ -112,16 +118,20 @@ impl<L: Ledger> Session<L> {
     }
 
     // Adds to what is owed.
-    fn add(&mut self, bytes: usize, due: Due<L>) -> Result<(), AllocError> {
+    fn add(&mut self, owed: Owed<L>) -> Result<(), AllocError> {
         self.owed.reserve(1)?;
-        self.owed.push_back_reserved(Owed { bytes, due });
-        self.bytes = self.bytes.saturating_add(bytes);
+        self.bytes = self.bytes.saturating_add(owed.bytes);
+        self.owed.push_back_reserved(owed);
         Ok(())
     }
 
     /// Owes a reply that is there, to a line of this many bytes.
     pub fn owe(&mut self, bytes: usize, reply: Reply) -> Result<(), AllocError> {
-        self.add(bytes, Due::Reply(reply))
+        self.add(Owed {
+            bytes,
+            is_commit: false,
+            due: Due::Reply(reply),
+        })
     }
 
     /// Begins the call of a request, which came in a line of this many bytes, and neither hands the request over nor waits for
@@ -143,6 +153,7 @@ impl<L: Ledger> Session<L> {
             return Err(Code::CoordinatorNotAvailable);
         };
         self.is_last = is_last(&request);
+        let is_commit = matches!(request, Request::Commit(_));
         let now = server.moments.now(rt);
         let due = match server.engine.begin_call(rt, pass, request, now, fresh) {
             BegunCall::Ended(pass, outgoing) => {
@@ -152,7 +163,11 @@ impl<L: Ledger> Session<L> {
             BegunCall::Waits(call) => Due::Answer(call),
         };
         // There is room.
-        let _ = self.add(bytes, due);
+        let _ = self.add(Owed {
+            bytes,
+            is_commit,
+            due,
+        });
         Ok(())
     }
 
@@ -181,12 +196,14 @@ impl<L: Ledger> Session<L> {
         }
     }
 
-    // Returns the reply to the call that was begun first. If its answer has not come, the call is owed as before.
+    // Returns the reply to the call that was begun first, whose line had this many bytes. If its answer has not come, the call
+    // is owed as before.
     fn answer<D: SectorDisk + Drop, R: Wait>(
         &mut self,
         rt: &R,
         server: &Server<'_, D, L>,
         bytes: usize,
+        is_commit: bool,
         call: PendingCall<L>,
     ) -> Option<Reply> {
         match server.engine.try_end_call(rt, call) {
@@ -195,8 +212,11 @@ impl<L: Ledger> Session<L> {
                 Some(outgoing.into_reply())
             }
             Err(call) => {
-                let due = Due::Answer(call);
-                let _ = self.owed.push_front(Owed { bytes, due });
+                let _ = self.owed.push_front(Owed {
+                    bytes,
+                    is_commit,
+                    due: Due::Answer(call),
+                });
                 None
             }
         }
@@ -211,15 +231,27 @@ impl<L: Ledger> Session<L> {
         if !self.has_reply() {
             return None;
         }
-        let Owed { bytes, due } = self.owed.pop_front()?;
+        let Owed {
+            bytes,
+            is_commit,
+            due,
+        } = self.owed.pop_front()?;
         let reply = match due {
-            Due::Answer(call) => self.answer(rt, server, bytes, call)?,
+            Due::Answer(call) => self.answer(rt, server, bytes, is_commit, call)?,
             Due::Reply(reply) => reply,
         };
+        if is_commit && matches!(&reply, Reply::Done) {
+            self.commits = self.commits.saturating_add(1);
+        }
         self.bytes = self.bytes.saturating_sub(bytes);
         self.is_short = false;
         self.is_last = self.is_last && self.owes();
         Some(reply)
+    }
+
+    /// Returns how many COMMITs were answered by OK since it was last asked.
+    pub fn take_commits(&mut self) -> u64 {
+        mem::take(&mut self.commits)
     }
 
     /// Ends the session, and returns its pass, unless a call has it.

@@ -5,11 +5,13 @@ ghost use Rattle.cg_server.specs.declared.stop.Stop.TheVariants as stop;
 
 use cg_engine::LoadFault;
 use std::alloc::AllocError;
+use std::io::Eprint;
 
 /// Exit status of a server that has served its connections and closed.
 pub const STATUS_CLOSED: u8 = 0;
 
-/// Exit status if the disk was not opened, formatted or loaded, an allocation failed, or no thread could be started.
+/// Exit status if the disk was not opened, formatted or loaded, it failed and the server was to end then, an allocation failed, or
+/// no thread could be started.
 pub const STATUS_DISK: u8 = 1;
 
 /// Exit status after words on the command line that are not understood, and after a call for help.
@@ -22,7 +24,7 @@ pub const STATUS_NET: u8 = 3;
 /// Cause that ends a server early.
 #[derive(Clone, Copy, Debug, Drop, PartialEq, Eq)]
 pub enum Stop {
-    /// The file was not opened or created, or its zeros could not be written.
+    /// The file was not opened, made or locked, is not empty where a new one is to be made, or its zeros could not be written.
     File,
     /// An allocation failed, or no thread could be started.
     Memory,
@@ -43,6 +45,15 @@ pub enum Stop {
     Net,
     /// A line could not be written.
     Write,
+}
+
+/// How a server that has loaded its log comes to its end.
+#[derive(Clone, Copy, Debug, Drop, PartialEq, Eq)]
+pub enum ServerEnd {
+    /// The connections were served.
+    Over,
+    /// The disk failed, and the server was to end then.
+    Failed,
 }
 
 impl Stop {
@@ -77,4 +88,26 @@ impl From<LoadFault> for Stop {
             LoadFault::Loaded => Stop::Loaded,
         }
     }
+}
+
+/// Says on standard error which page says what to do.
+pub fn say_page<R: Eprint>(rt: &R) {
+    let _ = eprintln!(rt; "cg_server: what to do is in OPERATING.md, \"Faults\"");
+}
+
+/// Says on standard error what was found, and which page says what to do. What the system said of a file, of the device and of an
+/// address was said where it came up.
+pub fn say_cause<R: Eprint>(rt: &R, log: &str, stop: Stop) {
+    let _ = match stop {
+        Stop::File | Stop::Net => Ok(()),
+        Stop::Memory => eprintln!(rt; "cg_server: no memory, or no thread, was to be had"),
+        Stop::Device => eprintln!(rt; "cg_server: {log}: the disk failed"),
+        Stop::NoRoot => eprintln!(rt; "cg_server: {log} has no Berymohi log"),
+        Stop::BadRoot => eprintln!(rt; "cg_server: {log}: the root of the log is damaged"),
+        Stop::BadFrame => eprintln!(rt; "cg_server: {log}: a frame of the log is damaged"),
+        Stop::BadRecord => eprintln!(rt; "cg_server: {log}: a record of the log is damaged"),
+        Stop::Loaded => eprintln!(rt; "cg_server: a log is loaded already"),
+        Stop::Write => eprintln!(rt; "cg_server: a line could not be written to standard output"),
+    };
+    say_page(rt);
 }

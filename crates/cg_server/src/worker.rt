@@ -113,6 +113,7 @@ impl<'a, D: SectorDisk + Drop, L: Ledger, R: Wait + Clock + RandomSource> Worker
     // Ends a connection.
     fn leave(&mut self, key: usize) {
         if let Some(connection) = self.connections.try_remove(key) {
+            self.server.tally.end_connection();
             if let Some(pass) = connection.into_pass() {
                 self.server.passes.give(self.rt, pass);
             }
@@ -210,7 +211,10 @@ impl<'a, D: SectorDisk + Drop, L: Ledger, R: Wait + Clock + RandomSource> Worker
         let stream = mio::net::TcpStream::from_std(stream);
         let connection = Connection::new(self.server.alloc, stream, pass);
         match self.connections.insert(connection) {
-            Ok(key) => self.begin(registry, key, buffer),
+            Ok(key) => {
+                self.server.tally.begin_connection();
+                self.begin(registry, key, buffer);
+            }
             Err(refused) => {
                 if let Some(pass) = refused.value.into_pass() {
                     self.server.passes.give(self.rt, pass);
@@ -323,15 +327,18 @@ impl<'a, D: SectorDisk + Drop, L: Ledger, R: Wait + Clock + RandomSource> Worker
         }
     }
 
-    // Ends every connection, once the server closes. One that is listed ends when its turn comes there.
+    // Sends the replies that are there and ends every connection, once the server closes. One that is listed ends when its turn
+    // comes there.
     fn close(&mut self) {
         if !self.server.is_closing() || mem::replace(&mut self.is_closed, true) {
             return;
         }
+        self.hand_over();
         for key in 0..self.connections.capacity() {
             let Some(connection) = self.connections.get_mut(key) else {
                 continue;
             };
+            connection.take_replies(self.rt, self.server);
             connection.shut_down();
             if !connection.is_listed() {
                 self.leave(key);
