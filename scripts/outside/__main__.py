@@ -18,7 +18,7 @@ sys.path.insert(0, os.path.dirname(os.path.dirname(os.path.abspath(__file__))))
 from outside.report import Report  # noqa: E402
 
 SUBJECTS = ["command_lines", "log_files", "faults", "status", "written_log", "snapshots", "read_log", "damaged_logs", "stops",
-            "lines", "loading", "drawn_logs", "drawn_lines", "client", "runs"]
+            "failing_disk", "lines", "loading", "drawn_logs", "drawn_lines", "refused_memory", "client", "runs"]
 
 
 @dataclass(frozen=True)

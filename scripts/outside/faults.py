@@ -1,4 +1,5 @@
 """Each fault, provoked once: what standard output and standard error have of it, and the exit status."""
+import contextlib
 import os
 import re
 import resource
@@ -150,9 +151,14 @@ def failing(program, path, *words):
 
 def write_that_fails(report, program, path):
     """The server goes on, and refuses what waits and what comes."""
-    with failing(program, path) as server, server.connect() as client:
-        report.equal("a COMMIT that is not stored", client.ask("COMMIT g -1 - - t:0:7:x"), REFUSED)
+    with failing(program, path) as server, contextlib.ExitStack() as held:
+        clients = [held.enter_context(server.connect()) for _ in range(3)]
+        for number, client in enumerate(clients):
+            client.send(f"COMMIT g -1 - - t:{number}:7:x")
+        report.equal("COMMITs that are not stored", [it.reply() for it in clients], [REFUSED] * 3)
         report.equal("FAULT Device after LOADED", server.line(), "FAULT Device")
+        client = clients[0]
+        report.equal("a COMMIT after the fault", client.ask("COMMIT g -1 - - t:0:8:x"), REFUSED)
         report.equal("a FETCH after the fault", client.ask("FETCH g t:0"), REFUSED)
         with server.connect() as other:
             report.equal("another client", other.ask("LIST"), REFUSED)

@@ -28,17 +28,18 @@ class Scenario:
     def script(self, fuse, calls, crash):
         """Returns the script, and for each partition how many commits it has."""
         sent = [0] * PARTITIONS
-        lines = [*_with_offsets(self.before, sent), f"{fuse} {calls}", *_with_offsets(self.after, sent), "flush"]
+        lines = [*with_offsets(self.before, sent), f"{fuse} {calls}", *with_offsets(self.after, sent), "flush"]
         fetch = " ".join(f"t:{it}" for it in range(PARTITIONS))
         return [*lines, f"stop {crash}", "load", f"s9 FETCH g {fetch}"], sent
 
 
-def _with_offsets(lines, sent):
+def with_offsets(lines, sent):
+    """Yields the lines of a script: the n-th commit of a partition is of offset n, and a session of its own sends them."""
     for line in lines:
         if line.startswith("commit "):
             partition = int(line.split()[1])
             sent[partition] += 1
-            yield f"s{partition} COMMIT g -1 - - t:{partition}:{sent[partition]}:x"
+            yield f"s{100 + partition} COMMIT g -1 - - t:{partition}:{sent[partition]}:x"
         else:
             yield line
 
@@ -100,7 +101,7 @@ def problem_of(ran, sent):
     if ran.status or len(ran.lines) < 3:
         return f"status {ran.status}, {ran.lines[-3:]}"
     *told, loaded, fetched = ran.lines
-    acknowledged = [told.count(f"s{it} OK") for it in range(PARTITIONS)]
+    acknowledged = [told.count(f"s{100 + it} OK") for it in range(PARTITIONS)]
     if not loaded.startswith("LOADED ") or not fetched.startswith("s9 FETCHED "):
         return f"{loaded}, {fetched}"
     # The offset of a partition counts its commits: at least those that were acknowledged, at most those that were sent.

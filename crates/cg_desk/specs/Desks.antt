@@ -1,5 +1,5 @@
 -- The desk by its phase, and what each of its calls does.
-use Rattle.std.specs.Prelude.{◌≡◌, ℕ, Bool, false, List, [], ◌∷◌, length, if◌then◌else◌, Option, None}
+use Rattle.std.specs.Prelude.{◌≡◌, ℕ, ⊤, Bool, false, List, [], ◌∷◌, length, if◌then◌else◌, Option, None}
 use Rattle.std.specs.FinMap as finmap
 use Rattle.cg_request.specs.declared.event.Event.{Event}
 use Rattle.cg_request.specs.declared.event.Event.TheVariants as event
@@ -82,6 +82,12 @@ IsTakenFrom (Failed n s) o after = (o ≡ None) × (after ≡ Failed n s)
 IsTakenFrom (Serving b) o Loading = ⊥
 IsTakenFrom (Serving b) o (Failed n s) = ⊥
 IsTakenFrom (Serving b) o (Serving c) = IsTake b o c
+
+-- nothing is there to take: the desk does not serve, or no command is queued, given back or in flight
+abbrev pub HasNothing : State → Type 0
+HasNothing Loading = ⊤
+HasNothing (Failed n s) = ⊤
+HasNothing (Serving b) = (b.course ≡ Idle) × (b.queue ≡ [])
 
 -- a batch is in flight
 abbrev pub is_out : State → Bool

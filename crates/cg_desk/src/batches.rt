@@ -1,6 +1,6 @@
 //! Taking, giving back and settling batches.
-ghost use Rattle.std.specs.Prelude.{◌≡◌, ◌≢◌, ◌<◌, ◌+◌, ◌^◌, ◌↔◌, ℕ, ⊤, [], true, false, length, take, drop, IfNone, IfOk, IfErr, IfSome, OnOk, OnErr, OnSome, IsTrue, MatchOption, MatchResult};
-ghost use Rattle.cg_desk.specs.Flights.{Away, Returned, course_of, first_of, is_away, is_returned};
+ghost use Rattle.std.specs.Prelude.{◌≡◌, ◌≢◌, ◌<◌, ◌+◌, ◌^◌, ◌↔◌, ℕ, ⊤, [], true, false, length, take, drop, IfNone, IfOk, IfErr, IfSome, OnOk, OnErr, OnSome, IsTrue, MatchOption, MatchResult, None, Ok};
+ghost use Rattle.cg_desk.specs.Flights.{Away, Idle, Returned, course_of, first_of, is_away, is_returned};
 ghost use Rattle.cg_desk.specs.Fronts.{in_frame};
 ghost use Rattle.cg_desk.specs.Books.{IsFlying, IsWhy};
 ghost use Rattle.cg_desk.specs.Queues.{commands_of};
@@ -99,17 +99,20 @@ impl Serving {
     ghost use Rattle.cg_desk.specs.Serving.{books};
     ghost use Rattle.cg_store.specs.Receipts.{batch_of as batch_in};
 
+    #[tactic(auto, using(std::proofs::lemmas::List::nil_from_length))]
     fn take_next(&mut self) -> Result<Option<Batch>, AllocError>
         requires { is_away (books self.old).course ≡ false }
         ensures ok { IfOk result (λ o. IsTake (books self.old) o (books self.new)) }
         ensures err { OnErr result (books self.new ≡ books self.old) }
         ensures returned { OnErr result (is_returned (books self.old).course ≡ false) }
+        ensures nothing { (books self.old).course ≡ Idle → (books self.old).queue ≡ [] → result ≡ Ok None }
     {
         if let Some(batch) = leave_again(&mut self.flight) {
             return Ok(Some(batch));
         }
-        // Reads the number because the prover takes its range from the type.
-        let _numbered = self.numbered;
+        if self.numbered == self.settled {
+            return Ok(None);
+        }
         match take_front(&mut self.queue, self.settled)? {
             None => Ok(None),
             Some(taken) => {
@@ -121,12 +124,13 @@ impl Serving {
     }
 
     /// Returns the next batch: the one that was given back, or the longest prefix of the queue that fits one frame.
-    /// Returns `None` if no command is queued. Linear in the bytes of the commands that are not yet encoded; only a new
-    /// batch may need an allocation.
+    /// Returns `None` if no command is queued, without an allocation. Linear in the bytes of the commands that are not yet
+    /// encoded; only a new batch may need an allocation.
     pub fn take_batch(&mut self) -> Result<Option<Batch>, TakeFault>
         ensures ok { IfOk result (λ o. IsTake (books self.old) o (books self.new)) }
         ensures in_flight { is_away (books self.old).course ≡ true → result ≡ Err TakeFault.InFlight }
         ensures returned { OnErr result (is_returned (books self.old).course ≡ false) }
+        ensures nothing { (books self.old).course ≡ Idle → (books self.old).queue ≡ [] → result ≡ Ok None }
         ensures err { OnErr result (books self.new ≡ books self.old) }
         ensures memory { is_away (books self.old).course ≡ false → IfErr result (λ fault. fault ≡ TakeFault.Memory) }
     {

@@ -1,5 +1,5 @@
 //! The desk by its phase: loading, serving, failed.
-ghost use Rattle.std.specs.Prelude.{◌≡◌, ◌≢◌, ◌↔◌, ◌∷◌, [], true, false, length, IsTrue, IsOk, IfOk, IfErr, OnOk, OnErr};
+ghost use Rattle.std.specs.Prelude.{◌≡◌, ◌≢◌, ◌↔◌, ◌∷◌, [], true, false, length, IsTrue, IsOk, IfOk, IfErr, OnOk, OnErr, None, Ok};
 ghost use Rattle.cg_desk.specs.Outgoings.{answer};
 ghost use Rattle.cg_desk.specs.Refusals.{is_refusal};
 ghost use Rattle.cg_desk.specs.Tokens.{call_of};
@@ -74,7 +74,7 @@ impl Desk {
     ghost use Rattle.cg_request.specs.Asking.{asked};
     ghost use Rattle.cg_held.specs.Reviving.{revive};
     ghost use Rattle.cg_store.specs.Receipts.{batch_of};
-    ghost use Rattle.cg_desk.specs.Desks.{IsOut, IsReasonAt, IsTakenFrom, counts_of, failing_on, gone_on, held_of, is_back, is_out, numbered_of, opened, request_on, return_to, settle_on, settled_of, state_of, tick_on};
+    ghost use Rattle.cg_desk.specs.Desks.{HasNothing, IsOut, IsReasonAt, IsTakenFrom, counts_of, failing_on, gone_on, held_of, is_back, is_out, numbered_of, opened, request_on, return_to, settle_on, settled_of, state_of, tick_on};
     ghost use Rattle.cg_desk.specs.Balanced.{IsOwedAt};
     ghost use Rattle.cg_desk.specs.Held.{last_replies};
     ghost use Rattle.cg_desk.specs.Laws.{AreRefusedOnce, tokens_of};
@@ -286,13 +286,15 @@ impl Desk {
     }
 
     /// Returns the next batch for the store: the one that was given back, or the longest prefix of the queue that fits
-    /// one frame. Returns `None` if no command is queued or the desk is not serving. Linear in the bytes of the commands
-    /// that are not yet encoded; only a new batch may need an allocation. After an error nothing has changed.
+    /// one frame. Returns `None` if no command is queued or the desk is not serving, without an allocation. Linear in the
+    /// bytes of the commands that are not yet encoded; only a new batch may need an allocation. After an error nothing has
+    /// changed.
     pub fn take_batch(&mut self) -> Result<Option<Batch>, TakeFault>
         ensures ok { IfOk result (λ o. IsTakenFrom (state_of self.old) o (state_of self.new)) }
         ensures in_flight { is_out (state_of self.old) ≡ true → result ≡ Err TakeFault.InFlight }
         ensures memory { is_out (state_of self.old) ≡ false → IfErr result (λ fault. fault ≡ TakeFault.Memory) }
         ensures returned { OnErr result (is_back (state_of self.old) ≡ false) }
+        ensures nothing { HasNothing (state_of self.old) → result ≡ Ok None }
         ensures err { OnErr result (state_of self.new ≡ state_of self.old) }
     {
         match &mut self.phase {

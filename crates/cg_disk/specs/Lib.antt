@@ -2,8 +2,10 @@ pub mod Disk
 pub mod Record
 pub mod Crash
 pub mod Mem
-pub mod Burning
+pub mod Countdown
 pub mod File
 pub mod Fuse
+pub mod Once
+pub mod Injected
 pub mod GatedSync
 pub mod GateDisk

@@ -1,28 +1,17 @@
-//! Fault injection.
-ghost use Rattle.std.specs.Prelude.{◌≡◌, ◌+◌, ◌-◌, ◌^◌, ◌≤◌, min, true, OnOk, is_err, if◌then◌else◌};
+//! Fault injection: a disk that fails each call after some.
+ghost use Rattle.std.specs.Prelude.{◌≡◌, ◌+◌, ◌≤◌, true, OnOk, is_err, Some};
 ghost use Rattle.cg_disk.specs.Disk.{present, sector_count, IsWhole, Holds, IsUnsynced, IsSynced, Changes, Stays, TakesCalls, Counts};
-ghost use Rattle.cg_disk.specs.Burning.{burnt, fails_next};
+ghost use Rattle.cg_disk.specs.Countdown.{fails_next};
 
-use crate::{DiskFault, SectorDisk};
+use crate::countdown::count_down;
+use crate::{DiskFault, OnceDisk, SectorDisk};
 
-/// Which calls of `read`, `write` and `sync` a `FuseDisk` fails.
-#[derive(Clone, Copy, Debug, PartialEq, Eq)]
-pub enum Fuse {
-    /// No call.
-    Intact,
-    /// Every call after this many that pass.
-    EachAfter(u64),
-    /// One call, after this many that pass; later calls pass. A write that it fails is done all the same: the sectors have
-    /// the bytes, though the disk reported a failure.
-    OnceAfter(u64),
-}
-
-/// A disk for fault injection: it passes calls of `read`, `write` and `sync` to another disk, or fails them, as its fuse
-/// says. A call that it fails writes nothing and leaves the buffer unchanged; only a write that `OnceAfter` fails is done.
+/// A disk for fault injection: it passes a number of calls of `read`, `write` and `sync` to another disk, and then fails
+/// each. A call that it fails reaches the other disk not at all, and leaves the buffer unchanged.
 #[derive(Drop)]
 pub struct FuseDisk<D: SectorDisk> {
     inner: D,
-    fuse: Fuse,
+    calls: Option<u64>,
     blown: u64,
 }
 
@@ -32,30 +21,30 @@ impl<D: SectorDisk> FuseDisk<D> {
     /// Wraps a disk that passes this many calls, and then fails each.
     pub fn new(disk: D, calls: u64) -> FuseDisk<D>
         ensures inner { inner_of result ≡ disk }
-        ensures fuse { fuse_of result ≡ Fuse.EachAfter calls }
+        ensures fuse { fuse_of result ≡ Some calls }
         ensures blown { blown_calls result ≡ 0 }
     {
         FuseDisk {
             inner: disk,
-            fuse: Fuse::EachAfter(calls),
+            calls: Some(calls),
             blown: 0,
         }
     }
 
-    /// Sets which calls fail from now on.
-    pub fn set(&mut self, fuse: Fuse)
+    /// Sets how many calls pass from now on before each fails. With `None` no call fails.
+    pub fn set(&mut self, calls: Option<u64>)
         ensures inner { inner_of self.new ≡ inner_of self.old }
-        ensures fuse { fuse_of self.new ≡ fuse }
+        ensures fuse { fuse_of self.new ≡ calls }
         ensures blown { blown_calls self.new ≡ blown_calls self.old }
     {
-        self.fuse = fuse;
+        self.calls = calls;
     }
 
-    /// Returns which calls fail from now on.
-    pub fn fuse(&self) -> Fuse
+    /// Returns how many calls pass from now on before each fails.
+    pub fn calls_left(&self) -> Option<u64>
         ensures { result ≡ fuse_of self.now }
     {
-        self.fuse
+        self.calls
     }
 
     /// Returns the wrapped disk, without a disk call.
@@ -67,31 +56,19 @@ impl<D: SectorDisk> FuseDisk<D> {
     }
 }
 
-/// Burns the fuse down by one call. Reports `Device` if that call fails.
-fn burn(fuse: &mut Fuse, blown: &mut u64) -> Result<(), DiskFault>
-    ensures burns { fuse.new ≡ burnt fuse.old }
-    ensures fails { is_err result ≡ fails_next fuse.old }
-    ensures counts { blown.new ≡ (if is_err result then min (blown.old + 1) (2 ^ 64 - 1) else blown.old) }
-{
-    match *fuse {
-        Fuse::Intact => return Ok(()),
-        Fuse::EachAfter(0) => {}
-        Fuse::OnceAfter(0) => *fuse = Fuse::Intact,
-        Fuse::EachAfter(calls) => {
-            *fuse = Fuse::EachAfter(calls - 1);
-            return Ok(());
-        }
-        Fuse::OnceAfter(calls) => {
-            *fuse = Fuse::OnceAfter(calls - 1);
-            return Ok(());
-        }
+impl<D: SectorDisk> FuseDisk<OnceDisk<D>> {
+    ghost use Rattle.cg_disk.specs.Injected.{SetsOnce};
+
+    /// Sets how many of the calls that the fuse passes pass from now on before one fails. With `None` no call fails.
+    pub fn set_once(&mut self, calls: Option<u64>)
+        ensures { SetsOnce calls self.old self.new }
+    {
+        self.inner.set(calls);
     }
-    *blown = blown.saturating_add(1);
-    Err(DiskFault::Device)
 }
 
 impl<D: SectorDisk> SectorDisk for FuseDisk<D> {
-    ghost use Rattle.cg_disk.specs.Fuse.{inner_of, fuse_of, failures_of, HasPassed, PassesOrFails};
+    ghost use Rattle.cg_disk.specs.Fuse.{inner_of, fuse_of, failures_of, PassesOrFails};
 
     ghost size = { λ disk. D.size disk.inner };
 
@@ -122,7 +99,7 @@ impl<D: SectorDisk> SectorDisk for FuseDisk<D> {
         ensures clock { D.is_honest (inner_of self.old) ≡ true → TakesCalls 1 (D.history (inner_of self.old)) (D.history (inner_of self.new)) (is_err result) }
         ensures cause { Counts (failures_of D.failures self.old) (failures_of D.failures self.new) (is_err result) }
     {
-        burn(&mut self.fuse, &mut self.blown)?;
+        count_down(&mut self.calls, &mut self.blown)?;
         self.inner.read(at, bytes)
     }
 
@@ -131,11 +108,7 @@ impl<D: SectorDisk> SectorDisk for FuseDisk<D> {
         requires in_range { at + sector_count bytes.now ≤ D.size (inner_of self.old) }
 
         ensures fuse { PassesOrFails D.failures self.old self.new (is_err result) }
-        ensures untouched { fuse_of self.old ≡ Fuse.EachAfter 0 → inner_of self.new ≡ inner_of self.old }
-        // A write that `OnceAfter` fails is done, unless the wrapped disk fails it too.
-        ensures written { D.is_honest (inner_of self.old) ≡ true → fuse_of self.old ≡ Fuse.OnceAfter 0
-            → HasPassed (D.failures (inner_of self.old)) (D.failures (inner_of self.new))
-            → Holds (present (D.history (inner_of self.new))).content at (sector_count bytes.now) bytes.now }
+        ensures untouched { fails_next (fuse_of self.old) ≡ true → inner_of self.new ≡ inner_of self.old }
 
         // The clauses of every `SectorDisk`.
         ensures same_size { D.size (inner_of self.new) ≡ D.size (inner_of self.old) }
@@ -149,15 +122,8 @@ impl<D: SectorDisk> SectorDisk for FuseDisk<D> {
         ensures clock { D.is_honest (inner_of self.old) ≡ true → TakesCalls 1 (D.history (inner_of self.old)) (D.history (inner_of self.new)) (is_err result) }
         ensures cause { Counts (failures_of D.failures self.old) (failures_of D.failures self.new) (is_err result) }
     {
-        let reaches_disk = self.fuse != Fuse::EachAfter(0);
-        let burnt = burn(&mut self.fuse, &mut self.blown);
-        let written = if reaches_disk {
-            self.inner.write(at, bytes)
-        } else {
-            Ok(())
-        };
-        burnt?;
-        written
+        count_down(&mut self.calls, &mut self.blown)?;
+        self.inner.write(at, bytes)
     }
 
     fn sync(&mut self) -> Result<(), DiskFault>
@@ -172,7 +138,7 @@ impl<D: SectorDisk> SectorDisk for FuseDisk<D> {
         ensures clock { D.is_honest (inner_of self.old) ≡ true → TakesCalls 1 (D.history (inner_of self.old)) (D.history (inner_of self.new)) (is_err result) }
         ensures cause { Counts (failures_of D.failures self.old) (failures_of D.failures self.new) (is_err result) }
     {
-        burn(&mut self.fuse, &mut self.blown)?;
+        count_down(&mut self.calls, &mut self.blown)?;
         self.inner.sync()
     }
 }

@@ -1,7 +1,7 @@
-//! A crash of a disk in memory, a disk in a file, and a disk with a gated sync.
-ghost use Rattle.std.specs.Prelude.{◌≡◌, ◌*◌, ◌^◌, ◌<◌, ◌≤◌, IfOk, length};
+//! A crash of a disk in memory, a disk in a file, a disk that fails one call, and a disk with a gated sync.
+ghost use Rattle.std.specs.Prelude.{◌≡◌, ◌+◌, ◌*◌, ◌^◌, ◌<◌, ◌≤◌, IfOk, length};
 
-use crate::{Crash, FileDisk, Gate, GateDisk, MemDisk, SECTOR_BYTES, SectorDisk};
+use crate::{Crash, FileDisk, Gate, GateDisk, MemDisk, OnceDisk, SECTOR_BYTES, SectorDisk};
 use std::alloc::{AllocError, Global};
 use std::fs::{self, File};
 use std::io;
@@ -60,6 +60,46 @@ fn crashes(rt: &impl Abort, alloc: Global, kind: Crash, want: (u8, u8, u8, u8)) 
 fn a_crash_keeps_or_loses_what_is_not_synced(rt: HostRuntime) {
     crashes(&rt, rt.alloc(), Crash::Keep, (0, 7, 7, 0));
     crashes(&rt, rt.alloc(), Crash::Lose, (0, 5, 0, 0));
+}
+
+// Fills sectors from position `at` with sevens. Returns whether that succeeded.
+fn write_sevens<D: SectorDisk>(
+    rt: &impl Abort,
+    alloc: Global,
+    disk: &mut D,
+    at: u64,
+    count: u64,
+) -> bool
+    requires few { count < 2 ^ 32 }
+    requires in_range { at + count ≤ D.size disk.old }
+    ensures { D.size disk.new ≡ D.size disk.old }
+{
+    let sevens = sectors(alloc, 7, count).expect(rt, "sectors");
+    disk.write(at, &sevens).is_ok()
+}
+
+#[test]
+fn the_write_that_fails_leaves_ones_and_its_sync_nothing(rt: HostRuntime) {
+    let memory = MemDisk::new(rt.alloc(), 4).expect(&rt, "a disk");
+    let mut disk = OnceDisk::new(rt.alloc(), memory, 0);
+    assert!(rt; !write_sevens(&rt, rt.alloc(), &mut disk, 1, 2));
+    assert_eq!(rt; first_bytes(&rt, rt.alloc(), &mut disk), (0, 1, 1, 0));
+    disk.set(Some(1));
+    assert!(rt; write_sevens(&rt, rt.alloc(), &mut disk, 3, 1));
+    assert!(rt; disk.sync().is_err());
+    assert_eq!(rt; first_bytes(&rt, rt.alloc(), &mut disk), (0, 1, 1, 7));
+    let mut after = disk.into_inner().crash(Crash::Lose);
+    assert_eq!(rt; first_bytes(&rt, rt.alloc(), &mut after), (0, 0, 0, 0));
+}
+
+#[test]
+fn the_read_that_fails_leaves_ones(rt: HostRuntime) {
+    let memory = MemDisk::new(rt.alloc(), 4).expect(&rt, "a disk");
+    let mut disk = OnceDisk::new(rt.alloc(), memory, 0);
+    let mut bytes = sectors(rt.alloc(), 9, 2).expect(&rt, "sectors");
+    assert!(rt; disk.read(2, &mut bytes).is_err());
+    assert!(rt; bytes.len() == 1024 && bytes.iter().all(|byte| *byte == 1));
+    assert!(rt; disk.read(2, &mut bytes).is_ok() && bytes[0] == 0);
 }
 
 // Fills the last two sectors of a disk of four that has zeros, and syncs.

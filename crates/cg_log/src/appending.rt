@@ -184,6 +184,10 @@ impl<D: SectorDisk> Log<D> {
             (λ _. has_room (room_of D.size self.old) (length payload.now) ≡ true)
             (λ fault. fault ≢ LogFault.Failed → fault ≢ LogFault.Full →
             has_room (room_of D.size self.old) (length payload.now) ≡ true) }
+        // A frame that does not fit the last tail begins a new one, in the free segment of the least id.
+        ensures same_root { fits_tail (room_of D.size self.old) (length payload.now) ≡ true → root_of self.new ≡ root_of self.old }
+        ensures next { fits_tail (room_of D.size self.old) (length payload.now) ≡ false → OnOk result
+            ((id : ℕ) × IsNextTail (D.size (disk_of self.old)) (taken_of self.old) (root_of self.old) id (root_of self.new)) }
         // Where the frame fits the last tail, it takes four calls of the device; a new tail takes up to eight more.
         ensures clock { D.is_honest (disk_of self.old) ≡ true → fits_tail (room_of D.size self.old) (length payload.now) ≡ true →
             TakesCalls 4 (D.history (disk_of self.old)) (D.history (disk_of self.new)) (is_err result) }

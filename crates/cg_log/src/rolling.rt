@@ -215,6 +215,9 @@ impl<D: SectorDisk> Log<D> {
             HasNext (D.size (disk_of self.old)) (taken_of self.old) (root_of self.old)) }
         ensures unchanged { IfErr result (λ fault. fault ≢ LogFault.Device → IsUnchanged self.old self.new) }
         ensures empty_stays { end_of self.old ≡ 0 → IsUnchanged self.old self.new }
+        // A new tail is the free segment of the least id.
+        ensures next { end_of self.old ≢ 0 → IfOk result (λ id.
+            IsNextTail (D.size (disk_of self.old)) (taken_of self.old) (root_of self.old) id (root_of self.new)) }
         // The id is a tail's. Fresh segments stay, and so does every tail.
         ensures tail { IfOk result (λ id. is_among id (root_of self.new).tail ≡ true) }
         ensures fresh { (fresh : List Filled) → HasFresh D.is_honest D.history self.old fresh → OnOk result

@@ -6,7 +6,7 @@ ghost use Rattle.cg_disk.specs.Fuse.{inner_of};
 ghost use Rattle.cg_disk.specs.Mem.{mem_size};
 
 use crate::{Root, RootFault, SegmentIds, Slot, close_other, publish, read_root};
-use cg_disk::{Crash, DiskFault, Fuse, FuseDisk, MemDisk, SectorDisk};
+use cg_disk::{Crash, DiskFault, FuseDisk, MemDisk, SectorDisk};
 use std::alloc::{AllocError, Global};
 use std::process::Abort;
 use std::test::Fail;
@@ -65,7 +65,7 @@ fn blank(alloc: Global, sectors: u64) -> Result<Unclaimed, AllocError>
     ensures { IfOk result (λ disk. mem_size (inner_of disk.disk) ≡ sectors) }
 {
     let mut disk = FuseDisk::new(MemDisk::new(alloc, sectors)?, 0);
-    disk.set(Fuse::Intact);
+    disk.set(None);
     Ok(Unclaimed { disk })
 }
 
@@ -313,7 +313,7 @@ fn with_two<D: SectorDisk>(alloc: Global, disk: &mut D) -> Result<Root, Fail>
 fn epoch_after(alloc: Global, calls: u64, kind: Crash) -> Result<u64, Fail> {
     let mut disk = blank(alloc, SECTORS)?;
     let root = with_two(alloc, &mut disk)?;
-    disk.disk.set(Fuse::EachAfter(calls));
+    disk.disk.set(Some(calls));
     let _ = replace_root(&mut disk, root);
     let Unclaimed { disk } = disk;
     let mut disk = disk.into_inner().crash(kind);

@@ -2,7 +2,6 @@
 use Rattle.std.specs.Prelude.{ℕ, List, length, nat_lt, Bool, true, false, Option, None, Some, if◌then◌else◌, codes}
 use Rattle.std.specs.Option.{option_map}
 use Rattle.std.specs.Str.{bytes_eq}
-use Rattle.cg_disk.specs.declared.fuse.Fuse.TheVariants.{EachAfter, OnceAfter}
 use Rattle.cg_disk.specs.declared.mem.Crash.TheVariants.{Keep, Lose}
 use Rattle.cg_line.specs.Numbers.{number_of}
 use Rattle.cg_sim.specs.Text.{◌>>=◌, cut_of, is_skipped, session_of}
@@ -10,7 +9,7 @@ use Rattle.cg_sim.specs.SectorText.{sector_text_of}
 use Rattle.cg_sim.specs.declared.text.TheConstants.{NUMBER_MAX}
 use Rattle.cg_sim.specs.declared.line.TheConstants.{SCRIPT_LINE_BYTES_MAX}
 use Rattle.cg_sim.specs.declared.line.Line.{Line}
-use Rattle.cg_sim.specs.declared.line.Line.TheVariants.{Skipped, At, Tick, Gone, Take, Append, Settle, Flush, Compact, Fuse, Poke, Stop, Load, Reload, Close, Ask}
+use Rattle.cg_sim.specs.declared.line.Line.TheVariants.{Skipped, At, Tick, Gone, Take, Append, Settle, Flush, Compact, Fuse, Once, Poke, Stop, Load, Reload, Close, Ask}
 use Rattle.cg_sim.specs.declared.compaction.Compaction.TheVariants.{Whole, Step, Abort}
 use Rattle.cg_sim.specs.declared.compaction.CompactStep.TheVariants.{Start, Read, Write, Switch}
 
@@ -55,14 +54,14 @@ poke_line_of rest = do
   bytes ← sector_text_of words.1
   Some (Poke sector bytes)
 
--- a line by its first word: a moment, a closed session, a fuse, a poke or a request
+-- a line by its first word: a moment, a closed session, a failure of the disk, a poke or a request
 unfoldable pub word_line_of : List ℕ → List ℕ → Option Line
 word_line_of word rest =
     if bytes_eq word (codes "at") then option_map At (number_of NUMBER_MAX rest)
     else (if bytes_eq word (codes "tick") then option_map Tick (number_of NUMBER_MAX rest)
     else (if bytes_eq word (codes "gone") then option_map Gone (session_of rest)
-    else (if bytes_eq word (codes "fuse") then option_map (λ calls. Fuse (EachAfter calls)) (number_of NUMBER_MAX rest)
-    else (if bytes_eq word (codes "once") then option_map (λ calls. Fuse (OnceAfter calls)) (number_of NUMBER_MAX rest)
+    else (if bytes_eq word (codes "fuse") then option_map Fuse (number_of NUMBER_MAX rest)
+    else (if bytes_eq word (codes "once") then option_map Once (number_of NUMBER_MAX rest)
     else (if bytes_eq word (codes "poke") then poke_line_of rest
     else option_map (λ session. Ask session rest) (session_of word))))))
 

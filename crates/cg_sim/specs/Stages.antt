@@ -1,8 +1,8 @@
 -- The stage of a script, as clauses see it: its disk, and the pokes that wait.
 use Rattle.std.specs.Prelude.{Bool, true, false, not, ◌&&◌, List, []}
-use Rattle.cg_disk.specs.Fuse.{inner_of}
-use Rattle.cg_disk.specs.declared.fuse.FuseDisk.{FuseDisk}
+use Rattle.cg_disk.specs.Injected.{below_both}
 use Rattle.cg_disk.specs.declared.mem.MemDisk.{MemDisk}
+use Rattle.cg_sim.specs.Disk.{ScriptDisk}
 use Rattle.cg_sim.specs.LoadedDisk.{loaded_disk}
 use Rattle.cg_sim.specs.Line.{may_follow_poke}
 use Rattle.cg_sim.specs.declared.line.Line.{Line}
@@ -13,12 +13,12 @@ use Rattle.cg_sim.specs.declared.stage.Stage.{Stage}
 use Rattle.cg_sim.specs.declared.stage.Stage.TheVariants as stage
 use Rattle.cg_sim.specs.declared.unloaded.Unloaded.{Unloaded as UnloadedStage}
 
--- the disk from which nothing is loaded, with its fuse
-abbrev pub unloaded_disk : UnloadedStage → FuseDisk MemDisk
+-- the disk from which nothing is loaded, with its fault injections
+abbrev pub unloaded_disk : UnloadedStage → ScriptDisk
 unloaded_disk unloaded = unloaded.disk
 
--- a loaded disk while pokes wait, with its fuse, and those pokes
-abbrev pub poked_disk : PokedStage → FuseDisk MemDisk
+-- a loaded disk while pokes wait, with its fault injections, and those pokes
+abbrev pub poked_disk : PokedStage → ScriptDisk
 poked_disk poked = loaded_disk poked.loaded
 
 abbrev pub pokes_waiting : PokedStage → List Poke
@@ -43,11 +43,14 @@ is_poked (stage.Unloaded unloaded) = false
 is_poked (stage.Loaded loaded) = false
 is_poked (stage.Poked poked) = true
 
--- the disk below the fuse
+-- the disk with its fault injections, and the disk below them
+abbrev pub injected_disk : Stage → ScriptDisk
+injected_disk (stage.Unloaded unloaded) = unloaded_disk unloaded
+injected_disk (stage.Loaded loaded) = loaded_disk loaded
+injected_disk (stage.Poked poked) = poked_disk poked
+
 abbrev pub stage_disk : Stage → MemDisk
-stage_disk (stage.Unloaded unloaded) = inner_of (unloaded_disk unloaded)
-stage_disk (stage.Loaded loaded) = inner_of (loaded_disk loaded)
-stage_disk (stage.Poked poked) = inner_of (poked_disk poked)
+stage_disk s = below_both (injected_disk s)
 
 -- the pokes that wait
 abbrev pub stage_pokes : Stage → List Poke

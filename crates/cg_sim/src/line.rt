@@ -9,7 +9,7 @@ use crate::compaction::{CompactStep, Compaction};
 use crate::request_line::RequestLine;
 use crate::sector_text::SectorText;
 use crate::text::{self, NUMBER_MAX};
-use cg_disk::{Crash, Fuse};
+use cg_disk::Crash;
 use cg_line::decimal::number;
 use cg_names::Moment;
 
@@ -37,8 +37,10 @@ pub enum Line<'a> {
     Flush,
     /// `compact`, alone or with a word: a compaction, or a part of one.
     Compact(Compaction),
-    /// `fuse K` or `once K`: the disk passes K more calls, and then fails every call or one call (fault injection).
-    Fuse(Fuse),
+    /// `fuse K`: the disk passes K more calls, and then fails every call (fault injection).
+    Fuse(u64),
+    /// `once K`: the disk passes K more calls, and then fails one call (fault injection).
+    Once(u64),
     /// `poke S xBYTES`: the sector with this number holds these bytes, then zeros.
     Poke(u64, SectorText<'a>),
     /// `stop keep` or `stop lose`: power loss, which keeps or loses unsynced writes.
@@ -178,7 +180,7 @@ impl<'a> Line<'a> {
         }
     }
 
-    // Parses a line by its first word: a moment, a closed session, a fuse, a poke or a request.
+    // Parses a line by its first word: a moment, a closed session, a failure of the disk, a poke or a request.
     #[tactic(auto, unfolding(crate::specs::Line::word_line_of))]
     fn word_line(word: &[u8], rest: &'a [u8]) -> Option<Self>
         ensures { result ≡ word_line_of word.now rest.now }
@@ -193,10 +195,10 @@ impl<'a> Line<'a> {
             return Some(Line::Gone(text::session_number(rest)?));
         }
         if word == b"fuse".as_slice() {
-            return Some(Line::Fuse(Fuse::EachAfter(number(rest, NUMBER_MAX)?)));
+            return Some(Line::Fuse(number(rest, NUMBER_MAX)?));
         }
         if word == b"once".as_slice() {
-            return Some(Line::Fuse(Fuse::OnceAfter(number(rest, NUMBER_MAX)?)));
+            return Some(Line::Once(number(rest, NUMBER_MAX)?));
         }
         if word == b"poke".as_slice() {
             return Line::poke_line(rest);

@@ -1,9 +1,10 @@
 //! A desk and its store, after a load.
-ghost use Rattle.std.specs.Prelude.{◌≡◌, IfErr};
-ghost use Rattle.cg_disk.specs.Fuse.{inner_of};
+ghost use Rattle.std.specs.Prelude.{◌≡◌, IfErr, Some};
+ghost use Rattle.cg_disk.specs.Fuse.{fuse_of};
+ghost use Rattle.cg_disk.specs.Injected.{below_both, once_within};
 ghost use Rattle.cg_store.specs.Store.{disk_of};
 ghost use Rattle.cg_world.specs.Sights.{store_of};
-ghost use Rattle.cg_sim.specs.Disk.{sectors_of};
+ghost use Rattle.cg_sim.specs.Disk.{IsInjected, sectors_of};
 
 use crate::call::Call;
 use crate::compaction::{CompactStep, Compaction};
@@ -11,7 +12,7 @@ use crate::stage::Disk;
 use crate::stop::Stop;
 use crate::telling;
 use cg_desk::Outgoing;
-use cg_disk::{Fuse, MemDisk};
+use cg_disk::MemDisk;
 use cg_world::{Step, StepNote, World};
 use std::alloc::Global;
 
@@ -171,20 +172,29 @@ impl Loaded {
         }
     }
 
-    /// Sets which calls the disk fails from now on.
-    pub fn set_fuse(&mut self, fuse: Fuse) {
-        self.world.set_fuse(fuse);
+    /// Sets how many calls of the disk pass from now on before each fails.
+    pub fn set_fuse(&mut self, calls: u64)
+        ensures { IsInjected (Some calls) (once_within (loaded_disk self.old)) (loaded_disk self.old) (loaded_disk self.new) }
+    {
+        self.world.set_fuse(Some(calls));
     }
 
-    /// Refuses every pending request. Returns the refusals, and the disk without its fuse.
+    /// Sets how many of the calls that the fuse passes pass from now on before one fails.
+    pub fn set_once(&mut self, calls: u64)
+        ensures { IsInjected (fuse_of (loaded_disk self.old)) (Some calls) (loaded_disk self.old) (loaded_disk self.new) }
+    {
+        self.world.set_once(Some(calls));
+    }
+
+    /// Refuses every pending request. Returns the refusals, and the disk without its fault injections.
     pub fn close(self) -> (Vec<Outgoing>, MemDisk)
-        ensures disk { result.1 ≡ inner_of (loaded_disk self) }
+        ensures disk { result.1 ≡ below_both (loaded_disk self) }
     {
         let Loaded {
             world,
             sectors: _sectors,
         } = self;
         let (refused, disk) = world.close();
-        (refused, disk.into_inner())
+        (refused, disk.into_inner().into_inner())
     }
 }

@@ -14,7 +14,7 @@ use crate::sector_text::SectorText;
 use crate::stage::Stage;
 use crate::stop::Stop;
 use crate::telling;
-use cg_disk::{Crash, Fuse};
+use cg_disk::Crash;
 use cg_group::Ticket;
 use cg_line::LineFault;
 use cg_names::Moment;
@@ -97,7 +97,8 @@ impl Player {
             Line::Settle => stage.take_step(self.alloc, Step::Settle, out),
             Line::Flush => stage.flush(self.alloc, out),
             Line::Compact(compaction) => stage.compact(self.alloc, *compaction, out),
-            Line::Fuse(fuse) => light(stage, *fuse),
+            Line::Fuse(calls) => (stage.with_fuse(*calls), Ok(())),
+            Line::Once(calls) => (stage.with_once(*calls), Ok(())),
             Line::Poke(sector, text) => self.poke(stage, number, *sector, text),
             Line::Stop(crash) => self.stop(stage, *crash),
             Line::Load => self.load(stage, number, out),
@@ -214,11 +215,4 @@ impl Player {
             }
         }
     }
-}
-
-fn light(mut stage: Stage, fuse: Fuse) -> (Stage, Result<(), Stop>)
-    ensures { result.1 ≡ Ok tt }
-{
-    stage.set_fuse(fuse);
-    (stage, Ok(()))
 }

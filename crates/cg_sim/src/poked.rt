@@ -1,6 +1,6 @@
 //! A loaded disk with pokes that wait for its next crash.
 ghost use Rattle.std.specs.Prelude.{◌≡◌, ◌<◌, ◌++◌, ◌∷◌, [], true, OnOk};
-ghost use Rattle.cg_disk.specs.Fuse.{inner_of};
+ghost use Rattle.cg_disk.specs.Injected.{below_both};
 ghost use Rattle.cg_sim.specs.Disk.{sectors_of};
 ghost use Rattle.cg_sim.specs.Poking.{are_within, sector_of};
 ghost use Rattle.cg_sim.specs.LoadedDisk.{loaded_disk};
@@ -49,9 +49,9 @@ impl Poked {
         Ok(())
     }
 
-    /// Refuses every pending request. Returns the refusals, and the disk without its fuse.
+    /// Refuses every pending request. Returns the refusals, and the disk without its fault injections.
     pub fn close(self) -> (Vec<Outgoing>, PokedDisk)
-        ensures disk { taken_disk result.1 ≡ inner_of (poked_disk self) }
+        ensures disk { taken_disk result.1 ≡ below_both (poked_disk self) }
         ensures pokes { taken_pokes result.1 ≡ pokes_waiting self }
     {
         let Poked { loaded, pokes } = self;

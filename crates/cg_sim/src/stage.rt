@@ -1,12 +1,13 @@
 //! The state of a script: its disk, with or without something loaded.
-ghost use Rattle.std.specs.Prelude.{◌≡◌, ◌⊎◌, ◌<◌, ◌++◌, ◌∷◌, [], true, false, IfErr, OnErr, OnOk};
+ghost use Rattle.std.specs.Prelude.{◌≡◌, ◌⊎◌, ◌<◌, ◌++◌, ◌∷◌, [], true, false, IfErr, OnErr, OnOk, Some};
 ghost use Rattle.cg_disk.specs.Crash.{IsLastSynced};
 ghost use Rattle.cg_disk.specs.Disk.{Image};
-ghost use Rattle.cg_disk.specs.Fuse.{inner_of};
+ghost use Rattle.cg_disk.specs.Fuse.{fuse_of};
+ghost use Rattle.cg_disk.specs.Injected.{below_both, once_within};
 ghost use Rattle.cg_disk.specs.Mem.{mem_history, mem_size};
-ghost use Rattle.cg_sim.specs.Disk.{moment_of, sectors_of};
+ghost use Rattle.cg_sim.specs.Disk.{IsInjected, moment_of, sectors_of};
 ghost use Rattle.cg_sim.specs.Poking.{IsPoked, sector_of};
-ghost use Rattle.cg_sim.specs.Stages.{is_loaded, is_refused, poked_disk, pokes_waiting, stage_disk, stage_pokes, taken_disk, taken_pokes, unloaded_disk};
+ghost use Rattle.cg_sim.specs.Stages.{injected_disk, is_loaded, is_poked, is_refused, poked_disk, pokes_waiting, stage_disk, stage_pokes, taken_disk, taken_pokes, unloaded_disk};
 
 use crate::call::Call;
 use crate::compaction::Compaction;
@@ -19,12 +20,12 @@ use crate::stop::Stop;
 use crate::telling;
 use crate::unloaded::Unloaded;
 use cg_desk::Outgoing;
-use cg_disk::{Crash, Fuse, FuseDisk, MemDisk};
+use cg_disk::{Crash, FuseDisk, MemDisk, OnceDisk};
 use cg_world::Step;
 use std::alloc::Global;
 
 /// Disk in memory with fault injection.
-pub type Disk = FuseDisk<MemDisk>;
+pub type Disk = FuseDisk<OnceDisk<MemDisk>>;
 
 /// Disk of a script, and what is loaded from it.
 pub enum Stage {
@@ -104,12 +105,41 @@ impl Stage {
         }
     }
 
-    /// Sets which calls the disk fails from now on.
-    pub fn set_fuse(&mut self, fuse: Fuse) {
+    /// Sets how many calls of the disk pass from now on before each fails, unless a poke waits.
+    pub fn with_fuse(self, calls: u64) -> Self
+        ensures set { is_poked self ≡ false →
+            IsInjected (Some calls) (once_within (injected_disk self)) (injected_disk self) (injected_disk result) }
+        ensures poked { is_poked self ≡ true → result ≡ self }
+    {
         match self {
-            Stage::Unloaded(unloaded) => unloaded.set_fuse(fuse),
-            Stage::Loaded(loaded) => loaded.set_fuse(fuse),
-            Stage::Poked(_) => {}
+            Stage::Unloaded(mut unloaded) => {
+                unloaded.set_fuse(calls);
+                Stage::Unloaded(unloaded)
+            }
+            Stage::Loaded(mut loaded) => {
+                loaded.set_fuse(calls);
+                Stage::Loaded(loaded)
+            }
+            poked => poked,
+        }
+    }
+
+    /// Sets how many of the calls that the fuse passes pass from now on before one fails, unless a poke waits.
+    pub fn with_once(self, calls: u64) -> Self
+        ensures set { is_poked self ≡ false →
+            IsInjected (fuse_of (injected_disk self)) (Some calls) (injected_disk self) (injected_disk result) }
+        ensures poked { is_poked self ≡ true → result ≡ self }
+    {
+        match self {
+            Stage::Unloaded(mut unloaded) => {
+                unloaded.set_once(calls);
+                Stage::Unloaded(unloaded)
+            }
+            Stage::Loaded(mut loaded) => {
+                loaded.set_once(calls);
+                Stage::Loaded(loaded)
+            }
+            poked => poked,
         }
     }
 
@@ -122,7 +152,7 @@ impl Stage {
     {
         match self {
             Stage::Unloaded(unloaded) => {
-                let (unloaded, put) = unloaded.poke(&poke);
+                let (unloaded, put) = unloaded.poke(alloc, &poke);
                 (Stage::Unloaded(unloaded), put)
             }
             Stage::Loaded(loaded) => Stage::wait(Poked::new(alloc, loaded), poke),
@@ -134,7 +164,7 @@ impl Stage {
     fn wait(mut poked: Poked, poke: Poke) -> (Self, Result<(), Stop>)
         requires { sector_of poke < sectors_of (poked_disk poked) }
         ensures err { IfErr result.1 (λ stop. stop ≡ Stop.Memory) }
-        ensures waits { OnOk result.1 ((stage_pokes result.0 ≡ pokes_waiting poked ++ poke ∷ []) × (stage_disk result.0 ≡ inner_of (poked_disk poked))) }
+        ensures waits { OnOk result.1 ((stage_pokes result.0 ≡ pokes_waiting poked ++ poke ∷ []) × (stage_disk result.0 ≡ below_both (poked_disk poked))) }
     {
         match poked.add(poke) {
             Ok(()) => (Stage::Poked(poked), Ok(())),
@@ -153,7 +183,7 @@ impl Stage {
         }
     }
 
-    /// Refuses every pending request of what was loaded. Returns the refusals, and the disk without its fuse.
+    /// Refuses every pending request of what was loaded. Returns the refusals, and the disk without its fault injections.
     pub fn end(self, alloc: Global) -> (Vec<Outgoing>, PokedDisk)
         ensures disk { taken_disk result.1 ≡ stage_disk self }
         ensures pokes { taken_pokes result.1 ≡ stage_pokes self }
@@ -171,11 +201,11 @@ impl Stage {
         }
     }
 
-    /// Simulates power loss: the disk crashes, the pokes that wait are put down, the fuse is lifted, and replies that had
+    /// Simulates power loss: the disk crashes, the pokes that wait are put down, its fault injections are lifted, and replies that had
     /// not left are lost.
     pub fn stop(self, alloc: Global, crash: Crash) -> (Unloaded, Result<(), Stop>)
-        ensures kept { crash ≡ Crash.Keep → OnOk result.1 (IsPoked (stage_pokes self) (moment_of (stage_disk self)).content (moment_of (inner_of (unloaded_disk result.0)))) }
-        ensures lost { crash ≡ Crash.Lose → OnOk result.1 ((image : Image) × IsLastSynced (mem_history (stage_disk self)) image × IsPoked (stage_pokes self) image (moment_of (inner_of (unloaded_disk result.0)))) }
+        ensures kept { crash ≡ Crash.Keep → OnOk result.1 (IsPoked (stage_pokes self) (moment_of (stage_disk self)).content (moment_of (below_both (unloaded_disk result.0)))) }
+        ensures lost { crash ≡ Crash.Lose → OnOk result.1 ((image : Image) × IsLastSynced (mem_history (stage_disk self)) image × IsPoked (stage_pokes self) image (moment_of (below_both (unloaded_disk result.0)))) }
         ensures err { IfErr result.1 (λ stop. stop ≡ Stop.Device) }
     {
         let (_, disk) = self.end(alloc);

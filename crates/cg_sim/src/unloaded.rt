@@ -1,9 +1,10 @@
 //! A disk from which nothing is loaded.
-ghost use Rattle.std.specs.Prelude.{◌≡◌, ◌<◌, ◌∷◌, [], IfErr, OnOk, is_err};
+ghost use Rattle.std.specs.Prelude.{◌≡◌, ◌<◌, ◌∷◌, [], IfErr, None, OnOk, Some, is_err};
 ghost use Rattle.cg_disk.specs.Disk.{Counts};
-ghost use Rattle.cg_disk.specs.Fuse.{fuse_of, inner_of};
+ghost use Rattle.cg_disk.specs.Fuse.{fuse_of};
+ghost use Rattle.cg_disk.specs.Injected.{below_both, once_within};
 ghost use Rattle.cg_disk.specs.Mem.{mem_failures};
-ghost use Rattle.cg_sim.specs.Disk.{moment_of, sectors_of};
+ghost use Rattle.cg_sim.specs.Disk.{IsInjected, moment_of, sectors_of};
 ghost use Rattle.cg_sim.specs.Poking.{IsPoked, sector_of};
 
 use crate::call::Call;
@@ -13,7 +14,7 @@ use crate::stage::{Disk, Stage};
 use crate::stop::Stop;
 use crate::telling;
 use cg_desk::{Desk, ReplyToken};
-use cg_disk::{Fuse, FuseDisk, MemDisk, SectorDisk};
+use cg_disk::{FuseDisk, MemDisk, OnceDisk, SectorDisk};
 use cg_names::{Code, Moment};
 use cg_world::World;
 use std::alloc::Global;
@@ -27,12 +28,13 @@ pub struct Unloaded {
 impl Unloaded {
     ghost use Rattle.cg_sim.specs.Stages.{unloaded_disk};
 
-    /// Creates a disk without a fuse, from which nothing is loaded.
+    /// Creates a disk without fault injections, from which nothing is loaded.
     pub fn new(alloc: Global, disk: MemDisk) -> Self
-        ensures { inner_of (unloaded_disk result) ≡ disk }
+        ensures disk { below_both (unloaded_disk result) ≡ disk }
+        ensures fuse { fuse_of (unloaded_disk result) ≡ None }
+        ensures once { once_within (unloaded_disk result) ≡ None }
     {
-        let mut disk = FuseDisk::new(disk, 0);
-        disk.set(Fuse::Intact);
+        let disk = inject(alloc, disk, None, None);
         match Desk::loading(alloc) {
             Ok(desk) => Unloaded { desk, disk },
             Err(_) => unreachable!(),
@@ -76,9 +78,18 @@ impl Unloaded {
         Ok(())
     }
 
-    /// Sets which calls the disk fails from now on.
-    pub fn set_fuse(&mut self, fuse: Fuse) {
-        self.disk.set(fuse);
+    /// Sets how many calls of the disk pass from now on before each fails.
+    pub fn set_fuse(&mut self, calls: u64)
+        ensures { IsInjected (Some calls) (once_within (unloaded_disk self.old)) (unloaded_disk self.old) (unloaded_disk self.new) }
+    {
+        self.disk.set(Some(calls));
+    }
+
+    /// Sets how many of the calls that the fuse passes pass from now on before one fails.
+    pub fn set_once(&mut self, calls: u64)
+        ensures { IsInjected (fuse_of (unloaded_disk self.old)) (Some calls) (unloaded_disk self.old) (unloaded_disk self.new) }
+    {
+        self.disk.set_once(Some(calls));
     }
 
     /// Returns the number of sectors of the disk.
@@ -88,33 +99,49 @@ impl Unloaded {
         self.disk.sectors()
     }
 
-    /// Puts a poke down. The fuse neither counts its calls nor fails them.
-    pub fn poke(self, poke: &Poke) -> (Self, Result<(), Stop>)
+    /// Puts a poke down. The fault injections neither count its calls nor fail them.
+    pub fn poke(self, alloc: Global, poke: &Poke) -> (Self, Result<(), Stop>)
         requires { sector_of poke.now < sectors_of (unloaded_disk self) }
-        ensures put { OnOk result.1 (IsPoked (poke.now ∷ []) (moment_of (inner_of (unloaded_disk self))).content (moment_of (inner_of (unloaded_disk result.0)))) }
+        ensures put { OnOk result.1 (IsPoked (poke.now ∷ []) (moment_of (below_both (unloaded_disk self))).content (moment_of (below_both (unloaded_disk result.0)))) }
         ensures fuse { fuse_of (unloaded_disk result.0) ≡ fuse_of (unloaded_disk self) }
-        ensures cause { Counts (mem_failures (inner_of (unloaded_disk self))) (mem_failures (inner_of (unloaded_disk result.0))) (is_err result.1) }
+        ensures once { once_within (unloaded_disk result.0) ≡ once_within (unloaded_disk self) }
+        ensures cause { Counts (mem_failures (below_both (unloaded_disk self))) (mem_failures (below_both (unloaded_disk result.0))) (is_err result.1) }
         ensures err { IfErr result.1 (λ stop. stop ≡ Stop.Device) }
     {
         let Unloaded { desk, disk } = self;
-        let fuse = disk.fuse();
+        let fuse = disk.calls_left();
+        let disk = disk.into_inner();
+        let once = disk.calls_left();
         let mut disk = disk.into_inner();
         let put = poke.put(&mut disk);
-        let mut disk = FuseDisk::new(disk, 0);
-        disk.set(fuse);
-        let unloaded = Unloaded { desk, disk };
+        let unloaded = Unloaded {
+            desk,
+            disk: inject(alloc, disk, fuse, once),
+        };
         match put {
             Ok(()) => (unloaded, Ok(())),
             Err(_) => (unloaded, Err(Stop::Device)),
         }
     }
 
-    /// Returns the disk without its fuse.
+    /// Returns the disk without its fault injections.
     pub fn into_disk(self) -> MemDisk
-        ensures disk { result ≡ inner_of (unloaded_disk self) }
+        ensures disk { result ≡ below_both (unloaded_disk self) }
     {
         let Unloaded { desk, disk } = self;
         let _ = desk.close();
-        disk.into_inner()
+        disk.into_inner().into_inner()
     }
+}
+
+// Returns the disk with these fault injections.
+fn inject(alloc: Global, disk: MemDisk, fuse: Option<u64>, once: Option<u64>) -> Disk
+    ensures disk { below_both result ≡ disk }
+    ensures fuse { fuse_of result ≡ fuse }
+    ensures once { once_within result ≡ once }
+{
+    let mut disk = FuseDisk::new(OnceDisk::new(alloc, disk, 0), 0);
+    disk.set(fuse);
+    disk.set_once(once);
+    disk
 }

@@ -2,7 +2,7 @@
 //! store in every crash image. Appends may come between any two of them. A compaction takes segments that they could
 //! use, and changes nothing else for them.
 ghost use Rattle.std.specs.Prelude.{◌≡◌, ◌≢◌, ◌⊎◌, ℕ, ◌+◌, ◌-◌, ◌<◌, ◌++◌, true, false, None, Some, IfErr, IfOk, IfSome, OnOk, IsErrOf, MatchResult, Ok};
-ghost use Rattle.cg_disk.specs.Disk.{Counts, LeavesOnly};
+ghost use Rattle.cg_disk.specs.Disk.{Counts, LeavesOnly, Stays};
 ghost use Rattle.cg_fold.specs.Durable.{State};
 ghost use Rattle.cg_log.specs.Carried.{tails};
 ghost use Rattle.cg_log.specs.Free.{free_count_of};
@@ -78,6 +78,8 @@ impl<D: SectorDisk> Store<D> {
             (λ fault. IsEnd fault → fault ≢ CompactFault.NoRoom → can_begin (room_of self.old) ≡ true) }
         ensures room { OnOk result (room_of self.new ≡ begun_room (room_of self.old)) }
         ensures room_left { IfErr result (λ fault. fault ≢ CompactFault.Device → room_of self.new ≡ room_of self.old) }
+        // Out of memory, and no room, come before the first call of the device.
+        ensures disk { IfErr result (λ fault. fault ≢ CompactFault.Device → disk_of self.new ≡ disk_of self.old) }
         ensures unchanged { IfErr result (λ fault. ¬ IsEnd fault → IsUnchanged self.old self.new) }
         ensures same_front { front_of self.new ≡ front_of self.old }
         ensures same_root { IfErr result (λ fault. fault ≢ CompactFault.Device → root_of self.new ≡ root_of self.old) }
@@ -111,6 +113,8 @@ impl<D: SectorDisk> Store<D> {
         ensures honest { (n : ℕ) (state : State) → StandsAt D.is_honest D.history self.old n state → ¬ IsErrOf result CompactFault.NoRoom }
         ensures room { IfErr result (λ fault. fault ≢ CompactFault.Device → room_of self.new ≡ room_of self.old) }
         ensures same_room { OnOk result (room_of self.new ≡ room_of self.old) }
+        // Nothing is written.
+        ensures time { D.is_honest (disk_of self.old) ≡ true → Stays (D.history (disk_of self.old)) (D.history (disk_of self.new)) }
         ensures unchanged { IfErr result (λ fault. ¬ IsEnd fault → IsUnchanged self.old self.new) }
         ensures same_front { front_of self.new ≡ front_of self.old }
         ensures same_root { root_of self.new ≡ root_of self.old }
@@ -150,6 +154,8 @@ impl<D: SectorDisk> Store<D> {
             (λ fault. fault ≢ CompactFault.Device → ((room_of self.new).sectors ≡ (room_of self.old).sectors) × ((room_of self.new).roots ≡ (room_of self.old).roots)) }
         // At most one segment is taken.
         ensures room { OnOk result (((room_of self.new).segments ≡ (room_of self.old).segments) ⊎ ((room_of self.new).segments + 1 ≡ (room_of self.old).segments)) }
+        // Out of memory, and no room, come before the first call of the device.
+        ensures disk { IfErr result (λ fault. fault ≢ CompactFault.Device → disk_of self.new ≡ disk_of self.old) }
         ensures unchanged { IfErr result (λ fault. ¬ IsEnd fault → IsUnchanged self.old self.new) }
         ensures same_front { front_of self.new ≡ front_of self.old }
         ensures same_root { root_of self.new ≡ root_of self.old }
@@ -187,6 +193,8 @@ impl<D: SectorDisk> Store<D> {
             (λ _. 0 < (room_of self.old).roots)
             (λ fault. IsEnd fault → fault ≢ CompactFault.NoRoom → 0 < (room_of self.old).roots) }
         ensures same_root { IfErr result (λ fault. root_of self.new ≡ root_of self.old) }
+        // Out of memory, and no room, come before the first call of the device.
+        ensures disk { IfErr result (λ fault. fault ≢ CompactFault.Device → disk_of self.new ≡ disk_of self.old) }
         ensures unchanged { IfErr result (λ fault. ¬ IsEnd fault → IsUnchanged self.old self.new) }
         ensures same_front { front_of self.new ≡ front_of self.old }
         ensures same_end { end_of self.new ≡ end_of self.old }

@@ -257,6 +257,7 @@ fn write_frame<D: SectorDisk>(
     ensures stored { (has : Content) → LogHas D.is_honest D.history D.size log.old has → LogHas D.is_honest D.history D.size log.new has }
     ensures images { (has : Content) → LogHas D.is_honest D.history D.size log.old has → LeavesOnly (D.history (disk_of log.old)) (D.history (disk_of log.new))
         (λ image. Carries image (D.size (disk_of log.old)) (number_of log.old) (frames_of has.base) (frames_of (tails has))) }
+    ensures disk { IfErr result (λ fault. fault ≢ CompactFault.Device → disk_of log.new ≡ disk_of log.old) }
     ensures faults { IfErr result IsEnd }
     ensures serves { OnOk result (has_failed log.new ≡ false) }
     ensures failed { IsErrOf result CompactFault.Device → has_failed log.new ≡ true }
@@ -305,6 +306,7 @@ pub(crate) fn write<D: SectorDisk>(
     ensures stored { (has : Content) → LogHas D.is_honest D.history D.size log.old has → LogHas D.is_honest D.history D.size log.new has }
     ensures images { (has : Content) → LogHas D.is_honest D.history D.size log.old has → LeavesOnly (D.history (disk_of log.old)) (D.history (disk_of log.new))
         (λ image. Carries image (D.size (disk_of log.old)) (number_of log.old) (frames_of has.base) (frames_of (tails has))) }
+    ensures disk { IfErr result (λ fault. fault ≢ CompactFault.Device → disk_of log.new ≡ disk_of log.old) }
     ensures faults { IfErr result IsEnd }
     ensures serves { OnOk result (has_failed log.new ≡ false) }
     ensures failed { IsErrOf result CompactFault.Device → has_failed log.new ≡ true }
@@ -396,6 +398,7 @@ pub(crate) fn switch<D: SectorDisk>(
     ensures same_root { OnErr result (root_of log.new ≡ root_of log.old) }
     ensures same_end { end_of log.new ≡ end_of log.old }
     ensures same_number { number_of log.new ≡ number_of log.old }
+    ensures disk { IfErr result (λ fault. fault ≢ CompactFault.Device → disk_of log.new ≡ disk_of log.old) }
     ensures faults { IfErr result IsEnd }
     ensures serves { OnOk result (has_failed log.new ≡ false) }
     ensures failed { IsErrOf result CompactFault.Device → has_failed log.new ≡ true }

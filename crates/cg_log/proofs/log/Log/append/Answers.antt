@@ -8,7 +8,7 @@ use Rattle.cg_gate.specs.declared.layout.TheConstants.{SEGMENT_SECTORS}
 use Rattle.cg_root.specs.Roots.{root_ids}
 use Rattle.cg_log.specs.Room.{has_room, room_at}
 use Rattle.cg_log.proofs.Moves.{AllCarry-appended, still-append-images}
-use Rattle.cg_log.proofs.Room.{always, calls-next, calls-tail, fits-none, has-no-room, has-room-next, has-room-tail, room-next, room-tail}
+use Rattle.cg_log.proofs.Room.{always, calls-next, calls-tail, fits-none, fits-tail, has-no-room, has-room-next, has-room-tail, room-next, room-tail}
 use Rattle.cg_log.proofs.log.Log.append.Goals as goal
 
 pub returns-then-self-clause-images : goal.returns-then-self-clause-images
@@ -170,3 +170,27 @@ returns-clause-calls g c honest =
     let fits : next_gate self.end bytes < SEGMENT_SECTORS = search rules in
     let most = calls-tail size (taken_of self) self.root self.end bytes fits in
     omega (arith, most, (c.put.ensures.clock honest).most)
+
+pub returns-in_err-put_in_new_tail-clause-same_root : goal.returns-in_err-put_in_new_tail-clause-same_root
+returns-in_err-put_in_new_tail-clause-same_root g c fits =
+    let self = c.args.self.now in
+    let size = g.D.SectorDisk.size self.disk in
+    let bytes = length c.args.payload.now in
+    let past : SEGMENT_SECTORS ≤ next_gate self.end bytes = search rules in
+    absurd (let no = fits-none size (taken_of self) self.root self.end bytes past in cc)
+
+pub returns-then-not-fits-clause-same_root : goal.returns-then-not-fits-clause-same_root
+returns-then-not-fits-clause-same_root g c fits =
+    let self = c.args.self.now in
+    let size = g.D.SectorDisk.size self.disk in
+    let bytes = length c.args.payload.now in
+    let past : SEGMENT_SECTORS ≤ next_gate self.end bytes = search rules in
+    absurd (let no = fits-none size (taken_of self) self.root self.end bytes past in cc)
+
+pub returns-clause-next : goal.returns-clause-next
+returns-clause-next g c none =
+    let self = c.args.self.now in
+    let size = g.D.SectorDisk.size self.disk in
+    let bytes = length c.args.payload.now in
+    let fits : next_gate self.end bytes < SEGMENT_SECTORS = search rules in
+    absurd (let yes = fits-tail size (taken_of self) self.root self.end bytes fits in cc)

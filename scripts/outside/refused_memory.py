@@ -1,0 +1,239 @@
+"""Refuses each request for memory in turn: the Nth of a run, for each N until a run meets no refusal.
+
+What a script prints before memory is missing is what it prints with ample memory, and what it acknowledged is there after the
+next load. In the server a refusal costs a request its answer, or a connection, and nothing else: what the flusher or the
+compactor was refused it asks for again, and each reply comes.
+"""
+import os
+import shutil
+import subprocess
+from concurrent.futures import ThreadPoolExecutor
+from dataclasses import dataclass
+
+from outside.serving import WAIT_SECONDS, Server
+from outside.stops import COMPACTION, PARTITIONS, THREE, commit, with_offsets
+
+HERE = os.path.dirname(os.path.abspath(__file__))
+SAID = "memory was refused"
+MINUS_1, FAULTS = "ERR -1 UNKNOWN_SERVER_ERROR", ("FAULT Memory", "FAULT Device")
+# A run that is refused memory after so many requests still is a failure of the check.
+REQUESTS_MAX = 1_000_000
+
+C1, C2 = "c1 10000 20000 consumer range=x01", "c2 10000 20000 consumer range=x02"
+U1, U2 = (f"00000000-0000-0000-0000-{it:012}" for it in (1, 2))
+LONG_1, LONG_2 = "c1 60000 20000 consumer range=x01", "c2 60000 20000 consumer range=x02"
+DYNAMIC = [f"s1 JOIN g - - {C1}", f"s2 JOIN g - - {C2}", f"s1 JOIN g c1-{U1} - {C1}"]
+STATIC = [f"s1 JOIN g - i1 {LONG_1}", f"s2 JOIN g - i2 {LONG_2}", f"s1 JOIN g i1-{U1} i1 {LONG_1}"]
+
+
+@dataclass(frozen=True)
+class Row:
+    """Lines of a script, as those of `stops`, and the segments of its disk."""
+    name: str
+    lines: list
+    segments: int = 5
+
+    def script(self, crash):
+        """Returns the script, and for each partition how many commits it has."""
+        sent = [0] * PARTITIONS
+        fetch = "s9 FETCH g " + " ".join(f"t:{it}" for it in range(PARTITIONS))
+        # The last two lines of each kind are for a run whose refusal falls into the first of them.
+        return [*with_offsets(self.lines, sent), "flush", "flush", f"stop {crash}", "load", "reload", fetch, fetch], sent
+
+
+ROWS = [
+    Row("a commit", [*commit(), "reload", "s8 FETCH g t:0"]),
+    Row("commits in one batch", [*commit(), *THREE, "flush", *commit(2)]),
+    Row("a member and its syncs", [*DYNAMIC, f"s2 SYNC g 2 c2-{U2} -", f"s1 SYNC g 2 c1-{U1} - c1-{U1}=xaa", "flush",
+                                   f"s1 BEAT g 2 c1-{U1} -", "s8 DESCRIBE g", f"s2 LEAVE g c2-{U2} -", "s8 LIST", "reload"]),
+    Row("a static member that is replaced", [f"s1 JOIN g - i1 {C1}", f"s1 SYNC g 1 i1-{U1} i1 i1-{U1}=xaa", "flush",
+                                             f"s2 JOIN g - i1 {C1}", "flush", f"s1 BEAT g 1 i1-{U1} i1", "reload",
+                                             f"s2 SYNC g 1 i1-{U2} i1"]),
+    Row("deletions", [DYNAMIC[0], "s8 DELETE g", f"s1 LEAVE g c1-{U1} -", "flush", "s8 DELETE g", "s8 DELETE g", "flush",
+                      *commit(), "s8 DESCRIBE g", "s8 FETCH g t:0 t:1", "reload"]),
+    Row("time", [*STATIC, "s3 LEAVE g - i2", "tick 20000", "s8 DESCRIBE g", "tick 60000", "s8 DESCRIBE g", "flush", "gone s1"]),
+    Row("a compaction beside commits", [*commit(), *commit(2), *COMPACTION, "compact"]),
+    Row("a log of one segment", [*commit(), "compact", *commit()], 1),
+    Row("a full group", [*(f"s{it} JOIN g - {'i64' if it == 64 else '-'} c{it} 10000 20000 consumer range=x" for it in range(1, 65)),
+                         "s65 JOIN g - - c65 10000 20000 consumer range=x", "s66 JOIN g - i64 c64 10000 20000 consumer range=x",
+                         "close"]),
+]
+
+
+def check(report, programs, folder):
+    library = os.path.join(folder, "refuse_memory.so")
+    subprocess.run(["cc", "-O2", "-shared", "-fPIC", "-o", library, os.path.join(HERE, "refuse_memory.c")], check=True)
+    with ThreadPoolExecutor(os.cpu_count()) as pool:
+        runs = [(row, crash) for row in ROWS for crash in ("keep", "lose")]
+        for (row, crash), problem in zip(runs, pool.map(lambda it: refuse_each(programs.sim, library, *it), runs)):
+            report.holds(f"{row.name}, stop {crash}", not problem, problem)
+    check_server(report, programs.server, library, folder)
+
+
+def refusing(library, at):
+    return {**os.environ, "LD_PRELOAD": library, "REFUSE_AT": str(at)}
+
+
+@dataclass(frozen=True)
+class Ran:
+    status: int
+    lines: list
+    is_refused: bool
+
+
+def play(program, library, row, script, at):
+    words, text = ["--segments", str(row.segments)], "".join(f"{it}\n" for it in script)
+    ran = subprocess.run([program, *words], input=text, capture_output=True, text=True, env=refusing(library, at), timeout=WAIT_SECONDS)
+    return Ran(ran.returncode, ran.stdout.splitlines(), SAID in ran.stderr)
+
+
+def refuse_each(program, library, row, crash):
+    """Returns what is wrong with the first run that is, or None."""
+    script, sent = row.script(crash)
+    ample = play(program, library, row, script, 0)
+    if ample.status or any(is_short(it) for it in ample.lines):
+        return f"with ample memory: status {ample.status}, {ample.lines}"
+    for at in range(1, REQUESTS_MAX):
+        ran = play(program, library, row, script, at)
+        problem = problem_of(ran, ample.lines, sent)
+        if problem:
+            return f"request {at}: {problem}"
+        if not ran.is_refused:
+            return None if at > 1 else "no request was refused"
+    return f"each run was refused memory, up to request {REQUESTS_MAX}"
+
+
+def is_short(line):
+    return line in FAULTS or line.endswith(MINUS_1)
+
+
+def problem_of(ran, ample, sent):
+    """Compares a run with the one that had ample memory, up to the first line of missing memory, and what it acknowledged with
+    what was found after the load."""
+    short = [it for it, line in enumerate(ran.lines) if is_short(line)]
+    if not ran.is_refused and (short or ran.status):
+        return f"nothing was refused, but status {ran.status}, {ran.lines}"
+    if ran.lines[:short[0] if short else None] != ample[:short[0] if short else None]:
+        return f"{ran.lines} for {ample}"
+    # Such a run is over: FAULT Memory ends it, and so does a FAULT Device of the first format.
+    if ran.status == 4 or "FAULT Memory" in ran.lines:
+        return None if ran.status == 4 and ran.lines[-1] in FAULTS else f"status {ran.status}, {ran.lines}"
+    fetched = [line for line in ran.lines[-2:] if line.startswith("s9 FETCHED ")]
+    if ran.status or not fetched:
+        return f"status {ran.status}, {ran.lines[-3:]}"
+    found = [max(int(word.split(":")[2]), 0) for word in fetched[0].split()[2:]]
+    if not all(least <= offset <= most for least, offset, most in zip(acknowledged(ran.lines), found, sent)):
+        return f"acknowledged {acknowledged(ran.lines)}, found {found}, sent {sent}: {ran.lines}"
+    return None
+
+
+def acknowledged(lines):
+    """Returns for each partition the last offset that was acknowledged: its commits are answered in their order."""
+    answers = [[line.partition(" ")[2] for line in lines if line.startswith(f"s{100 + it} ")] for it in range(PARTITIONS)]
+    return [max((at for at, answer in enumerate(of_one, 1) if answer == "OK"), default=0) for of_one in answers]
+
+
+# A server that ends does so within this time. It is a pause only where the test fails.
+ENDING_SECONDS = 5
+# What two clients ask, each in turn, and how the replies begin with ample memory.
+ASKED = [(0, "JOIN h - - c 10000 60000 consumer range=x", "JOINED "), (1, "COMMIT g -1 - - t:1:1:x", "OK"),
+         (0, "COMMIT g -1 - - t:0:1:x", "OK"), (1, "FETCH g t:0 t:1", "FETCHED t:0:1:x t:1:1:x"), (0, "LIST", "GROUPS "),
+         (1, "COMMIT g -1 - - t:1:2:x", "OK"), (1, "DESCRIBE h", "GROUP "), (0, "COMMIT g -1 - - t:0:2:x", "OK")]
+
+
+def check_server(report, program, library, folder):
+    """The log is made first, so that a refusal falls into the start of a server or into its work."""
+    made = os.path.join(folder, "made")
+    with Server(program, "--disk", made, "--format", "--segments", "2") as server:
+        server.load()
+        server.kill()
+
+    def refuse(at):
+        path = os.path.join(folder, f"log{at}")
+        shutil.copyfile(made, path)
+        try:
+            return serve(program, library, path, at)
+        finally:
+            os.remove(path)
+
+    at, is_over = 1, False
+    with ThreadPoolExecutor(os.cpu_count()) as pool:
+        while not is_over and at < REQUESTS_MAX:
+            runs = range(at, at + 4 * os.cpu_count())
+            for run, (problem, is_refused) in zip(runs, pool.map(refuse, runs)):
+                if problem:
+                    report.holds(f"a server without request {run} for memory", False, problem)
+                is_over = is_over or bool(problem) or not is_refused
+            at += len(runs)
+    report.holds("a server that is refused memory", at > 100, f"only {at} requests")
+
+
+def serve(program, library, path, at):
+    """Starts a server on a log and asks it. Returns what is wrong, or None, and whether it was refused memory."""
+    with Server(program, "--disk", path, env=refusing(library, at)) as server:
+        try:
+            server.load()
+            found, sent, lost = ask(server)
+        except (RuntimeError, ConnectionError):
+            found, sent, lost = {}, {}, []
+        if not found and has_ended(server):
+            status, lines = server.end()
+            is_right = status == 1 and is_told(server) and lines[-1:] in ([], ["FAULT Memory"])
+            return None if is_right else f"status {status}, {lines}, {server.warnings}", True
+        if server.process.poll() is not None:
+            return f"the server ended with {server.process.returncode}, {server.warnings}", True
+        server.kill()
+        is_refused = is_told(server)
+    # One reply at most is -1, or is missing with its connection.
+    if [it for it in lost if it[1] not in ("", MINUS_1)] or len(lost) > is_refused:
+        return f"{lost}", is_refused
+    with Server(program, "--disk", path) as server:
+        server.load()
+        with server.connect() as client:
+            reply = client.ask("FETCH g t:0 t:1")
+    return None if is_within(reply, found, sent) else f"acknowledged {found}, found {reply}", is_refused
+
+
+def has_ended(server):
+    """Returns whether a server that accepts no connection has ended, or ends now."""
+    try:
+        server.process.wait(ENDING_SECONDS)
+        return True
+    except subprocess.TimeoutExpired:
+        return False
+
+
+def ask(server):
+    """Asks what there is to ask. Returns the offsets that were acknowledged and those that were sent, and the lines whose reply
+    is another than with ample memory, with that."""
+    found, sent, lost, clients = {}, {}, [], [server.connect(), server.connect()]
+    for client, line, wanted in ASKED:
+        try:
+            reply = clients[client].ask(line)
+        except ConnectionError:
+            reply = ""
+        if line.startswith("COMMIT"):
+            _, partition, offset, _ = line.split()[-1].split(":")
+            sent[partition] = int(offset)
+            if reply == "OK":
+                found[partition] = int(offset)
+        # After a COMMIT without its OK the offset of that partition is in doubt.
+        is_right = is_within(reply, found, sent) if lost and line.startswith("FETCH") else reply.startswith(wanted)
+        if not is_right:
+            lost.append((line, reply))
+        if not reply:
+            clients[client].close()
+            clients[client] = server.connect()
+    for client in clients:
+        client.close()
+    return found, sent, lost
+
+
+def is_within(reply, found, sent):
+    """Returns whether a reply to FETCH has at least the offsets that were acknowledged, and at most those that were sent."""
+    offsets = {word.split(":")[1]: int(word.split(":")[2]) for word in reply.split()[1:] if reply.startswith("FETCHED ")}
+    return len(offsets) == 2 and all(found.get(it, -1) <= offset <= sent.get(it, -1) for it, offset in offsets.items())
+
+
+def is_told(server):
+    return any(SAID in line for line in server.warnings)
