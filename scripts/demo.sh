@@ -7,7 +7,7 @@ said=$(mktemp)
 trap 'rm -f "$said"' EXIT
 echo "The script, examples/power-loss:"
 sed 's/^/    /' examples/power-loss
-echo "Building the script program without proofs (about half a minute) .."
+echo "Building the script program without proofs (about a minute) .."
 begun=$SECONDS
 (cd crates/cg_sim && rt try < ../../examples/power-loss) >"$said" 2>/dev/null || true
 echo "Built and run in $((SECONDS - begun)) s. It prints:"

@@ -74,11 +74,12 @@ def check_words(report, program, words, status, output, problem):
 def version(report, programs, folder):
     """The version names the kit that proves the program, as `rt version` does."""
     kit = subprocess.run(["rt", "version"], capture_output=True, timeout=WAIT_SECONDS, text=True).stdout.strip()
-    for words in (["--version"], ["-V"]):
-        ran = run(programs.server, *words)
-        report.equal(f"{words}", (ran.returncode, ran.stdout.decode(), ran.stderr), (0, f"cg_server {VERSION} ({kit})\n", b""))
-        with open("/dev/full", "wb") as full:
-            report.equal(f"{words} with a full output", run(programs.server, *words, output=full).returncode, 3)
+    for name, program in (("cg_sim", programs.sim), ("cg_server", programs.server)):
+        for words in (["--version"], ["-V"]):
+            ran = run(program, *words)
+            report.equal(f"{name} {words}", (ran.returncode, ran.stdout.decode(), ran.stderr), (0, f"{name} {VERSION} ({kit})\n", b""))
+            with open("/dev/full", "wb") as full:
+                report.equal(f"{name} {words} with a full output", run(program, *words, output=full).returncode, 3)
 
 
 def port_that_is_taken(report, programs, folder):

@@ -5,7 +5,8 @@
  *
  * The Nth request that PROGRAM makes returns no memory, with ENOMEM; all others are passed on, and so are those that the C
  * library makes for itself. Requests are counted from 1, over all threads. The line "memory was refused" on standard error
- * says that it came to that. PROGRAM has to be linked dynamically.
+ * says that it came to that. Without a REFUSE_AT nothing is refused, and the last line there is "N requests for memory".
+ * PROGRAM has to be linked dynamically.
  */
 #define _GNU_SOURCE
 #include <errno.h>
@@ -13,6 +14,7 @@
 #include <stdatomic.h>
 #include <stddef.h>
 #include <stdint.h>
+#include <stdio.h>
 #include <stdlib.h>
 #include <unistd.h>
 
@@ -42,6 +44,10 @@ __attribute__((constructor)) static void begin(void) {
     const char *text = getenv("REFUSE_AT");
     refuse_at = text ? strtoul(text, NULL, 10) : 0;
     dl_iterate_phdr(note_program, NULL);
+}
+
+__attribute__((destructor)) static void end(void) {
+    if (!refuse_at) dprintf(STDERR_FILENO, "%lu requests for memory\n", atomic_load(&requests));
 }
 
 /* Counts a request, and returns whether it is the one to be refused. */

@@ -1,20 +1,26 @@
-"""Refuses each request for memory in turn: the Nth of a run, for each N until a run meets no refusal.
+"""Refuses each request for memory in turn: the Nth of a run, for each N until a run meets no refusal. Of a long run it refuses
+those of a part, and of the others one in some three hundred.
 
 What a script prints before memory is missing is what it prints with ample memory, and what it acknowledged is there after the
 next load. In the server a refusal costs a request its answer, or a connection, and nothing else: what the flusher or the
 compactor was refused it asks for again, and each reply comes.
 """
 import os
+import re
 import shutil
 import subprocess
 from concurrent.futures import ThreadPoolExecutor
-from dataclasses import dataclass
+from dataclasses import dataclass, field
 
 from outside.serving import WAIT_SECONDS, Server
 from outside.stops import COMPACTION, PARTITIONS, THREE, commit, with_offsets
 
 HERE = os.path.dirname(os.path.abspath(__file__))
 SAID = "memory was refused"
+COUNTED = re.compile(r"(\d+) requests for memory\n")
+# Of the requests for memory outside the part of a long run one in so many is refused.
+STRIDE = 331
+GROUPS_MAX, ENTRIES_MAX, METADATA_BYTES_MAX = 4_096, 64, 4_096
 MINUS_1, FAULTS = "ERR -1 UNKNOWN_SERVER_ERROR", ("FAULT Memory", "FAULT Device")
 # A run that is refused memory after so many requests still is a failure of the check.
 REQUESTS_MAX = 1_000_000
@@ -28,19 +34,28 @@ DYNAMIC = [f"s1 JOIN g - - {C1}", f"s2 JOIN g - - {C2}", f"s1 JOIN g c1-{U1} - {
 STATIC = [f"s1 JOIN g - i1 {LONG_1}", f"s2 JOIN g - i2 {LONG_2}", f"s1 JOIN g i1-{U1} i1 {LONG_1}"]
 
 
+def large(offset):
+    """Returns the lines of a commit with as many entries as there may be, which have as much metadata as there may be."""
+    entries = " ".join(f"t:{it}:{offset}:x{'61' * METADATA_BYTES_MAX}" for it in range(100, 100 + ENTRIES_MAX))
+    return [f"s8 COMMIT h -1 - - {entries}", "flush"]
+
+
 @dataclass(frozen=True)
 class Row:
-    """Lines of a script, as those of `stops`, and the segments of its disk."""
+    """Lines of a script, as those of `stops`, and the segments of its disk. With lines before them the run is long, and the lines
+    are its part of which each request is refused."""
     name: str
     lines: list
     segments: int = 5
+    before: list = field(default_factory=list)
 
     def script(self, crash):
         """Returns the script, and for each partition how many commits it has."""
         sent = [0] * PARTITIONS
         fetch = "s9 FETCH g " + " ".join(f"t:{it}" for it in range(PARTITIONS))
+        lines = [*with_offsets([*self.before, *self.lines], sent)]
         # The last two lines of each kind are for a run whose refusal falls into the first of them.
-        return [*with_offsets(self.lines, sent), "flush", "flush", f"stop {crash}", "load", "reload", fetch, fetch], sent
+        return [*lines, "flush", "flush", f"stop {crash}", "load", "reload", fetch, fetch], sent
 
 
 ROWS = [
@@ -59,6 +74,11 @@ ROWS = [
     Row("a full group", [*(f"s{it} JOIN g - {'i64' if it == 64 else '-'} c{it} 10000 20000 consumer range=x" for it in range(1, 65)),
                          "s65 JOIN g - - c65 10000 20000 consumer range=x", "s66 JOIN g - i64 c64 10000 20000 consumer range=x",
                          "close"]),
+    Row("a compaction of large commits", [*["compact read"] * 4, "compact write", "compact write", "compact switch", *commit(), "reload"],
+        8, [*large(1), *large(2), *large(3), "compact start", *(line for it in range(4, 11) for line in large(it))]),
+    Row("as many groups as there may be", ["s8 COMMIT h -1 - - t:0:1:x", "s8 JOIN h - - c1 10000 20000 consumer range=x", *commit(),
+                                           "s8 DELETE h1", "flush", "s8 COMMIT h -1 - - t:0:1:x", "flush"],
+        5, ["commit 0", *(f"s8 COMMIT h{it} -1 - - t:0:1:x" for it in range(1, GROUPS_MAX)), "flush", "flush", "s8 LIST"]),
 ]
 
 
@@ -81,12 +101,23 @@ class Ran:
     status: int
     lines: list
     is_refused: bool
+    requests: int
 
 
 def play(program, library, row, script, at):
     words, text = ["--segments", str(row.segments)], "".join(f"{it}\n" for it in script)
     ran = subprocess.run([program, *words], input=text, capture_output=True, text=True, env=refusing(library, at), timeout=WAIT_SECONDS)
-    return Ran(ran.returncode, ran.stdout.splitlines(), SAID in ran.stderr)
+    counted = COUNTED.search(ran.stderr)
+    return Ran(ran.returncode, ran.stdout.splitlines(), SAID in ran.stderr, int(counted[1]) if counted else 0)
+
+
+def requests_of(program, library, row, ample):
+    """Returns which requests are refused. The last one is a request that no run makes."""
+    if not row.before:
+        return range(1, REQUESTS_MAX)
+    first, last = (play(program, library, row, with_offsets(lines, [0] * PARTITIONS), 0).requests
+                   for lines in (row.before, row.before + row.lines))
+    return sorted({*range(1, ample.requests, STRIDE), *range(first + 1, last + 1), ample.requests + 1})
 
 
 def refuse_each(program, library, row, crash):
@@ -95,7 +126,7 @@ def refuse_each(program, library, row, crash):
     ample = play(program, library, row, script, 0)
     if ample.status or any(is_short(it) for it in ample.lines):
         return f"with ample memory: status {ample.status}, {ample.lines}"
-    for at in range(1, REQUESTS_MAX):
+    for at in requests_of(program, library, row, ample):
         ran = play(program, library, row, script, at)
         problem = problem_of(ran, ample.lines, sent)
         if problem:

@@ -14,10 +14,10 @@ use Rattle.cg_member.specs.Members.{AreDistinct}
 use Rattle.cg_held.specs.Reviving.{revive}
 use Rattle.cg_names.specs.declared.code.Code.TheVariants.{CoordinatorNotAvailable}
 use Rattle.cg_store.specs.declared.batch.Batch.{Batch}
-use Rattle.cg_desk.specs.Books.{Books, IsTake, is_short, letting_go, served, settling, taking}
+use Rattle.cg_desk.specs.Books.{Books, IsTake, is_short, letting_go, returning, served, settling, taking}
 use Rattle.cg_desk.specs.Desks.{Answer, State, Failed, Loading, Serving, IsTakenFrom, at_rest, gone_on, opened, request_on, return_to, serving, settle_on, tick_on}
-use Rattle.cg_desk.specs.Balanced.{DesksHaveDistinctMembers, DesksStayBalanced, IsBalanced, IsBalancedAt, RepliesFindTheirCalls}
-use Rattle.cg_desk.specs.Laws.{AreRefusedOnce}
+use Rattle.cg_desk.specs.Balanced.{IsBalanced, IsBalancedAt}
+use Rattle.cg_desk.specs.Laws.{AreRefusedOnce, DesksHaveDistinctMembers, DesksStayBalanced, RepliesFindTheirCalls}
 use Rattle.cg_desk.specs.Outgoings.{answer}
 use Rattle.cg_desk.specs.Owed.{KeepsCalls}
 use Rattle.cg_desk.specs.Tokens.{call_of}
@@ -28,7 +28,7 @@ use Rattle.cg_desk.proofs.Failing.{by_tokens-once, by_tokens-order}
 use Rattle.cg_desk.proofs.Living.{events_keep_calls, made-step}
 use Rattle.cg_desk.proofs.Owing.{begins, leave-served, leave-settled, owed-served, owed-settled}
 
-loaded : (number : ℕ) (durable : Durable) (now : ℕ) → AreRecords durable → IsBalanced (opened number (revive durable now))
+pub loaded : (number : ℕ) (durable : Durable) (now : ℕ) → AreRecords durable → IsBalanced (opened number (revive durable now))
 unfolding after_all
 loaded number durable now lawful = record {
   made = record { state = durable; began = now; events = []; lawful = lawful; is = refl };
@@ -36,7 +36,7 @@ loaded number durable now lawful = record {
 }
 
 -- an event that keeps its requests
-served-balanced : (b : Books) (handed : List ReplyToken) (e : Event) (now : ℕ) → KeepsCalls b.machine handed e now → IsBalanced b → IsBalanced (served b handed e now).books
+pub served-balanced : (b : Books) (handed : List ReplyToken) (e : Event) (now : ℕ) → KeepsCalls b.machine handed e now → IsBalanced b → IsBalanced (served b handed e now).books
 unfolding served letting_go
 served-balanced b handed e now keeps h = record { made = made-step b.machine e now h.made; owed = owed-served b handed e now h.owed keeps }
 
@@ -53,7 +53,7 @@ tick-at : (short : Bool) (b : Books) (now : ℕ) → IsBalanced b → let a : An
 tick-at true b now h = h
 tick-at false b now h = served-balanced b [] Tick now (tick-keeps b.machine now) h
 
-request-balanced : (s : State) (r : Request) (token : ReplyToken) (fresh : List ℕ) (now : ℕ) → IsBalancedAt s → IsBalancedAt (request_on s token (asked r (call_of token) fresh) now).after
+pub request-balanced : (s : State) (r : Request) (token : ReplyToken) (fresh : List ℕ) (now : ℕ) → IsBalancedAt s → IsBalancedAt (request_on s token (asked r (call_of token) fresh) now).after
 unfolding request_on
 request-balanced Loading r token fresh now h = tt
 request-balanced (Failed n m) r token fresh now h = tt
@@ -76,7 +76,7 @@ taking-balanced : (b : Books) → IsBalanced b → IsBalanced (taking b)
 unfolding taking
 taking-balanced b h = record { made = h.made; owed = h.owed }
 
-taken-balanced : (b c : Books) (o : Option Batch) → IsTake b o c → IsBalanced b → IsBalanced c
+pub taken-balanced : (b c : Books) (o : Option Batch) → IsTake b o c → IsBalanced b → IsBalanced c
 taken-balanced b c None is h = subst (λ (d : Books). IsBalanced d) (sym is.2) h
 taken-balanced b c (Some batch) is h = subst (λ (d : Books). IsBalanced d) (sym is.2) (taking-balanced b h)
 
@@ -87,12 +87,15 @@ take-balanced (Serving b) Loading o is h = tt
 take-balanced (Serving b) (Failed n m) o is h = tt
 take-balanced (Serving b) (Serving c) o is h = taken-balanced b c o is h
 
+pub returning-balanced : (b : Books) → IsBalanced b → IsBalanced (returning b)
+returning-balanced b h = record { made = h.made; owed = h.owed }
+
 give-back-balanced : (s : State) → IsBalancedAt s → IsBalancedAt (return_to s)
 give-back-balanced Loading h = tt
 give-back-balanced (Failed n m) h = tt
-give-back-balanced (Serving b) h = record { made = h.made; owed = h.owed }
+give-back-balanced (Serving b) h = returning-balanced b h
 
-settling-balanced : (b : Books) (count : ℕ) → IsBalanced b → IsBalanced (settling b count).books
+pub settling-balanced : (b : Books) (count : ℕ) → IsBalanced b → IsBalanced (settling b count).books
 unfolding settling letting_go
 settling-balanced b count h = record { made = h.made; owed = owed-settled b count h.owed }
 

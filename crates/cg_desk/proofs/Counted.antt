@@ -11,7 +11,7 @@ use Rattle.cg_request.specs.declared.event.Event.TheVariants.{Gone, Tick}
 use Rattle.cg_request.specs.declared.ticket.Ticket.{Ticket}
 use Rattle.cg_request.specs.Asking.{asked}
 use Rattle.cg_group.specs.Machine.{step}
-use Rattle.cg_desk.specs.Balanced.{CommandsAreCountedOnce, made_in}
+use Rattle.cg_desk.specs.Laws.{CommandsAreCountedOnce, made_in}
 use Rattle.cg_desk.specs.Books.{Books}
 use Rattle.cg_desk.specs.Held.{calls_of}
 use Rattle.cg_desk.specs.Origins.{sent}

@@ -1,9 +1,7 @@
 -- What a failure of a desk sends.
-use Rattle.std.proofs.Common.{◌≡◌, ℕ, Bool, true, false, List, [], ◌∷◌, ◌++◌, map, refl, ap, sym, ◌∙◌, arith}
+use Rattle.std.proofs.Common.{◌≡◌, Bool, true, false, List, [], ◌∷◌, ◌++◌, map, refl, ap, sym, ◌∙◌, arith}
 use Rattle.std.specs.Prelude.{if◌then◌else◌}
-use Rattle.std.specs.List.{sum_by}
 use Rattle.std.proofs.lemmas.List.{map-append}
-use Rattle.std.proofs.lemmas.List.Sums.{sum_by-cons}
 use Rattle.cg_request.specs.declared.ticket.Ticket.{Ticket}
 use Rattle.cg_member.specs.Waiting.{waiting_calls}
 use Rattle.cg_desk.specs.Answering.{after_answering, answering, answering_one, refusal, refused}
@@ -11,14 +9,13 @@ use Rattle.cg_desk.specs.Books.{Books, failing}
 use Rattle.cg_desk.specs.Held.{calls_of, replies_of}
 use Rattle.cg_desk.specs.Laws.{AreKept, AreRefusedOnce}
 use Rattle.cg_desk.proofs.Sums.{weight_out}
-use Rattle.cg_desk.specs.Outgoings.{ticket_of}
 use Rattle.cg_desk.specs.Owed.{IsOwed}
 use Rattle.cg_desk.specs.Tokens.{call_of, has_token, without}
 use Rattle.cg_desk.specs.declared.outgoing.Outgoing.{Outgoing}
 use Rattle.cg_desk.specs.declared.token.ReplyToken.{ReplyToken}
 use Rattle.cg_desk.proofs.Leaving.{answering-cons, answering-nil}
 use Rattle.cg_desk.proofs.Owing.{failed}
-use Rattle.cg_desk.proofs.Weights.{by_tokens, failed-kept}
+use Rattle.cg_desk.proofs.Weights.{by_tokens, failed-kept, refusals-weight}
 
 -- these replies are refusals with 15
 record Refuses (out : List Outgoing) : Type 0 where
@@ -46,20 +43,12 @@ refuses-rest [] = record { calls = []; is = refl }
 refuses-rest (token ∷ tokens) =
     let rest = refuses-rest tokens in record { calls = call_of token ∷ rest.calls; is = ap (λ (l : List Outgoing). refused token ∷ l) rest.is }
 
-refused-weight : (weight : Ticket → ℕ) (calls : List Ticket) → weight_out weight (map refusal calls) ≡ sum_by weight calls
-refused-weight weight [] = refl
-refused-weight weight (t ∷ calls) =
-    let out = sum_by-cons (λ (o : Outgoing). weight (ticket_of o)) (refusal t) (map refusal calls) in
-    let one = sum_by-cons weight t calls in
-    let rest = refused-weight weight calls in
-    omega arith
-
 -- refusals that weigh as much as the tokens
 once : (tokens : List ReplyToken) (out : List Outgoing) → Refuses out → AreKept tokens [] out [] → AreRefusedOnce tokens out
 once tokens out refuses kept = record {
   calls = refuses.calls;
   refused = refuses.is;
-  once = λ weight. let all = kept weight in let same = ap (weight_out weight) refuses.is in let sum = refused-weight weight refuses.calls in omega arith;
+  once = λ weight. let all = kept weight in let same = ap (weight_out weight) refuses.is in let sum = refusals-weight weight refuses.calls in omega arith;
 }
 
 -- whatever the desk, each token's request is refused once

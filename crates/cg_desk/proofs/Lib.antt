@@ -18,3 +18,5 @@ pub mod Failing
 pub mod Living
 pub mod Balanced
 pub mod Counted
+pub mod Recorded
+pub mod Keeping

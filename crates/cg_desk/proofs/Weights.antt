@@ -1,7 +1,7 @@
 -- Tickets by their weights.
-use Rattle.std.proofs.Common.{◌≡◌, ℕ, ◌+◌, Bool, true, false, List, [], ◌∷◌, ◌++◌, get_or, map, refl, ap, arith}
+use Rattle.std.proofs.Common.{◌≡◌, ℕ, ◌+◌, Bool, true, false, List, [], ◌∷◌, ◌++◌, get_or, map, refl, ap, ◌∙◌, arith}
 use Rattle.std.specs.Prelude.{Option, Some, None, is_some, if◌then◌else◌}
-use Rattle.std.specs.List.{position, remove}
+use Rattle.std.specs.List.{position, remove, sum_by}
 use Rattle.std.proofs.lemmas.List.{get_or_default}
 use Rattle.std.proofs.lemmas.List.Quantifiers.{position-Some}
 use Rattle.std.proofs.lemmas.List.Sorted.{IsPermutation-remove, sum_by-IsPermutation}
@@ -13,11 +13,12 @@ use Rattle.cg_names.specs.declared.code.Code.TheVariants.{CoordinatorNotAvailabl
 use Rattle.cg_request.specs.declared.ticket.Ticket.{Ticket}
 use Rattle.cg_group.specs.Machine.{step}
 use Rattle.cg_member.specs.Waiting.{waiting_calls}
+use Rattle.cg_store.specs.declared.batch.Batch.{Batch}
 use Rattle.cg_desk.specs.Answering.{after_answering, answering, answering_one, refusal, refused}
-use Rattle.cg_desk.specs.Books.{Books, is_short, letting_go, served, settling, stepped}
-use Rattle.cg_desk.specs.Desks.{Answer, State, Loading, Serving, Failed, at_rest, gone_on, request_on, serving, settle_on, tick_on}
+use Rattle.cg_desk.specs.Books.{Books, IsTake, is_short, letting_go, served, settling, stepped, taking}
+use Rattle.cg_desk.specs.Desks.{Answer, State, Loading, Serving, Failed, IsTakenFrom, at_rest, gone_on, request_on, return_to, serving, settle_on, tick_on}
 use Rattle.cg_desk.specs.Held.{calls_of, released, replies_of}
-use Rattle.cg_desk.specs.Laws.{AreKept, TicketsAreKept, tokens_of}
+use Rattle.cg_desk.specs.Laws.{AreKept, AreRefusedOnce, TicketsAreKept, tokens_of}
 use Rattle.cg_desk.proofs.Sums.{weight_of, weight_out}
 use Rattle.cg_desk.specs.Flights.{Idle}
 use Rattle.cg_desk.specs.Outgoings.{answer, ticket_of}
@@ -137,5 +138,54 @@ settle-kept Loading count weight = omega arith
 settle-kept (Failed n m) count weight = omega arith
 settle-kept (Serving b) count weight = settled-kept b count weight
 
+-- the tokens stay, and no reply leaves
+same-kept : (before after : List ReplyToken) → after ≡ before → AreKept before [] [] after
+same-kept before after is weight = let same = ap (weight_of weight) is in omega arith
+
+taking-tokens : (b : Books) → (taking b).tokens ≡ b.tokens
+unfolding taking
+taking-tokens b = refl
+
+taken-kept : (b c : Books) (o : Option Batch) → IsTake b o c → AreKept b.tokens [] [] c.tokens
+taken-kept b c None is = same-kept b.tokens c.tokens (ap (λ (d : Books). d.tokens) is.2)
+taken-kept b c (Some batch) is = same-kept b.tokens c.tokens (ap (λ (d : Books). d.tokens) is.2 ∙ taking-tokens b)
+
+take-kept : (s after : State) (o : Option Batch) → IsTakenFrom s o after → AreKept (tokens_of s) [] [] (tokens_of after)
+take-kept Loading after o is = same-kept [] (tokens_of after) (ap tokens_of is.1)
+take-kept (Failed n m) after o is = same-kept [] (tokens_of after) (ap tokens_of is.1)
+take-kept (Serving b) Loading o is = absurd is
+take-kept (Serving b) (Failed n m) o is = absurd is
+take-kept (Serving b) (Serving c) o is = taken-kept b c o is
+
+give-back-kept : (s : State) → AreKept (tokens_of s) [] [] (tokens_of (return_to s))
+give-back-kept Loading = same-kept [] [] refl
+give-back-kept (Failed n m) = same-kept [] [] refl
+give-back-kept (Serving b) = same-kept b.tokens b.tokens refl
+
+pub refusals-weight : (weight : Ticket → ℕ) (calls : List Ticket) → weight_out weight (map refusal calls) ≡ sum_by weight calls
+refusals-weight weight [] = refl
+refusals-weight weight (t ∷ calls) =
+    let out = sum_by-cons (λ (o : Outgoing). weight (ticket_of o)) (refusal t) (map refusal calls) in
+    let one = sum_by-cons weight t calls in
+    let rest = refusals-weight weight calls in
+    omega arith
+
+-- all leave, each once
+once-kept : (tokens : List ReplyToken) (out : List Outgoing) → AreRefusedOnce tokens out → AreKept tokens [] out []
+once-kept tokens out once weight =
+    let left = ap (weight_out weight) once.refused in
+    let sum = refusals-weight weight once.calls in
+    let same = once.once weight in
+    omega arith
+
 pub tickets_are_kept : TicketsAreKept
-tickets_are_kept = record { request = request-kept; tick = tick-kept; gone = gone-kept; settle = settle-kept }
+tickets_are_kept = record {
+  request = request-kept;
+  tick = tick-kept;
+  gone = gone-kept;
+  take = take-kept;
+  give_back = give-back-kept;
+  settle = settle-kept;
+  fail = λ s out once. once-kept (tokens_of s) out once;
+  close = λ s out once. once-kept (tokens_of s) out once;
+}

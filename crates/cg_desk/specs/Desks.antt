@@ -1,5 +1,5 @@
 -- The desk by its phase, and what each of its calls does.
-use Rattle.std.specs.Prelude.{◌≡◌, ℕ, ⊤, Bool, false, List, [], ◌∷◌, length, if◌then◌else◌, Option, None}
+use Rattle.std.specs.Prelude.{◌≡◌, ℕ, ⊤, Bool, true, false, List, [], ◌∷◌, length, if◌then◌else◌, Option, None}
 use Rattle.std.specs.FinMap as finmap
 use Rattle.cg_request.specs.declared.event.Event.{Event}
 use Rattle.cg_request.specs.declared.event.Event.TheVariants as event
@@ -11,31 +11,32 @@ use Rattle.cg_store.specs.declared.batch.Batch.{Batch}
 use Rattle.cg_desk.specs.Books.{Books, Served, IsInFlight, IsReason, IsTake, failing, is_short, returning, served, settling}
 use Rattle.cg_desk.specs.Flights.{Idle, is_away, is_returned}
 use Rattle.cg_desk.specs.Outgoings.{answer}
-use Rattle.cg_desk.specs.Serving.{books}
+use Rattle.cg_desk.specs.States.{phase_state}
 use Rattle.cg_desk.specs.Tokens.{call_of}
 use Rattle.cg_desk.specs.declared.desk.Counts.{Counts}
 use Rattle.cg_desk.specs.declared.desk.Desk.{Desk}
-use Rattle.cg_desk.specs.declared.desk.Phase.{Phase}
-use Rattle.cg_desk.specs.declared.desk.Phase.TheVariants as phase
 use Rattle.cg_desk.specs.declared.fault.SettleFault.{SettleFault}
 use Rattle.cg_desk.specs.declared.fault.SettleFault.TheVariants.{NotInFlight}
 use Rattle.cg_desk.specs.declared.held.HeldStep.{HeldStep}
 use Rattle.cg_desk.specs.declared.outgoing.Outgoing.{Outgoing}
 use Rattle.cg_desk.specs.declared.token.ReplyToken.{ReplyToken}
+pub use Rattle.cg_desk.specs.States.{State, Loading, Serving, Failed}
 
--- loading; serving; or failed, with the numbers of the last command and of the last settled command
-pub data State : Type 0 where
-  Loading : State
-  Serving : (b : Books) → State
-  Failed : (numbered : ℕ) → (settled : ℕ) → State
-
-abbrev pub phase_state : Phase → State
-phase_state phase.Loading = Loading
-phase_state (phase.Serving s) = Serving (books s)
-phase_state (phase.Failed numbered settled) = Failed numbered settled
-
+-- the state of a desk
 abbrev pub state_of : Desk → State
 state_of desk = phase_state desk.phase
+
+-- the desk has loaded, and its disk has not failed
+abbrev pub is_serving : State → Bool
+is_serving Loading = false
+is_serving (Failed n s) = false
+is_serving (Serving b) = true
+
+-- the desk serves, and command numbers are short
+abbrev pub is_short_at : State → Bool
+is_short_at Loading = false
+is_short_at (Failed n s) = false
+is_short_at (Serving b) = is_short b
 
 -- a desk after a call, and the replies that left in the call
 pub record Answer : Type 0 where

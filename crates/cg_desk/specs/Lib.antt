@@ -11,9 +11,10 @@ pub mod Fronts
 pub mod Flights
 pub mod Books
 pub mod Serving
-pub mod Desks
-pub mod Laws
 pub mod Owed
 pub mod Turns
 pub mod Made
+pub mod States
 pub mod Balanced
+pub mod Desks
+pub mod Laws

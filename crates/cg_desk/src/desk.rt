@@ -1,7 +1,9 @@
 //! The desk by its phase: loading, serving, failed.
 ghost use Rattle.std.specs.Prelude.{◌≡◌, ◌≢◌, ◌↔◌, ◌∷◌, [], true, false, length, IsTrue, IsOk, IfOk, IfErr, OnOk, OnErr, None, Ok};
+ghost use Rattle.cg_desk.specs.Balanced.{IsBalancedAt};
 ghost use Rattle.cg_desk.specs.Outgoings.{answer};
 ghost use Rattle.cg_desk.specs.Refusals.{is_refusal};
+ghost use Rattle.cg_desk.specs.States.{phase_state};
 ghost use Rattle.cg_desk.specs.Tokens.{call_of};
 
 use crate::fault::{SettleFault, TakeFault};
@@ -46,6 +48,8 @@ pub struct Counts {
 pub struct Desk {
     pub(crate) alloc: Global,
     pub(crate) phase: Phase,
+    // Each pending request has one token: its reply is held, or it is parked in the machine.
+    pub ghost balanced: { ∥ IsBalancedAt (phase_state phase) ∥₁ },
 }
 
 // Returns the refusal of a request that never reaches the machine.
@@ -72,10 +76,10 @@ fn refused_at_once(
 impl Desk {
     ghost use Rattle.cg_fold.specs.Durable.{State as DurableState};
     ghost use Rattle.cg_request.specs.Asking.{asked};
+    ghost use Rattle.cg_held.specs.Kept.{AreRecords};
     ghost use Rattle.cg_held.specs.Reviving.{revive};
     ghost use Rattle.cg_store.specs.Receipts.{batch_of};
-    ghost use Rattle.cg_desk.specs.Desks.{HasNothing, IsOut, IsReasonAt, IsTakenFrom, counts_of, failing_on, gone_on, held_of, is_back, is_out, numbered_of, opened, request_on, return_to, settle_on, settled_of, state_of, tick_on};
-    ghost use Rattle.cg_desk.specs.Balanced.{IsOwedAt};
+    ghost use Rattle.cg_desk.specs.Desks.{HasNothing, IsOut, IsReasonAt, IsTakenFrom, counts_of, failing_on, gone_on, held_of, is_back, is_out, is_serving, is_short_at, numbered_of, opened, request_on, return_to, settle_on, settled_of, state_of, tick_on};
     ghost use Rattle.cg_desk.specs.Held.{last_replies};
     ghost use Rattle.cg_desk.specs.Laws.{AreRefusedOnce, tokens_of};
     ghost use Rattle.cg_desk.specs.Serving.{books};
@@ -92,14 +96,16 @@ impl Desk {
         })
     }
 
-    /// Begins to serve the state that the first `number` commands make. If an allocation fails, returns the state.
+    /// Begins to serve the state that the first `number` commands make. Its records must be lawful, as lawful commands make
+    /// them (`commands_make_records`). If an allocation fails, returns the state.
     pub fn loaded(
         &mut self,
         number: u64,
         durable: Durable,
         now: Moment,
     ) -> Result<(), (AllocError, Durable)>
-        requires { state_of self.old ≡ state.Loading }
+        requires loading { state_of self.old ≡ state.Loading }
+        requires lawful { AreRecords durable }
         ensures ok { OnOk result (state_of self.new ≡ state.Serving (opened number (revive durable now))) }
         ensures err { OnErr result (state_of self.new ≡ state_of self.old) }
         ensures back { IfErr result (λ e. e.1 ≡ durable) }
@@ -202,8 +208,8 @@ impl Desk {
     }
 
     /// Handles a request at the moment `now`; from the UUID `fresh` the machine draws the id of a new member. Returns the
-    /// replies that leave now, which may belong to other requests. Linear in the pending requests. If an allocation fails,
-    /// returns the token, and nothing has changed.
+    /// replies that leave now, which may belong to other requests. Linear in the pending requests. A refusal at once, with 14
+    /// or 15, allocates the list of its one reply. If an allocation fails, returns the token, and nothing has changed.
     #[tactic(auto, unfolding(crate::specs::Desks::request_on))]
     pub fn request(
         &mut self,
@@ -251,31 +257,36 @@ impl Desk {
         serving.ask(token, request, now, fresh)
     }
 
-    /// Runs the time-dependent rules for the moment `now`. Returns the replies that leave now. If an allocation fails,
-    /// nothing has changed.
+    /// Runs the time-dependent rules for the moment `now`. Returns the replies that leave now. Where it does nothing it does
+    /// not allocate. If an allocation fails, nothing has changed.
     #[tactic(auto, unfolding(crate::specs::Desks::tick_on))]
     pub fn tick(&mut self, now: Moment) -> Result<Vec<Outgoing>, AllocError>
         ensures ok { IfOk result
             (λ out. tick_on (state_of self.old) now ≡ record { after = state_of self.new; out = out.items }) }
+        ensures idle { is_serving (state_of self.old) ≡ false → IsOk result }
+        ensures short { is_short_at (state_of self.old) ≡ true → IsOk result }
         ensures err { OnErr result (state_of self.new ≡ state_of self.old) }
     {
+        let alloc = self.alloc;
         match &mut self.phase {
-            Phase::Loading => Ok(Vec::new(self.alloc)),
-            Phase::Failed(_, _) => Ok(Vec::new(self.alloc)),
+            Phase::Loading => Ok(Vec::new(alloc)),
+            Phase::Failed(_, _) => Ok(Vec::new(alloc)),
             Phase::Serving(serving) => {
                 if serving.is_short() {
-                    return Ok(Vec::new(self.alloc));
+                    return Ok(Vec::new(alloc));
                 }
                 serving.tick(now)
             }
         }
     }
 
-    /// Handles a closed session. Returns the replies that leave now. If an allocation fails, nothing has changed.
+    /// Handles a closed session. Returns the replies that leave now. On a desk that does not serve it does nothing, and does
+    /// not allocate. If an allocation fails, nothing has changed.
     #[tactic(auto, unfolding(crate::specs::Desks::gone_on))]
     pub fn gone(&mut self, session: u64, now: Moment) -> Result<Vec<Outgoing>, AllocError>
         ensures ok { IfOk result
             (λ out. gone_on (state_of self.old) session now ≡ record { after = state_of self.new; out = out.items }) }
+        ensures idle { is_serving (state_of self.old) ≡ false → IsOk result }
         ensures err { OnErr result (state_of self.new ≡ state_of self.old) }
     {
         match &mut self.phase {
@@ -343,7 +354,7 @@ impl Desk {
     #[tactic(auto, using(crate::proofs::Failing::none_refused), unfolding(crate::specs::Desks::failing_on))]
     pub fn fail(&mut self) -> Vec<Outgoing>
         ensures once { AreRefusedOnce (tokens_of (state_of self.old)) result.items }
-        ensures order { IsOwedAt (state_of self.old) → result.items ≡ failing_on (state_of self.old) }
+        ensures order { result.items ≡ failing_on (state_of self.old) }
         ensures state { state_of self.new ≡ state.Failed (numbered_of (state_of self.old)) (settled_of (state_of self.old)) }
     {
         let failed = Phase::Failed(self.numbered(), self.settled());
@@ -358,7 +369,7 @@ impl Desk {
     #[tactic(auto, using(crate::proofs::Failing::none_refused), unfolding(crate::specs::Desks::failing_on))]
     pub fn close(self) -> Vec<Outgoing>
         ensures once { AreRefusedOnce (tokens_of (state_of self)) result.items }
-        ensures order { IsOwedAt (state_of self) → result.items ≡ failing_on (state_of self) }
+        ensures order { result.items ≡ failing_on (state_of self) }
     {
         let Desk { alloc, phase } = self;
         match phase {

@@ -1,12 +1,15 @@
 //! Laws of the desk. They relate definitions of `specs/`, so the bodies are empty; the contracts carry them over to
 //! `Desk`.
-ghost use Rattle.cg_desk.specs.Laws.{BatchesAreLongest, TicketsAreKept};
-ghost use Rattle.cg_desk.specs.Balanced.{CommandsAreCountedOnce, DesksHaveDistinctMembers, DesksStayBalanced, RepliesFindTheirCalls};
+ghost use Rattle.cg_desk.specs.Balanced.{IsBalancedAt};
+ghost use Rattle.cg_desk.specs.Desks.{state_of};
+ghost use Rattle.cg_desk.specs.Laws.{BatchesAreLongest, CommandsAreCountedOnce, CommandsMakeRecords, DesksHaveDistinctMembers, DesksStayBalanced, RepliesFindTheirCalls, TicketsAreKept};
 ghost use Rattle.cg_desk.specs.Made.{EventsKeepCalls};
 ghost use Rattle.cg_desk.specs.Turns.{TurnsKeepTheirCalls};
 
-/// Each request gets at most one reply, and is pending until then: the tickets of pending requests change only by the
-/// ticket that comes in and the tickets of the replies that leave.
+use crate::desk::Desk;
+
+/// Each request gets at most one reply, and is pending until then: in every call of a desk the tickets of pending requests
+/// change only by the ticket that comes in and the tickets of the replies that leave.
 pub fn tickets_are_kept()
     ensures { TicketsAreKept }
 {}
@@ -27,9 +30,19 @@ pub fn events_keep_calls()
     ensures { EventsKeepCalls }
 {}
 
+/// Lawful commands make lawful records, which `Desk::loaded` requires of the state that it loads.
+pub fn commands_make_records()
+    ensures { CommandsMakeRecords }
+{}
+
 /// From recovery on, each pending request has one token: its reply is held, or it is parked in the machine.
 pub fn desks_stay_balanced()
     ensures { DesksStayBalanced }
+{}
+
+/// Every desk is balanced, as an invariant of its type.
+pub fn desks_are_balanced(_desk: &Desk)
+    ensures { ∥ IsBalancedAt (state_of _desk.now) ∥₁ }
 {}
 
 /// Each command is counted by at most one reply: the numbers of the replies that a request makes are together at most the

@@ -24,9 +24,9 @@ pub use bounds::{SPARE_NUMBERS, SPARE_NUMBERS_PER_GROUP};
 pub use desk::{Counts, Desk};
 pub use fault::{SettleFault, TakeFault};
 pub use laws::{
-    batches_are_longest, commands_are_counted_once, desks_have_distinct_members,
-    desks_stay_balanced, events_keep_calls, replies_find_their_calls, tickets_are_kept,
-    turns_keep_their_calls,
+    batches_are_longest, commands_are_counted_once, commands_make_records, desks_are_balanced,
+    desks_have_distinct_members, desks_stay_balanced, events_keep_calls, replies_find_their_calls,
+    tickets_are_kept, turns_keep_their_calls,
 };
 pub use outgoing::Outgoing;
 pub use permit::Permit;

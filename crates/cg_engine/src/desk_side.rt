@@ -1,5 +1,6 @@
 //! What the desk lock of an engine guards: the desk, the sessions, and the units that no answer has yet.
 ghost use Rattle.std.specs.Prelude.{◌≡◌, ◌↔◌, IfErr, IsTrue};
+ghost use Rattle.cg_held.specs.Kept.{AreRecords};
 ghost use Rattle.cg_desk.specs.Tokens.{call_of};
 ghost use Rattle.cg_engine.specs.Left.{AreRefusals};
 ghost use Rattle.cg_engine.specs.declared.bounds.TheConstants.{PARTS};
@@ -190,7 +191,9 @@ impl<L: Ledger> DeskSide<L> {
         durable: Durable,
         now: Moment,
         loaded: Option<Vec<Command>>,
-    ) -> Result<(), AllocError> {
+    ) -> Result<(), AllocError>
+        requires { AreRecords durable }
+    {
         if !self.desk.is_loading() {
             return Err(AllocError);
         }

@@ -8,7 +8,7 @@ ghost use Rattle.cg_frame.specs.Frames.{IsOpen, IsClosed, FrameAt, HeadAt, IsFro
 ghost use Rattle.cg_frame.specs.Outcomes.{is_scan_device_failure};
 
 use crate::buffer::number;
-use crate::segment::sectors_of;
+use crate::segment::{positions_fit, sectors_of};
 use crate::{Frame, ScanFault, Segment, fits};
 use cg_disk::{DiskFault, SECTOR_BYTES, SectorDisk};
 use cg_gate::{OPEN, is_open};
@@ -140,7 +140,7 @@ pub fn scan<D: SectorDisk>(
 ) -> Result<Option<Frame>, ScanFault>
     requires in_segment { pos < segment.sectors }
     requires on_disk { segment.first + segment.sectors ≤ D.size disk.old }
-    requires small { segment.first + segment.sectors < SECTORS_BOUND }
+    requires small { segment.sectors < SECTORS_BOUND }
 
     ensures none { D.is_honest disk.old ≡ true → result ≡ Ok None →
         IsClosed (present (D.history disk.old)).content (segment.first + pos) }
@@ -167,6 +167,7 @@ pub fn scan<D: SectorDisk>(
     // The content stays.
     ensures time { D.is_honest disk.old ≡ true → Stays (D.history disk.old) (D.history disk.new) }
 {
+    positions_fit(disk);
     let gate = segment.first + pos;
     if pos + 1 == segment.sectors {
         return if is_open(disk, gate)? {

@@ -2,7 +2,7 @@
 ghost use Rattle.std.specs.Prelude.{◌≡◌, ◌+◌, ◌/◌, ◌^◌, ◌<◌, ◌↔◌, IsTrue};
 ghost use Rattle.cg_frame.specs.Frames.{body_sectors, next_gate};
 
-use cg_disk::SECTOR_BYTES;
+use cg_disk::{SECTOR_BYTES, SectorDisk};
 
 /// Sectors of a whole segment.
 pub const SEGMENT_SECTORS: u64 = cg_gate::SEGMENT_SECTORS;
@@ -15,7 +15,8 @@ const SECTOR: u64 = SECTOR_BYTES as u64;
 /// Bytes of the count and the length before a payload.
 pub(crate) const HEAD_BYTES: u64 = 16;
 
-/// Bound of the end of a segment on its disk, and of the sectors of a body: these have fewer than 2^63 bytes.
+/// Bound of the sectors of a segment, and so of a body: these have fewer than 2^63 bytes. Where on its disk a segment lies
+/// is bounded by the disk alone.
 pub const SECTORS_BOUND: u64 = 1 << 54;
 
 /// A run of sectors on a disk, which frames fill from the front. Positions count its sectors from 0.
@@ -49,6 +50,13 @@ pub fn fits(segment: Segment, pos: u64, payload_bytes: u64) -> bool
     ensures { IsTrue result ↔ (next_gate pos payload_bytes < segment.sectors) }
 {
     pos < segment.sectors && sectors_of(payload_bytes) + 1 < segment.sectors - pos
+}
+
+/// States that a position on a disk has 64 bits: a sum that is one does not wrap. It does nothing.
+pub(crate) fn positions_fit<D: SectorDisk>(disk: &D)
+    ensures { D.size disk.now < 2 ^ 64 }
+{
+    let _ = disk.sectors();
 }
 
 /// States the numbers of the format, on which the disks that exist depend, and the bound of sectors. It does nothing.

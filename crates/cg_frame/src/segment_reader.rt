@@ -8,7 +8,7 @@ ghost use Rattle.cg_frame.specs.Outcomes.{is_scan_device_failure};
 ghost use Rattle.cg_frame.specs.Heads.{HasContent, FindsHead};
 
 use crate::reading::{FRONT_BYTES, Head, head_of};
-use crate::segment::{HEAD_BYTES, sectors_of};
+use crate::segment::{HEAD_BYTES, positions_fit, sectors_of};
 use crate::{ScanFault, Segment};
 use cg_disk::{DiskFault, SECTOR_BYTES, SectorDisk};
 use cg_gate::OPEN;
@@ -22,7 +22,7 @@ pub const PIECE_SECTORS: u64 = 256;
 fn head_at(buffer: &[u8], segment: Segment, pos: u64) -> Result<Option<Head>, ScanFault>
     requires in_segment { pos < segment.sectors }
     requires room { SECTOR_BYTES * segment.sectors ≤ length buffer.now }
-    requires small { segment.first + segment.sectors < SECTORS_BOUND }
+    requires small { segment.sectors < SECTORS_BOUND }
 
     // The gate has to be in the buffer, and the sector after it, where the segment has one.
     ensures found { (image : Image) → Holds image segment.first (min (pos + 2) segment.sectors) buffer.now →
@@ -76,7 +76,7 @@ fn read_piece<D: SectorDisk>(
     requires to { to ≤ segment.sectors }
     requires room { SECTOR_BYTES * segment.sectors ≤ length buffer.old }
     requires on_disk { segment.first + segment.sectors ≤ D.size disk.old }
-    requires small { segment.first + segment.sectors < SECTORS_BOUND }
+    requires small { segment.sectors < SECTORS_BOUND }
 
     ensures enough { IfOk result (λ n. (to ≤ n) × (n ≤ segment.sectors)) }
     ensures holds { D.is_honest disk.old ≡ true → (image : Image) → HasContent (present (D.history disk.old)) image →
@@ -90,6 +90,7 @@ fn read_piece<D: SectorDisk>(
     if to <= filled {
         return Ok(filled);
     }
+    positions_fit(disk);
     let end = piece_end(segment.sectors, filled, to);
     let start_byte = filled as usize * SECTOR_BYTES;
     let end_byte = end as usize * SECTOR_BYTES;
@@ -112,7 +113,7 @@ pub struct SegmentReader {
     payload_start: usize,
     payload_end: usize,
     ghost room: { SECTOR_BYTES * segment.sectors ≤ length buffer.items },
-    ghost small: { segment.first + segment.sectors < SECTORS_BOUND },
+    ghost small: { segment.sectors < SECTORS_BOUND },
     ghost filled_inside: { filled ≤ segment.sectors },
     ghost inside: { pos < segment.sectors },
     ghost payload_ends: { payload_start ≤ payload_end },
@@ -125,7 +126,7 @@ impl SegmentReader {
     /// Creates a reader at the first gate of a segment. Allocates the buffer.
     pub fn new(alloc: Global, segment: Segment) -> Result<Self, AllocError>
         requires some { 0 < segment.sectors }
-        requires small { segment.first + segment.sectors < SECTORS_BOUND }
+        requires small { segment.sectors < SECTORS_BOUND }
         ensures segment { IfOk result (λ reader. segment_read reader ≡ segment) }
         ensures position { IfOk result (λ reader. position_of reader ≡ 0) }
         ensures buffered { IfOk result (λ reader. (image : Image) → IsBuffered image reader) }
@@ -145,7 +146,6 @@ impl SegmentReader {
     pub fn restart(&mut self, segment: Segment)
         requires some { 0 < segment.sectors }
         requires no_larger { segment.sectors ≤ (segment_read self.old).sectors }
-        requires small { segment.first + segment.sectors < SECTORS_BOUND }
         ensures segment { segment_read self.new ≡ segment }
         ensures position { position_of self.new ≡ 0 }
         ensures buffered { (image : Image) → IsBuffered image self.new }

@@ -8,7 +8,7 @@ ghost use Rattle.cg_frame.specs.Outcomes.{StandsLast, Appended};
 
 use crate::Segment;
 use crate::buffer::staged;
-use crate::segment::sectors_of;
+use crate::segment::{positions_fit, sectors_of};
 use cg_disk::{DiskFault, SectorDisk};
 use cg_gate::write_guarded;
 use std::alloc::{AllocError, Global};
@@ -76,7 +76,6 @@ pub fn append_staged<D: SectorDisk>(
     requires counted { 1 ≤ frame.now.0 }
     requires fits { next_gate pos (length frame.now.1) < segment.sectors }
     requires on_disk { segment.first + segment.sectors ≤ D.size disk.old }
-    requires small { segment.first + segment.sectors < SECTORS_BOUND }
     requires closed { D.is_honest disk.old ≡ true →
         (image : Image) → IsImage (present (D.history disk.old)) image → IsClosed image (segment.first + pos) }
 
@@ -100,6 +99,7 @@ pub fn append_staged<D: SectorDisk>(
         StandsLast image segment pos frame.now.0 frame.now.1) }
     ensures durable { D.is_honest disk.old ≡ true → OnOk result (IsSynced (present (D.history disk.new))) }
 {
+    positions_fit(disk);
     write_guarded(disk, segment.first + pos, &frame.sectors)?;
     Ok(pos + sectors_of(frame.bytes) + 1)
 }

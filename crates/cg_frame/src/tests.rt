@@ -26,7 +26,7 @@ fn fills<D: SectorDisk>(
     requires some { 0 < segment.sectors }
     requires last { last < segment.sectors }
     requires on_disk { segment.first + segment.sectors ≤ D.size disk.old }
-    requires small { segment.first + segment.sectors < 2 ^ 54 }
+    requires small { segment.sectors < 2 ^ 54 }
 {
     let more = payload_of(alloc, bytes.saturating_add(1))?;
     let largest = payload_of(alloc, bytes)?;

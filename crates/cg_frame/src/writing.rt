@@ -5,6 +5,7 @@ ghost use Rattle.cg_disk.specs.Disk.{Image, present, IsImage, IsSynced, AllBut, 
 ghost use Rattle.cg_frame.specs.Frames.{IsClosed, body_sectors, next_gate};
 ghost use Rattle.cg_frame.specs.Outcomes.{StandsLast, Appended, KeepsFramesTo, IsBeforeOrAfter, is_device_failure};
 
+use crate::segment::positions_fit;
 use crate::{FrameFault, Segment, append_staged, fits, stage};
 use cg_disk::{DiskFault, SectorDisk};
 use std::alloc::Global;
@@ -13,7 +14,6 @@ use std::alloc::Global;
 pub fn close_gate<D: SectorDisk>(disk: &mut D, segment: Segment, pos: u64) -> Result<(), DiskFault>
     requires in_segment { pos < segment.sectors }
     requires on_disk { segment.first + segment.sectors ≤ D.size disk.old }
-    requires small { segment.first + segment.sectors < SECTORS_BOUND }
 
     ensures same_size { D.size disk.new ≡ D.size disk.old }
     ensures same_honesty { D.is_honest disk.new ≡ D.is_honest disk.old }
@@ -30,6 +30,7 @@ pub fn close_gate<D: SectorDisk>(disk: &mut D, segment: Segment, pos: u64) -> Re
     ensures clock { D.is_honest disk.old ≡ true → TakesCalls 2 (D.history disk.old) (D.history disk.new) (is_err result) }
     ensures cause { Counts (D.failures disk.old) (D.failures disk.new) (is_err result) }
 {
+    positions_fit(disk);
     cg_gate::close_gate(disk, segment.first + pos)?;
     Ok(())
 }
@@ -46,7 +47,7 @@ pub fn append<D: SectorDisk>(
 ) -> Result<u64, FrameFault>
     requires counted { 1 ≤ count }
     requires on_disk { segment.first + segment.sectors ≤ D.size disk.old }
-    requires small { segment.first + segment.sectors < SECTORS_BOUND }
+    requires small { segment.sectors < SECTORS_BOUND }
     requires closed { D.is_honest disk.old ≡ true →
         (image : Image) → IsImage (present (D.history disk.old)) image → IsClosed image (segment.first + pos) }
 

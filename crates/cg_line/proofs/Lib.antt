@@ -1,5 +1,6 @@
 pub mod Answered
 pub mod Apart
+pub mod Calls
 pub mod Complete
 pub mod Cutting
 pub mod Decimals
@@ -9,6 +10,7 @@ pub mod Generations
 pub mod Hexed
 pub mod Joined
 pub mod Keyed
+pub mod Known
 pub mod Lists
 pub mod Optionals
 pub mod Placed

@@ -1,3 +1,4 @@
+pub mod Calls
 pub mod Fields
 pub mod Lines
 pub mod Numbers
@@ -6,5 +7,6 @@ pub mod Replies
 pub mod Requests
 pub mod Running
 pub mod Splitting
+pub mod StdCalls
 pub mod Stream
 pub mod Words

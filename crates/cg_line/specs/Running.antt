@@ -1,14 +1,19 @@
--- What a run over a stream of request lines reads and writes.
+-- What a run over a stream of request lines reads and writes, and by which calls.
 use Rattle.std.specs.Prelude.{◌≡◌, ◌⊎◌, ℕ, ◌<◌, ◌≤◌, ◌==◌, true, not, List, [], ◌∷◌, ◌++◌, length, codes, Option, None, Some, Result, Ok, Err}
 use Rattle.std.specs.List.{flat_map, list_all}
 use Rattle.cg_request.specs.declared.asking.Request.{Request}
 use Rattle.cg_member.specs.declared.reply.Reply.{Reply}
+use Rattle.cg_line.specs.Calls.{EndedBy, Flushes, GoOn, Reads, TransportCall, bytes_read, bytes_written, fails_to_write, is_write, reads_in}
 use Rattle.cg_line.specs.Replies.{reply_line}
 use Rattle.cg_line.specs.Requests.{IsRequest, request_line}
 use Rattle.cg_line.specs.declared.ending.RunEnd.{RunEnd}
 use Rattle.cg_line.specs.declared.ending.RunEnd.TheVariants.{End, TooLong}
 use Rattle.cg_line.specs.declared.ending.RunFault.{RunFault}
 use Rattle.cg_line.specs.declared.ending.RunFault.TheVariants.{Memory, Read, Write}
+use Rattle.cg_line.specs.declared.running.TheConstants.{READS_MAX}
+use Rattle.cg_line.specs.declared.running.writing.TheConstants.{WRITES_MAX}
+use Rattle.cg_line.specs.declared.transport_fault.TransportFault.{TransportFault}
+use Rattle.cg_line.specs.declared.transport_fault.TransportFault.TheVariants.{Failed}
 use Rattle.cg_line.specs.declared.words.TheConstants.{LINE_BYTES_MAX}
 
 abbrev pub line_feed : ℕ
@@ -70,14 +75,37 @@ lines_text served = flat_map (λ s. ended s.line) served
 abbrev pub answers_text : List Served → List ℕ
 answers_text served = flat_map (λ s. ended s.answer) served
 
--- what was written, and what was read after the lines that were served; at a failed write all replies before the last
--- were written, and a part of the last
-abbrev pub EndsAs : Result RunEnd RunFault → List ℕ → List Served → List ℕ → Type 0
-EndsAs (Ok End) text served rest = (text ≡ answers_text served) × IsLine rest
-EndsAs (Ok TooLong) text served rest = (text ≡ answers_text served ++ ended malformed_line) × IsTooLong rest
-EndsAs (Err Memory) text served rest = (text ≡ answers_text served) × IsLine rest
-EndsAs (Err Read) text served rest = (text ≡ answers_text served) × IsLine rest
-EndsAs (Err Write) text served rest = (told last : List Served) × (part : List ℕ) × (served ≡ told ++ last) × (length last ≤ 1) × (text ≡ answers_text told ++ part)
+-- each line that was served has its whole reply, and at most a part of another line was read
+abbrev pub AllAnswered : List TransportCall → List Served → List ℕ → Type 0
+AllAnswered calls served rest = (bytes_written calls ≡ answers_text served) × IsLine rest
+
+-- the last of these calls failed to write; or they are as many writes as one reply may take
+abbrev pub WritesFail : List TransportCall → Type 0
+WritesFail calls = ((last : TransportCall) × (fails_to_write last ≡ true) × EndedBy last calls) ⊎ ((length calls ≡ WRITES_MAX) × (list_all is_write calls ≡ true) × GoOn calls)
+
+-- the replies before the last were written by the earlier calls; the others failed to write the last, or the refusal of a
+-- line that is too long
+pub record WriteFailed (calls : List TransportCall) (served : List Served) : Type 0 where
+  pub answered : List Served
+  pub last : List Served
+  pub served_are : served ≡ answered ++ last
+  pub at_most_one : length last ≤ 1
+  pub earlier : List TransportCall
+  pub failed : List TransportCall
+  pub calls_are : calls ≡ earlier ++ failed
+  pub all_written : bytes_written earlier ≡ answers_text answered
+  pub go_on : GoOn earlier
+  pub fail : WritesFail failed
+
+-- the calls and the lines after which a run ends with this result: the last read gave no bytes; the refusal of a line that
+-- is too long was written and flushed; there was no call; the last read failed, or it was the last that a run may make; a
+-- write failed
+abbrev pub EndsAs : Result RunEnd RunFault → List TransportCall → List Served → List ℕ → Type 0
+EndsAs (Ok End) calls served rest = AllAnswered calls served rest × EndedBy (Reads (Ok [])) calls
+EndsAs (Ok TooLong) calls served rest = (bytes_written calls ≡ answers_text served ++ ended malformed_line) × IsTooLong rest × EndedBy (Flushes (Ok tt)) calls
+EndsAs (Err Memory) calls served rest = calls ≡ []
+EndsAs (Err Read) calls served rest = AllAnswered calls served rest × (EndedBy (Reads (Err Failed)) calls ⊎ ((reads_in calls ≡ READS_MAX) × GoOn calls))
+EndsAs (Err Write) calls served rest = WriteFailed calls served
 
 -- the bytes that were read are lines, which were served in order, and a rest, of which `ends` holds
 pub record Ran {S : Type 0} (gives : S → Request → Reply → S → Type 0) (ends : List Served → List ℕ → Type 0) (read : List ℕ) (before after : S) : Type 0 where
@@ -86,3 +114,19 @@ pub record Ran {S : Type 0} (gives : S → Request → Reply → S → Type 0) (
   pub read_is : read ≡ lines_text served ++ rest
   pub serves : Serves gives before served after
   pub ends_so : ends served rest
+
+-- before a read: the last call flushed the transport, and each whole line so far has its reply
+pub record IsReady {S : Type 0} (gives : S → Request → Reply → S → Type 0) (before : S) (calls : List TransportCall) : Type 0 where
+  pub earlier : List TransportCall
+  pub flushed : calls ≡ earlier ++ Flushes (Ok tt) ∷ []
+  pub now : S
+  pub answered : Ran gives (AllAnswered calls) (bytes_read calls) before now
+
+abbrev pub ReadsAreReady : {S : Type 0} → (S → Request → Reply → S → Type 0) → S → List TransportCall → Type 0
+ReadsAreReady gives before calls = (earlier later : List TransportCall) (got : Result (List ℕ) TransportFault) → calls ≡ earlier ++ Reads got ∷ later → IsReady gives before earlier
+
+-- a run that made these calls on its transport, had this result, and took the backend from the first state to the last
+pub record IsRun {S : Type 0} (gives : S → Request → Reply → S → Type 0) (result : Result RunEnd RunFault) (calls : List TransportCall) (before after : S) : Type 0 where
+  pub ran : Ran gives (EndsAs result calls) (bytes_read calls) before after
+  pub reads_are_ready : ReadsAreReady gives before calls
+  pub reads_within : reads_in calls ≤ READS_MAX

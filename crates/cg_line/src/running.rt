@@ -1,13 +1,13 @@
 //! Serving a stream of lines.
-ghost use Rattle.std.specs.Prelude.{◌≡◌, ℕ, List, Option, Ok, [], IfErr, OnOk};
-ghost use Rattle.std.specs.Io.KnownBytes.{Appends, Consumes, IsAtEnd};
-ghost use Rattle.cg_line.specs.Running.{EndsAs, Ran, ended, malformed_line};
-ghost use Rattle.cg_line.specs.Stream.{Far, Goes, Stopped};
+ghost use Rattle.std.specs.Prelude.{◌≡◌, ◌≤◌, ℕ, List, ◌++◌, []};
+ghost use Rattle.cg_line.specs.Calls.{Made, TransportCall, reads_in};
+ghost use Rattle.cg_line.specs.Running.{IsRun};
+ghost use Rattle.cg_line.specs.Stream.{Far, Goes, IsRefused, Stopped};
 
 use crate::backend::Backend;
 use crate::ending::{RunEnd, RunFault};
+use crate::transport::Transport;
 use std::alloc::Global;
-use std::io::{Read, Write};
 
 mod asking;
 mod begun;
@@ -30,44 +30,42 @@ pub const READS_MAX: u64 = 4_294_967_296;
 const BUFFER_BYTES: usize = 8_192;
 
 // Serves the lines that end within `bytes`, and keeps the rest as the beginning of the next line.
-fn serve_bytes<W: Write, B: Backend>(
+fn serve_bytes<T: Transport, B: Backend>(
     alloc: Global,
     begun: &mut BegunLine,
     bytes: &[u8],
     text: &mut Vec<u8>,
-    writer: &mut W,
+    transport: &mut T,
     backend: &mut B,
 ) -> Result<(), Stop>
-    ensures { (all : List ℕ) → (before : B) → (old : Option (List ℕ))
-        → Far B.gives all before backend.old old (W.contents writer.old) bytes.now begun.old
-        → Goes B.gives result all before backend.new old (W.contents writer.new) [] begun.new }
+    ensures { (calls : List TransportCall) → (before : B) → Far B.gives calls before backend.old bytes.now begun.old
+        → (more : List TransportCall) × Made T.does transport.old more transport.new × (reads_in more ≡ 0)
+        × Goes B.gives result (calls ++ more) before backend.new [] begun.new }
 {
     let mut rest = bytes;
     while let Some((asked, behind)) = begun.next(alloc, rest)? {
-        reply(asked, text, writer, backend)?;
+        reply(asked, text, transport, backend)?;
         rest = behind;
     }
     Ok(())
 }
 
 // Serves lines until the stream ends, a line is too long, or a fault occurs.
-fn serve_stream<R: Read, W: Write, B: Backend>(
+fn serve_stream<T: Transport, B: Backend>(
     alloc: Global,
-    reader: &mut R,
-    writer: &mut W,
+    transport: &mut T,
     backend: &mut B,
 ) -> Result<(), Stop>
-    ensures served { (bytes : List ℕ) × Consumes (R.remaining reader.old) (R.remaining reader.new) bytes
-        × Stopped B.gives result bytes backend.old backend.new (W.contents writer.old) (W.contents writer.new) }
-    ensures end { result ≡ Ok tt → IsAtEnd (R.remaining reader.new) }
+    ensures { (calls : List TransportCall) × Made T.does transport.old calls transport.new × (reads_in calls ≤ READS_MAX)
+        × Stopped B.gives result calls backend.old backend.new }
 {
     let mut room = vec![in alloc; 0; BUFFER_BYTES]?;
     let buffer = room.as_mut_slice();
     let mut begun = BegunLine::new(alloc);
     let mut text = Vec::new(alloc);
     for _ in 0..READS_MAX {
-        flush(writer)?;
-        let Some(count) = read(reader, buffer)? else {
+        flush(transport)?;
+        let Some(count) = read(transport, buffer)? else {
             continue;
         };
         if count == 0 {
@@ -78,42 +76,39 @@ fn serve_stream<R: Read, W: Write, B: Backend>(
             &mut begun,
             &buffer[..count],
             &mut text,
-            writer,
+            transport,
             backend,
         )?;
     }
     Err(Stop::Fault(RunFault::Read))
 }
 
-fn refuse_too_long<W: Write>(writer: &mut W) -> Result<(), RunFault>
-    ensures written { (part : List ℕ) × Appends (W.contents writer.old) (W.contents writer.new) part × OnOk result (part ≡ ended malformed_line) }
-    ensures fault { IfErr result (λ fault. fault ≡ RunFault.Write) }
+fn refuse_too_long<T: Transport>(transport: &mut T) -> Result<(), RunFault>
+    ensures { (calls : List TransportCall) × Made T.does transport.old calls transport.new × IsRefused calls result }
 {
-    put(writer, Refusal::Malformed.line())?;
-    flush(writer)?;
+    put(transport, Refusal::Malformed.line())?;
+    flush(transport)?;
     Ok(())
 }
 
-/// Serves a stream of request lines. Each line gets one reply line, in order, and the writer is flushed before each
+/// Serves a stream of request lines. Each line gets one reply line, in order, and the transport is flushed before each
 /// read. A malformed line gets `ERR 42 INVALID_REQUEST`, and a line for which an allocation fails `ERR -1
 /// UNKNOWN_SERVER_ERROR`. A line of more than `LINE_BYTES_MAX` bytes, with or without its line feed, gets `ERR 42
-/// INVALID_REQUEST` and ends the run. A shorter last line without its line feed is dropped. Keeps at most
-/// `LINE_BYTES_MAX` bytes of a line, and makes at most `READS_MAX` reads. Besides the backend, each line costs time
-/// linear in its length.
-pub fn run<R: Read, W: Write, B: Backend>(
+/// INVALID_REQUEST` and ends the run. A shorter last line without its line feed is dropped. Interrupted reads and writes
+/// are made again. Keeps at most `LINE_BYTES_MAX` bytes of a line, makes at most `READS_MAX` reads, and at most 2^32
+/// writes for one reply. Besides the backend, each line costs time linear in its length. Over a reader and a writer of
+/// std, `std_calls_move_known_bytes` says what the calls do to their bytes.
+pub fn run<T: Transport, B: Backend>(
     alloc: Global,
-    reader: &mut R,
-    writer: &mut W,
+    transport: &mut T,
     backend: &mut B,
 ) -> Result<RunEnd, RunFault>
-    ensures served { (bytes text : List ℕ) × Consumes (R.remaining reader.old) (R.remaining reader.new) bytes × Appends (W.contents writer.old) (W.contents writer.new) text
-        × Ran B.gives (EndsAs result text) bytes backend.old backend.new }
-    ensures end { result ≡ Ok RunEnd.End → IsAtEnd (R.remaining reader.new) }
+    ensures calls { (calls : List TransportCall) × Made T.does transport.old calls transport.new × IsRun B.gives result calls backend.old backend.new }
 {
-    match serve_stream(alloc, reader, writer, backend) {
+    match serve_stream(alloc, transport, backend) {
         Ok(()) => Ok(RunEnd::End),
         Err(Stop::TooLong) => {
-            refuse_too_long(writer)?;
+            refuse_too_long(transport)?;
             Ok(RunEnd::TooLong)
         }
         Err(Stop::Fault(fault)) => Err(fault),

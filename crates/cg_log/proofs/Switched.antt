@@ -7,13 +7,13 @@ use Rattle.cg_gate.specs.Layout.{first_sector}
 use Rattle.cg_root.specs.Roots.{CountingRoot, IsOldOrNew, KeepsRoot}
 use Rattle.cg_root.specs.Slots.{gate_of, other_slot}
 use Rattle.cg_root.specs.declared.root.Root.{Root}
-use Rattle.cg_log.specs.Carried.{Carries, Content, HoldsContent, KeepsLog, LogAt, tails}
+use Rattle.cg_log.specs.Carried.{AllCarry, Carries, Content, HoldsContent, KeepsLog, LogAt, tails}
 use Rattle.cg_log.specs.Cursors.{index_of, tails_from}
 use Rattle.cg_log.specs.Free.{is_among}
 use Rattle.cg_log.specs.Fresh.{HoldsFresh}
 use Rattle.cg_log.specs.Ready.{AllClosed, AllOpen, IsReady, last_id}
 use Rattle.cg_log.specs.Segments.{AreStored, Filled, counted, frames_of, ids_of}
-use Rattle.cg_log.specs.Switched.{CarriesEither, IsSwitchedRoot, switched}
+use Rattle.cg_log.specs.Switched.{CarriesEither, IsSwitchedRoot, number_switched, switched}
 use Rattle.cg_log.specs.declared.numbers.TheConstants.{COMMAND_NUMBER_MAX}
 use Rattle.cg_log.proofs.Filled.{AreApart-slots, AreStored-apart, AreStored-back, length-ids}
 use Rattle.cg_log.proofs.Images.{AllCarry-holds, Carries-at}
@@ -67,25 +67,36 @@ module _ (m : Moment) (sectors : ℕ) (current next : Root) (has : Content) (fre
   LogAt-either image but (inl old) = inl (LogAt-counting m sectors current has 0 4 image keeps but (AreApart-slots 0 4 has.base (omega arith)) (AreApart-slots 0 4 (tails has) (omega arith)) old)
   LogAt-either image but (inr later) = inr (LogAt-switched image but later)
 
-module _ (old new : History) (sectors : ℕ) (current next : Root) (has : Content) (fresh : List Filled) (ids : List ℕ) (cut base_number end fresh_end number : ℕ) (is : IsSwitchedRoot current ids cut base_number next) (among : is_among cut current.tail ≡ true) (holds : HoldsContent (present old) sectors current end number has) (kept : HoldsFresh (present old) ids fresh_end fresh) (change : Changes 0 4 old new) (sum : base_number + counted (frames_of (tails_from cut has)) ≡ number) where
+module _ (old new : History) (sectors : ℕ) (current next : Root) (has : Content) (fresh : List Filled) (ids : List ℕ) (cut base_number end fresh_end number : ℕ) (is : IsSwitchedRoot current ids cut base_number next) (among : is_among cut current.tail ≡ true) (holds : HoldsContent (present old) sectors current end number has) (kept : HoldsFresh (present old) ids fresh_end fresh) (change : Changes 0 4 old new) where
   same_tails : tails (switched has fresh cut) ≡ tails_from cut has
   same_tails = tails-switched (present old) sectors current next has fresh ids cut base_number fresh_end is among holds.keeps kept
 
-  number_is : number ≡ next.base_number + counted (frames_of (tails (switched has fresh cut)))
-  number_is = omega (arith, sum, is.number, ap (λ (l : List Filled). counted (frames_of l)) same_tails)
+  number_is : number_switched has cut base_number ≡ next.base_number + counted (frames_of (tails (switched has fresh cut)))
+  number_is = omega (arith, is.number, ap (λ (l : List Filled). counted (frames_of l)) same_tails)
 
-  pub content-switched : KeepsRoot (present new) sectors next → HoldsContent (present new) sectors next end number (switched has fresh cut)
-  content-switched published = record {
-    keeps = λ image left. LogAt-switched (present old) sectors current next has fresh ids cut base_number fresh_end is among holds.keeps kept image
-        (AllBut-disturbed 0 4 (present old) (present new) image (Changes-present 0 4 old new change) left) (published image left);
+  keeps-switched : KeepsRoot (present new) sectors next → KeepsLog (present new) sectors next (switched has fresh cut)
+  keeps-switched published image left = LogAt-switched (present old) sectors current next has fresh ids cut base_number fresh_end is among holds.keeps kept image
+      (AllBut-disturbed 0 4 (present old) (present new) image (Changes-present 0 4 old new change) left) (published image left)
+
+  -- what an image with the next root carries
+  carries-switched : number_switched has cut base_number ≤ COMMAND_NUMBER_MAX → (image : Image) → LogAt image sectors next (switched has fresh cut) → Carries image sectors (number_switched has cut base_number) (frames_of fresh) (frames_of (tails_from cut has))
+  carries-switched in_range image at = subst (λ (l : List Filled). Carries image sectors (number_switched has cut base_number) (frames_of fresh) (frames_of l)) same_tails
+      (Carries-at image sectors (number_switched has cut base_number) next (switched has fresh cut) at number_is in_range)
+
+  pub content-switched : number_switched has cut base_number ≡ number → KeepsRoot (present new) sectors next → HoldsContent (present new) sectors next end number (switched has fresh cut)
+  content-switched sum published = record {
+    keeps = keeps-switched published;
     end_is = holds.end_is;
-    number_is = number_is;
+    number_is = sym sum ∙ number_is;
   }
 
-  pub images-switched : number ≤ COMMAND_NUMBER_MAX → LeavesOnly old new (IsOldOrNew sectors current next) → LeavesOnly old new (CarriesEither sectors number has fresh cut)
-  images-switched small run = LeavesOnly-weaker old new _ _ (λ image both. elim (LogAt-either (present old) sectors current next has fresh ids cut base_number fresh_end is among holds.keeps kept image both.0 both.1) [
+  pub after-switched : number_switched has cut base_number ≤ COMMAND_NUMBER_MAX → KeepsRoot (present new) sectors next → AllCarry (present new) sectors (number_switched has cut base_number) (frames_of fresh) (frames_of (tails_from cut has))
+  after-switched in_range published image left = carries-switched in_range image (keeps-switched published image left)
+
+  pub images-switched : number ≤ COMMAND_NUMBER_MAX → number_switched has cut base_number ≤ COMMAND_NUMBER_MAX → LeavesOnly old new (IsOldOrNew sectors current next) → LeavesOnly old new (CarriesEither sectors number has fresh cut base_number)
+  images-switched small in_range run = LeavesOnly-weaker old new _ _ (λ image both. elim (LogAt-either (present old) sectors current next has fresh ids cut base_number fresh_end is among holds.keeps kept image both.0 both.1) [
     | inl at ↦ inl (Carries-at image sectors number current has at holds.number_is small)
-    | inr at ↦ inr (subst (λ (l : List Filled). Carries image sectors number (frames_of fresh) (frames_of l)) same_tails (Carries-at image sectors number next (switched has fresh cut) at number_is small))
+    | inr at ↦ inr (carries-switched in_range image at)
   ]) (LeavesOnly-both old new _ _ (LeavesOnly-changes 0 4 old new change) run)
 
 pub ready-switched : (old new : History) (sectors : ℕ) (current next : Root) (ids : List ℕ) (cut base_number end : ℕ) (is_other_open : Bool) → IsSwitchedRoot current ids cut base_number next → is_among cut current.tail ≡ true → Changes 0 4 old new → KeepsRoot (present new) sectors next → AllOpen (present new) (gate_of (other_slot next.slot)) → IsReady (present old) sectors current end is_other_open → IsReady (present new) sectors next end true
@@ -100,5 +111,5 @@ ready-switched old new sectors current next ids cut base_number end is_other_ope
     }
 
 -- no call of the device
-pub still-switch : (h : History) (sectors : ℕ) (root : Root) (end number : ℕ) (has : Content) (fresh : List Filled) (cut : ℕ) → number ≤ COMMAND_NUMBER_MAX → HoldsContent (present h) sectors root end number has → LeavesOnly h h (CarriesEither sectors number has fresh cut)
-still-switch h sectors root end number has fresh cut small holds = LeavesOnly-starts h _ (λ image left. inl (AllCarry-holds (present h) sectors root end number has small holds image left))
+pub still-switch : (h : History) (sectors : ℕ) (root : Root) (end number : ℕ) (has : Content) (fresh : List Filled) (cut base_number : ℕ) → number ≤ COMMAND_NUMBER_MAX → HoldsContent (present h) sectors root end number has → LeavesOnly h h (CarriesEither sectors number has fresh cut base_number)
+still-switch h sectors root end number has fresh cut base_number small holds = LeavesOnly-starts h _ (λ image left. inl (AllCarry-holds (present h) sectors root end number has small holds image left))

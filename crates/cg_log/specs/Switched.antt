@@ -5,7 +5,7 @@ use Rattle.cg_root.specs.Slots.{other_slot}
 use Rattle.cg_root.specs.declared.root.Root.{Root}
 use Rattle.cg_log.specs.Carried.{Content, Carries, tails}
 use Rattle.cg_log.specs.Cursors.{index_of, tails_from}
-use Rattle.cg_log.specs.Segments.{Filled, ids_of, frames_of}
+use Rattle.cg_log.specs.Segments.{Filled, counted, ids_of, frames_of}
 
 -- the fresh segments as the base, and the tails from the cut on
 abbrev pub switched : Content → List Filled → ℕ → Content
@@ -19,7 +19,12 @@ pub record IsSwitchedRoot (current : Root) (fresh : List ℕ) (cut base_number :
   pub base : next.base ≡ fresh
   pub tail : next.tail ≡ drop (index_of cut current.tail) current.tail
 
--- an image carries n commands in the frames of the content, or in those of the content after the switch
-abbrev pub CarriesEither : ℕ → ℕ → Content → List Filled → ℕ → Image → Type 0
-CarriesEither sectors n has fresh cut image =
-    Carries image sectors n (frames_of has.base) (frames_of (tails has)) ⊎ Carries image sectors n (frames_of fresh) (frames_of (tails_from cut has))
+-- the number of the last command after the switch: the base number, and the commands of the tails from the cut on
+abbrev pub number_switched : Content → ℕ → ℕ → ℕ
+number_switched has cut base_number = base_number + counted (frames_of (tails_from cut has))
+
+-- an image carries the content before the switch, of this number, or the content after it
+abbrev pub CarriesEither : ℕ → ℕ → Content → List Filled → ℕ → ℕ → Image → Type 0
+CarriesEither sectors number has fresh cut base_number image =
+    Carries image sectors number (frames_of has.base) (frames_of (tails has))
+    ⊎ Carries image sectors (number_switched has cut base_number) (frames_of fresh) (frames_of (tails_from cut has))

@@ -4,13 +4,14 @@ ghost use Rattle.cg_disk.specs.Disk.{Changes, Counts, LeavesOnly, present};
 ghost use Rattle.cg_root.specs.Roots.{IsLawful, IsOldOrNew, KeepsRoot};
 ghost use Rattle.cg_root.specs.Slots.{gate_of, other_slot};
 ghost use Rattle.cg_root.specs.declared.format.TheConstants.{EPOCH_MAX};
-ghost use Rattle.cg_log.specs.Carried.{Content};
+ghost use Rattle.cg_log.specs.Carried.{AllCarry, Content};
 ghost use Rattle.cg_log.specs.Cursors.{tails_from};
 ghost use Rattle.cg_log.specs.Faults.{IsWritingFault, is_device_failure};
 ghost use Rattle.cg_log.specs.Free.{is_among};
 ghost use Rattle.cg_log.specs.Ready.{AllClosed, AllOpen};
-ghost use Rattle.cg_log.specs.Segments.{Filled, counted, frames_of};
-ghost use Rattle.cg_log.specs.Switched.{CarriesEither, IsSwitchedRoot, switched};
+ghost use Rattle.cg_log.specs.Segments.{Filled, frames_of};
+ghost use Rattle.cg_log.specs.Switched.{CarriesEither, IsSwitchedRoot, number_switched, switched};
+ghost use Rattle.cg_log.specs.declared.numbers.TheConstants.{COMMAND_NUMBER_MAX};
 
 use crate::LogFault;
 use crate::log::Log;
@@ -92,14 +93,16 @@ impl<D: SectorDisk> Log<D> {
         requires lawful { IsLawful (D.size (disk_of self.old)) next }
 
         ensures stored { (has : Content) (fresh : List Filled) → LogHas D.is_honest D.history D.size self.old has →
-            HasFresh D.is_honest D.history self.old fresh →
-            next.base_number + counted (frames_of (tails_from cut has)) ≡ number_of self.old →
+            HasFresh D.is_honest D.history self.old fresh → number_switched has cut next.base_number ≡ number_of self.old →
             OnOk result (LogHas D.is_honest D.history D.size self.new (switched has fresh cut)) }
         ensures images { (has : Content) (fresh : List Filled) → LogHas D.is_honest D.history D.size self.old has →
-            HasFresh D.is_honest D.history self.old fresh →
-            next.base_number + counted (frames_of (tails_from cut has)) ≡ number_of self.old →
+            HasFresh D.is_honest D.history self.old fresh → number_switched has cut next.base_number ≤ COMMAND_NUMBER_MAX →
             LeavesOnly (D.history (disk_of self.old)) (D.history (disk_of self.new))
-            (CarriesEither (D.size (disk_of self.old)) (number_of self.old) has fresh cut) }
+            (CarriesEither (D.size (disk_of self.old)) (number_of self.old) has fresh cut next.base_number) }
+        ensures after { (has : Content) (fresh : List Filled) → LogHas D.is_honest D.history D.size self.old has →
+            HasFresh D.is_honest D.history self.old fresh → number_switched has cut next.base_number ≤ COMMAND_NUMBER_MAX → OnOk result
+            (AllCarry (present (D.history (disk_of self.new))) (D.size (disk_of self.old)) (number_switched has cut next.base_number)
+            (frames_of fresh) (frames_of (tails_from cut has))) }
         ensures root { OnOk result (root_of self.new ≡ next) }
         ensures fresh { OnOk result (fresh_of self.new ≡ []) }
         ensures fresh_end { OnOk result (fresh_end_of self.new ≡ 0) }
@@ -133,22 +136,25 @@ impl<D: SectorDisk> Log<D> {
 
     /// Publishes a root with the fresh segments as its base, `base_number` as its number, and every tail from the cut on
     /// as its tails; all other segments are free then. In six calls of the device at most, which write the root slots
-    /// alone. Where the base number and the commands of the tails that are kept make the number of the log, every crash
-    /// image since the start has the content or that after the switch, and after `Ok` the latter. `Full` is reported
-    /// where the epoch is the last, and nowhere else. After a fault the fresh segments are still there.
+    /// alone. Every crash image since the start carries the content with the number of the log, or the content after the
+    /// switch, whose number is the base number plus the commands of the tails that are kept; after `Ok` the latter. The
+    /// log keeps its number: if the two differ, `stored` does not apply, and the log has to be opened again. `Full` is
+    /// reported where the epoch is the last, and nowhere else. After a fault the fresh segments are still there.
     pub fn switch(&mut self, cut: SegmentId, base_number: u64) -> Result<(), LogFault>
         requires cut { is_among cut (root_of self.old).tail ≡ true }
-        requires base_number { base_number ≤ number_of self.old }
+        requires base_number { base_number ≤ COMMAND_NUMBER_MAX }
 
         ensures stored { (has : Content) (fresh : List Filled) → LogHas D.is_honest D.history D.size self.old has →
-            HasFresh D.is_honest D.history self.old fresh →
-            base_number + counted (frames_of (tails_from cut has)) ≡ number_of self.old →
+            HasFresh D.is_honest D.history self.old fresh → number_switched has cut base_number ≡ number_of self.old →
             OnOk result (LogHas D.is_honest D.history D.size self.new (switched has fresh cut)) }
         ensures images { (has : Content) (fresh : List Filled) → LogHas D.is_honest D.history D.size self.old has →
-            HasFresh D.is_honest D.history self.old fresh →
-            base_number + counted (frames_of (tails_from cut has)) ≡ number_of self.old →
+            HasFresh D.is_honest D.history self.old fresh → number_switched has cut base_number ≤ COMMAND_NUMBER_MAX →
             LeavesOnly (D.history (disk_of self.old)) (D.history (disk_of self.new))
-            (CarriesEither (D.size (disk_of self.old)) (number_of self.old) has fresh cut) }
+            (CarriesEither (D.size (disk_of self.old)) (number_of self.old) has fresh cut base_number) }
+        ensures after { (has : Content) (fresh : List Filled) → LogHas D.is_honest D.history D.size self.old has →
+            HasFresh D.is_honest D.history self.old fresh → number_switched has cut base_number ≤ COMMAND_NUMBER_MAX → OnOk result
+            (AllCarry (present (D.history (disk_of self.new))) (D.size (disk_of self.old)) (number_switched has cut base_number)
+            (frames_of fresh) (frames_of (tails_from cut has))) }
         ensures root { OnOk result (IsSwitchedRoot (root_of self.old) (fresh_of self.old) cut base_number (root_of self.new)) }
         ensures fresh { OnOk result (fresh_of self.new ≡ []) }
         ensures holds { D.is_honest (disk_of self.old) ≡ true → OnOk result (HasFresh D.is_honest D.history self.new []) }

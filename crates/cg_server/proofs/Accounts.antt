@@ -1,5 +1,5 @@
 -- What a server printed, put together from what its parts printed.
-use Rattle.std.proofs.Common.{◌≡◌, inl, inr, ℕ, Bool, true, false, List, [], ◌∷◌, ◌++◌, flat_map, Option, Result, Ok, Err, is_ok, refl, sym, subst, ap, ◌∙◌, append_assoc, append-nil}
+use Rattle.std.proofs.Common.{◌≡◌, ◌⊎◌, inl, inr, ℕ, Bool, true, false, List, [], ◌∷◌, ◌++◌, flat_map, Option, Result, Ok, Err, is_ok, refl, sym, subst, ap, ◌∙◌, append_assoc, append-nil}
 use Rattle.std.proofs.lemmas.Bool.{false≢true}
 use Rattle.std.specs.Io.KnownBytes.{Appends}
 use Rattle.clap.specs.Words.{HasKind, Kinds, kind_of}
@@ -12,7 +12,7 @@ use Rattle.cg_server.specs.declared.stop.Stop.{Stop}
 use Rattle.cg_server.specs.declared.stop.Stop.TheVariants as stop
 use Rattle.cg_server.specs.declared.stop.ServerEnd.{ServerEnd}
 use Rattle.cg_server.specs.declared.stop.ServerEnd.TheVariants as end
-use Rattle.cg_server.proofs.Written.{appends_nothing, appends_then}
+use Rattle.cg_server.proofs.Written.{appends_then}
 
 pub report_then : (a b c : Option (List ℕ)) (found : ℕ × ℕ × ℕ) (end : ServerEnd) (notice : List ℕ) → Appends a b (loaded_text found) → IsNotice end notice → Appends b c notice
     → (said : List ℕ) × IsReport end said × Appends a c said
@@ -36,12 +36,10 @@ statuses_then a b c xs ys (first, is) before (second, is_too) more =
 pub one_status : (s : Status) → AreStatuses (status_text s)
 one_status s = (s ∷ [], sym (append-nil (status_text s)))
 
--- nothing was printed, or one status
-pub tells_nothing : (a : Option (List ℕ)) → (said : List ℕ) × AreStatuses said × Appends a a said
-tells_nothing a = ([], no_statuses, appends_nothing a)
-
-pub tells_one : (a b : Option (List ℕ)) (s : Status) → Appends a b (status_text s) → (said : List ℕ) × AreStatuses said × Appends a b said
-tells_one a b s more = (status_text s, one_status s, more)
+-- one status was printed, or nothing
+pub tells_one : (a b : Option (List ℕ)) (s : Status) → Appends a b (status_text s) ⊎ Appends a b [] → (said : List ℕ) × AreStatuses said × Appends a b said
+tells_one a b s (inl more) = (status_text s, one_status s, more)
+tells_one a b s (inr nothing) = ([], no_statuses, nothing)
 
 -- statuses, and then statuses or a line that could not be written
 pub tells_then : {T : Type 0} (a b c : Option (List ℕ)) (first second : Result T Stop) → is_ok first ≡ true → TellsStatuses first a b → TellsStatuses second b c → TellsStatuses second a c

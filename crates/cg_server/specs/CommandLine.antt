@@ -9,7 +9,7 @@ use Rattle.cg_gate.specs.declared.layout.TheConstants.{SEGMENTS_MAX}
 use Rattle.cg_server.specs.Address.{port_of}
 use Rattle.cg_server.specs.declared.address.TheConstants.{PORT_DEFAULT}
 use Rattle.cg_server.specs.declared.command_line.Arguments.{Arguments}
-use Rattle.cg_server.specs.declared.command_line.TheConstants.{COMPACT_FREE_DEFAULT, COMPACT_FREE_MAX, CONNECTIONS_MAX, SEGMENTS_DEFAULT, STATUS_SECONDS_MAX, TICK_MS_DEFAULT, TICK_MS_MAX, TICK_MS_MIN}
+use Rattle.cg_server.specs.declared.command_line.TheConstants.{COMPACT_FREE_DEFAULT, COMPACT_FREE_MAX, CONNECTIONS_MAX, SEGMENTS_DEFAULT, STATUS_SECONDS_DEFAULT, STATUS_SECONDS_MAX, TICK_MS_DEFAULT, TICK_MS_MAX, TICK_MS_MIN}
 
 -- an option with a text
 abbrev pub text_rule : Text → Rule
@@ -87,7 +87,7 @@ abbrev pub HasNumbers : (Text → Option Text) → Arguments → Type 0
 HasNumbers found arguments = AsksFor SEGMENTS_DEFAULT (found (codes "segments")) arguments.segments
     × AsksFor TICK_MS_DEFAULT (found (codes "tick-ms")) arguments.options.tick_ms
     × AsksFor COMPACT_FREE_DEFAULT (found (codes "compact-free")) arguments.options.compact_free
-    × AsksFor 0 (found (codes "status-seconds")) arguments.options.status_seconds
+    × AsksFor STATUS_SECONDS_DEFAULT (found (codes "status-seconds")) arguments.options.status_seconds
 
 -- the port that a text asks for; nothing, if it is no address on loopback
 abbrev pub asked_port : Option Text → Option ℕ

@@ -115,6 +115,11 @@ abbrev pub Loads : {T : Type 0} → Result T Stop → Option (List ℕ) → Opti
 Loads (Ok done) old new = (found : ℕ × ℕ × ℕ) × Appends old new (loaded_text found)
 Loads (Err cause) old new = (cause ≡ stop.Write) ⊎ Appends old new []
 
+-- the status was printed, or nothing, unless its line could not be written
+abbrev pub TellsStatus : {T : Type 0} → Status → Result T Stop → Option (List ℕ) → Option (List ℕ) → Type 0
+TellsStatus s (Ok done) old new = Appends old new (status_text s) ⊎ Appends old new []
+TellsStatus s (Err cause) old new = cause ≡ stop.Write
+
 -- statuses were printed, unless a line could not be written
 abbrev pub TellsStatuses : {T : Type 0} → Result T Stop → Option (List ℕ) → Option (List ℕ) → Type 0
 TellsStatuses (Ok done) old new = (said : List ℕ) × AreStatuses said × Appends old new said

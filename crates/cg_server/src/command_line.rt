@@ -33,6 +33,9 @@ pub const COMPACT_FREE_MAX: u64 = SEGMENTS_MAX - 1;
 /// Greatest number of connections to serve.
 pub const CONNECTIONS_MAX: u64 = 4_294_967_295;
 
+/// Seconds between two statuses without `--status-seconds`: none is printed.
+pub const STATUS_SECONDS_DEFAULT: u64 = 0;
+
 /// Greatest number of seconds between two statuses: a day.
 pub const STATUS_SECONDS_MAX: u64 = 86_400;
 
@@ -299,14 +302,14 @@ fn place_in<'a>(matches: &ArgMatches<'a>) -> LogPlace<'a> {
 fn options_in(matches: &ArgMatches<'_>) -> Options
     ensures tick { AsksFor TICK_MS_DEFAULT (one_text (found_of matches.now) (codes "tick-ms")) result.tick_ms }
     ensures free { AsksFor COMPACT_FREE_DEFAULT (one_text (found_of matches.now) (codes "compact-free")) result.compact_free }
-    ensures status { AsksFor 0 (one_text (found_of matches.now) (codes "status-seconds")) result.status_seconds }
+    ensures status { AsksFor STATUS_SECONDS_DEFAULT (one_text (found_of matches.now) (codes "status-seconds")) result.status_seconds }
 {
     Options {
         tick_ms: number_in(matches, "tick-ms", TICK_MS_DEFAULT),
         compact_free: number_in(matches, "compact-free", COMPACT_FREE_DEFAULT),
         connections: matches.get_one::<u32>("connections"),
         exit_on_fault: matches.get_flag("exit-on-fault"),
-        status_seconds: number_in(matches, "status-seconds", 0),
+        status_seconds: number_in(matches, "status-seconds", STATUS_SECONDS_DEFAULT),
     }
 }
 

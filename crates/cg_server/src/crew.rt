@@ -29,37 +29,35 @@ pub fn run_crew<
     })
 }
 
-// Starts the flusher in the scope. Returns whether there was a thread for it.
-fn start_flusher<
+/// What a thread beside the workers does until the server is over.
+#[derive(Clone, Copy)]
+enum Task {
+    Flush,
+    Tick,
+    Compact,
+}
+
+fn run_task<D: SectorDisk + Drop, L: Ledger, R: Wait + Clock + Eprint>(
+    rt: &R,
+    server: &Server<'_, D, L>,
+    task: Task,
+) {
+    match task {
+        Task::Flush => flush_until_over(rt, server),
+        Task::Tick => tick_until_over(rt, server),
+        Task::Compact => compact_until_over(rt, server),
+    }
+}
+
+// Starts a task in the scope. Returns whether there was a thread for it.
+fn start_task<
     's,
     'e: 's,
     D: SectorDisk + Drop + Send,
     L: Ledger + Send,
     R: Threads + Wait + Clock + RandomSource + Eprint + Sync,
->(rt: &'e R, server: &'e Server<'e, D, L>, scope: &'s Scope<'s, &'e ()>) -> bool {
-    scope.spawn(move || flush_until_over(rt, server)).is_ok()
-}
-
-// Starts the ticker in the scope. Returns whether there was a thread for it.
-fn start_ticker<
-    's,
-    'e: 's,
-    D: SectorDisk + Drop + Send,
-    L: Ledger + Send,
-    R: Threads + Wait + Clock + RandomSource + Sync,
->(rt: &'e R, server: &'e Server<'e, D, L>, scope: &'s Scope<'s, &'e ()>) -> bool {
-    scope.spawn(move || tick_until_over(rt, server)).is_ok()
-}
-
-// Starts the compactor in the scope. Returns whether there was a thread for it.
-fn start_compactor<
-    's,
-    'e: 's,
-    D: SectorDisk + Drop + Send,
-    L: Ledger + Send,
-    R: Threads + Wait + Clock + RandomSource + Eprint + Sync,
->(rt: &'e R, server: &'e Server<'e, D, L>, scope: &'s Scope<'s, &'e ()>) -> bool {
-    scope.spawn(move || compact_until_over(rt, server)).is_ok()
+>(rt: &'e R, server: &'e Server<'e, D, L>, scope: &'s Scope<'s, &'e ()>, task: Task) -> bool {
+    scope.spawn(move || run_task(rt, server, task)).is_ok()
 }
 
 // Starts the worker of an inbox in the scope. Returns whether there was a thread for it.
@@ -125,7 +123,7 @@ fn serve_connections<
     })
 }
 
-// Starts the ticker and the compactor in the scope, serves connections, and ends both at the end.
+// Starts the flusher, the ticker and the compactor in the scope, serves connections, and ends the three at the end.
 fn run_in<
     's,
     'e: 's,
@@ -138,9 +136,9 @@ fn run_in<
     scope: &'s Scope<'s, &'e ()>,
     listener: &TcpListener,
 ) -> Result<(), Stop> {
-    let started = start_flusher(rt, server, scope)
-        && start_ticker(rt, server, scope)
-        && start_compactor(rt, server, scope);
+    let started = start_task(rt, server, scope, Task::Flush)
+        && start_task(rt, server, scope, Task::Tick)
+        && start_task(rt, server, scope, Task::Compact);
     let served = if started {
         serve_connections(rt, server, listener)
     } else {

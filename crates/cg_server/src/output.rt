@@ -2,7 +2,7 @@
 ghost use Rattle.std.specs.Prelude.{◌≡◌, IfErr, IfOk, OnOk, string_bytes};
 ghost use Rattle.std.specs.Io.KnownBytes.{Appends};
 ghost use Rattle.std.specs.Net.Text.{socket_text};
-ghost use Rattle.cg_server.specs.Ending.{Prints, TellsStatuses, closed_text, done_text, groups_text, listening_text, loaded_text, requests_text, room_text, status_text, stop_text, version_text};
+ghost use Rattle.cg_server.specs.Ending.{Prints, TellsStatus, closed_text, done_text, groups_text, listening_text, loaded_text, requests_text, room_text, status_text, stop_text, version_text};
 
 use crate::status::Status;
 use crate::stop::Stop;
@@ -100,7 +100,7 @@ fn status_line(alloc: Global, status: &Status) -> Result<String, AllocError>
 
 /// Prints a status, unless there is no memory for its line.
 pub fn print_status<W: Write>(alloc: Global, writer: &mut W, status: &Status) -> Result<(), Stop>
-    ensures { TellsStatuses result (W.contents writer.old) (W.contents writer.new) }
+    ensures { TellsStatus status.now result (W.contents writer.old) (W.contents writer.new) }
 {
     let Ok(line) = status_line(alloc, status) else {
         return Ok(());

@@ -1,6 +1,7 @@
 -- The stage of a script, as clauses see it: its disk, and the pokes that wait.
-use Rattle.std.specs.Prelude.{Bool, true, false, not, ◌&&◌, List, []}
+use Rattle.std.specs.Prelude.{ℕ, Bool, true, false, not, ◌&&◌, List, []}
 use Rattle.cg_disk.specs.Injected.{below_both}
+use Rattle.cg_disk.specs.Mem.{mem_size}
 use Rattle.cg_disk.specs.declared.mem.MemDisk.{MemDisk}
 use Rattle.cg_sim.specs.Disk.{ScriptDisk}
 use Rattle.cg_sim.specs.LoadedDisk.{loaded_disk}
@@ -51,6 +52,10 @@ injected_disk (stage.Poked poked) = poked_disk poked
 
 abbrev pub stage_disk : Stage → MemDisk
 stage_disk s = below_both (injected_disk s)
+
+-- the sectors of the disk
+abbrev pub size_of : Stage → ℕ
+size_of s = mem_size (stage_disk s)
 
 -- the pokes that wait
 abbrev pub stage_pokes : Stage → List Poke

@@ -1,12 +1,14 @@
 //! The whole program, from the words of its command line to its exit status.
-ghost use Rattle.std.specs.Prelude.{◌≡◌, ◌≢◌, ◌⊎◌, map, []};
+ghost use Rattle.std.specs.Prelude.{◌≡◌, ◌≢◌, map, []};
 ghost use Rattle.clap.specs.Words.{kind_of};
-ghost use Rattle.cg_sim.specs.CommandLine.{RefusedForMemory, faults_of};
+ghost use Rattle.cg_sim.specs.CommandLine.{IsRefused, RefusesWords, ShowsVersion, faults_of};
 ghost use Rattle.cg_sim.specs.Ending.{Ends};
 
 use crate::advice::Problem;
 use crate::command_line;
-use crate::script::{self, STATUS_USAGE};
+use crate::script::{self, STATUS_DONE, STATUS_IO, STATUS_USAGE};
+use crate::stop::Stop;
+use crate::version::VERSION;
 use clap::Error;
 use clap::error::ErrorKind;
 use std::alloc::Global;
@@ -24,12 +26,11 @@ pub fn command<E: Alloc<A = Global>, S: AsStr, R: BufRead, W: Write, F: Write>(
     faults: &mut F,
 ) -> u8
     ensures serves { faults_of (map S.text words.now) ≡ [] → Ends result (W.contents writer.old) (W.contents writer.new) }
-    ensures refuses { faults_of (map S.text words.now) ≢ [] → ((result ≡ STATUS_USAGE) × (W.contents writer.new ≡ W.contents writer.old))
-        ⊎ RefusedForMemory result (W.contents writer.old) (W.contents writer.new) }
+    ensures refuses { faults_of (map S.text words.now) ≢ [] → IsRefused (faults_of (map S.text words.now)) result (W.contents writer.old) (W.contents writer.new) }
 {
     match command_line::segments(rt.alloc(), words) {
         Ok(segments) => run(rt.alloc(), segments, reader, writer, faults),
-        Err(error) => refuse_words(&error, writer, faults),
+        Err(error) => refuse_words(rt.alloc(), &error, writer, faults),
     }
 }
 
@@ -43,9 +44,8 @@ fn run<R: BufRead, W: Write, F: Write>(
 ) -> u8
     ensures { Ends result (W.contents writer.old) (W.contents writer.new) }
 {
-    let mut problem = None;
-    let status = script::explained_script(alloc, reader, writer, segments, &mut problem);
-    if let Some((number, problem)) = problem {
+    let (status, played) = script::play(alloc, reader, writer, segments);
+    if let Some((number, problem)) = played.problem {
         explain(faults, number, problem);
     }
     status
@@ -56,13 +56,31 @@ fn explain<F: Write>(faults: &mut F, number: u64, problem: Problem) {
     let _unwritten = write!(faults, "cg_sim: line {number}: {problem}\n");
 }
 
-// Prints the text of `clap` for words that it refused, unless it ran out of memory.
-fn refuse_words<W: Write, F: Write>(error: &Error, writer: &mut W, faults: &mut F) -> u8
-    ensures { ((kind_of error.now ≡ ErrorKind.OutOfMemory) × RefusedForMemory result (W.contents writer.old) (W.contents writer.new))
-        ⊎ ((kind_of error.now ≢ ErrorKind.OutOfMemory) × (result ≡ STATUS_USAGE) × (W.contents writer.new ≡ W.contents writer.old)) }
+// Prints the version, and returns the exit status.
+fn show_version<W: Write>(alloc: Global, writer: &mut W) -> u8
+    ensures { ShowsVersion result (W.contents writer.old) (W.contents writer.new) }
+{
+    let Ok(line) = format!(in alloc; "cg_sim {VERSION}\n") else {
+        return script::end_early(writer, Stop::Memory);
+    };
+    if writer.write_all(line.as_bytes()).is_err() || writer.flush().is_err() {
+        return STATUS_IO;
+    }
+    STATUS_DONE
+}
+
+// Prints the version if it was asked for, and otherwise the text of `clap` for words that it refused, unless memory ran out.
+fn refuse_words<W: Write, F: Write>(
+    alloc: Global,
+    error: &Error,
+    writer: &mut W,
+    faults: &mut F,
+) -> u8
+    ensures { RefusesWords (kind_of error.now) result (W.contents writer.old) (W.contents writer.new) }
 {
     match error.kind() {
-        ErrorKind::OutOfMemory => script::refuse_script(writer),
+        ErrorKind::OutOfMemory => script::end_early(writer, Stop::Memory),
+        ErrorKind::DisplayVersion => show_version(alloc, writer),
         _ => {
             let _unwritten = write!(faults, "{error}");
             STATUS_USAGE

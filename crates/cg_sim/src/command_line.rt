@@ -3,6 +3,7 @@ ghost use Rattle.std.specs.Prelude.{◌≡◌, false, map, codes, IfOk};
 ghost use Rattle.clap.specs.Words.{FailsBy, app_of, found_of, one_text, rule_of};
 ghost use Rattle.cg_sim.specs.CommandLine.{AsksFor, WordsAskFor, faults_of, segments_rule, sim_app};
 
+use crate::version::VERSION;
 use cg_gate::SEGMENTS_MAX;
 use clap::{Arg, ArgMatches, Command, Error, value_parser};
 use std::alloc::{AllocError, Global};
@@ -25,7 +26,7 @@ Script lines (blank lines and lines that begin with # are skipped):
                               one step of it, or its end
   fuse K                      the disk passes K more calls, then fails each
   once K                      the disk passes K more calls, then fails one; a write that
-                              it fails has reached the disk all the same
+                              it fails leaves the byte 01 everywhere in its range
   poke S xBYTES               sector S holds these bytes, then zeros; on a loaded
                               disk only pokes may follow before stop, reload or close
   stop keep, stop lose        power loss; unsynced writes are kept or lost
@@ -33,8 +34,8 @@ Script lines (blank lines and lines that begin with # are skipped):
   reload                      stop keep, then load
   close                       refuse every pending request, then stop keep
 
-Exit status: 0 the script ended, 1 a bad line, 2 usage, 3 a failed read or write,
-4 out of memory, or the disk failed in a format or a poke.";
+Exit status: 0 the script ended, or the version was printed; 1 a bad line; 2 usage;
+3 a failed read or write; 4 out of memory, or the disk failed in a format or a poke.";
 
 fn segments_arg<'a>(alloc: Global) -> Arg<'a>
     ensures rule { rule_of result ≡ segments_rule }
@@ -53,6 +54,7 @@ fn command<'a>(alloc: Global) -> Result<Command<'a>, AllocError>
     let command = Command::new(alloc, "cg_sim")
         .no_binary_name(true)
         .about("Runs a script of requests and steps, read from standard input, on a disk in memory")
+        .version(VERSION)
         .after_help(SCRIPT_HELP)
         .arg(segments_arg(alloc))?;
     Ok(command)
@@ -68,7 +70,8 @@ fn segments_in(matches: &ArgMatches<'_>) -> u64
     }
 }
 
-/// Returns the number of segments that these words ask for, without the program's name.
+/// Returns the number of segments that these words ask for, without the program's name. Refuses words that `clap` does not take,
+/// a call for help or for the version among them.
 pub fn segments<S: AsStr>(alloc: Global, words: &[S]) -> Result<u64, Error>
     ensures value { IfOk result (WordsAskFor (map S.text words.now)) }
     ensures fails { FailsBy (faults_of (map S.text words.now)) result }

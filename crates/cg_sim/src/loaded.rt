@@ -43,7 +43,8 @@ impl Loaded {
 
     // Takes the steps, and prints their trace.
     fn run(self, alloc: Global, steps: Vec<Step>, out: &mut Vec<u8>) -> (Self, Result<(), Stop>)
-        ensures { IfErr result.1 (λ stop. stop ≡ Stop.Memory) }
+        ensures err { IfErr result.1 (λ stop. stop ≡ Stop.Memory) }
+        ensures same_size { sectors_of (loaded_disk result.0) ≡ sectors_of (loaded_disk self) }
     {
         let Loaded { world, sectors } = self;
         let (world, trace) = cg_world::run(alloc, world, steps);
@@ -52,7 +53,8 @@ impl Loaded {
 
     /// Takes a step that is not a request, and prints its trace.
     pub fn take_step(self, alloc: Global, step: Step, out: &mut Vec<u8>) -> (Self, Result<(), Stop>)
-        ensures { IfErr result.1 (λ stop. stop ≡ Stop.Memory) }
+        ensures err { IfErr result.1 (λ stop. stop ≡ Stop.Memory) }
+        ensures same_size { sectors_of (loaded_disk result.0) ≡ sectors_of (loaded_disk self) }
     {
         match vec![in alloc; step] {
             Ok(steps) => self.run(alloc, steps, out),
@@ -63,7 +65,8 @@ impl Loaded {
     /// Takes a batch, appends it and settles it, and prints the trace of the three steps. A refused step does not stop
     /// the next one.
     pub fn flush(self, alloc: Global, out: &mut Vec<u8>) -> (Self, Result<(), Stop>)
-        ensures { IfErr result.1 (λ stop. stop ≡ Stop.Memory) }
+        ensures err { IfErr result.1 (λ stop. stop ≡ Stop.Memory) }
+        ensures same_size { sectors_of (loaded_disk result.0) ≡ sectors_of (loaded_disk self) }
     {
         let Ok(steps) = vec![in alloc; Step::Take, Step::Append, Step::Settle] else {
             return (self, Err(Stop::Memory));
@@ -78,7 +81,8 @@ impl Loaded {
         compaction: Compaction,
         out: &mut Vec<u8>,
     ) -> (Self, Result<(), Stop>)
-        ensures { IfErr result.1 (λ stop. stop ≡ Stop.Memory) }
+        ensures err { IfErr result.1 (λ stop. stop ≡ Stop.Memory) }
+        ensures same_size { sectors_of (loaded_disk result.0) ≡ sectors_of (loaded_disk self) }
     {
         match compaction {
             Compaction::Whole => self.compact_whole(alloc, out),
@@ -94,7 +98,8 @@ impl Loaded {
         step: CompactStep,
         out: &mut Vec<u8>,
     ) -> (Self, Result<Option<StepNote>, Stop>)
-        ensures { IfErr result.1 (λ stop. stop ≡ Stop.Memory) }
+        ensures err { IfErr result.1 (λ stop. stop ≡ Stop.Memory) }
+        ensures same_size { sectors_of (loaded_disk result.0) ≡ sectors_of (loaded_disk self) }
     {
         let Ok(steps) = vec![in alloc; step.step()] else {
             return (self, Err(Stop::Memory));
@@ -116,7 +121,8 @@ impl Loaded {
         step: CompactStep,
         out: &mut Vec<u8>,
     ) -> (Self, Result<bool, Stop>)
-        ensures { IfErr result.1 (λ stop. stop ≡ Stop.Memory) }
+        ensures err { IfErr result.1 (λ stop. stop ≡ Stop.Memory) }
+        ensures same_size { sectors_of (loaded_disk result.0) ≡ sectors_of (loaded_disk self) }
     {
         let mut loaded = self;
         for _ in 0..u64::MAX {
@@ -133,7 +139,8 @@ impl Loaded {
 
     // Takes the steps of a compaction up to the first that is refused.
     fn compact_whole(self, alloc: Global, out: &mut Vec<u8>) -> (Self, Result<(), Stop>)
-        ensures { IfErr result.1 (λ stop. stop ≡ Stop.Memory) }
+        ensures err { IfErr result.1 (λ stop. stop ≡ Stop.Memory) }
+        ensures same_size { sectors_of (loaded_disk result.0) ≡ sectors_of (loaded_disk self) }
     {
         let mut loaded = self;
         for step in CompactStep::ALL {
@@ -150,7 +157,8 @@ impl Loaded {
 
     // Gives the compaction up, or prints why that was refused.
     fn abort_compaction(mut self, out: &mut Vec<u8>) -> (Self, Result<(), Stop>)
-        ensures { IfErr result.1 (λ stop. stop ≡ Stop.Memory) }
+        ensures err { IfErr result.1 (λ stop. stop ≡ Stop.Memory) }
+        ensures same_size { sectors_of (loaded_disk result.0) ≡ sectors_of (loaded_disk self) }
     {
         let aborted = self.world.compact_abort();
         (self, telling::put_abort(aborted, out))
@@ -158,7 +166,8 @@ impl Loaded {
 
     /// Serves a request, or refuses it if an allocation fails.
     pub fn ask(self, alloc: Global, call: Call, out: &mut Vec<u8>) -> (Self, Result<(), Stop>)
-        ensures { IfErr result.1 (λ stop. stop ≡ Stop.Memory) }
+        ensures err { IfErr result.1 (λ stop. stop ≡ Stop.Memory) }
+        ensures same_size { sectors_of (loaded_disk result.0) ≡ sectors_of (loaded_disk self) }
     {
         let Call {
             ticket,

@@ -22,6 +22,7 @@ mod stop;
 mod telling;
 mod text;
 mod unloaded;
+mod version;
 
 pub use command::command;
 pub use command_line::SEGMENTS_DEFAULT;
@@ -29,6 +30,7 @@ pub use script::{STATUS_BAD_LINE, STATUS_DONE, STATUS_IO, STATUS_SHORT, STATUS_U
 use std::env;
 use std::io::{self, BufReader, ErrorKind, Write};
 use std::process::ExitCode;
+use stop::Stop;
 
 fn main(rt: HostRuntime) -> ExitCode {
     let mut writer = io::writer(&rt);
@@ -39,7 +41,7 @@ fn main(rt: HostRuntime) -> ExitCode {
         Err(error) => return ExitCode::from(refuse_encoding(&error, &mut writer, &mut faults)),
     };
     let Ok(mut reader) = BufReader::new(rt.alloc(), rt.reader()) else {
-        return ExitCode::from(script::refuse_script(&mut writer));
+        return ExitCode::from(script::end_early(&mut writer, Stop::Memory));
     };
     let words = after_name(words.as_slice());
     ExitCode::from(command(&rt, words, &mut reader, &mut writer, &mut faults))
@@ -61,7 +63,7 @@ fn after_name(words: &[String]) -> &[String] {
 // Reports why the words could not be copied: one is not text, or an allocation failed.
 fn refuse_encoding<W: Write, F: Write>(error: &io::Error, writer: &mut W, faults: &mut F) -> u8 {
     match error.kind() {
-        ErrorKind::OutOfMemory => script::refuse_script(writer),
+        ErrorKind::OutOfMemory => script::end_early(writer, Stop::Memory),
         _ => {
             let _unwritten = faults.write_all(b"error: a word on the command line is not UTF-8\n");
             STATUS_USAGE

@@ -1,9 +1,8 @@
 //! The effect of each script line.
 ghost use Rattle.std.specs.Prelude.{◌≡◌, ◌⊎◌, ◌<◌, ◌≤◌, ℕ, List, Ok, Err, None, Some, IfErr, IsTrue};
-ghost use Rattle.cg_disk.specs.Mem.{mem_size};
 ghost use Rattle.cg_sim.specs.Ending.{IsCause};
 ghost use Rattle.cg_sim.specs.Line.{line_of};
-ghost use Rattle.cg_sim.specs.Stages.{is_refused, stage_disk};
+ghost use Rattle.cg_sim.specs.Stages.{is_refused, size_of};
 ghost use Rattle.cg_sim.specs.declared.line.Line.{Line};
 ghost use Rattle.cg_sim.specs.declared.line.Line.TheVariants as form;
 
@@ -50,8 +49,9 @@ impl Player {
     ) -> (Stage, Result<(), Stop>)
         ensures err { IfErr result.1 (λ stop. IsCause number stop) }
         ensures order { (line : Line) → line_of text.now ≡ Some line → IsTrue (is_refused stage line) → result.1 ≡ Err (Stop.BadLine number) }
-        ensures range { (sector : ℕ) (word : List ℕ) → line_of text.now ≡ Some (form.Poke sector word) → mem_size (stage_disk stage) ≤ sector → result.1 ≡ Err (Stop.BadLine number) }
+        ensures range { (sector : ℕ) (word : List ℕ) → line_of text.now ≡ Some (form.Poke sector word) → size_of stage ≤ sector → result.1 ≡ Err (Stop.BadLine number) }
         ensures bad { line_of text.now ≡ None → result.1 ≡ Err (Stop.BadLine number) }
+        ensures same_size { size_of result.0 ≡ size_of stage }
     {
         match Line::read(text) {
             Some(line) => self.play_line(stage, number, &line, out),
@@ -68,7 +68,8 @@ impl Player {
     ) -> (Stage, Result<(), Stop>)
         ensures err { IfErr result.1 (λ stop. IsCause number stop) }
         ensures order { IsTrue (is_refused stage line.now) → result.1 ≡ Err (Stop.BadLine number) }
-        ensures range { (sector : ℕ) (word : List ℕ) → line.now ≡ form.Poke sector word → mem_size (stage_disk stage) ≤ sector → result.1 ≡ Err (Stop.BadLine number) }
+        ensures range { (sector : ℕ) (word : List ℕ) → line.now ≡ form.Poke sector word → size_of stage ≤ sector → result.1 ≡ Err (Stop.BadLine number) }
+        ensures same_size { size_of result.0 ≡ size_of stage }
     {
         if stage.refuses(line) {
             return (stage, Err(Stop::BadLine(number)));
@@ -85,7 +86,8 @@ impl Player {
         out: &mut Vec<u8>,
     ) -> (Stage, Result<(), Stop>)
         ensures err { IfErr result.1 (λ stop. IsCause number stop) }
-        ensures range { (sector : ℕ) (word : List ℕ) → line.now ≡ form.Poke sector word → mem_size (stage_disk stage) ≤ sector → result.1 ≡ Err (Stop.BadLine number) }
+        ensures range { (sector : ℕ) (word : List ℕ) → line.now ≡ form.Poke sector word → size_of stage ≤ sector → result.1 ≡ Err (Stop.BadLine number) }
+        ensures same_size { size_of result.0 ≡ size_of stage }
     {
         match line {
             Line::Skipped => (stage, Ok(())),
@@ -119,14 +121,16 @@ impl Player {
     }
 
     fn wait(&mut self, stage: Stage, now: Moment) -> (Stage, Result<(), Stop>)
-        ensures { result.1 ≡ Ok tt }
+        ensures ok { result.1 ≡ Ok tt }
+        ensures same_size { size_of result.0 ≡ size_of stage }
     {
         self.now = now;
         (stage, Ok(()))
     }
 
     fn tick(&mut self, stage: Stage, now: Moment, out: &mut Vec<u8>) -> (Stage, Result<(), Stop>)
-        ensures { IfErr result.1 (λ stop. stop ≡ Stop.Memory) }
+        ensures err { IfErr result.1 (λ stop. stop ≡ Stop.Memory) }
+        ensures same_size { size_of result.0 ≡ size_of stage }
     {
         self.now = now;
         stage.take_step(self.alloc, Step::Tick(now), out)
@@ -140,8 +144,9 @@ impl Player {
         sector: u64,
         text: &SectorText<'_>,
     ) -> (Stage, Result<(), Stop>)
-        ensures range { mem_size (stage_disk stage) ≤ sector → result.1 ≡ Err (Stop.BadLine number) }
-        ensures err { sector < mem_size (stage_disk stage) → IfErr result.1 (λ stop. (stop ≡ Stop.Memory) ⊎ (stop ≡ Stop.Device)) }
+        ensures range { size_of stage ≤ sector → result.1 ≡ Err (Stop.BadLine number) }
+        ensures same_size { size_of result.0 ≡ size_of stage }
+        ensures err { sector < size_of stage → IfErr result.1 (λ stop. (stop ≡ Stop.Memory) ⊎ (stop ≡ Stop.Device)) }
     {
         if sector >= stage.sectors() {
             return (stage, Err(Stop::BadLine(number)));
@@ -153,7 +158,8 @@ impl Player {
     }
 
     fn stop(&self, stage: Stage, crash: Crash) -> (Stage, Result<(), Stop>)
-        ensures { IfErr result.1 (λ stop. stop ≡ Stop.Device) }
+        ensures err { IfErr result.1 (λ stop. stop ≡ Stop.Device) }
+        ensures same_size { size_of result.0 ≡ size_of stage }
     {
         let (unloaded, put) = stage.stop(self.alloc, crash);
         (Stage::Unloaded(unloaded), put)
@@ -161,7 +167,8 @@ impl Player {
 
     // Stops and loads again, unless the disk fails in a poke.
     fn reload(&self, stage: Stage, out: &mut Vec<u8>) -> (Stage, Result<(), Stop>)
-        ensures { IfErr result.1 (λ stop. (stop ≡ Stop.Memory) ⊎ (stop ≡ Stop.Device)) }
+        ensures err { IfErr result.1 (λ stop. (stop ≡ Stop.Memory) ⊎ (stop ≡ Stop.Device)) }
+        ensures same_size { size_of result.0 ≡ size_of stage }
     {
         let (unloaded, put) = stage.stop(self.alloc, Crash::Keep);
         match put {
@@ -172,7 +179,8 @@ impl Player {
 
     // Loads, unless something is loaded.
     fn load(&self, stage: Stage, number: u64, out: &mut Vec<u8>) -> (Stage, Result<(), Stop>)
-        ensures { IfErr result.1 (λ stop. (stop ≡ Stop.Memory) ⊎ (stop ≡ Stop.BadLine number)) }
+        ensures err { IfErr result.1 (λ stop. (stop ≡ Stop.Memory) ⊎ (stop ≡ Stop.BadLine number)) }
+        ensures same_size { size_of result.0 ≡ size_of stage }
     {
         match stage {
             Stage::Unloaded(unloaded) => unloaded.load(self.alloc, self.now, out),
@@ -196,7 +204,8 @@ impl Player {
         text: &[u8],
         out: &mut Vec<u8>,
     ) -> (Stage, Result<(), Stop>)
-        ensures { IfErr result.1 (λ stop. (stop ≡ Stop.Memory) ⊎ (stop ≡ Stop.BadLine ticket.number)) }
+        ensures err { IfErr result.1 (λ stop. (stop ≡ Stop.Memory) ⊎ (stop ≡ Stop.BadLine ticket.number)) }
+        ensures same_size { size_of result.0 ≡ size_of stage }
     {
         let fresh = self.fresh(text);
         match cg_line::parse(self.alloc, text) {

@@ -42,6 +42,17 @@ impl PokedDisk {
         }
     }
 
+    /// Returns the disk, without the pokes.
+    pub fn into_disk(self) -> MemDisk
+        ensures { result ≡ taken_disk self }
+    {
+        let PokedDisk {
+            disk,
+            pokes: _pokes,
+        } = self;
+        disk
+    }
+
     /// Crashes the disk, and then puts the pokes down.
     pub fn crash(self, kind: Crash) -> (MemDisk, Result<(), Stop>)
         ensures size { mem_size result.0 ≡ mem_size (taken_disk self) }

@@ -1,10 +1,10 @@
 //! Running a script, line by line, until its end, a bad line or a fault.
-ghost use Rattle.std.specs.Prelude.{◌≡◌, ◌⊎◌, ℕ, Ok, Err, Some, [], IfOk, IfErr, IfSome, OnOk, List};
+ghost use Rattle.std.specs.Prelude.{◌≡◌, ◌⊎◌, ℕ, Ok, Err, Some, true, [], IfOk, IfErr, IfSome, OnOk, List, is_some, option_map};
 ghost use Rattle.std.specs.Io.KnownBytes.{Appends};
 ghost use Rattle.cg_disk.specs.Mem.{mem_size};
-ghost use Rattle.cg_sim.specs.CommandLine.{RefusedForMemory};
 ghost use Rattle.cg_sim.specs.Disk.{disk_sectors};
-ghost use Rattle.cg_sim.specs.Ending.{Ends, status_of};
+ghost use Rattle.cg_sim.specs.Ending.{Ends, EndsEarly, status_of};
+ghost use Rattle.cg_sim.specs.Stages.{size_of};
 ghost use Rattle.cg_sim.specs.Telling.{bad_line, stop_text};
 
 use crate::advice::{Problem, problem_of};
@@ -102,6 +102,17 @@ fn problem_on(stage: &Stage, line: &[u8]) -> Problem {
     }
 }
 
+/// What a script left.
+#[derive(Drop)]
+pub struct Played {
+    /// Why it ended early.
+    pub ended: Result<(), Stop>,
+    /// The number of a bad line, and what is wrong with it.
+    pub problem: Option<(u64, Problem)>,
+    /// Its disk, without fault injections and without the pokes that wait. None if it was not made or not formatted.
+    pub disk: Option<MemDisk>,
+}
+
 // Plays the remaining lines, after what was printed so far.
 fn serve_lines<R: BufRead, W: Write>(
     alloc: Global,
@@ -114,6 +125,7 @@ fn serve_lines<R: BufRead, W: Write>(
 ) -> (Stage, Result<(), Stop>)
     ensures written { (result.1 ≡ Err Stop.Io) ⊎ ((said : List ℕ) × Appends (W.contents writer.old) (W.contents writer.new) said) }
     ensures end { (input : List ℕ) → R.remaining reader.old ≡ Some input → result.1 ≡ Ok tt → R.remaining reader.new ≡ Some [] }
+    ensures same_size { size_of result.0 ≡ size_of stage }
 {
     let mut player = Player::new(alloc);
     let mut line = Vec::new(alloc);
@@ -133,22 +145,43 @@ fn serve_lines<R: BufRead, W: Write>(
     (stage, Err(Stop::Io))
 }
 
-fn run<R: BufRead, W: Write>(
+// Plays a script on a disk.
+fn play_on<R: BufRead, W: Write>(
     alloc: Global,
+    disk: MemDisk,
     reader: &mut R,
     writer: &mut W,
-    segments: u64,
-    problem: &mut Option<(u64, Problem)>,
-) -> Result<(), Stop>
-    ensures written { (result ≡ Err Stop.Io) ⊎ ((said : List ℕ) × Appends (W.contents writer.old) (W.contents writer.new) said) }
-    ensures end { (input : List ℕ) → R.remaining reader.old ≡ Some input → result ≡ Ok tt → R.remaining reader.new ≡ Some [] }
+) -> Played
+    ensures written { (result.ended ≡ Err Stop.Io) ⊎ ((said : List ℕ) × Appends (W.contents writer.old) (W.contents writer.new) said) }
+    ensures end { (input : List ℕ) → R.remaining reader.old ≡ Some input → result.ended ≡ Ok tt → R.remaining reader.new ≡ Some [] }
+    ensures disk { option_map mem_size result.disk ≡ Some (mem_size disk) }
 {
-    let mut out = Vec::new(alloc);
-    let unloaded = Unloaded::new(alloc, formatted(alloc, segments)?);
+    let (mut out, mut problem) = (Vec::new(alloc), None);
+    let unloaded = Unloaded::new(alloc, disk);
     let (stage, loaded) = unloaded.load(alloc, Moment::from_millis(0), &mut out);
-    let (stage, ended) = serve_lines(alloc, stage, loaded, &mut out, reader, writer, problem);
-    let _ = stage.end(alloc);
-    ended
+    let (stage, ended) = serve_lines(alloc, stage, loaded, &mut out, reader, writer, &mut problem);
+    let (_refused, disk) = stage.end(alloc);
+    Played {
+        ended,
+        problem,
+        disk: Some(disk.into_disk()),
+    }
+}
+
+fn run<R: BufRead, W: Write>(alloc: Global, reader: &mut R, writer: &mut W, segments: u64) -> Played
+    ensures written { (result.ended ≡ Err Stop.Io) ⊎ ((said : List ℕ) × Appends (W.contents writer.old) (W.contents writer.new) said) }
+    ensures end { (input : List ℕ) → R.remaining reader.old ≡ Some input → result.ended ≡ Ok tt → R.remaining reader.new ≡ Some [] }
+    ensures size { IfSome result.disk (λ disk. mem_size disk ≡ disk_sectors segments) }
+    ensures disk { result.ended ≡ Ok tt → is_some result.disk ≡ true }
+{
+    match formatted(alloc, segments) {
+        Ok(disk) => play_on(alloc, disk, reader, writer),
+        Err(stop) => Played {
+            ended: Err(stop),
+            problem: None,
+            disk: None,
+        },
+    }
 }
 
 fn tell_bad_line<W: Write>(writer: &mut W, number: u64) -> io::Result<()>
@@ -184,19 +217,38 @@ fn status_of(stop: Stop) -> u8
     }
 }
 
-/// Reports out of memory before a script began, and returns the exit status.
-pub fn refuse_script<W: Write>(writer: &mut W) -> u8
-    ensures { RefusedForMemory result (W.contents writer.old) (W.contents writer.new) }
+/// Prints why a script ends early, and returns the exit status.
+pub fn end_early<W: Write>(writer: &mut W, stop: Stop) -> u8
+    ensures { EndsEarly stop result (W.contents writer.old) (W.contents writer.new) }
 {
-    match tell_stop(writer, Stop::Memory) {
-        Ok(()) => STATUS_SHORT,
+    match tell_stop(writer, stop) {
+        Ok(()) => status_of(stop),
         Err(_) => STATUS_IO,
     }
 }
 
-/// Runs a script over a disk in memory with this many segments, and returns the exit status: `STATUS_DONE` at its end,
-/// `STATUS_BAD_LINE` after a line `BAD SCRIPT LINE`, `STATUS_SHORT` after a last line `FAULT`, and `STATUS_IO` if a read or
-/// a write failed.
+/// Runs a script over a disk in memory with this many segments. Returns the exit status, and what the script left. The status is
+/// `STATUS_DONE` at its end, `STATUS_BAD_LINE` after a line `BAD SCRIPT LINE`, `STATUS_SHORT` after a last line `FAULT`, and
+/// `STATUS_IO` if a read or a write failed.
+pub fn play<R: BufRead, W: Write>(
+    alloc: Global,
+    reader: &mut R,
+    writer: &mut W,
+    segments: u64,
+) -> (u8, Played)
+    ensures ends { Ends result.0 (W.contents writer.old) (W.contents writer.new) }
+    ensures end { (input : List ℕ) → R.remaining reader.old ≡ Some input → result.0 ≡ STATUS_DONE → R.remaining reader.new ≡ Some [] }
+    ensures size { IfSome result.1.disk (λ disk. mem_size disk ≡ disk_sectors segments) }
+    ensures disk { result.0 ≡ STATUS_DONE → is_some result.1.disk ≡ true }
+{
+    let played = run(alloc, reader, writer, segments);
+    let Err(stop) = played.ended else {
+        return (STATUS_DONE, played);
+    };
+    (end_early(writer, stop), played)
+}
+
+/// Runs a script as `play` does, and returns the exit status.
 pub fn script<R: BufRead, W: Write>(
     alloc: Global,
     reader: &mut R,
@@ -206,26 +258,6 @@ pub fn script<R: BufRead, W: Write>(
     ensures ends { Ends result (W.contents writer.old) (W.contents writer.new) }
     ensures end { (input : List ℕ) → R.remaining reader.old ≡ Some input → result ≡ STATUS_DONE → R.remaining reader.new ≡ Some [] }
 {
-    let mut problem = None;
-    explained_script(alloc, reader, writer, segments, &mut problem)
-}
-
-/// Runs a script as `script` does. Sets `problem` to the number of a bad line and what is wrong with it.
-pub fn explained_script<R: BufRead, W: Write>(
-    alloc: Global,
-    reader: &mut R,
-    writer: &mut W,
-    segments: u64,
-    problem: &mut Option<(u64, Problem)>,
-) -> u8
-    ensures ends { Ends result (W.contents writer.old) (W.contents writer.new) }
-    ensures end { (input : List ℕ) → R.remaining reader.old ≡ Some input → result ≡ STATUS_DONE → R.remaining reader.new ≡ Some [] }
-{
-    let Err(stop) = run(alloc, reader, writer, segments, problem) else {
-        return STATUS_DONE;
-    };
-    match tell_stop(writer, stop) {
-        Ok(()) => status_of(stop),
-        Err(_) => STATUS_IO,
-    }
+    let (status, _played) = play(alloc, reader, writer, segments);
+    status
 }

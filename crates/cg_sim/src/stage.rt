@@ -7,7 +7,7 @@ ghost use Rattle.cg_disk.specs.Injected.{below_both, once_within};
 ghost use Rattle.cg_disk.specs.Mem.{mem_history, mem_size};
 ghost use Rattle.cg_sim.specs.Disk.{IsInjected, moment_of, sectors_of};
 ghost use Rattle.cg_sim.specs.Poking.{IsPoked, sector_of};
-ghost use Rattle.cg_sim.specs.Stages.{injected_disk, is_loaded, is_poked, is_refused, poked_disk, pokes_waiting, stage_disk, stage_pokes, taken_disk, taken_pokes, unloaded_disk};
+ghost use Rattle.cg_sim.specs.Stages.{injected_disk, is_loaded, is_poked, is_refused, poked_disk, pokes_waiting, size_of, stage_disk, stage_pokes, taken_disk, taken_pokes, unloaded_disk};
 
 use crate::call::Call;
 use crate::compaction::Compaction;
@@ -45,7 +45,8 @@ impl Stage {
 
     /// Takes a step that is not a request, if something is loaded and no poke waits, and prints its trace.
     pub fn take_step(self, alloc: Global, step: Step, out: &mut Vec<u8>) -> (Self, Result<(), Stop>)
-        ensures { IfErr result.1 (λ stop. stop ≡ Stop.Memory) }
+        ensures err { IfErr result.1 (λ stop. stop ≡ Stop.Memory) }
+        ensures same_size { size_of result.0 ≡ size_of self }
     {
         match self {
             Stage::Loaded(loaded) => {
@@ -59,7 +60,8 @@ impl Stage {
     /// Takes the steps that make queued commands durable, if something is loaded and no poke waits, and prints their
     /// trace.
     pub fn flush(self, alloc: Global, out: &mut Vec<u8>) -> (Self, Result<(), Stop>)
-        ensures { IfErr result.1 (λ stop. stop ≡ Stop.Memory) }
+        ensures err { IfErr result.1 (λ stop. stop ≡ Stop.Memory) }
+        ensures same_size { size_of result.0 ≡ size_of self }
     {
         match self {
             Stage::Loaded(loaded) => {
@@ -77,7 +79,8 @@ impl Stage {
         compaction: Compaction,
         out: &mut Vec<u8>,
     ) -> (Self, Result<(), Stop>)
-        ensures { IfErr result.1 (λ stop. stop ≡ Stop.Memory) }
+        ensures err { IfErr result.1 (λ stop. stop ≡ Stop.Memory) }
+        ensures same_size { size_of result.0 ≡ size_of self }
     {
         match self {
             Stage::Loaded(loaded) => {
@@ -90,7 +93,8 @@ impl Stage {
 
     /// Serves a request, or refuses it if nothing is loaded or an allocation fails.
     pub fn ask(self, alloc: Global, call: Call, out: &mut Vec<u8>) -> (Self, Result<(), Stop>)
-        ensures { IfErr result.1 (λ stop. stop ≡ Stop.Memory) }
+        ensures err { IfErr result.1 (λ stop. stop ≡ Stop.Memory) }
+        ensures same_size { size_of result.0 ≡ size_of self }
     {
         match self {
             Stage::Unloaded(mut unloaded) => {
@@ -110,6 +114,7 @@ impl Stage {
         ensures set { is_poked self ≡ false →
             IsInjected (Some calls) (once_within (injected_disk self)) (injected_disk self) (injected_disk result) }
         ensures poked { is_poked self ≡ true → result ≡ self }
+        ensures same_size { size_of result ≡ size_of self }
     {
         match self {
             Stage::Unloaded(mut unloaded) => {
@@ -129,6 +134,7 @@ impl Stage {
         ensures set { is_poked self ≡ false →
             IsInjected (fuse_of (injected_disk self)) (Some calls) (injected_disk self) (injected_disk result) }
         ensures poked { is_poked self ≡ true → result ≡ self }
+        ensures same_size { size_of result ≡ size_of self }
     {
         match self {
             Stage::Unloaded(mut unloaded) => {
@@ -149,6 +155,7 @@ impl Stage {
         ensures waits { is_loaded self ≡ true → OnOk result.1 ((stage_pokes result.0 ≡ stage_pokes self ++ poke ∷ []) × (stage_disk result.0 ≡ stage_disk self)) }
         ensures put { is_loaded self ≡ false → OnOk result.1 (IsPoked (poke ∷ []) (moment_of (stage_disk self)).content (moment_of (stage_disk result.0))) }
         ensures err { IfErr result.1 (λ stop. (stop ≡ Stop.Memory) ⊎ (stop ≡ Stop.Device)) }
+        ensures same_size { size_of result.0 ≡ size_of self }
     {
         match self {
             Stage::Unloaded(unloaded) => {
@@ -165,6 +172,7 @@ impl Stage {
         requires { sector_of poke < sectors_of (poked_disk poked) }
         ensures err { IfErr result.1 (λ stop. stop ≡ Stop.Memory) }
         ensures waits { OnOk result.1 ((stage_pokes result.0 ≡ pokes_waiting poked ++ poke ∷ []) × (stage_disk result.0 ≡ below_both (poked_disk poked))) }
+        ensures same_size { size_of result.0 ≡ sectors_of (poked_disk poked) }
     {
         match poked.add(poke) {
             Ok(()) => (Stage::Poked(poked), Ok(())),
@@ -207,6 +215,7 @@ impl Stage {
         ensures kept { crash ≡ Crash.Keep → OnOk result.1 (IsPoked (stage_pokes self) (moment_of (stage_disk self)).content (moment_of (below_both (unloaded_disk result.0)))) }
         ensures lost { crash ≡ Crash.Lose → OnOk result.1 ((image : Image) × IsLastSynced (mem_history (stage_disk self)) image × IsPoked (stage_pokes self) image (moment_of (below_both (unloaded_disk result.0)))) }
         ensures err { IfErr result.1 (λ stop. stop ≡ Stop.Device) }
+        ensures same_size { sectors_of (unloaded_disk result.0) ≡ size_of self }
     {
         let (_, disk) = self.end(alloc);
         let (disk, put) = disk.crash(crash);
@@ -215,7 +224,8 @@ impl Stage {
 
     /// Prints the refusals of a closing desk, then acts as a power loss that keeps what was written.
     pub fn close(self, alloc: Global, out: &mut Vec<u8>) -> (Self, Result<(), Stop>)
-        ensures { IfErr result.1 (λ stop. (stop ≡ Stop.Memory) ⊎ (stop ≡ Stop.Device)) }
+        ensures err { IfErr result.1 (λ stop. (stop ≡ Stop.Memory) ⊎ (stop ≡ Stop.Device)) }
+        ensures same_size { size_of result.0 ≡ size_of self }
     {
         let (refused, disk) = self.end(alloc);
         let printed = telling::put_all(refused.as_slice(), out);

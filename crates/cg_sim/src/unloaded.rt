@@ -26,7 +26,7 @@ pub struct Unloaded {
 }
 
 impl Unloaded {
-    ghost use Rattle.cg_sim.specs.Stages.{unloaded_disk};
+    ghost use Rattle.cg_sim.specs.Stages.{size_of, unloaded_disk};
 
     /// Creates a disk without fault injections, from which nothing is loaded.
     pub fn new(alloc: Global, disk: MemDisk) -> Self
@@ -43,7 +43,8 @@ impl Unloaded {
 
     /// Loads what the disk has, and prints what was found or why the load failed. A failed load may be tried again.
     pub fn load(self, alloc: Global, now: Moment, out: &mut Vec<u8>) -> (Stage, Result<(), Stop>)
-        ensures { IfErr result.1 (λ stop. stop ≡ Stop.Memory) }
+        ensures err { IfErr result.1 (λ stop. stop ≡ Stop.Memory) }
+        ensures same_size { size_of result.0 ≡ sectors_of (unloaded_disk self) }
     {
         let Unloaded { desk, disk } = self;
         let sectors = disk.sectors();
@@ -62,7 +63,8 @@ impl Unloaded {
 
     /// Refuses a request with 14, since nothing is loaded.
     pub fn ask(&mut self, call: Call, out: &mut Vec<u8>) -> Result<(), Stop>
-        ensures { IfErr result (λ stop. stop ≡ Stop.Memory) }
+        ensures err { IfErr result (λ stop. stop ≡ Stop.Memory) }
+        ensures same_disk { unloaded_disk self.new ≡ unloaded_disk self.old }
     {
         let Call {
             ticket,
@@ -103,6 +105,7 @@ impl Unloaded {
     pub fn poke(self, alloc: Global, poke: &Poke) -> (Self, Result<(), Stop>)
         requires { sector_of poke.now < sectors_of (unloaded_disk self) }
         ensures put { OnOk result.1 (IsPoked (poke.now ∷ []) (moment_of (below_both (unloaded_disk self))).content (moment_of (below_both (unloaded_disk result.0)))) }
+        ensures same_size { sectors_of (unloaded_disk result.0) ≡ sectors_of (unloaded_disk self) }
         ensures fuse { fuse_of (unloaded_disk result.0) ≡ fuse_of (unloaded_disk self) }
         ensures once { once_within (unloaded_disk result.0) ≡ once_within (unloaded_disk self) }
         ensures cause { Counts (mem_failures (below_both (unloaded_disk self))) (mem_failures (below_both (unloaded_disk result.0))) (is_err result.1) }

@@ -1,5 +1,5 @@
 -- A payload with one more command.
-use Rattle.std.proofs.Common.{◌≡◌, ℕ, ◌≤◌, List, [], ◌∷◌, ◌++◌, length, take, refl, sym, ap, ◌∙◌, arith, Ok, append-nil}
+use Rattle.std.proofs.Common.{◌≡◌, ℕ, ◌≤◌, List, [], ◌∷◌, ◌++◌, length, take, refl, sym, ap, ◌∙◌, arith, Result, Ok, Err, append-nil}
 use Rattle.std.specs.List.{flat_map}
 use Rattle.std.proofs.lemmas.Grind.{flat_map-append}
 use Rattle.std.proofs.lemmas.List.Concat.{flat_map-cons}
@@ -8,6 +8,7 @@ use Rattle.cg_record.specs.declared.command.Command.{Command}
 use Rattle.cg_record.specs.Lawful.{AreCommands, IsCommand}
 use Rattle.cg_record.specs.Reading.{commands_of}
 use Rattle.cg_record.specs.Spelling.{command_text, spelling}
+use Rattle.cg_record.specs.declared.fault.RecordFault.{RecordFault}
 use Rattle.cg_record.proofs.CommandLaws.{commands_again, text_not_empty}
 use Rattle.cg_record.proofs.Keys.{AllByRecursion-push}
 use Rattle.cg_store.specs.Texts.{IsText, told, what_is_read}
@@ -24,6 +25,22 @@ few-spelled : (cs : List Command) → length cs ≤ length (spelling cs)
 unfolding spelling
 few-spelled cs = omega (arith, few-told cs)
 
+-- an encoding has the commands of which it was made
+pub told_again : (cs : List Command) → AreCommands cs → told (spelling cs) ≡ cs
+told_again cs are = ap what_is_read (commands_again cs are)
+
+-- the encoding of lawful commands
+pub text_of : (cs : List Command) (bytes : List ℕ) → AreCommands cs → bytes ≡ spelling cs → IsText bytes × (told bytes ≡ cs)
+text_of cs bytes are is = let known : told bytes ≡ cs = ap told is ∙ told_again cs are in (is ∙ ap spelling (sym known), known)
+
+reads_as : (bytes : List ℕ) (read : Result (List Command) RecordFault) → commands_of bytes ≡ read → bytes ≡ spelling (what_is_read read) → commands_of bytes ≡ Ok (what_is_read read)
+reads_as bytes (Ok commands) read is = read
+reads_as bytes (Err fault) read is = absurd (let no : Err fault ≡ Ok [] = sym read ∙ ap commands_of is ∙ commands_again [] tt in cc)
+
+-- the encoding of commands decodes to them
+pub text_reads : (bytes : List ℕ) → IsText bytes → commands_of bytes ≡ Ok (told bytes)
+text_reads bytes is = reads_as bytes (commands_of bytes) refl is
+
 -- the payload with one more command
 pub record IsLonger (bytes : List ℕ) (c : Command) : Type 0 where
   pub text : IsText (bytes ++ command_text c)
@@ -33,18 +50,17 @@ pub record IsLonger (bytes : List ℕ) (c : Command) : Type 0 where
 pub longer : (bytes : List ℕ) (c : Command) → AreCommands (told bytes) → bytes ≡ spelling (told bytes) → IsCommand c → IsLonger bytes c
 longer bytes c are is one =
     let all : bytes ++ command_text c ≡ spelling (told bytes ++ c ∷ []) = ap (λ b. b ++ command_text c) is ∙ sym (spelling-push (told bytes) c) in
-    let reads = ap commands_of all ∙ commands_again (told bytes ++ c ∷ []) (AllByRecursion-push IsCommand (told bytes) c are one) in
-    let known : told (bytes ++ command_text c) ≡ told bytes ++ c ∷ [] = ap what_is_read reads in
+    let made = text_of (told bytes ++ c ∷ []) (bytes ++ command_text c) (AllByRecursion-push IsCommand (told bytes) c are one) all in
     record {
-      text = reads ∙ ap Ok (sym known);
-      commands = known;
-      few = omega (arith, few-spelled (told bytes ++ c ∷ []), ap length known, ap length all);
+      text = made.0;
+      commands = made.1;
+      few = omega (arith, few-spelled (told bytes ++ c ∷ []), ap length made.1, ap length all);
     }
 
 version-alone : (cs : List Command) → take 1 (spelling cs) ≡ spelling []
 unfolding spelling
 version-alone cs = refl
 
--- a payload cut behind its version has no command
-pub emptied : (bytes : List ℕ) → bytes ≡ spelling (told bytes) → commands_of (take 1 bytes) ≡ Ok []
-emptied bytes is = ap (λ b. commands_of (take 1 b)) is ∙ ap commands_of (version-alone (told bytes)) ∙ commands_again [] tt
+-- a payload that is cut after its version has no command
+pub emptied : (bytes : List ℕ) → bytes ≡ spelling (told bytes) → take 1 bytes ≡ spelling []
+emptied bytes is = ap (take 1) is ∙ version-alone (told bytes)

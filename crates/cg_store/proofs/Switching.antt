@@ -69,12 +69,17 @@ module _ {D : Type 0} {g : _} (honest : D → Bool) (history : D → History) wh
     pub Spell-switched : Spell (frames_of (switched has written.fresh cut.id).base ++ frames_of (tails (switched has written.fresh cut.id))) state
     Spell-switched = subst (λ (l : List Filled). Spell (frames_of written.fresh ++ frames_of l) state) (tails_from-split cut.id has is_cut.is_tail) Spell-either
 
-    pub images-either : (h now : History) (sectors n : ℕ) → LeavesOnly h now (CarriesEither sectors n has written.fresh cut.id) → LeavesOnly h now (λ image. Carries image sectors n state)
-    images-either h now sectors n leaves = LeavesOnly-weaker h now (CarriesEither sectors n has written.fresh cut.id) (λ image. Carries image sectors n state) either leaves
+    pub images-either : (h now : History) (sectors : ℕ) → LeavesOnly h now (CarriesEither sectors number has written.fresh cut.id cut.number) → LeavesOnly h now (λ image. Carries image sectors number state)
+    images-either h now sectors leaves = LeavesOnly-weaker h now (CarriesEither sectors number has written.fresh cut.id cut.number) (λ image. Carries image sectors number state) either leaves
       where
-        either : (image : Image) → CarriesEither sectors n has written.fresh cut.id image → Carries image sectors n state
+        either : (image : Image) → CarriesEither sectors number has written.fresh cut.id cut.number image → Carries image sectors number state
         either image (inl old) = record { base = frames_of has.base; tail = frames_of (tails has); log = old; spelled = spelled }
-        either image (inr new) = record { base = frames_of written.fresh; tail = frames_of (tails_from cut.id has); log = new; spelled = Spell-either }
+        either image (inr new) = record {
+          base = frames_of written.fresh;
+          tail = frames_of (tails_from cut.id has);
+          log = subst (λ n. LogCarries image sectors n (frames_of written.fresh) (frames_of (tails_from cut.id has))) is_cut.number_is new;
+          spelled = Spell-either;
+        }
 
   -- what the images of a log carry where no call of the disk is made
   pub log-images-same : (size : D → ℕ) (log : Log D g) (has : Content) → LogHas honest history size log has → LeavesOnly (history (disk_of log)) (history (disk_of log)) (λ image. LogCarries image (size (disk_of log)) (number_of log) (frames_of has.base) (frames_of (tails has)))

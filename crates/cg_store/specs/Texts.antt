@@ -1,6 +1,7 @@
 -- Payloads and their commands.
 use Rattle.std.specs.Prelude.{◌≡◌, ℕ, List, [], Result, Ok, Err}
 use Rattle.cg_record.specs.Reading.{commands_of}
+use Rattle.cg_record.specs.Spelling.{spelling}
 use Rattle.cg_record.specs.declared.command.Command.{Command}
 use Rattle.cg_record.specs.declared.fault.RecordFault.{RecordFault}
 
@@ -13,6 +14,6 @@ what_is_read (Err fault) = []
 abbrev pub told : List ℕ → List Command
 told bytes = what_is_read (commands_of bytes)
 
--- the payload can be decoded
+-- the payload is the encoding that `write` makes of its commands
 abbrev pub IsText : List ℕ → Type 0
-IsText bytes = commands_of bytes ≡ Ok (told bytes)
+IsText bytes = bytes ≡ spelling (told bytes)

@@ -12,8 +12,8 @@ use std::alloc::{AllocError, Global};
 use std::marker::Model;
 use std::sync::Arc;
 
-/// Commands in their order, stored as the payload of a frame. Contracts see the commands, as each list of them has
-/// exactly one encoding. A clone shares the payload; a change to a shared payload copies it first.
+/// Commands in their order, stored as the payload of a frame, in the encoding that `write` makes. Contracts see the commands. A
+/// clone shares the payload; a change to a shared payload copies it first.
 #[derive(Debug, Drop)]
 pub struct Commands {
     len: usize,
@@ -32,7 +32,7 @@ impl Model for Commands {
     ghost view = { λ c. told c.bytes.value.items };
 }
 
-// States in its contract that bytes which decode are the only encoding of their commands.
+// States in its contract what the encoding of commands is: it decodes to them, and they are lawful.
 fn spelling_of(bytes: &[u8]) -> &[u8]
     requires { IsText bytes.now }
     ensures same { result.now ≡ bytes.now }

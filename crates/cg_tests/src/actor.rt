@@ -22,6 +22,11 @@ const DISK_SECTORS: u64 = 4 + 4 * 2048;
 // Most turns of an actor that waits.
 const TURNS: u32 = 20_000;
 
+// What an actor decided about the gated sync: it may go, or it fails.
+const SYNC_GOES: u64 = 1;
+
+const SYNC_FAILS: u64 = 2;
+
 /// What a round does.
 #[derive(Clone, Copy)]
 pub(super) enum Round {
@@ -31,7 +36,7 @@ pub(super) enum Round {
     Compact,
 }
 
-/// A step of a script. Only the first three are counted as steps that have ended.
+/// A step of a script. Only the first four are counted as steps that have ended.
 #[derive(Clone, Copy)]
 pub(super) enum Step {
     /// Makes a call, and notes its answer.
@@ -40,6 +45,8 @@ pub(super) enum Step {
     CallAtRandom,
     /// Does one round.
     Once(Round),
+    /// Does one round, which reports this fault.
+    Fails(Round, RoundFault),
     /// Makes a call until the answer is 27.
     CallUntilRebalance(&'static str),
     /// Does rounds until this many steps have ended.
@@ -48,8 +55,12 @@ pub(super) enum Step {
     WaitEnded(u64),
     /// Waits until the gated sync has begun.
     WaitSyncing,
-    /// Waits until the engine has numbered this many commands, and lets the gated sync go.
-    OpenNumbered(u64),
+    /// Waits until the engine has numbered this many commands.
+    WaitNumbered(u64),
+    /// Lets the gated sync go.
+    OpenSync,
+    /// Lets the gated sync fail.
+    FailSync,
 }
 
 /// What the actors share.
@@ -61,8 +72,8 @@ struct Shared {
     ended: AtomicU64,
     /// 1 once the gated sync has begun.
     syncing: AtomicU64,
-    /// 1 once the gated sync may go.
-    open: AtomicU64,
+    /// What was decided about the gated sync; 0 before.
+    decision: AtomicU64,
 }
 
 fn pause(rt: &impl Clock) {
@@ -89,7 +100,8 @@ struct Signal<'a, R: Clock> {
 impl<R: Clock> Gate for Signal<'_, R> {
     fn opened(&mut self) -> bool {
         self.shared.syncing.store(1, Ordering::SeqCst);
-        reaches(self.rt, &self.shared.open, 1)
+        let decision = &self.shared.decision;
+        reaches(self.rt, decision, SYNC_GOES) && decision.load(Ordering::SeqCst) == SYNC_GOES
     }
 }
 
@@ -201,20 +213,23 @@ impl<D: SectorDisk + Drop, L: Ledger, R: Wait + Clock + Abort> Stage<'_, D, L, R
         self.shared.ended.fetch_add(1, Ordering::SeqCst);
     }
 
+    // Does one round, which has to end so.
+    fn do_once(&self, round: Round, end: Result<RoundEnd, RoundFault>) {
+        assert_eq!(self.rt; self.do_round(round), end);
+        self.end_step();
+    }
+
     // Does a step that makes no call.
     fn act_alone(&self, step: Step) {
         match step {
-            Step::Once(round) => {
-                assert_eq!(self.rt; self.do_round(round), Ok(RoundEnd::Done));
-                self.end_step();
-            }
+            Step::Once(round) => self.do_once(round, Ok(RoundEnd::Done)),
+            Step::Fails(round, fault) => self.do_once(round, Err(fault)),
             Step::Until(steps, round) => self.do_rounds(steps, round),
             Step::WaitEnded(steps) => self.wait(&self.shared.ended, steps),
             Step::WaitSyncing => self.wait(&self.shared.syncing, 1),
-            Step::OpenNumbered(wanted) => {
-                self.wait_numbered(wanted);
-                self.shared.open.store(1, Ordering::SeqCst);
-            }
+            Step::WaitNumbered(wanted) => self.wait_numbered(wanted),
+            Step::OpenSync => self.shared.decision.store(SYNC_GOES, Ordering::SeqCst),
+            Step::FailSync => self.shared.decision.store(SYNC_FAILS, Ordering::SeqCst),
             _ => {}
         }
     }
@@ -364,7 +379,7 @@ pub(super) fn outcome_of<L: Ledger + Send, R: Threads + Wait + Clock + Abort + S
         now: AtomicU64::new(0),
         ended: AtomicU64::new(0),
         syncing: AtomicU64::new(0),
-        open: AtomicU64::new(0),
+        decision: AtomicU64::new(0),
     };
     let engine: Gated<'_, L, R> = opened(rt, alloc, blank, syncs, &shared);
     let stage = Stage {

@@ -33,7 +33,7 @@ fn a_refused_token_answers_its_own_ticket(rt: HostRuntime) {
 }
 
 // Makes a serving desk without commands.
-fn serving(rt: &impl Abort, alloc: Global) -> Desk {
+pub(super) fn serving(rt: &impl Abort, alloc: Global) -> Desk {
     let mut desk = Desk::loading(alloc).expect(rt, "a desk");
     let loaded = desk.loaded(0, Durable::new(alloc), Moment::from_millis(0));
     assert!(rt; loaded.is_ok());

@@ -4,7 +4,7 @@ ghost use Rattle.cg_engine.specs.declared.bounds.TheConstants.{PARTS};
 
 use super::actor::{Outcome, Round, Step, formatted, outcome_of};
 use cg_disk::MemDisk;
-use cg_engine::{Engine, FinishFault, LoadFault, PARTS};
+use cg_engine::{Engine, FinishFault, LoadFault, PARTS, RoundFault};
 use cg_names::Moment;
 use std::alloc::Global;
 use std::marker::Brand;
@@ -15,6 +15,8 @@ use std::sync::ledger::{Blank, Ledger};
 const COMMIT: Step = Step::Call("COMMIT g -1 - - t:0:42:x");
 
 const DESCRIBE: Step = Step::Call("DESCRIBE g");
+
+const UNAVAILABLE: &str = "ERR 15 COORDINATOR_NOT_AVAILABLE\n";
 
 struct Row {
     name: &'static str,
@@ -36,11 +38,30 @@ const ROWS: &[Row] = &[
             &[COMMIT],
             &[Step::WaitSyncing, COMMIT],
             &[Step::Until(2, Round::Flush)],
-            &[Step::OpenNumbered(2)],
+            &[Step::WaitNumbered(2), Step::OpenSync],
         ],
         answers: &["OK\n", "OK\n"],
         units: 2,
         number: 2,
+    },
+    Row {
+        name: "the first sync of a flush round fails while three commits wait",
+        syncs: 1,
+        scripts: &[
+            &[COMMIT],
+            &[COMMIT],
+            &[COMMIT],
+            &[
+                Step::FailSync,
+                Step::WaitNumbered(3),
+                Step::Fails(Round::Flush, RoundFault::Device),
+                Step::Fails(Round::Flush, RoundFault::Failed),
+                COMMIT,
+            ],
+        ],
+        answers: &[UNAVAILABLE, UNAVAILABLE, UNAVAILABLE, UNAVAILABLE],
+        units: 0,
+        number: 0,
     },
     Row {
         name: "a JOIN that waits is answered after a JOIN of another thread",

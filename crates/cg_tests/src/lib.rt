@@ -1,6 +1,6 @@
-//! Tests of what no program reaches: uses of a desk, trails that are not lawful, and threads over one engine. A crate with
-//! tests is proved twice, so they stand here, above the libraries, and those are proved once. The crate has nothing else: no
-//! other crate uses it.
+//! Tests of what no program reaches: uses of a desk, streams of lines, trails that are not lawful, and threads over one
+//! engine. A crate with tests is proved twice, so they stand here, above the libraries, and those are proved once. The crate
+//! has nothing else: no other crate uses it.
 #![tactic(auto)]
 
 #[cfg(test)]
@@ -11,5 +11,7 @@ mod desk;
 mod engine;
 #[cfg(test)]
 mod storm;
+#[cfg(test)]
+mod stream;
 #[cfg(test)]
 mod trail;

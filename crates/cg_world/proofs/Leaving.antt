@@ -1,8 +1,6 @@
 -- Replies leave in the first step after which their sequence number is settled.
 use Rattle.std.proofs.Common.{◌≡◌, ℕ, ◌+◌, ◌≤◌, Bool, true, false, List, [], ◌∷◌, ◌++◌, append_assoc, append-nil, length, map, Option, None, Some, refl, sym, ap, ◌∙◌, subst, arith}
 use Rattle.std.specs.Prelude.{if◌then◌else◌, is_some, Result, Ok, Err, IfOk, OnOk, OnErr}
-use Rattle.std.proofs.Math.Logic.{∥∥₁_elim}
-use Rattle.std.proofs.Math.Nat.{ℕ_set}
 use Rattle.std.proofs.lemmas.Bool.{false≢true}
 use Rattle.cg_fold.specs.Durable.{State as Durable}
 use Rattle.cg_request.specs.declared.asking.Request.{Request as Asked}
@@ -16,7 +14,7 @@ use Rattle.cg_group.specs.Machine.{step}
 use Rattle.cg_held.specs.Reviving.{revive}
 use Rattle.cg_names.specs.declared.code.Code.TheVariants.{CoordinatorNotAvailable}
 use Rattle.cg_store.specs.Carried.{AreMade}
-use Rattle.cg_desk.specs.Balanced.{IsBalanced, IsOwedAt}
+use Rattle.cg_desk.specs.Balanced.{IsBalanced}
 use Rattle.cg_desk.specs.Books.{Books, Served, IsTake, is_short, letting_go, returning, served, settling, taking}
 use Rattle.cg_desk.specs.Desks.{Answer, State, Loading, Serving, Failed, IsTakenFrom, at_rest, gone_on, held_of, opened, request_on, return_to, serving, settle_on, settled_of, tick_on}
 use Rattle.cg_desk.specs.Held.{holding, leaving_of}
@@ -275,19 +273,6 @@ pub replies_leave_when_settled : RepliesLeaveWhenSettled
 replies_leave_when_settled = record { opened = opened-orderly; stays = stays; leave = leaves }
 
 -- Each call of an orderly desk leaves it orderly.
-
-orderly-owed : (s : State) → IsOrderlyAt s → IsOwedAt s
-orderly-owed Loading h = tt
-orderly-owed (Failed n m) h = tt
-orderly-owed (Serving b) h = h.balanced.owed
-
-owed-prop : (s : State) → IsProp (IsOwedAt s)
-owed-prop Loading = hlevel
-owed-prop (Failed n m) = hlevel
-owed-prop (Serving b) = hlevel ℕ_set
-
-pub owed-now : (s : State) → ∥ IsOrderlyAt s ∥₁ → IsOwedAt s
-owed-now s h = ∥∥₁_elim h (owed-prop s) (orderly-owed s)
 
 asked-orderly : (short : Bool) (b : Books) (token : ReplyToken) (e : Event) (now : ℕ) → KeepsCalls b.machine (token ∷ []) e now → IsOrderlyDesk b
     → let a : Answer = if short then record { after = Serving b; out = answer (call_of token) (Refused CoordinatorNotAvailable) 0 ∷ [] } else serving (served b (token ∷ []) e now) in IsOrderlyAt a.after

@@ -1,108 +1,22 @@
--- Lawful commands make lawful records.
-use Rattle.std.proofs.Common.{◌≡◌, ◌≤◌, ℕ, Bool, true, false, ◌&&◌, cond, not, List, [], ◌∷◌, map, Option, None, Some, IfSome, refl, sym, ap, subst}
-use Rattle.std.specs.List.{list_any}
-use Rattle.std.specs.Option.{option_map}
-use Rattle.std.specs.Ordering.{eq_by_cmp}
-use Rattle.std.specs.FinMap as finmap
-use Rattle.std.proofs.lemmas.Bool.{false≢true}
+-- Lawful commands make lawful records, none of generation 0.
+use Rattle.std.proofs.Common.{◌≤◌, Option, None, Some, IfSome}
 use Rattle.cg_fold.specs.declared.record.GroupRecord.{GroupRecord}
-use Rattle.cg_fold.specs.Durable.{State, after, effect, empty, with_member, with_record}
-use Rattle.cg_fold.specs.Grouped.{is_another}
-use Rattle.cg_fold.specs.Key.{name_cmp}
-use Rattle.cg_fold.specs.Record.{assigned_record, emptied_record, replaced_record}
-use Rattle.cg_fold.proofs.KeyOrder.{name_same, name_total}
-use Rattle.cg_held.specs.Kept.{IsRecord, kept_in}
-use Rattle.cg_record.specs.declared.command.Command.{Command}
-use Rattle.cg_record.specs.declared.command.Command.TheVariants.{Assigned, Emptied, Replaced, Committed, Deleted}
-use Rattle.cg_record.specs.declared.member.Member.{Member}
-use Rattle.cg_record.specs.Lawful.{AreCommands, IsCommand}
-use Rattle.cg_record.specs.Rosters.{IsRoster, RosterParts, has_id_of_other, leader_after, may_replace, replaced_in, roster_of, seated, takes_place_of}
-use Rattle.cg_record.proofs.Replacing.{seated_roster}
+use Rattle.cg_fold.specs.Durable.{State}
+use Rattle.cg_held.specs.Kept.{kept_in}
 use Rattle.cg_store.specs.Carried.{AreMade}
 use Rattle.cg_store.proofs.Whole.{Carries-commands}
+use Rattle.cg_desk.proofs.Recorded.{AreSound, IsSound, made-sound, sound-records}
 use Rattle.cg_world.specs.Opening.{IsLawfulState, LoadingsAreLawful}
 
--- a member may replace another
-roster-at : (may : Bool) (new : Member) (roster : RosterParts) → may_replace new roster.members ≡ may → IsRoster roster
-    → IsRoster (cond may (roster_of roster.protocol (leader_after new roster) (map (seated new) roster.members)) roster)
-roster-at true new roster is h = seated_roster new roster h (and-first (list_any (takes_place_of new) roster.members) (not (list_any (has_id_of_other new) roster.members)) is)
-    (not-false (list_any (has_id_of_other new) roster.members) (and-second (list_any (takes_place_of new) roster.members) (not (list_any (has_id_of_other new) roster.members)) is))
-  where
-    and-first : (a b : Bool) → (a && b) ≡ true → a ≡ true
-    and-first true b e = refl
-    and-first false b e = absurd (false≢true e)
-
-    and-second : (a b : Bool) → (a && b) ≡ true → b ≡ true
-    and-second true b e = e
-    and-second false b e = absurd (false≢true e)
-
-    not-false : (b : Bool) → not b ≡ true → b ≡ false
-    not-false true e = absurd (false≢true e)
-    not-false false e = refl
-roster-at false new roster is h = h
-
-replaced-roster : (new : Member) (o : Option RosterParts) → IfSome o IsRoster → IfSome (option_map (replaced_in new) o) IsRoster
-unfolding replaced_in
-replaced-roster new None h = tt
-replaced-roster new (Some roster) h = roster-at (may_replace new roster.members) new roster refl h
-
--- a lawful record of a generation above 0
-abbrev IsSound : GroupRecord → Type 0
-IsSound r = IsRecord r × (1 ≤ r.generation)
-
-abbrev AreSound : State → Type 0
-AreSound state = (group : List ℕ) → IfSome (kept_in state group) IsSound
-
--- a record is set
-set-lawful : (state : State) (group : List ℕ) (r : GroupRecord) → AreSound state → IsSound r → AreSound (with_record state group r)
-set-lawful state group r h is q =
-    subst (λ (o : Option GroupRecord). IfSome o IsSound) (sym (finmap.get-insert name_total state.records group r q)) (either (eq_by_cmp name_cmp q group))
-  where
-    either : (b : Bool) → IfSome (cond b (Some r) (kept_in state q)) IsSound
-    either true = is
-    either false = h q
-
-member-lawful : (state : State) (group : List ℕ) (new : Member) (o : Option GroupRecord) → IfSome o IsSound → AreSound state → AreSound (with_member state group new o)
-member-lawful state group new None is h = h
-member-lawful state group new (Some r) is h = set-lawful state group (replaced_record new r) h (replaced-roster new r.roster is.0, is.1)
-
-gone-lawful : (state : State) (group : List ℕ) → AreSound state → (q : List ℕ) → IfSome (finmap.get (finmap.retain_keys state.records (is_another group)) q) IsSound
-gone-lawful state group h q =
-    subst (λ (o : Option GroupRecord). IfSome o IsSound)
-    (sym (finmap.get-retain_keys state.records (is_another group) q (λ x tie. ap (is_another group) (sym (name_same q x tie))))) (either (is_another group q))
-  where
-    either : (b : Bool) → IfSome (cond b (kept_in state q) None) IsSound
-    either true = h q
-    either false = tt
-
-effect-lawful : (state : State) (c : Command) → IsCommand c → AreSound state → AreSound (effect state c)
-unfolding effect
-effect-lawful state (Assigned a) is h = set-lawful state a.group (assigned_record a) h (is.roster.together, is.started)
-effect-lawful state (Emptied e) is h = set-lawful state e.group (emptied_record e) h (tt, is.started)
-effect-lawful state (Replaced r) is h = member-lawful state r.group r.member (finmap.get state.records r.group) (h r.group) h
-effect-lawful state (Committed c) is h = h
-effect-lawful state (Deleted d) is h = gone-lawful state d.group h
-
-after-lawful : (commands : List Command) (state : State) → AreCommands commands → AreSound state → AreSound (after state commands)
-after-lawful [] state lawful h = h
-after-lawful (c ∷ cs) state lawful h = after-lawful cs (effect state c) lawful.1 (effect-lawful state c lawful.0 h)
-
-empty-lawful : AreSound empty
-empty-lawful q = subst (λ (o : Option GroupRecord). IfSome o IsSound) (sym (finmap.get-empty name_cmp q)) tt
-
 sound-lawful : (state : State) → AreSound state → IsLawfulState state
-sound-lawful state h = record { records = λ group. first (kept_in state group) (h group); completed = λ group. second (kept_in state group) (h group) }
+sound-lawful state h = record { records = sound-records state h; completed = λ group. completed (kept_in state group) (h group) }
   where
-    first : (o : Option GroupRecord) → IfSome o IsSound → IfSome o IsRecord
-    first None is = tt
-    first (Some r) is = is.0
-
-    second : (o : Option GroupRecord) → IfSome o IsSound → IfSome o (λ r. 1 ≤ r.generation)
-    second None is = tt
-    second (Some r) is = is.1
+    completed : (o : Option GroupRecord) → IfSome o IsSound → IfSome o (λ r. 1 ≤ r.generation)
+    completed None is = tt
+    completed (Some r) is = is.1
 
 pub made-lawful : (state : State) → AreMade state → IsLawfulState state
-made-lawful state made = sound-lawful state (subst AreSound (sym made.state_is) (after-lawful made.commands empty made.lawful empty-lawful))
+made-lawful state made = sound-lawful state (made-sound state made)
 
 pub loadings_are_lawful : LoadingsAreLawful
 loadings_are_lawful = record { made = made-lawful; carried = λ image sectors n state carries. made-lawful state (Carries-commands image sectors n state carries).0 }

@@ -7,12 +7,7 @@ use Rattle.cg_desk.specs.Desks.{State, Loading, Serving, Failed, settled_of}
 use Rattle.cg_desk.specs.Flights.{Course, Idle, Away, Returned}
 use Rattle.cg_world.specs.declared.transit.Transit.{Transit}
 use Rattle.cg_world.specs.declared.transit.Transit.TheVariants.{Empty, Taken, Appended}
-
--- the desk has loaded, and its disk has not failed
-abbrev pub is_serving : State → Bool
-is_serving Loading = false
-is_serving (Failed n s) = false
-is_serving (Serving b) = true
+pub use Rattle.cg_desk.specs.Desks.{is_serving}
 
 -- the batch in flight, as its desk knows it: the number of its first command, and the commands
 abbrev pub flying_in : Course → ℕ → Option (ℕ × List Command)

@@ -4,7 +4,6 @@ ghost use Rattle.cg_disk.specs.Disk.{Counts};
 ghost use Rattle.cg_fold.specs.Durable.{State};
 ghost use Rattle.cg_store.specs.Phases.{abort_result};
 ghost use Rattle.cg_store.specs.Store.{IsUnchanged, StandsAt, disk_of, fresh_of, front_of, has_failed, phase_of, sectors_of};
-ghost use Rattle.cg_desk.specs.Balanced.{IsOwedAt};
 ghost use Rattle.cg_desk.specs.Desks.{failing_on, numbered_of, settled_of, state_of};
 ghost use Rattle.cg_desk.specs.Desks as state;
 ghost use Rattle.cg_world.specs.Agreeing.{is_serving};
@@ -47,7 +46,7 @@ fn replies_of(
 ) -> Vec<Outgoing>
     ensures same { is_failure note ≡ false → (state_of desk.new ≡ state_of desk.old) × (transit.new ≡ transit.old) × (result.items ≡ []) }
     ensures failed { is_failure note ≡ true → (state_of desk.new ≡ state.Failed (numbered_of (state_of desk.old)) (settled_of (state_of desk.old))) × (transit.new ≡ Transit.Empty) }
-    ensures order { is_failure note ≡ true → IsOwedAt (state_of desk.old) → result.items ≡ failing_on (state_of desk.old) }
+    ensures order { is_failure note ≡ true → result.items ≡ failing_on (state_of desk.old) }
 {
     if note.is_failure() {
         *transit = Transit::Empty;

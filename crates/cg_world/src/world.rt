@@ -2,6 +2,7 @@
 ghost use Rattle.std.specs.Prelude.{◌≡◌, ◌⊎◌, ℕ, true, IfOk, IfErr, MatchResult};
 ghost use Rattle.cg_disk.specs.Disk.{Counts, Stays, present};
 ghost use Rattle.cg_fold.specs.Durable.{State};
+ghost use Rattle.cg_held.specs.Kept.{AreRecords};
 ghost use Rattle.cg_held.specs.Reviving.{revive};
 ghost use Rattle.cg_store.specs.Carried.{Carries};
 ghost use Rattle.cg_store.specs.Faults.{Tells, failed_opening};
@@ -33,6 +34,7 @@ pub struct World<D: SectorDisk> {
 
 // Makes a desk that serves what was loaded.
 fn serve(alloc: Global, number: u64, durable: Durable, now: Moment) -> Result<Desk, AllocError>
+    requires { AreRecords durable }
     ensures { IfOk result (λ desk. state_of desk ≡ state.Serving (opened number (revive durable now))) }
 {
     let mut desk = Desk::loading(alloc)?;

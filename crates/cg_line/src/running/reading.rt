@@ -1,24 +1,22 @@
 //! Reading the stream.
-ghost use Rattle.std.specs.Prelude.{◌≡◌, ◌<◌, ◌≤◌, Ok, Some, length, IfOk, IfErr, IfSome};
-ghost use Rattle.std.specs.Io.KnownBytes.{IsAtEnd};
-ghost use Rattle.cg_line.specs.Stream.{Reads};
+ghost use Rattle.std.specs.Prelude.{ℕ, ◌<◌, ◌≤◌, List, Result, length, IfOk, IfSome};
+ghost use Rattle.cg_line.specs.declared.transport_fault.TransportFault.{TransportFault};
+ghost use Rattle.cg_line.specs.Calls.{Reads};
+ghost use Rattle.cg_line.specs.Stream.{Gives};
 
 use crate::ending::RunFault;
-use std::io::{ErrorKind, Read};
+use crate::transport::Transport;
+use crate::transport_fault::TransportFault;
 
 /// Reads bytes into the buffer. Returns how many: 0 at the end of the stream, and `None` if the read was interrupted.
-pub fn read<R: Read>(reader: &mut R, buffer: &mut [u8]) -> Result<Option<usize>, RunFault>
+pub fn read<T: Transport>(transport: &mut T, buffer: &mut [u8]) -> Result<Option<usize>, RunFault>
     requires { 0 < length buffer.old }
-    ensures bytes { Reads (R.remaining reader.old) (R.remaining reader.new) buffer.new result }
+    ensures call { (got : Result (List ℕ) TransportFault) × T.does transport.old (Reads got) transport.new × Gives got buffer.new result }
     ensures within { IfOk result (λ count. IfSome count (λ n. n ≤ length buffer.new)) }
-    ensures end { result ≡ Ok (Some 0) → IsAtEnd (R.remaining reader.new) }
-    ensures fault { IfErr result (λ fault. fault ≡ RunFault.Read) }
 {
-    match reader.read(buffer) {
+    match transport.read(buffer) {
         Ok(count) => Ok(Some(count)),
-        Err(error) => match error.kind() {
-            ErrorKind::Interrupted => Ok(None),
-            _ => Err(RunFault::Read),
-        },
+        Err(TransportFault::Interrupted) => Ok(None),
+        Err(TransportFault::Failed) => Err(RunFault::Read),
     }
 }

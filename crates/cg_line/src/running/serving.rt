@@ -1,7 +1,8 @@
 //! Serving one line.
-ghost use Rattle.std.specs.Prelude.{◌≡◌, ℕ, List, Option, MatchResult, IfErr, OnOk};
+ghost use Rattle.std.specs.Prelude.{◌≡◌, ℕ, List, Option, MatchResult, OnOk};
 ghost use Rattle.cg_request.specs.declared.asking.Request.{Request};
 ghost use Rattle.cg_member.specs.declared.reply.Reply.{Reply};
+ghost use Rattle.cg_line.specs.Calls.{Made, TransportCall};
 ghost use Rattle.cg_line.specs.Lines.{Asks};
 ghost use Rattle.cg_line.specs.Replies.{reply_line};
 ghost use Rattle.cg_line.specs.Running.{Turns, ended};
@@ -12,9 +13,9 @@ use crate::ending::RunFault;
 use crate::put_reply;
 use crate::running::asking::{Asked, Refusal};
 use crate::running::writing::put;
+use crate::transport::Transport;
 use cg_group::{Reply, Request};
 use std::alloc::AllocError;
-use std::io::Write;
 
 // Replaces the text with the line of a reply and its line feed.
 fn print_ended(reply: &Reply, text: &mut Vec<u8>) -> Result<(), AllocError>
@@ -47,17 +48,16 @@ fn answer<B: Backend>(asked: Asked, text: &mut Vec<u8>, backend: &mut B) -> Resu
 }
 
 /// Writes what a line asks for: the reply of the backend to its request, or its refusal.
-pub fn reply<W: Write, B: Backend>(
+pub fn reply<T: Transport, B: Backend>(
     asked: Asked,
     text: &mut Vec<u8>,
-    writer: &mut W,
+    transport: &mut T,
     backend: &mut B,
 ) -> Result<(), RunFault>
-    ensures served { (line : List ℕ) → Asks line asked → Done B.gives line backend.old backend.new (W.contents writer.old) (W.contents writer.new) result }
-    ensures fault { IfErr result (λ fault. fault ≡ RunFault.Write) }
+    ensures { (line : List ℕ) → Asks line asked → (writes : List TransportCall) × Made T.does transport.old writes transport.new × Done B.gives line backend.old backend.new writes result }
 {
     match answer(asked, text, backend) {
-        Ok(()) => put(writer, text),
-        Err(refusal) => put(writer, refusal.line()),
+        Ok(()) => put(transport, text),
+        Err(refusal) => put(transport, refusal.line()),
     }
 }

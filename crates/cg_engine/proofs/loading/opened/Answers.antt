@@ -1,4 +1,5 @@
 use Rattle.std.proofs.Common.{◌∙◌, sym}
+use Rattle.cg_desk.proofs.Recorded.{commands_make_records}
 use Rattle.cg_engine.proofs.Loads.{never-loaded, passing-of}
 use Rattle.cg_engine.proofs.Stored.{found-before, opened-stored}
 use Rattle.cg_engine.proofs.loading.opened.Goals as goal
@@ -9,6 +10,9 @@ returns-in-Ok-clause-stored g c = λ now.
     let o = c.in-Ok.found in
     let was = sym e.same_honesty ∙ now in
     opened-stored g.D.SectorDisk.is_honest g.D.SectorDisk.history o.0 _ o.1 o.2 e.sectors e.serves.1 (e.images was) (e.stands was)
+
+pub returns-in-Ok-clause-records : goal.returns-in-Ok-clause-records
+returns-in-Ok-clause-records g c = commands_make_records c.in-Ok.found.2 c.in-Ok.ensures.made.0
 
 pub returns-in-Ok-clause-found : goal.returns-in-Ok-clause-found
 returns-in-Ok-clause-found g c = λ is.

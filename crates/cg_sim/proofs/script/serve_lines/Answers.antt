@@ -1,4 +1,4 @@
-use Rattle.std.proofs.Common.{inr}
+use Rattle.std.proofs.Common.{inr, ◌∙◌}
 use Rattle.cg_sim.proofs.Known.{more_written, stop_written}
 use Rattle.cg_sim.proofs.script.serve_lines.Goals as goal
 
@@ -18,6 +18,7 @@ returns-in-Err-read_line-clause-written g c = inr (more_written _ _ _ _ c.loop-n
 
 pub loop-number-preserved : goal.loop-number-preserved
 loop-number-preserved g c = record {
+  same_size = c.play.ensures.same_size ∙ c.loop-number.invariant.same_size;
   written = more_written _ _ _ _ c.loop-number.invariant.written (rw c.in_default.is at c.emit_before.ensures.ok);
   known = λ input is.
       let left = c.loop-number.invariant.known input is in

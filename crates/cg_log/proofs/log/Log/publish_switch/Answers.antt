@@ -2,7 +2,7 @@ use Rattle.std.proofs.Common.{◌++◌, ◌∙◌, ℕ, List, ap, sym, subst, le
 use Rattle.std.proofs.lemmas.List.{append-nil}
 use Rattle.cg_gate.specs.Layout.{segment_count}
 use Rattle.cg_root.specs.Roots.{AreSegments, root_ids}
-use Rattle.cg_log.proofs.Switched.{content-switched, images-switched, ready-switched}
+use Rattle.cg_log.proofs.Switched.{after-switched, content-switched, images-switched, ready-switched}
 use Rattle.cg_log.proofs.log.Log.publish_switch.Goals as goal
 
 pub returns-in-Ok-clause-stored : goal.returns-in-Ok-clause-stored
@@ -17,23 +17,32 @@ returns-in-Ok-clause-stored g c has fresh log kept sum =
       holds = rw c.publish_next.ensures.same_size (content-switched old new size self.root next has fresh self.fresh.items c.args.cut next.base_number self.end self.fresh_end self.number c.requires.next c.requires.cut log.holds kept.holds (c.publish_next.ensures.time log.is_honest) sum (c.in-Ok.ensures.published log.is_honest));
     }
 
-pub returns-in-Ok-clause-images : goal.returns-in-Ok-clause-images
-returns-in-Ok-clause-images g c has fresh log kept sum =
+pub returns-in-Ok-clause-after : goal.returns-in-Ok-clause-after
+returns-in-Ok-clause-after g c has fresh log kept in_range =
     let self = c.args.self.now in
     let size = g.D.SectorDisk.size self.disk in
     let old = g.D.SectorDisk.history self.disk in
     let new = g.D.SectorDisk.history c.publish_next.new.disk in
     let next = c.args.next in
-    images-switched old new size self.root next has fresh self.fresh.items c.args.cut next.base_number self.end self.fresh_end self.number c.requires.next c.requires.cut log.holds kept.holds (c.publish_next.ensures.time log.is_honest) sum self.in_range (c.publish_next.ensures.any_moment log.is_honest)
+    after-switched old new size self.root next has fresh self.fresh.items c.args.cut next.base_number self.end self.fresh_end self.number c.requires.next c.requires.cut log.holds kept.holds (c.publish_next.ensures.time log.is_honest) in_range (c.in-Ok.ensures.published log.is_honest)
+
+pub returns-in-Ok-clause-images : goal.returns-in-Ok-clause-images
+returns-in-Ok-clause-images g c has fresh log kept in_range =
+    let self = c.args.self.now in
+    let size = g.D.SectorDisk.size self.disk in
+    let old = g.D.SectorDisk.history self.disk in
+    let new = g.D.SectorDisk.history c.publish_next.new.disk in
+    let next = c.args.next in
+    images-switched old new size self.root next has fresh self.fresh.items c.args.cut next.base_number self.end self.fresh_end self.number c.requires.next c.requires.cut log.holds kept.holds (c.publish_next.ensures.time log.is_honest) self.in_range in_range (c.publish_next.ensures.any_moment log.is_honest)
 
 pub returns-in-Err-Device-clause-images : goal.returns-in-Err-Device-clause-images
-returns-in-Err-Device-clause-images g c has fresh log kept sum =
+returns-in-Err-Device-clause-images g c has fresh log kept in_range =
     let self = c.args.self.now in
     let size = g.D.SectorDisk.size self.disk in
     let old = g.D.SectorDisk.history self.disk in
     let new = g.D.SectorDisk.history c.publish_next.new.disk in
     let next = c.args.next in
-    images-switched old new size self.root next has fresh self.fresh.items c.args.cut next.base_number self.end self.fresh_end self.number c.requires.next c.requires.cut log.holds kept.holds (c.publish_next.ensures.time log.is_honest) sum self.in_range (c.publish_next.ensures.any_moment log.is_honest)
+    images-switched old new size self.root next has fresh self.fresh.items c.args.cut next.base_number self.end self.fresh_end self.number c.requires.next c.requires.cut log.holds kept.holds (c.publish_next.ensures.time log.is_honest) self.in_range in_range (c.publish_next.ensures.any_moment log.is_honest)
 
 pub invariant_of-self-clause-ready : goal.invariant_of-self-clause-ready
 invariant_of-self-clause-ready g c serves honest1 =

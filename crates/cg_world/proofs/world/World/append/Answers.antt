@@ -6,7 +6,7 @@ use Rattle.cg_desk.specs.Desks.{state_of}
 use Rattle.cg_world.specs.Sights.{room_left}
 use Rattle.cg_world.specs.Transits.{is_appended}
 use Rattle.cg_world.specs.Turns.{in_flight}
-use Rattle.cg_world.proofs.Leaving.{owed-now, returned-kept}
+use Rattle.cg_world.proofs.Leaving.{returned-kept}
 use Rattle.cg_world.proofs.Moving.{appended-room, batch-out, done-for, failed-turn, full-for, it-was-taken, its-commands, never-failed, never-out-of-order, room-for}
 use Rattle.cg_world.proofs.world.World.append.Goals as goal
 
@@ -46,7 +46,7 @@ returns-in-Err-Device-default-clause-fits g c = room-for (state_of c.args.self.n
 pub returns-in-Err-Device-default-clause-after : goal.returns-in-Err-Device-default-clause-after
 returns-in-Err-Device-default-clause-after g c =
     failed-turn (state_of c.args.self.now.desk) (state_of c.fail.new.self) (is_appended c.args.self.now.transit) c.take_batch.new.self c.fail.result.items
-    (batch-out c.args.self.now.transit c.take_batch.new.self c.in-Some.batch (sym c.take_batch.ensures.value ∙ c.in-Some.is) c.take_batch.ensures.rest) c.fail.ensures.state (c.fail.ensures.order (owed-now (state_of c.args.self.now.desk) c.args.self.now.orderly))
+    (batch-out c.args.self.now.transit c.take_batch.new.self c.in-Some.batch (sym c.take_batch.ensures.value ∙ c.in-Some.is) c.take_batch.ensures.rest) c.fail.ensures.state c.fail.ensures.order
 
 pub returns-in-Err-Device-default-clause-room : goal.returns-in-Err-Device-default-clause-room
 returns-in-Err-Device-default-clause-room g c = ap (λ (b : Bool). room_left b (room_of c.append.new.self)) (c.in-Err-Device-default.ensures.failed c.in-Err-Device-default.field-0-0-is)

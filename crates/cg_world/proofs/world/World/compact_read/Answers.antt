@@ -3,7 +3,6 @@ use Rattle.cg_store.specs.Store.{front_of, has_failed, phase_of}
 use Rattle.cg_store.specs.declared.phase.Phase.TheVariants.{Reading, Writing}
 use Rattle.cg_desk.specs.Desks.{state_of}
 use Rattle.cg_world.proofs.Calls.{compact-agrees, compact-orderly, store-broken, store-serves, read-step}
-use Rattle.cg_world.proofs.Leaving.{owed-now}
 use Rattle.cg_world.proofs.world.World.compact_read.Goals as goal
 
 pub invariant_of-self-2 : goal.invariant_of-self-2
@@ -20,6 +19,6 @@ pub returns-clause-ok : goal.returns-clause-ok
 returns-clause-ok g c =
     read-step g.D.SectorDisk.is_honest g.D.SectorDisk.history c.args.self.now _ c.compact_read-called.result c.in_ok-note.note c.replies_of-out.result.items c.in_ok-note.ensures
     c.compact_read-called.ensures.stands c.compact_read-called.ensures.images c.compact_read-called.ensures.same_sectors
-    (record { same = c.replies_of-out.ensures.same; failed = c.replies_of-out.ensures.failed; order = λ is. c.replies_of-out.ensures.order is (owed-now (state_of c.args.self.now.desk) c.args.self.now.orderly) })
+    (record { same = c.replies_of-out.ensures.same; failed = c.replies_of-out.ensures.failed; order = c.replies_of-out.ensures.order })
     (record { phase_is = c.compact_read-called.ensures.phase; told = c.compact_read-called.ensures.told; serves = c.compact_read-called.ensures.serves; broken = c.compact_read-called.ensures.failed })
     (record { room_is = c.compact_read-called.ensures.same_room; left = c.compact_read-called.ensures.room }) c.compact_read-called.ensures.honest

@@ -3,7 +3,6 @@ use Rattle.cg_store.specs.Store.{front_of, has_failed, phase_of}
 use Rattle.cg_store.specs.declared.phase.Phase.TheVariants.{Idle, Reading}
 use Rattle.cg_desk.specs.Desks.{state_of}
 use Rattle.cg_world.proofs.Calls.{compact-agrees, compact-orderly, store-broken, store-serves, start-step}
-use Rattle.cg_world.proofs.Leaving.{owed-now}
 use Rattle.cg_world.proofs.world.World.compact_start.Goals as goal
 
 pub invariant_of-self-2 : goal.invariant_of-self-2
@@ -20,6 +19,6 @@ pub returns-clause-ok : goal.returns-clause-ok
 returns-clause-ok g c =
     start-step g.D.SectorDisk.is_honest g.D.SectorDisk.history c.args.self.now _ c.compact_start-called.result c.in_ok-note.note c.replies_of-out.result.items c.in_ok-note.ensures
     c.compact_start-called.ensures.stands c.compact_start-called.ensures.images c.compact_start-called.ensures.same_sectors
-    (record { same = c.replies_of-out.ensures.same; failed = c.replies_of-out.ensures.failed; order = λ is. c.replies_of-out.ensures.order is (owed-now (state_of c.args.self.now.desk) c.args.self.now.orderly) })
+    (record { same = c.replies_of-out.ensures.same; failed = c.replies_of-out.ensures.failed; order = c.replies_of-out.ensures.order })
     (record { phase_is = c.compact_start-called.ensures.phase; told = c.compact_start-called.ensures.told; serves = c.compact_start-called.ensures.serves; broken = c.compact_start-called.ensures.failed })
     (record { done = c.compact_start-called.ensures.done; clear = c.compact_start-called.ensures.clear; no_room = c.compact_start-called.ensures.no_room; room_is = c.compact_start-called.ensures.room; left = c.compact_start-called.ensures.room_left })

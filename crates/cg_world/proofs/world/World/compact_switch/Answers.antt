@@ -5,7 +5,6 @@ use Rattle.cg_store.specs.declared.phase.Phase.TheVariants.{Idle, Ready}
 use Rattle.cg_desk.specs.Desks.{state_of}
 use Rattle.cg_world.specs.Sights.{room_left}
 use Rattle.cg_world.proofs.Calls.{compact-agrees, compact-orderly, has-roots, kept-of, kept-roots, no-roots, same-room, switched-roots, store-broken, store-serves, switch-step}
-use Rattle.cg_world.proofs.Leaving.{owed-now}
 use Rattle.cg_world.proofs.world.World.compact_switch.Goals as goal
 
 pub invariant_of-self-2 : goal.invariant_of-self-2
@@ -22,6 +21,6 @@ pub returns-clause-ok : goal.returns-clause-ok
 returns-clause-ok g c =
     switch-step g.D.SectorDisk.is_honest g.D.SectorDisk.history c.args.self.now _ c.compact_switch-called.result c.in_ok-note.note c.replies_of-out.result.items c.in_ok-note.ensures
     c.compact_switch-called.ensures.stands c.compact_switch-called.ensures.images c.compact_switch-called.ensures.same_sectors
-    (record { same = c.replies_of-out.ensures.same; failed = c.replies_of-out.ensures.failed; order = λ is. c.replies_of-out.ensures.order is (owed-now (state_of c.args.self.now.desk) c.args.self.now.orderly) })
+    (record { same = c.replies_of-out.ensures.same; failed = c.replies_of-out.ensures.failed; order = c.replies_of-out.ensures.order })
     (record { phase_is = c.compact_switch-called.ensures.phase; told = c.compact_switch-called.ensures.told; serves = c.compact_switch-called.ensures.serves; broken = c.compact_switch-called.ensures.failed })
     (record { done = c.compact_switch-called.ensures.done; clear = has-roots (room_of c.args.self.now.store) c.compact_switch-called.result c.compact_switch-called.ensures.clear; no_room = λ is. no-roots (room_of c.args.self.now.store) (c.compact_switch-called.ensures.no_room is); root = switched-roots c.args.self.now.store c.compact_switch-called.new.self c.compact_switch-called.result c.compact_switch-called.ensures.told c.compact_switch-called.ensures.root c.compact_switch-called.ensures.clear; same_root = kept-roots c.args.self.now.store c.compact_switch-called.new.self c.compact_switch-called.result c.compact_switch-called.ensures.same_root; kept = kept-of (IsUnchanged c.args.self.now.store c.compact_switch-called.new.self) (room_left (has_failed c.compact_switch-called.new.self) (room_of c.compact_switch-called.new.self) ≡ room_left (has_failed c.args.self.now.store) (room_of c.args.self.now.store)) c.compact_switch-called.result (same-room c.args.self.now.store c.compact_switch-called.new.self) c.compact_switch-called.ensures.unchanged })

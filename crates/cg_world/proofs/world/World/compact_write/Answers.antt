@@ -5,7 +5,6 @@ use Rattle.cg_store.specs.declared.phase.Phase.TheVariants.{Writing, Ready}
 use Rattle.cg_desk.specs.Desks.{state_of}
 use Rattle.cg_world.specs.Sights.{room_left}
 use Rattle.cg_world.proofs.Calls.{compact-agrees, compact-orderly, kept-of, same-room, store-broken, store-serves, write-step}
-use Rattle.cg_world.proofs.Leaving.{owed-now}
 use Rattle.cg_world.proofs.world.World.compact_write.Goals as goal
 
 pub invariant_of-self-2 : goal.invariant_of-self-2
@@ -22,6 +21,6 @@ pub returns-clause-ok : goal.returns-clause-ok
 returns-clause-ok g c =
     write-step g.D.SectorDisk.is_honest g.D.SectorDisk.history c.args.self.now _ c.compact_write-called.result c.in_ok-note.note c.replies_of-out.result.items c.in_ok-note.ensures
     c.compact_write-called.ensures.stands c.compact_write-called.ensures.images c.compact_write-called.ensures.same_sectors
-    (record { same = c.replies_of-out.ensures.same; failed = c.replies_of-out.ensures.failed; order = λ is. c.replies_of-out.ensures.order is (owed-now (state_of c.args.self.now.desk) c.args.self.now.orderly) })
+    (record { same = c.replies_of-out.ensures.same; failed = c.replies_of-out.ensures.failed; order = c.replies_of-out.ensures.order })
     (record { phase_is = c.compact_write-called.ensures.phase; told = c.compact_write-called.ensures.told; serves = c.compact_write-called.ensures.serves; broken = c.compact_write-called.ensures.failed })
     (record { no_room = c.compact_write-called.ensures.no_room; same_tail = c.compact_write-called.ensures.same_tail; segments = c.compact_write-called.ensures.room; kept = kept-of (IsUnchanged c.args.self.now.store c.compact_write-called.new.self) (room_left (has_failed c.compact_write-called.new.self) (room_of c.compact_write-called.new.self) ≡ room_left (has_failed c.args.self.now.store) (room_of c.args.self.now.store)) c.compact_write-called.result (same-room c.args.self.now.store c.compact_write-called.new.self) c.compact_write-called.ensures.unchanged })

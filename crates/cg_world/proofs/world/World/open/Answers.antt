@@ -1,8 +1,12 @@
 use Rattle.std.proofs.Common.{◌∙◌, sym, ap, refl, subst, ℕ, rules}
+use Rattle.cg_desk.proofs.Recorded.{commands_make_records}
 use Rattle.cg_world.specs.Orderly.{IsOrderlyAt}
 use Rattle.cg_world.proofs.Leaving.{opened-orderly}
 use Rattle.cg_world.proofs.Opened.{same-opened}
 use Rattle.cg_world.proofs.world.World.open.Goals as goal
+
+pub serve-requires : goal.serve-requires
+serve-requires g c = commands_make_records c.in-Ok.found.2 c.in-Ok.ensures.made.0
 
 pub returns-clause-opened : goal.returns-clause-opened
 returns-clause-opened g c = (
