@@ -1,7 +1,6 @@
 -- The model of a disk that fails one call.
-use Rattle.std.specs.Prelude.{◌≡◌, ℕ, ◌+◌, ◌-◌, ◌^◌, ◌<◌, min, Bool, true, false, Option, None, List, length, replicate}
-use Rattle.cg_disk.specs.Countdown.{counted_down, fails_next}
-use Rattle.cg_disk.specs.Disk.{Counts}
+use Rattle.std.specs.Prelude.{◌≡◌, ℕ, ◌+◌, ◌-◌, ◌^◌, ◌<◌, min, Bool, Option, None, List, length, replicate}
+use Rattle.cg_disk.specs.Countdown.{CountsDown}
 use Rattle.cg_disk.specs.declared.once.OnceDisk.{OnceDisk}
 
 -- the wrapped disk
@@ -21,13 +20,8 @@ abbrev pub failures_of : {D : Type 0} → (D → ℕ) → OnceDisk D → ℕ
 failures_of failures disk = min (failures disk.inner + disk.failed) (2 ^ 64 - 1)
 
 -- one call: it is the one that fails, and no later one does, or it ends as on the wrapped disk
-pub record FailsOnce {D : Type 0} (failures : D → ℕ) (old new : OnceDisk D) (failed : Bool) : Type 0 where
-  pub fails : fails_next (once_of old) ≡ true → failed ≡ true
-  pub counts : fails_next (once_of old) ≡ true → failed_calls new ≡ min (failed_calls old + 1) (2 ^ 64 - 1)
-  pub later : fails_next (once_of old) ≡ true → once_of new ≡ None
-  pub sooner : fails_next (once_of old) ≡ false → once_of new ≡ counted_down (once_of old)
-  pub passes : fails_next (once_of old) ≡ false → Counts (failures (inner_of old)) (failures (inner_of new)) failed
-  pub stays : fails_next (once_of old) ≡ false → failed_calls new ≡ failed_calls old
+abbrev pub FailsOnce : {D : Type 0} → (D → ℕ) → OnceDisk D → OnceDisk D → Bool → Type 0
+FailsOnce failures old new = CountsDown None (old.calls, old.failed) (new.calls, new.failed) (failures old.inner) (failures new.inner)
 
 -- what a failed read or write leaves in the place of these bytes: the byte that opens a gate, everywhere
 abbrev pub left_bytes : List ℕ → List ℕ

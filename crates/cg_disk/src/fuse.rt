@@ -99,7 +99,7 @@ impl<D: SectorDisk> SectorDisk for FuseDisk<D> {
         ensures clock { D.is_honest (inner_of self.old) ≡ true → TakesCalls 1 (D.history (inner_of self.old)) (D.history (inner_of self.new)) (is_err result) }
         ensures cause { Counts (failures_of D.failures self.old) (failures_of D.failures self.new) (is_err result) }
     {
-        count_down(&mut self.calls, &mut self.blown)?;
+        count_down(&mut self.calls, &mut self.blown, Some(0))?;
         self.inner.read(at, bytes)
     }
 
@@ -122,7 +122,7 @@ impl<D: SectorDisk> SectorDisk for FuseDisk<D> {
         ensures clock { D.is_honest (inner_of self.old) ≡ true → TakesCalls 1 (D.history (inner_of self.old)) (D.history (inner_of self.new)) (is_err result) }
         ensures cause { Counts (failures_of D.failures self.old) (failures_of D.failures self.new) (is_err result) }
     {
-        count_down(&mut self.calls, &mut self.blown)?;
+        count_down(&mut self.calls, &mut self.blown, Some(0))?;
         self.inner.write(at, bytes)
     }
 
@@ -138,7 +138,7 @@ impl<D: SectorDisk> SectorDisk for FuseDisk<D> {
         ensures clock { D.is_honest (inner_of self.old) ≡ true → TakesCalls 1 (D.history (inner_of self.old)) (D.history (inner_of self.new)) (is_err result) }
         ensures cause { Counts (failures_of D.failures self.old) (failures_of D.failures self.new) (is_err result) }
     {
-        count_down(&mut self.calls, &mut self.blown)?;
+        count_down(&mut self.calls, &mut self.blown, Some(0))?;
         self.inner.sync()
     }
 }

@@ -64,23 +64,6 @@ impl<D: SectorDisk> OnceDisk<D> {
     }
 }
 
-impl<D: SectorDisk> OnceDisk<D> {
-    ghost use Rattle.cg_disk.specs.Once.{FailsOnce, inner_of, once_of};
-
-    // Counts a call, and reports `Device` if it is the one that fails.
-    fn count(&mut self) -> Result<(), DiskFault>
-        ensures inner { inner_of self.new ≡ inner_of self.old }
-        ensures fails { is_err result ≡ fails_next (once_of self.old) }
-        ensures once { FailsOnce (λ _. 0) self.old self.new (is_err result) }
-    {
-        let counted = count_down(&mut self.calls, &mut self.failed);
-        if counted.is_err() {
-            self.calls = None;
-        }
-        counted
-    }
-}
-
 // Fills the sectors of these bytes with the byte of a failed write, unless the allocation of that fails.
 fn spoil<D: SectorDisk>(alloc: Global, disk: &mut D, at: u64, bytes: &[u8])
     requires whole { IsWhole bytes.now }
@@ -131,7 +114,7 @@ impl<D: SectorDisk> SectorDisk for OnceDisk<D> {
         ensures clock { D.is_honest (inner_of self.old) ≡ true → TakesCalls 1 (D.history (inner_of self.old)) (D.history (inner_of self.new)) (is_err result) }
         ensures cause { Counts (failures_of D.failures self.old) (failures_of D.failures self.new) (is_err result) }
     {
-        if let Err(fault) = self.count() {
+        if let Err(fault) = count_down(&mut self.calls, &mut self.failed, None) {
             bytes.fill(LEFT_BYTE);
             return Err(fault);
         }
@@ -160,7 +143,7 @@ impl<D: SectorDisk> SectorDisk for OnceDisk<D> {
         ensures clock { D.is_honest (inner_of self.old) ≡ true → TakesCalls 1 (D.history (inner_of self.old)) (D.history (inner_of self.new)) (is_err result) }
         ensures cause { Counts (failures_of D.failures self.old) (failures_of D.failures self.new) (is_err result) }
     {
-        if let Err(fault) = self.count() {
+        if let Err(fault) = count_down(&mut self.calls, &mut self.failed, None) {
             spoil(self.alloc, &mut self.inner, at, bytes);
             return Err(fault);
         }
@@ -179,7 +162,7 @@ impl<D: SectorDisk> SectorDisk for OnceDisk<D> {
         ensures clock { D.is_honest (inner_of self.old) ≡ true → TakesCalls 1 (D.history (inner_of self.old)) (D.history (inner_of self.new)) (is_err result) }
         ensures cause { Counts (failures_of D.failures self.old) (failures_of D.failures self.new) (is_err result) }
     {
-        self.count()?;
+        count_down(&mut self.calls, &mut self.failed, None)?;
         self.inner.sync()
     }
 }
