@@ -1,13 +1,13 @@
 //! The trail of an engine, as the desk lock keeps it: each step of the desk in the machine's own order.
-ghost use Rattle.std.specs.Prelude.{◌≡◌};
+ghost use Rattle.std.specs.Prelude.{◌≡◌, IfOk};
 
 use crate::bounds::NUMBERED_SURELY;
 use crate::copies::{copied_replies, copied_reply};
 use crate::noted::Noted;
 use cg_desk::{Desk, Outgoing};
-use cg_group::{Event, Few, Listed, Reply, Request, Ticket};
+use cg_group::{Few, Listed, Reply, Request, Ticket};
 use cg_names::{Code, Moment};
-use cg_trail::{Replies, RequestEntry, TickEntry, Trail, TrailEntry};
+use cg_trail::{Replies, RequestEntry, TickEntry, Trail, TrailEntry, copied_request};
 use std::alloc::{AllocError, Global};
 use uuid::Uuid;
 
@@ -21,22 +21,6 @@ pub enum Recorder {
     On(Trail),
     /// An allocation failed, so that a step is missing.
     Lost,
-}
-
-// Returns the request of an event.
-fn request_of(event: Event) -> Option<Request> {
-    match event {
-        Event::Join(_, request, _) => Some(Request::Join(request)),
-        Event::Sync(_, request) => Some(Request::Sync(request)),
-        Event::Beat(_, request) => Some(Request::Beat(request)),
-        Event::Leave(_, request) => Some(Request::Leave(request)),
-        Event::Commit(_, request) => Some(Request::Commit(request)),
-        Event::Fetch(_, request) => Some(Request::Fetch(request)),
-        Event::Delete(_, group) => Some(Request::Delete(group)),
-        Event::Describe(_, group) => Some(Request::Describe(group)),
-        Event::List(_) => Some(Request::List),
-        Event::Gone(_) | Event::Tick => None,
-    }
 }
 
 // Copies replies that left.
@@ -120,7 +104,7 @@ impl Recorder {
         }
     }
 
-    /// Prepares for a request: makes room and copies it.
+    /// Prepares for a request: where a trail is kept, makes room and copies it. Returns the request.
     pub fn begin(
         &mut self,
         alloc: Global,
@@ -129,25 +113,21 @@ impl Recorder {
         request: Request,
         now: Moment,
         fresh: Uuid,
-    ) -> Result<(Request, Option<Begun>), AllocError> {
+    ) -> Result<(Request, Option<Begun>), AllocError>
+        ensures { IfOk result (λ begun. begun.0 ≡ request) }
+    {
         if !self.reserve()? {
             return Ok((request, None));
         }
-        let entry = TrailEntry::Request(RequestEntry {
+        let entry = RequestEntry {
             ticket,
-            request,
+            request: copied_request(alloc, &request)?,
             now,
             fresh,
             replies: Few::new(alloc),
-        });
-        let copy = entry.event(alloc)?;
-        match (entry, request_of(copy)) {
-            (TrailEntry::Request(entry), Some(request)) => {
-                let held = desk.held();
-                Ok((request, Some(Begun { entry, held })))
-            }
-            _ => Err(AllocError),
-        }
+        };
+        let held = desk.held();
+        Ok((request, Some(Begun { entry, held })))
     }
 
     /// Makes room for a tick. Returns how many steps the desk holds before it.

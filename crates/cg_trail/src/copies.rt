@@ -173,7 +173,7 @@ fn copied_fetch(alloc: Global, request: &FetchRequest) -> Result<FetchRequest, A
     Ok(FetchRequest { group, partitions })
 }
 
-/// Copies a request.
+/// Copies a request. Fails only if an allocation fails.
 pub fn copied_request(alloc: Global, request: &Request) -> Result<Request, AllocError>
     ensures { IfOk result (λ copy. copy ≡ request.now) }
 {

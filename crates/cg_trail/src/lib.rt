@@ -12,6 +12,7 @@ mod same_command;
 mod same_reply;
 mod trail;
 
+pub use copies::copied_request;
 pub use entry::{Replies, RequestEntry, TickEntry, TrailEntry};
 pub use replay::begins_with;
 pub use trail::Trail;
