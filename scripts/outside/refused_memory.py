@@ -9,6 +9,7 @@ import os
 import re
 import shutil
 import subprocess
+import tempfile
 from concurrent.futures import ThreadPoolExecutor
 from dataclasses import dataclass, field
 
@@ -104,30 +105,41 @@ class Ran:
     requests: int
 
 
-def play(program, library, row, script, at):
-    words, text = ["--segments", str(row.segments)], "".join(f"{it}\n" for it in script)
-    ran = subprocess.run([program, *words], input=text, capture_output=True, text=True, env=refusing(library, at), timeout=WAIT_SECONDS)
-    counted = COUNTED.search(ran.stderr)
-    return Ran(ran.returncode, ran.stdout.splitlines(), SAID in ran.stderr, int(counted[1]) if counted else 0)
+class Script:
+    """A script in a file, which each read fills as far as it can: from a pipe some runs would ask for memory once more."""
+
+    def __init__(self, lines, segments):
+        self.words = ["--segments", str(segments)]
+        self.file = tempfile.NamedTemporaryFile("w")
+        self.file.writelines(f"{it}\n" for it in lines)
+        self.file.flush()
+
+    def play(self, program, library, at):
+        with open(self.file.name, encoding="utf-8") as lines:
+            ran = subprocess.run([program, *self.words], stdin=lines, capture_output=True, text=True, env=refusing(library, at),
+                                 timeout=WAIT_SECONDS)
+        counted = COUNTED.search(ran.stderr)
+        return Ran(ran.returncode, ran.stdout.splitlines(), SAID in ran.stderr, int(counted[1]) if counted else 0)
 
 
 def requests_of(program, library, row, ample):
     """Returns which requests are refused. The last one is a request that no run makes."""
     if not row.before:
         return range(1, REQUESTS_MAX)
-    first, last = (play(program, library, row, with_offsets(lines, [0] * PARTITIONS), 0).requests
+    first, last = (Script(with_offsets(lines, [0] * PARTITIONS), row.segments).play(program, library, 0).requests
                    for lines in (row.before, row.before + row.lines))
-    return sorted({*range(1, ample.requests, STRIDE), *range(first + 1, last + 1), ample.requests + 1})
+    return [*sorted({*range(1, ample.requests, STRIDE), *range(first + 1, last + 1)}), REQUESTS_MAX]
 
 
 def refuse_each(program, library, row, crash):
     """Returns what is wrong with the first run that is, or None."""
-    script, sent = row.script(crash)
-    ample = play(program, library, row, script, 0)
+    lines, sent = row.script(crash)
+    script = Script(lines, row.segments)
+    ample = script.play(program, library, 0)
     if ample.status or any(is_short(it) for it in ample.lines):
         return f"with ample memory: status {ample.status}, {ample.lines}"
     for at in requests_of(program, library, row, ample):
-        ran = play(program, library, row, script, at)
+        ran = script.play(program, library, at)
         problem = problem_of(ran, ample.lines, sent)
         if problem:
             return f"request {at}: {problem}"
