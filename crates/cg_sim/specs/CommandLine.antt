@@ -38,7 +38,7 @@ WordsAskFor words segments = AsksFor (one_of (codes "segments") (matches_of sim_
 abbrev pub version_text : List ℕ
 version_text = codes "cg_sim " ++ VERSION.now ++ codes "\n"
 
--- the version was printed; otherwise that memory ran out was, unless a write failed
+-- the version was printed; otherwise that memory ran out was, unless the status is that of a failed write
 abbrev pub ShowsVersion : ℕ → Option (List ℕ) → Option (List ℕ) → Type 0
 ShowsVersion status old new = ((status ≡ STATUS_DONE) × Appends old new version_text) ⊎ EndsEarly stop.Memory status old new
 

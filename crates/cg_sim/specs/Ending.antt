@@ -17,11 +17,11 @@ status_of Device = STATUS_SHORT
 abbrev pub WritesThen : Option (List ℕ) → Option (List ℕ) → List ℕ → Type 0
 WritesThen old new last = (said : List ℕ) × Appends old new (said ++ last)
 
--- this cause was printed, and has this status; or a write failed
+-- this cause was printed, and has this status; or the status is that of a failed read or write, which has a clause of its own
 abbrev pub EndsEarly : Stop → ℕ → Option (List ℕ) → Option (List ℕ) → Type 0
 EndsEarly cause status old new = ((status ≡ status_of cause) × Appends old new (stop_text cause)) ⊎ (status ≡ STATUS_IO)
 
--- the script came to its end; a cause with this status was printed; or a read or a write failed
+-- the script came to its end; a cause with this status was printed; or the status is that of a failed read or write
 abbrev pub Ends : ℕ → Option (List ℕ) → Option (List ℕ) → Type 0
 Ends status old new = ((status ≡ STATUS_DONE) × WritesThen old new []) ⊎ ((cause : Stop) × (status ≡ status_of cause) × WritesThen old new (stop_text cause)) ⊎ (status ≡ STATUS_IO)
 

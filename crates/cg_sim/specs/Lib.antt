@@ -2,6 +2,7 @@ pub mod Text
 pub mod Line
 pub mod Reading
 pub mod Telling
+pub mod Watching
 pub mod Ending
 pub mod Disk
 pub mod SectorText

@@ -2,6 +2,9 @@
 //! lines from standard input, and prints the replies to standard output.
 #![tactic(auto)]
 
+ghost use Rattle.std.specs.Prelude.{◌≡◌};
+ghost use Rattle.cg_sim.specs.Watching.{HasFailed};
+
 mod advice;
 mod call;
 mod command;
@@ -23,6 +26,7 @@ mod telling;
 mod text;
 mod unloaded;
 mod version;
+mod watched;
 
 pub use command::command;
 pub use command_line::SEGMENTS_DEFAULT;
@@ -31,18 +35,20 @@ use std::env;
 use std::io::{self, BufReader, ErrorKind, Write};
 use std::process::ExitCode;
 use stop::Stop;
+pub use watched::Watched;
 
 fn main(rt: HostRuntime) -> ExitCode {
-    let mut writer = io::writer(&rt);
+    let mut writer = Watched::new(io::writer(&rt));
     let stderr = rt.stderr();
     let mut faults = &stderr;
     let words = match words(&rt) {
         Ok(words) => words,
         Err(error) => return ExitCode::from(refuse_encoding(&error, &mut writer, &mut faults)),
     };
-    let Ok(mut reader) = BufReader::new(rt.alloc(), rt.reader()) else {
+    let Ok(reader) = BufReader::new(rt.alloc(), rt.reader()) else {
         return ExitCode::from(script::end_early(&mut writer, Stop::Memory));
     };
+    let mut reader = Watched::new(reader);
     let words = after_name(words.as_slice());
     ExitCode::from(command(&rt, words, &mut reader, &mut writer, &mut faults))
 }
@@ -61,7 +67,13 @@ fn after_name(words: &[String]) -> &[String] {
 }
 
 // Reports why the words could not be copied: one is not text, or an allocation failed.
-fn refuse_encoding<W: Write, F: Write>(error: &io::Error, writer: &mut W, faults: &mut F) -> u8 {
+fn refuse_encoding<W: Write, F: Write>(
+    error: &io::Error,
+    writer: &mut Watched<W>,
+    faults: &mut F,
+) -> u8
+    ensures { result ≡ STATUS_IO → HasFailed writer.new }
+{
     match error.kind() {
         ErrorKind::OutOfMemory => script::end_early(writer, Stop::Memory),
         _ => {

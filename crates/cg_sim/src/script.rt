@@ -6,6 +6,7 @@ ghost use Rattle.cg_sim.specs.Disk.{disk_sectors};
 ghost use Rattle.cg_sim.specs.Ending.{Ends, EndsEarly, status_of};
 ghost use Rattle.cg_sim.specs.Stages.{size_of};
 ghost use Rattle.cg_sim.specs.Telling.{bad_line, stop_text};
+ghost use Rattle.cg_sim.specs.Watching.{HasFailed, Notes};
 
 use crate::advice::{Problem, problem_of};
 use crate::line::Line;
@@ -14,6 +15,7 @@ use crate::script_line::{read_line, without_end};
 use crate::stage::Stage;
 use crate::stop::Stop;
 use crate::unloaded::Unloaded;
+use crate::watched::Watched;
 use cg_disk::MemDisk;
 use cg_gate::{FIRST_SEGMENT_SECTOR, SEGMENT_SECTORS};
 use cg_names::Moment;
@@ -38,10 +40,11 @@ pub const STATUS_IO: u8 = 3;
 pub const STATUS_SHORT: u8 = 4;
 
 // Writes and flushes what was printed.
-fn emit<W: Write>(writer: &mut W, out: &mut Vec<u8>) -> Result<(), Stop>
-    ensures written { OnOk result (Appends (W.contents writer.old) (W.contents writer.new) out.old.items) }
+fn emit<W: Write>(writer: &mut Watched<W>, out: &mut Vec<u8>) -> Result<(), Stop>
+    ensures written { OnOk result (Appends (W.contents writer.old.inner) (W.contents writer.new.inner) out.old.items) }
     ensures empty { OnOk result (out.new.items ≡ []) }
     ensures io { IfErr result (λ stop. stop ≡ Stop.Io) }
+    ensures failed { Notes writer.old writer.new result }
 {
     if writer.write_all(out).is_err() || writer.flush().is_err() {
         return Err(Stop::Io);
@@ -61,7 +64,8 @@ fn disk_sectors(segments: u64) -> Option<u64>
 
 // Makes a formatted disk in memory with this many segments.
 fn formatted(alloc: Global, segments: u64) -> Result<MemDisk, Stop>
-    ensures { IfOk result (λ disk. mem_size disk ≡ disk_sectors segments) }
+    ensures size { IfOk result (λ disk. mem_size disk ≡ disk_sectors segments) }
+    ensures err { IfErr result (λ stop. (stop ≡ Stop.Memory) ⊎ (stop ≡ Stop.Device)) }
 {
     let sectors = disk_sectors(segments).ok_or(Stop::Memory)?;
     let mut disk = MemDisk::new(alloc, sectors)?;
@@ -74,12 +78,13 @@ fn formatted(alloc: Global, segments: u64) -> Result<MemDisk, Stop>
 
 // Writes what was printed. Ends with the cause `played` if there is one and the write succeeded.
 fn emit_before<W: Write>(
-    writer: &mut W,
+    writer: &mut Watched<W>,
     out: &mut Vec<u8>,
     played: Result<(), Stop>,
 ) -> Result<(), Stop>
-    ensures ok { OnOk result (Appends (W.contents writer.old) (W.contents writer.new) out.old.items) }
-    ensures err { IfErr result (λ stop. (stop ≡ Stop.Io) ⊎ Appends (W.contents writer.old) (W.contents writer.new) out.old.items) }
+    ensures ok { OnOk result (Appends (W.contents writer.old.inner) (W.contents writer.new.inner) out.old.items) }
+    ensures err { IfErr result (λ stop. (stop ≡ Stop.Io) ⊎ Appends (W.contents writer.old.inner) (W.contents writer.new.inner) out.old.items) }
+    ensures io { IfErr result (λ stop. stop ≡ Stop.Io → HasFailed writer.new ⊎ (played ≡ Err Stop.Io)) }
 {
     emit(writer, out)?;
     played?;
@@ -119,12 +124,14 @@ fn serve_lines<R: BufRead, W: Write>(
     mut stage: Stage,
     before: Result<(), Stop>,
     out: &mut Vec<u8>,
-    reader: &mut R,
-    writer: &mut W,
+    reader: &mut Watched<R>,
+    writer: &mut Watched<W>,
     problem: &mut Option<(u64, Problem)>,
 ) -> (Stage, Result<(), Stop>)
-    ensures written { (result.1 ≡ Err Stop.Io) ⊎ ((said : List ℕ) × Appends (W.contents writer.old) (W.contents writer.new) said) }
-    ensures end { (input : List ℕ) → R.remaining reader.old ≡ Some input → result.1 ≡ Ok tt → R.remaining reader.new ≡ Some [] }
+    requires { IfErr before (λ stop. stop ≡ Stop.Memory) }
+    ensures written { (result.1 ≡ Err Stop.Io) ⊎ ((said : List ℕ) × Appends (W.contents writer.old.inner) (W.contents writer.new.inner) said) }
+    ensures end { (input : List ℕ) → R.remaining reader.old.inner ≡ Some input → result.1 ≡ Ok tt → R.remaining reader.new.inner ≡ Some [] }
+    ensures io { result.1 ≡ Err Stop.Io → HasFailed reader.new ⊎ HasFailed writer.new }
     ensures same_size { size_of result.0 ≡ size_of stage }
 {
     let mut player = Player::new(alloc);
@@ -142,18 +149,20 @@ fn serve_lines<R: BufRead, W: Write>(
         }
         (stage, played) = player.play(stage, number, without_end(&line), out);
     }
-    (stage, Err(Stop::Io))
+    // No line has the number u64::MAX.
+    (stage, Err(Stop::BadLine(u64::MAX)))
 }
 
 // Plays a script on a disk.
 fn play_on<R: BufRead, W: Write>(
     alloc: Global,
     disk: MemDisk,
-    reader: &mut R,
-    writer: &mut W,
+    reader: &mut Watched<R>,
+    writer: &mut Watched<W>,
 ) -> Played
-    ensures written { (result.ended ≡ Err Stop.Io) ⊎ ((said : List ℕ) × Appends (W.contents writer.old) (W.contents writer.new) said) }
-    ensures end { (input : List ℕ) → R.remaining reader.old ≡ Some input → result.ended ≡ Ok tt → R.remaining reader.new ≡ Some [] }
+    ensures written { (result.ended ≡ Err Stop.Io) ⊎ ((said : List ℕ) × Appends (W.contents writer.old.inner) (W.contents writer.new.inner) said) }
+    ensures end { (input : List ℕ) → R.remaining reader.old.inner ≡ Some input → result.ended ≡ Ok tt → R.remaining reader.new.inner ≡ Some [] }
+    ensures io { result.ended ≡ Err Stop.Io → HasFailed reader.new ⊎ HasFailed writer.new }
     ensures disk { option_map mem_size result.disk ≡ Some (mem_size disk) }
 {
     let (mut out, mut problem) = (Vec::new(alloc), None);
@@ -168,9 +177,15 @@ fn play_on<R: BufRead, W: Write>(
     }
 }
 
-fn run<R: BufRead, W: Write>(alloc: Global, reader: &mut R, writer: &mut W, segments: u64) -> Played
-    ensures written { (result.ended ≡ Err Stop.Io) ⊎ ((said : List ℕ) × Appends (W.contents writer.old) (W.contents writer.new) said) }
-    ensures end { (input : List ℕ) → R.remaining reader.old ≡ Some input → result.ended ≡ Ok tt → R.remaining reader.new ≡ Some [] }
+fn run<R: BufRead, W: Write>(
+    alloc: Global,
+    reader: &mut Watched<R>,
+    writer: &mut Watched<W>,
+    segments: u64,
+) -> Played
+    ensures written { (result.ended ≡ Err Stop.Io) ⊎ ((said : List ℕ) × Appends (W.contents writer.old.inner) (W.contents writer.new.inner) said) }
+    ensures end { (input : List ℕ) → R.remaining reader.old.inner ≡ Some input → result.ended ≡ Ok tt → R.remaining reader.new.inner ≡ Some [] }
+    ensures io { result.ended ≡ Err Stop.Io → HasFailed reader.new ⊎ HasFailed writer.new }
     ensures size { IfSome result.disk (λ disk. mem_size disk ≡ disk_sectors segments) }
     ensures disk { result.ended ≡ Ok tt → is_some result.disk ≡ true }
 {
@@ -184,8 +199,9 @@ fn run<R: BufRead, W: Write>(alloc: Global, reader: &mut R, writer: &mut W, segm
     }
 }
 
-fn tell_bad_line<W: Write>(writer: &mut W, number: u64) -> io::Result<()>
-    ensures { OnOk result (Appends (W.contents writer.old) (W.contents writer.new) (bad_line number)) }
+fn tell_bad_line<W: Write>(writer: &mut Watched<W>, number: u64) -> io::Result<()>
+    ensures written { OnOk result (Appends (W.contents writer.old.inner) (W.contents writer.new.inner) (bad_line number)) }
+    ensures failed { Notes writer.old writer.new result }
 {
     let mut buffer = Buffer::new();
     writer.write_all(b"BAD SCRIPT LINE ")?;
@@ -195,8 +211,9 @@ fn tell_bad_line<W: Write>(writer: &mut W, number: u64) -> io::Result<()>
 }
 
 // Prints why a script ends early. Nothing is printed for a failed read or write.
-fn tell_stop<W: Write>(writer: &mut W, stop: Stop) -> io::Result<()>
-    ensures { OnOk result (Appends (W.contents writer.old) (W.contents writer.new) (stop_text stop)) }
+fn tell_stop<W: Write>(writer: &mut Watched<W>, stop: Stop) -> io::Result<()>
+    ensures written { OnOk result (Appends (W.contents writer.old.inner) (W.contents writer.new.inner) (stop_text stop)) }
+    ensures failed { Notes writer.old writer.new result }
 {
     match stop {
         Stop::BadLine(number) => tell_bad_line(writer, number)?,
@@ -217,9 +234,11 @@ fn status_of(stop: Stop) -> u8
     }
 }
 
-/// Prints why a script ends early, and returns the exit status.
-pub fn end_early<W: Write>(writer: &mut W, stop: Stop) -> u8
-    ensures { EndsEarly stop result (W.contents writer.old) (W.contents writer.new) }
+/// Prints why a script ends early, and returns the exit status. It is `STATUS_IO` only after a failed write, or if that is why.
+pub fn end_early<W: Write>(writer: &mut Watched<W>, stop: Stop) -> u8
+    ensures ends { EndsEarly stop result (W.contents writer.old.inner) (W.contents writer.new.inner) }
+    ensures io { result ≡ STATUS_IO → HasFailed writer.new ⊎ (stop ≡ Stop.Io) }
+    ensures noted { HasFailed writer.old → HasFailed writer.new }
 {
     match tell_stop(writer, stop) {
         Ok(()) => status_of(stop),
@@ -229,15 +248,16 @@ pub fn end_early<W: Write>(writer: &mut W, stop: Stop) -> u8
 
 /// Runs a script over a disk in memory with this many segments. Returns the exit status, and what the script left. The status is
 /// `STATUS_DONE` at its end, `STATUS_BAD_LINE` after a line `BAD SCRIPT LINE`, `STATUS_SHORT` after a last line `FAULT`, and
-/// `STATUS_IO` if a read or a write failed.
+/// `STATUS_IO` only if a read or a write failed.
 pub fn play<R: BufRead, W: Write>(
     alloc: Global,
-    reader: &mut R,
-    writer: &mut W,
+    reader: &mut Watched<R>,
+    writer: &mut Watched<W>,
     segments: u64,
 ) -> (u8, Played)
-    ensures ends { Ends result.0 (W.contents writer.old) (W.contents writer.new) }
-    ensures end { (input : List ℕ) → R.remaining reader.old ≡ Some input → result.0 ≡ STATUS_DONE → R.remaining reader.new ≡ Some [] }
+    ensures ends { Ends result.0 (W.contents writer.old.inner) (W.contents writer.new.inner) }
+    ensures io { result.0 ≡ STATUS_IO → HasFailed reader.new ⊎ HasFailed writer.new }
+    ensures end { (input : List ℕ) → R.remaining reader.old.inner ≡ Some input → result.0 ≡ STATUS_DONE → R.remaining reader.new.inner ≡ Some [] }
     ensures size { IfSome result.1.disk (λ disk. mem_size disk ≡ disk_sectors segments) }
     ensures disk { result.0 ≡ STATUS_DONE → is_some result.1.disk ≡ true }
 {
@@ -251,12 +271,13 @@ pub fn play<R: BufRead, W: Write>(
 /// Runs a script as `play` does, and returns the exit status.
 pub fn script<R: BufRead, W: Write>(
     alloc: Global,
-    reader: &mut R,
-    writer: &mut W,
+    reader: &mut Watched<R>,
+    writer: &mut Watched<W>,
     segments: u64,
 ) -> u8
-    ensures ends { Ends result (W.contents writer.old) (W.contents writer.new) }
-    ensures end { (input : List ℕ) → R.remaining reader.old ≡ Some input → result ≡ STATUS_DONE → R.remaining reader.new ≡ Some [] }
+    ensures ends { Ends result (W.contents writer.old.inner) (W.contents writer.new.inner) }
+    ensures io { result ≡ STATUS_IO → HasFailed reader.new ⊎ HasFailed writer.new }
+    ensures end { (input : List ℕ) → R.remaining reader.old.inner ≡ Some input → result ≡ STATUS_DONE → R.remaining reader.new.inner ≡ Some [] }
 {
     let (status, _played) = play(alloc, reader, writer, segments);
     status
