@@ -48,8 +48,8 @@ pub record Told (rs : List Outgoing) (tokens : List ReplyToken) (out : List Outg
   pub told : more ++ answering qs left ≡ out ++ answering rs tokens
   pub kept : after_answering qs left ≡ after_answering rs tokens
 
-pub told_then : (rs qs ps : List Outgoing) (tokens left last : List ReplyToken) (out more most : List Outgoing) → Told rs tokens out qs left more → Told qs left more ps last most → Told rs tokens out ps last most
-told_then rs qs ps tokens left last out more most a b = record { told = b.told ∙ a.told; kept = b.kept ∙ a.kept }
+pub told_then : {rs qs ps : List Outgoing} {tokens left last : List ReplyToken} {out more most : List Outgoing} → Told rs tokens out qs left more → Told qs left more ps last most → Told rs tokens out ps last most
+told_then a b = record { told = b.told ∙ a.told; kept = b.kept ∙ a.kept }
 
 -- the first replies are sent
 pub told_many : (items rs qs : List Outgoing) (tokens left : List ReplyToken) (out more : List Outgoing) → items ≡ rs ++ qs → left ≡ after_answering rs tokens → more ≡ out ++ answering rs tokens
@@ -77,12 +77,17 @@ told_one items rs r tokens left out more is taken grown =
     told_many items (r ∷ []) rs tokens left out more is (taken ∙ sym (after-single r tokens)) (grown ∙ ap (λ l. out ++ l) (sym (answering-single r tokens)))
 
 -- all replies are sent
-pub told_out : (rs : List Outgoing) (tokens left : List ReplyToken) (out more : List Outgoing) (qs : List Outgoing) → qs ≡ [] → Told rs tokens out qs left more → more ≡ out ++ answering rs tokens
-told_out rs tokens left out more qs none told =
-    sym (append-nil more) ∙ ap (λ l. more ++ l) (sym (answering-nil left)) ∙ ap (λ l. more ++ answering l left) (sym none) ∙ told.told
+pub told_out : {rs all qs out more : List Outgoing} {tokens left : List ReplyToken} → rs ≡ all → qs ≡ [] → Told rs tokens out qs left more → more ≡ out ++ answering all tokens
+told_out {out = out} {more = more} {tokens = tokens} {left = left} is none told =
+    sym (append-nil more)
+    ∙ ap (λ l. more ++ l) (sym (answering-nil left))
+    ∙ ap (λ l. more ++ answering l left) (sym none)
+    ∙ told.told
+    ∙ ap (λ l. out ++ answering l tokens) is
 
-pub told_tokens : (rs : List Outgoing) (tokens left : List ReplyToken) (out more : List Outgoing) (qs : List Outgoing) → qs ≡ [] → Told rs tokens out qs left more → left ≡ after_answering rs tokens
-told_tokens rs tokens left out more qs none told = sym (after-nil left) ∙ ap (λ l. after_answering l left) (sym none) ∙ told.kept
+pub told_tokens : {rs all qs out more : List Outgoing} {tokens left : List ReplyToken} → rs ≡ all → qs ≡ [] → Told rs tokens out qs left more → left ≡ after_answering all tokens
+told_tokens {tokens = tokens} {left = left} is none told =
+    sym (after-nil left) ∙ ap (λ l. after_answering l left) (sym none) ∙ told.kept ∙ ap (λ l. after_answering l tokens) is
 
 pub front_is : {X : Type 0} (items rest : List X) (x : X) → 0 < length items → x ≡ get_or items 0 x → rest ≡ drop 1 items → items ≡ x ∷ rest
 front_is [] rest x some front behind = absurd (omega arith)

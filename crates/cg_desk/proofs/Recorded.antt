@@ -1,10 +1,10 @@
 -- Lawful commands make lawful records.
-use Rattle.std.proofs.Common.{◌≡◌, ◌≤◌, ℕ, Bool, true, false, ◌&&◌, cond, not, List, [], ◌∷◌, map, Option, None, Some, IfSome, refl, sym, ap, subst}
+use Rattle.std.proofs.Common.{◌≡◌, ◌≤◌, ℕ, Bool, true, false, cond, not, List, [], ◌∷◌, map, Option, None, Some, IfSome, refl, sym, ap, subst}
 use Rattle.std.specs.List.{list_any}
 use Rattle.std.specs.Option.{option_map}
 use Rattle.std.specs.Ordering.{eq_by_cmp}
 use Rattle.std.specs.FinMap as finmap
-use Rattle.std.proofs.lemmas.Bool.{false≢true}
+use Rattle.std.proofs.lemmas.Bool.{and_parts, not-true}
 use Rattle.cg_fold.specs.declared.record.GroupRecord.{GroupRecord}
 use Rattle.cg_fold.specs.Durable.{State, after, effect, empty, with_member, with_record}
 use Rattle.cg_fold.specs.Grouped.{is_another}
@@ -24,20 +24,9 @@ use Rattle.cg_desk.specs.Laws.{CommandsMakeRecords}
 -- a member may replace another
 roster-at : (may : Bool) (new : Member) (roster : RosterParts) → may_replace new roster.members ≡ may → IsRoster roster
     → IsRoster (cond may (roster_of roster.protocol (leader_after new roster) (map (seated new) roster.members)) roster)
-roster-at true new roster is h = seated_roster new roster h (and-first (list_any (takes_place_of new) roster.members) (not (list_any (has_id_of_other new) roster.members)) is)
-    (not-false (list_any (has_id_of_other new) roster.members) (and-second (list_any (takes_place_of new) roster.members) (not (list_any (has_id_of_other new) roster.members)) is))
-  where
-    and-first : (a b : Bool) → (a && b) ≡ true → a ≡ true
-    and-first true b e = refl
-    and-first false b e = absurd (false≢true e)
-
-    and-second : (a b : Bool) → (a && b) ≡ true → b ≡ true
-    and-second true b e = e
-    and-second false b e = absurd (false≢true e)
-
-    not-false : (b : Bool) → not b ≡ true → b ≡ false
-    not-false true e = absurd (false≢true e)
-    not-false false e = refl
+roster-at true new roster is h =
+    let parts = and_parts (list_any (takes_place_of new) roster.members) (not (list_any (has_id_of_other new) roster.members)) is in
+    seated_roster new roster h parts.0 (not-true (list_any (has_id_of_other new) roster.members) parts.1)
 roster-at false new roster is h = h
 
 replaced-roster : (new : Member) (o : Option RosterParts) → IfSome o IsRoster → IfSome (option_map (replaced_in new) o) IsRoster

@@ -62,13 +62,9 @@ fn copied_offset(stored: &Option<StoredOffset>) -> Result<Option<StoredOffset>, 
 
 impl Copied for FetchedPartition {
     fn copied(&self) -> Result<Self, AllocError> {
-        let topic = self.topic.clone()?;
+        let key = self.key.clone()?;
         let stored = copied_offset(&self.stored)?;
-        Ok(FetchedPartition {
-            topic,
-            partition: self.partition,
-            stored,
-        })
+        Ok(FetchedPartition { key, stored })
     }
 }
 

@@ -1,11 +1,13 @@
 -- Offsets added to the shelf of a group.
-use Rattle.std.proofs.Common.{◌≡◌, ℕ, ◌+◌, List, [], length, Some, None, ap, sym, ◌∙◌, arith}
+use Rattle.std.proofs.Common.{◌≡◌, ℕ, ◌+◌, ◌<◌, true, List, [], ◌∷◌, length, Some, None, ap, sym, subst, ◌∙◌, arith}
 use Rattle.std.specs.Prelude.{IsTrue}
 use Rattle.std.specs.BTreeMap.{is_at}
-use Rattle.std.specs.List.{fold}
+use Rattle.std.specs.List.{fold, list_all}
 use Rattle.std.specs.Map.{lookup, set_value}
 use Rattle.std.specs.FinMap.{is_sorted, put}
+use Rattle.cg_record.specs.declared.entry.Entry.{Entry}
 use Rattle.cg_fold.specs.Key.{KeptRow, name_cmp, put_row}
+use Rattle.cg_fold.specs.Renewed.{has_row}
 use Rattle.cg_fold.specs.Shelf.{KeptShelf, rows_on, rows_at, with_more}
 use Rattle.cg_fold.proofs.KeyOrder.{name_total}
 use Rattle.cg_fold.proofs.Maps.{lookup-find, set_value-put}
@@ -40,3 +42,10 @@ module _ (before after : List KeptShelf) (group : List ℕ) (rows more : List Ke
   pub grown_between : (read : List KeptRow) → read ≡ rows → length (rows_at group after) ≡ length (rows_at group before) + length read
   grown_between read is =
       omega (arith, ap length held_none, ap length (is ∙ new), ap length (rows_at-more group before after more added_between ∙ ap (λ r. fold put_row r more) held_none))
+
+-- a group without a shelf has a row for no entry
+pub none_known : (shelves : List KeptShelf) (group : List ℕ) (entries : List Entry) → lookup (is_at (name_cmp group)) shelves ≡ None
+    → 0 < length entries → list_all (has_row (rows_at group shelves)) entries ≡ true → ⊥
+none_known shelves group [] absent some known = absurd (omega (arith, some))
+none_known shelves group (entry ∷ entries) absent some known =
+    absurd (cc (subst (λ r. list_all (has_row r) (entry ∷ entries) ≡ true) (ap rows_on (sym (lookup-find name_cmp group shelves) ∙ absent)) known))

@@ -6,15 +6,17 @@ use Rattle.std.specs.List.{AllByRecursion, IsDistinct}
 use Rattle.std.specs.Ordering.{is_lt}
 use Rattle.std.specs.Cmp.{tied_itself}
 use Rattle.std.specs.FinMap.{is_sorted}
+use Rattle.std.proofs.Math.Nat.{min-le_left, min-le_right, sub-add-min_cancel}
 use Rattle.std.proofs.lemmas.Bool.Decides.{Decides-eqb}
-use Rattle.std.proofs.lemmas.List.{length-map}
+use Rattle.std.proofs.lemmas.List.{length-map, length-take-le}
 use Rattle.std.proofs.lemmas.Slice.Eq.{bytes_eq-Decides}
 use Rattle.cg_record.specs.declared.command.Command.{Command}
 use Rattle.cg_record.specs.declared.entries.TheConstants.{ENTRIES_MAX}
 use Rattle.cg_record.specs.declared.entry.Entry.{Entry}
 use Rattle.cg_record.specs.Keys.{AreEntries, have_one_key}
-use Rattle.cg_fold.specs.Key.{KeptRow, topic_partition, partition_cmp}
-use Rattle.cg_fold.specs.Snapshot.{commit_command, commits_of, entry_of}
+use Rattle.cg_record.specs.Partitions.{partition_cmp, topic_partition}
+use Rattle.cg_fold.specs.Key.{KeptRow}
+use Rattle.cg_fold.specs.Snapshot.{CutsRuns, IsRun, commit_command, commits_by, commits_of, entry_of, first_len}
 use Rattle.cg_fold.proofs.KeyOrder.{partition_total}
 use Rattle.cg_fold.proofs.Place.{below_all, both}
 use Rattle.cg_fold.proofs.Put.{tested, is_true}
@@ -59,38 +61,58 @@ are_entries rows entries some few sorted is =
 
 -- ---- the list of commits
 
--- the bound on the number of offsets does not matter, if it is large enough
-commits_any : (most more : ℕ) (g : List ℕ) (rows : List KeptRow) → length rows ≤ most → length rows ≤ more → commits_of most g rows ≡ commits_of more g rows
-unfolding commits_of
-commits_any zero zero g rows le also = refl
-commits_any zero (suc more) g [] le also = refl
-commits_any zero (suc more) g (row ∷ rows) le also = absurd (omega (arith, le))
-commits_any (suc most) zero g [] le also = refl
-commits_any (suc most) zero g (row ∷ rows) le also = absurd (omega (arith, also))
-commits_any (suc most) (suc more) g [] le also = refl
-commits_any (suc most) (suc more) g (row ∷ rows) le also =
-    let shorter = length-drop ENTRIES_MAX (row ∷ rows) in
-    ap (λ l. commit_command g (take ENTRIES_MAX (row ∷ rows)) ∷ l) (commits_any most more g (drop ENTRIES_MAX (row ∷ rows)) (omega (arith, shorter, le)) (omega (arith, shorter, also)))
+-- a run has as many offsets as its length says
+pub length-run : {len : ℕ} (rows : List KeptRow) → IsRun rows len → length (take len rows) ≡ len
+length-run {len} rows is = length-take-le len rows is.within
 
-commits_first : (g : List ℕ) (rows : List KeptRow) → 0 < length rows → commits_of (length rows) g rows ≡ commit_command g (take ENTRIES_MAX rows) ∷ commits_of (length (drop ENTRIES_MAX rows)) g (drop ENTRIES_MAX rows)
-unfolding commits_of
-commits_first g [] some = absurd (omega (arith, some))
-commits_first g (row ∷ rows) some =
-    ap (λ l. commit_command g (take ENTRIES_MAX (row ∷ rows)) ∷ l)
-    (commits_any (length rows) (length (drop ENTRIES_MAX (row ∷ rows))) g (drop ENTRIES_MAX (row ∷ rows)) (omega (arith, length-drop ENTRIES_MAX (row ∷ rows))) (omega arith))
+-- the first of these offsets is in the first run
+pub fewer_left : (run : List KeptRow → ℕ) → CutsRuns run → (row : KeptRow) (rows : List KeptRow) → length (drop (run (row ∷ rows)) (row ∷ rows)) ≤ length rows
+fewer_left run cuts row rows = (let is = cuts (row ∷ rows) (omega arith) in omega (arith, is.some, length-drop (run (row ∷ rows)) (row ∷ rows)))
+
+-- the bound on the number of offsets does not matter, if it is large enough
+commits_any : (run : List KeptRow → ℕ) → CutsRuns run → (most more : ℕ) (g : List ℕ) (rows : List KeptRow) → length rows ≤ most → length rows ≤ more → commits_by run most g rows ≡ commits_by run more g rows
+unfolding commits_by
+commits_any run cuts zero zero g rows le also = refl
+commits_any run cuts zero (suc more) g [] le also = refl
+commits_any run cuts zero (suc more) g (row ∷ rows) le also = absurd (omega (arith, le))
+commits_any run cuts (suc most) zero g [] le also = refl
+commits_any run cuts (suc most) zero g (row ∷ rows) le also = absurd (omega (arith, also))
+commits_any run cuts (suc most) (suc more) g [] le also = refl
+commits_any run cuts (suc most) (suc more) g (row ∷ rows) le also =
+    let fewer = fewer_left run cuts row rows in
+    let len = run (row ∷ rows) in
+    ap (λ l. commit_command g (take len (row ∷ rows)) ∷ l) (commits_any run cuts most more g (drop len (row ∷ rows)) (omega (arith, fewer, le)) (omega (arith, fewer, also)))
+
+commits_first : (run : List KeptRow → ℕ) → CutsRuns run → (g : List ℕ) (rows : List KeptRow) → 0 < length rows
+    → commits_by run (length rows) g rows ≡ commit_command g (take (run rows) rows) ∷ commits_by run (length (drop (run rows) rows)) g (drop (run rows) rows)
+unfolding commits_by
+commits_first run cuts g [] some = absurd (omega (arith, some))
+commits_first run cuts g (row ∷ rows) some =
+    let len = run (row ∷ rows) in
+    ap (λ l. commit_command g (take len (row ∷ rows)) ∷ l)
+    (commits_any run cuts (length rows) (length (drop len (row ∷ rows))) g (drop len (row ∷ rows)) (fewer_left run cuts row rows) (omega arith))
+
+-- the rule of this coordinator
+pub first_run : CutsRuns first_len
+unfolding first_len
+first_run rows some = record {
+  some = omega (arith, sub-add-min_cancel (length rows) ENTRIES_MAX, some);
+  few = min-le_right (length rows) ENTRIES_MAX;
+  within = min-le_left (length rows) ENTRIES_MAX;
+}
 
 -- the first commit, appended, in the form of the call
 pub commits_pushed : (g : List ℕ) (rows first others : List KeptRow) (command : Command) (before after all : List Command) → 0 < length rows
-    → first ≡ take ENTRIES_MAX rows → others ≡ drop ENTRIES_MAX rows → command ≡ commit_command g first → after ≡ before ++ command ∷ []
+    → first ≡ take (first_len rows) rows → others ≡ drop (first_len rows) rows → command ≡ commit_command g first → after ≡ before ++ command ∷ []
     → before ++ commits_of (length rows) g rows ≡ all → after ++ commits_of (length others) g others ≡ all
 commits_pushed g rows first others command before after all some taken left is pushed rest =
     ap (λ l. l ++ commits_of (length others) g others) pushed
     ∙ append_assoc before (command ∷ []) (commits_of (length others) g others)
     ∙ ap (λ c. before ++ c ∷ commits_of (length others) g others) (is ∙ ap (commit_command g) taken)
-    ∙ ap (λ l. before ++ commit_command g (take ENTRIES_MAX rows) ∷ commits_of (length l) g l) left
-    ∙ ap (λ l. before ++ l) (sym (commits_first g rows some)) ∙ rest
+    ∙ ap (λ l. before ++ commit_command g (take (first_len rows) rows) ∷ commits_of (length l) g l) left
+    ∙ ap (λ l. before ++ l) (sym (commits_first first_len first_run g rows some)) ∙ rest
 
 pub commits_none : (g : List ℕ) (rows : List KeptRow) (before all : List Command) → length rows ≡ 0 → before ++ commits_of (length rows) g rows ≡ all → before ≡ all
-unfolding commits_of
+unfolding commits_by
 commits_none g [] before all none rest = sym (append-nil before) ∙ rest
 commits_none g (row ∷ rows) before all none rest = absurd (omega (arith, none))

@@ -14,12 +14,13 @@ use Rattle.cg_record.specs.declared.committed.Committed.{Committed}
 use Rattle.cg_record.specs.declared.replaced.Replaced.{Replaced}
 use Rattle.cg_record.specs.declared.deleted.Deleted.{Deleted}
 use Rattle.cg_record.specs.declared.member.Member.{Member}
-use Rattle.cg_fold.specs.declared.key.StoredOffset.{StoredOffset}
+use Rattle.cg_record.specs.declared.topic_partition.TopicPartition.{TopicPartition}
+use Rattle.cg_fold.specs.declared.stored_offset.StoredOffset.{StoredOffset}
 use Rattle.cg_fold.specs.declared.record.GroupRecord.{GroupRecord}
 use Rattle.cg_fold.specs.Key.{KeptOffset, key_cmp, name_cmp}
 use Rattle.cg_fold.specs.Record.{KeptRecord, replaced_record, put_found, replaced_among}
 use Rattle.cg_fold.specs.Grouped.{is_another}
-use Rattle.cg_fold.specs.Durable.{State, effect, with_entry, with_record, with_member, is_of_other, without_group}
+use Rattle.cg_fold.specs.Durable.{State, effect, with_entry, with_record, with_member, is_beside, is_of_other, without_group, without_offsets}
 use Rattle.cg_fold.proofs.KeyOrder.{name_total, name_same}
 use Rattle.cg_fold.proofs.Put.{tested, is_true, insert-from_sorted}
 
@@ -102,6 +103,12 @@ state-replace replaced new before after offsets now sorted named stored is =
     ∙ ap (λ found. with_member (state before offsets) replaced.group new found) (sym (map-get name_cmp before replaced.group sorted))
     ∙ ap (λ m. with_member (state before offsets) replaced.group m (map.get (records_of before) replaced.group)) named
     ∙ ap (λ s. with_member s replaced.group replaced.member (map.get s.records replaced.group)) is
+
+-- the state without some offsets of a group
+pub state-fewer : (group : List ℕ) (partitions : List TopicPartition) (records : List KeptRecord) (before after : Offsets) (now : State)
+    → after ≡ map.retain_keys before (is_beside group partitions) → state records before ≡ now → state records after ≡ without_offsets now group partitions
+state-fewer group partitions records before after now fewer is =
+    ap (state_of (records_of records)) fewer ∙ ap (λ s. without_offsets s group partitions) is
 
 -- the effect of a deletion
 pub state-delete : (deleted : Deleted) (before after : List KeptRecord) (offsets left : Offsets) (now : State) → IsTrue (is_sorted name_cmp before)

@@ -11,6 +11,7 @@ pub mod Own
 pub mod Stock
 pub mod Restock
 pub mod Added
+pub mod Fewer
 pub mod Commits
 pub mod Rebuilding
 pub mod Firsts

@@ -10,7 +10,7 @@ use Rattle.cg_fold.specs.declared.record.GroupRecord.{GroupRecord}
 use Rattle.cg_fold.specs.Key.{KeptRow, name_cmp}
 use Rattle.cg_fold.specs.Record.{KeptRecord}
 use Rattle.cg_fold.specs.Shelf.{KeptShelf, EachShelf, rows_at, rows_on, stock}
-use Rattle.cg_fold.specs.Snapshot.{Ascending, AreListed, ComesBefore, PopsFirst, commits_of, group_commands, groups_in, groups_of_either, in_order, left_of, listed, offsets_in, record_commands, snapshot_of}
+use Rattle.cg_fold.specs.Snapshot.{Ascending, AreListed, ComesBefore, PopsFirst, commits_by, commits_of, group_commands, group_commands_by, groups_in, groups_of_either, in_order, left_of, listed, offsets_in, record_commands, snapshot_of}
 use Rattle.cg_fold.proofs.KeyOrder.{name_total}
 use Rattle.cg_fold.proofs.Kept.{map-get, map_of}
 use Rattle.cg_fold.proofs.Names.{in_order_ascending}
@@ -38,7 +38,7 @@ of_group group held rows = record_commands group held ++ commits_of (length rows
 
 group_commands-listed : (records : List KeptRecord) (shelves : List KeptShelf) (group : List ℕ) → AreListed records shelves
     → group_commands (listed records shelves) group ≡ of_group group (find name_cmp group records) (rows_at group shelves)
-unfolding group_commands
+unfolding group_commands_by
 group_commands-listed records shelves group are =
     let rows : rows_at group shelves ≡ offsets_in (map_of (stock shelves)) group = shelves-group group (length (stock shelves)) shelves (map_of (stock shelves)) are.are_shelves refl in
     ap (λ held. of_group group held (offsets_in (map_of (stock shelves)) group)) (map-get name_cmp records group are.by_group)
@@ -99,7 +99,7 @@ left_none commands records shelves are none no_group =
 
 -- a group without offsets has no commits
 pub commits_absent : (group : List ℕ) (rows : Option (List KeptRow)) (commands : List Command) → rows ≡ None → commands ≡ commands ++ commits_of (length (rows_on rows)) group (rows_on rows)
-unfolding commits_of
+unfolding commits_by
 commits_absent group rows commands is = sym (ap (λ r. commands ++ commits_of (length (rows_on r)) group (rows_on r)) is ∙ append-nil commands)
 
 pub no_commands : (commands : List Command) → length commands ≡ 0 → commands ≡ []

@@ -9,19 +9,19 @@ use Rattle.std.specs.declared.cmp.Ordering.TheVariants.{Less, Equal, Greater}
 use Rattle.std.specs.FinMap as map
 use Rattle.std.specs.FinMap.{find, is_sorted}
 use Rattle.std.specs.FinMap.Entries.{is_sorted-where_key, find-where_key}
-use Rattle.std.proofs.lemmas.List.{map-append, take-append-drop, length-drop}
+use Rattle.std.proofs.lemmas.List.{map-append, take-append-drop}
 use Rattle.std.proofs.lemmas.List.Concat.{flat_map-cons}
 use Rattle.std.proofs.lemmas.List.Folds.{list_any-append}
 use Rattle.std.proofs.lemmas.Slice.Eq.{bytes_eq-Decides}
 use Rattle.std.proofs.Math.Bool.{or-true}
 use Rattle.std.proofs.lemmas.List.Sums.{fold-append}
-use Rattle.cg_record.specs.declared.entries.TheConstants.{ENTRIES_MAX}
 use Rattle.cg_record.specs.Rosters.{RosterParts}
-use Rattle.cg_fold.specs.declared.key.StoredOffset.{StoredOffset}
+use Rattle.cg_fold.specs.declared.stored_offset.StoredOffset.{StoredOffset}
 use Rattle.cg_fold.specs.declared.record.GroupRecord.{GroupRecord}
 use Rattle.cg_fold.specs.Key.{KeptOffset, KeptRow, OffsetKey, in_group, key_cmp, name_cmp}
 use Rattle.cg_fold.specs.Durable.{State, after, effect, empty, folded, with_entry, with_record}
-use Rattle.cg_fold.specs.Snapshot.{groups_in, in_order, record_command, record_commands, entry_of, commits_of, is_of_group, offsets_of, group_commands, snapshot_of}
+use Rattle.cg_fold.specs.Snapshot.{CutsRuns, groups_in, in_order, record_command, record_commands, entry_of, commits_by, first_len, is_of_group, offsets_of, group_commands_by, snapshot_by, snapshot_of}
+use Rattle.cg_fold.proofs.Commits.{fewer_left, first_run}
 use Rattle.cg_fold.proofs.KeyOrder.{key_total, key_same, name_total, name_same}
 use Rattle.cg_fold.proofs.Place.{below_all, both}
 use Rattle.cg_fold.proofs.Stock.{kept-filter, kept_all}
@@ -65,21 +65,22 @@ entries_as_rows group (row ∷ rows) offsets = entries_as_rows group rows (with_
 abbrev with_rows : State → List ℕ → List KeptRow → State
 with_rows state group rows = record state { offsets = fold with_kept state.offsets (kept_all group rows) }
 
-after_commits : (most : ℕ) (group : List ℕ) (rows : List KeptRow) (state : State) → length rows ≤ most → after state (commits_of most group rows) ≡ with_rows state group rows
-unfolding commits_of effect
-after_commits zero group [] state le = refl
-after_commits zero group (row ∷ rows) state le = absurd (omega arith)
-after_commits (suc most) group [] state le = refl
-after_commits (suc most) group (row ∷ rows) state le =
-    let first = take ENTRIES_MAX (row ∷ rows) in
-    let others = drop ENTRIES_MAX (row ∷ rows) in
-    let shorter : length others ≤ most = omega (arith, length-drop ENTRIES_MAX (row ∷ rows)) in
+after_commits : (run : List KeptRow → ℕ) → CutsRuns run → (most : ℕ) (group : List ℕ) (rows : List KeptRow) (state : State) → length rows ≤ most → after state (commits_by run most group rows) ≡ with_rows state group rows
+unfolding commits_by effect
+after_commits run cuts zero group [] state le = refl
+after_commits run cuts zero group (row ∷ rows) state le = absurd (omega arith)
+after_commits run cuts (suc most) group [] state le = refl
+after_commits run cuts (suc most) group (row ∷ rows) state le =
+    let len = run (row ∷ rows) in
+    let first = take len (row ∷ rows) in
+    let others = drop len (row ∷ rows) in
+    let shorter : length others ≤ most = omega (arith, fewer_left run cuts row rows) in
     let one : record state { offsets = fold (with_entry group) state.offsets (each entry_of first) } ≡ with_rows state group first =
     ap (λ m. record state { offsets = m }) (entries_as_rows group first state.offsets) in
     let joined : fold with_kept (fold with_kept state.offsets (kept_all group first)) (kept_all group others) ≡ fold with_kept state.offsets (kept_all group (row ∷ rows)) =
     sym (fold-append with_kept state.offsets (kept_all group first) (kept_all group others))
-    ∙ ap (fold with_kept state.offsets) (sym (map-append (in_group group) first others) ∙ ap (kept_all group) (take-append-drop ENTRIES_MAX (row ∷ rows))) in
-    ap (λ s. after s (commits_of most group others)) one ∙ after_commits most group others (with_rows state group first) shorter ∙ ap (λ m. record state { offsets = m }) joined
+    ∙ ap (fold with_kept state.offsets) (sym (map-append (in_group group) first others) ∙ ap (kept_all group) (take-append-drop len (row ∷ rows))) in
+    ap (λ s. after s (commits_by run most group others)) one ∙ after_commits run cuts most group others (with_rows state group first) shorter ∙ ap (λ m. record state { offsets = m }) joined
 
 -- ---- look-ups
 
@@ -121,12 +122,13 @@ record Holds (whole now : State) (done : List ℕ → Bool) : Type 0 where
 abbrev and_this : List ℕ → (List ℕ → Bool) → List ℕ → Bool
 and_this group done q = bytes_eq q group || done q
 
-after_group : (whole now : State) (group : List ℕ) → after now (group_commands whole group) ≡ with_rows (then_record now group (map.get whole.records group)) group (offsets_of whole group)
-unfolding group_commands
-after_group whole now group =
-    fold-append effect now (record_commands group (map.get whole.records group)) (commits_of (length (offsets_of whole group)) group (offsets_of whole group))
-    ∙ ap (λ s. after s (commits_of (length (offsets_of whole group)) group (offsets_of whole group))) (after_record now group (map.get whole.records group))
-    ∙ after_commits (length (offsets_of whole group)) group (offsets_of whole group) (then_record now group (map.get whole.records group)) (omega arith)
+after_group : (run : List KeptRow → ℕ) → CutsRuns run → (whole now : State) (group : List ℕ) → after now (group_commands_by run whole group) ≡ with_rows (then_record now group (map.get whole.records group)) group (offsets_of whole group)
+unfolding group_commands_by
+after_group run cuts whole now group =
+    let commits = commits_by run (length (offsets_of whole group)) group (offsets_of whole group) in
+    fold-append effect now (record_commands group (map.get whole.records group)) commits
+    ∙ ap (λ s. after s commits) (after_record now group (map.get whole.records group))
+    ∙ after_commits run cuts (length (offsets_of whole group)) group (offsets_of whole group) (then_record now group (map.get whole.records group)) (omega arith)
 
 records_then : (whole now : State) (group : List ℕ) (done : List ℕ → Bool) (held : Option GroupRecord) (q : List ℕ) → map.get whole.records group ≡ held
     → map.get now.records q ≡ cond (done q) (map.get whole.records q) None → map.get (then_record now group held).records q ≡ cond (bytes_eq q group || done q) (map.get whole.records q) None
@@ -153,15 +155,15 @@ offsets_then true true None = refl
 offsets_then true false None = refl
 offsets_then false d there = refl
 
-holds_on : (whole now : State) (group : List ℕ) (done : List ℕ → Bool) → Holds whole now done → Holds whole (after now (group_commands whole group)) (and_this group done)
-holds_on whole now group done holds = record {
-  records = λ q. ap (λ (s : State). map.get s.records q) (after_group whole now group) ∙ records_then whole now group done (map.get whole.records group) q refl (holds.records q);
+holds_on : (run : List KeptRow → ℕ) → CutsRuns run → (whole now : State) (group : List ℕ) (done : List ℕ → Bool) → Holds whole now done → Holds whole (after now (group_commands_by run whole group)) (and_this group done)
+holds_on run cuts whole now group done holds = record {
+  records = λ q. ap (λ (s : State). map.get s.records q) (after_group run cuts whole now group) ∙ records_then whole now group done (map.get whole.records group) q refl (holds.records q);
   offsets = λ k.
       let own = filter (λ kept. is_of_group group kept.0) (map.entries whole.offsets) in
       let found : find key_cmp k own ≡ cond (is_of_group group k) (map.get whole.offsets k) None =
       find-where_key key_cmp (is_of_group group) k (λ x tie. ap (is_of_group group) (sym (key_same k x tie))) (map.entries whole.offsets)
       ∙ ap (λ o. cond (is_of_group group k) o None) (sym (map.get-entries whole.offsets k)) in
-      ap (λ (s : State). map.get s.offsets k) (after_group whole now group)
+      ap (λ (s : State). map.get s.offsets k) (after_group run cuts whole now group)
       ∙ ap (λ l. map.get (fold with_kept (then_record now group (map.get whole.records group)).offsets l) k) (kept-filter group (map.entries whole.offsets))
       ∙ get-with_kept own (then_record now group (map.get whole.records group)).offsets k (is_sorted-where_key key_cmp (is_of_group group) (map.entries whole.offsets) (map.entries_sorted whole.offsets))
       ∙ ap (λ m. or_else (find key_cmp k own) (map.get m k)) (offsets_unmoved now group (map.get whole.records group))
@@ -176,12 +178,12 @@ or_turned true false d = refl
 or_turned false true d = refl
 or_turned false false d = refl
 
-holds_all : (whole : State) (groups : List (List ℕ)) (now : State) (done : List ℕ → Bool) → Holds whole now done → Holds whole (after now (flat_map (group_commands whole) groups)) (λ q. list_any (bytes_eq q) groups || done q)
-holds_all whole [] now done holds = record { records = holds.records; offsets = holds.offsets }
-holds_all whole (group ∷ groups) now done holds =
-    let next = holds_all whole groups (after now (group_commands whole group)) (and_this group done) (holds_on whole now group done holds) in
-    let split : after now (flat_map (group_commands whole) (group ∷ groups)) ≡ after (after now (group_commands whole group)) (flat_map (group_commands whole) groups) =
-    ap (after now) (flat_map-cons (group_commands whole) group groups) ∙ fold-append effect now (group_commands whole group) (flat_map (group_commands whole) groups) in
+holds_all : (run : List KeptRow → ℕ) → CutsRuns run → (whole : State) (groups : List (List ℕ)) (now : State) (done : List ℕ → Bool) → Holds whole now done → Holds whole (after now (flat_map (group_commands_by run whole) groups)) (λ q. list_any (bytes_eq q) groups || done q)
+holds_all run cuts whole [] now done holds = record { records = holds.records; offsets = holds.offsets }
+holds_all run cuts whole (group ∷ groups) now done holds =
+    let next = holds_all run cuts whole groups (after now (group_commands_by run whole group)) (and_this group done) (holds_on run cuts whole now group done holds) in
+    let split : after now (flat_map (group_commands_by run whole) (group ∷ groups)) ≡ after (after now (group_commands_by run whole group)) (flat_map (group_commands_by run whole) groups) =
+    ap (after now) (flat_map-cons (group_commands_by run whole) group groups) ∙ fold-append effect now (group_commands_by run whole group) (flat_map (group_commands_by run whole) groups) in
     record {
       records = λ q. ap (λ (s : State). map.get s.records q) split ∙ next.records q ∙ ap (λ b. cond b (map.get whole.records q) None) (or_turned (bytes_eq q group) (list_any (bytes_eq q) groups) (done q));
       offsets = λ k. ap (λ (s : State). map.get s.offsets k) split ∙ next.offsets k ∙ ap (λ b. cond b (map.get whole.offsets k) None) (or_turned (bytes_eq k.group group) (list_any (bytes_eq k.group) groups) (done k.group));
@@ -227,11 +229,14 @@ offset_covered state k there =
 nothing_holds : (whole : State) → Holds whole empty (λ q. false)
 nothing_holds whole = record { records = λ q. map.get-empty name_cmp q; offsets = λ k. map.get-empty key_cmp k }
 
-pub folded_snapshot : (state : State) → folded (snapshot_of state) ≡ state
-folded_snapshot state =
-    let all = holds_all state (in_order (groups_in state)) empty (λ q. false) (nothing_holds state) in
-    let records : (folded (snapshot_of state)).records ≡ state.records =
+pub folded_by : (run : List KeptRow → ℕ) → CutsRuns run → (state : State) → folded (snapshot_by run state) ≡ state
+folded_by run cuts state =
+    let all = holds_all run cuts state (in_order (groups_in state)) empty (λ q. false) (nothing_holds state) in
+    let records : (folded (snapshot_by run state)).records ≡ state.records =
     map.same_map name_total name_same _ _ (λ q. all.records q ∙ covered (map.get state.records q) (list_any (bytes_eq q) (in_order (groups_in state))) (record_covered state q)) in
-    let offsets : (folded (snapshot_of state)).offsets ≡ state.offsets =
+    let offsets : (folded (snapshot_by run state)).offsets ≡ state.offsets =
     map.same_map key_total key_same _ _ (λ k. all.offsets k ∙ covered (map.get state.offsets k) (list_any (bytes_eq k.group) (in_order (groups_in state))) (offset_covered state k)) in
-    ap (λ m. state_from m (folded (snapshot_of state)).offsets) records ∙ ap (state_from state.records) offsets
+    ap (λ m. state_from m (folded (snapshot_by run state)).offsets) records ∙ ap (state_from state.records) offsets
+
+pub folded_snapshot : (state : State) → folded (snapshot_of state) ≡ state
+folded_snapshot state = folded_by first_len first_run state

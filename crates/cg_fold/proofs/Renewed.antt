@@ -8,10 +8,11 @@ use Rattle.std.specs.FinMap.{find}
 use Rattle.std.specs.List.{fold, prefix_len}
 use Rattle.std.specs.Ordering.{is_eq, is_lt}
 use Rattle.cg_record.specs.declared.entry.Entry.{Entry}
-use Rattle.cg_fold.specs.declared.key.StoredOffset.{StoredOffset}
-use Rattle.cg_fold.specs.declared.key.TopicPartition.{TopicPartition}
+use Rattle.cg_fold.specs.declared.stored_offset.StoredOffset.{StoredOffset}
+use Rattle.cg_record.specs.declared.topic_partition.TopicPartition.{TopicPartition}
 use Rattle.cg_fold.specs.declared.renewals.Renewal.{Renewal}
-use Rattle.cg_fold.specs.Key.{IsOwn, KeptRow, is_below, topic_partition, partition_cmp, put_row}
+use Rattle.cg_record.specs.Partitions.{partition_cmp, topic_partition}
+use Rattle.cg_fold.specs.Key.{IsOwn, KeptRow, is_below, put_row}
 use Rattle.cg_fold.specs.Renewed.{AreBelow, AreRenewals, IsRenewal, has_row, renewed}
 use Rattle.cg_fold.proofs.KeyOrder.{partition_total}
 use Rattle.cg_fold.proofs.Place.{put-same}
@@ -114,5 +115,5 @@ has-key key (row ∷ rows) = is_some-cond (is_eq (partition_cmp key row.0)) row.
 
 pub has_row-renewed : (rows new : List KeptRow) (renewal : Renewal) (entry : Entry) → new ≡ renewed rows renewal → has_row new entry ≡ has_row rows entry
 has_row-renewed rows new renewal entry is =
-    let key = topic_partition entry.topic entry.partition in
+    let key = entry.key in
     has-key key new ∙ ap (λ l. any_key key (keys l)) is ∙ ap (any_key key) (keys-renewed rows renewal) ∙ sym (has-key key rows)

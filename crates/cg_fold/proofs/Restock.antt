@@ -13,9 +13,10 @@ use Rattle.std.specs.FinMap.Entries.{by_order, find-put, find-where_key}
 use Rattle.std.proofs.lemmas.Slice.Eq.{bytes_eq-Decides}
 use Rattle.cg_record.specs.declared.committed.Committed.{Committed}
 use Rattle.cg_record.specs.declared.entry.Entry.{Entry}
-use Rattle.cg_fold.specs.declared.key.StoredOffset.{StoredOffset}
-use Rattle.cg_fold.specs.declared.key.TopicPartition.{TopicPartition}
-use Rattle.cg_fold.specs.Key.{KeptOffset, KeptRow, OffsetKey, key_cmp, key_of, name_cmp, partition_cmp, put_row, row_of, rows_of}
+use Rattle.cg_fold.specs.declared.stored_offset.StoredOffset.{StoredOffset}
+use Rattle.cg_record.specs.declared.topic_partition.TopicPartition.{TopicPartition}
+use Rattle.cg_record.specs.Partitions.{partition_cmp}
+use Rattle.cg_fold.specs.Key.{KeptOffset, KeptRow, OffsetKey, key_cmp, key_of, name_cmp, put_row, row_of, rows_of}
 use Rattle.cg_fold.specs.Grouped.{is_another}
 use Rattle.cg_fold.specs.Shelf.{KeptShelf, AreShelfRows, EachShelf, AreShelves, stock, rows_on, rows_at, with_more}
 use Rattle.cg_fold.specs.Durable.{is_of_other, with_entry}
@@ -24,7 +25,7 @@ use Rattle.cg_fold.proofs.Place.{above_all, below_all, both}
 use Rattle.cg_fold.proofs.Put.{tested, is_true, sorted-put, put_keeps_order}
 use Rattle.cg_fold.proofs.Own.{length-fold, sorted-fold, some-more}
 use Rattle.cg_fold.proofs.Names.{strange, tied}
-use Rattle.cg_fold.proofs.Stock.{EachSound, at_of, kept_all, sound, none_above, get-stock}
+use Rattle.cg_fold.proofs.Stock.{EachSound, kept_all, sound, none_above, get-stock}
 use Rattle.cg_fold.proofs.Kept.{Offsets, map_of, filter_keeps_order}
 
 -- ---- a shelf inserted among the others
@@ -38,7 +39,7 @@ sound-put g rows (s ∷ shelves) sorted each = step (name_cmp g s.0) (sound-put 
     step Equal rest = (sorted, each.1)
     step Greater rest = (each.0, rest)
 
-each-put : (g : List ℕ) (rows : List KeptRow) (shelves : List KeptShelf) → AreShelfRows rows → EachShelf shelves → EachShelf (put name_cmp g rows shelves)
+pub each-put : (g : List ℕ) (rows : List KeptRow) (shelves : List KeptShelf) → AreShelfRows rows → EachShelf shelves → EachShelf (put name_cmp g rows shelves)
 each-put g rows [] new each = (new, tt)
 each-put g rows (s ∷ shelves) new each = step (name_cmp g s.0) (each-put g rows shelves new each.1)
   where
@@ -51,10 +52,10 @@ on-cond : (b : Bool) (rows : List KeptRow) (found : Option (List KeptRow)) → r
 on-cond true rows found = refl
 on-cond false rows found = refl
 
-rows_at-put : (q g : List ℕ) (rows : List KeptRow) (shelves : List KeptShelf) → rows_at q (put name_cmp g rows shelves) ≡ cond (eq_by_cmp name_cmp q g) rows (rows_at q shelves)
+pub rows_at-put : (q g : List ℕ) (rows : List KeptRow) (shelves : List KeptShelf) → rows_at q (put name_cmp g rows shelves) ≡ cond (eq_by_cmp name_cmp q g) rows (rows_at q shelves)
 rows_at-put q g rows shelves = ap rows_on (find-put name_cmp name_total q g rows shelves) ∙ on-cond (eq_by_cmp name_cmp q g) rows (find name_cmp q shelves)
 
-sorted-at : (g : List ℕ) (shelves : List KeptShelf) → EachSound shelves → T (is_sorted partition_cmp (rows_at g shelves))
+pub sorted-at : (g : List ℕ) (shelves : List KeptShelf) → EachSound shelves → T (is_sorted partition_cmp (rows_at g shelves))
 sorted-at g [] each = tt
 sorted-at g (s ∷ shelves) each = step (eq_by_cmp name_cmp g s.0) (sorted-at g shelves each.1)
   where
@@ -64,21 +65,21 @@ sorted-at g (s ∷ shelves) each = step (eq_by_cmp name_cmp g s.0) (sorted-at g 
 
 -- ---- the map of the shelves with these rows for one group
 
-abbrev mapped : List ℕ → List KeptRow → List KeptShelf → Offsets
+abbrev pub mapped : List ℕ → List KeptRow → List KeptShelf → Offsets
 mapped g rows shelves = map_of (stock (put name_cmp g rows shelves))
 
-get-mapped : (k : OffsetKey) (g : List ℕ) (rows : List KeptRow) (shelves : List KeptShelf) → T (is_sorted partition_cmp rows) → T (is_sorted name_cmp shelves) → EachSound shelves
-    → map.get (mapped g rows shelves) k ≡ find partition_cmp (at_of k) (cond (eq_by_cmp name_cmp k.group g) rows (rows_at k.group shelves))
+pub get-mapped : (k : OffsetKey) (g : List ℕ) (rows : List KeptRow) (shelves : List KeptShelf) → T (is_sorted partition_cmp rows) → T (is_sorted name_cmp shelves) → EachSound shelves
+    → map.get (mapped g rows shelves) k ≡ find partition_cmp k.partition (cond (eq_by_cmp name_cmp k.group g) rows (rows_at k.group shelves))
 get-mapped k g rows shelves sorted in_order each =
     get-stock k (put name_cmp g rows shelves) (sorted-put name_total g rows shelves in_order) (sound-put g rows shelves sorted each)
-    ∙ ap (find partition_cmp (at_of k)) (rows_at-put k.group g rows shelves)
+    ∙ ap (find partition_cmp k.partition) (rows_at-put k.group g rows shelves)
 
 -- a key of the group has the partition or another one; a key of another group differs
 tie-within : (q : OffsetKey) (g : List ℕ) (at : TopicPartition) (b : Bool) → eq_by_cmp name_cmp q.group g ≡ b
-    → eq_by_cmp key_cmp q (key_of g at.topic at.partition) ≡ cond b (eq_by_cmp partition_cmp (at_of q) at) false
+    → eq_by_cmp key_cmp q (key_of g at) ≡ cond b (eq_by_cmp partition_cmp q.partition at) false
 tie-within q g at b is = step (name_cmp q.group g) refl b is
   where
-    step : (o : Ordering) → name_cmp q.group g ≡ o → (b : Bool) → is_eq o ≡ b → is_eq (ordering_then o (partition_cmp (at_of q) at)) ≡ cond b (is_eq (partition_cmp (at_of q) at)) false
+    step : (o : Ordering) → name_cmp q.group g ≡ o → (b : Bool) → is_eq o ≡ b → is_eq (ordering_then o (partition_cmp q.partition at)) ≡ cond b (is_eq (partition_cmp q.partition at)) false
     step Less o-is true is = absurd (cc is)
     step Less o-is false is = refl
     step Equal o-is true is = refl
@@ -87,19 +88,19 @@ tie-within q g at b is = step (name_cmp q.group g) refl b is
     step Greater o-is false is = refl
 
 insert-mapped : (g : List ℕ) (at : TopicPartition) (v : StoredOffset) (rows : List KeptRow) (shelves : List KeptShelf) → T (is_sorted partition_cmp rows) → T (is_sorted name_cmp shelves) → EachSound shelves
-    → map.insert (mapped g rows shelves) (key_of g at.topic at.partition) v ≡ mapped g (put_row rows (at, v)) shelves
+    → map.insert (mapped g rows shelves) (key_of g at) v ≡ mapped g (put_row rows (at, v)) shelves
 insert-mapped g at v rows shelves sorted in_order each =
-    let key = key_of g at.topic at.partition in
+    let key = key_of g at in
     map.same_map key_total key_same _ _ (λ q.
     map.get-insert key_total (mapped g rows shelves) key v q
     ∙ ap (cond (eq_by_cmp key_cmp q key) (Some v)) (get-mapped q g rows shelves sorted in_order each)
-    ∙ ap (λ b. cond b (Some v) (find partition_cmp (at_of q) (cond (eq_by_cmp name_cmp q.group g) rows (rows_at q.group shelves)))) (tie-within q g at (eq_by_cmp name_cmp q.group g) refl)
+    ∙ ap (λ b. cond b (Some v) (find partition_cmp q.partition (cond (eq_by_cmp name_cmp q.group g) rows (rows_at q.group shelves)))) (tie-within q g at (eq_by_cmp name_cmp q.group g) refl)
     ∙ step q (eq_by_cmp name_cmp q.group g)
     ∙ sym (get-mapped q g (put_row rows (at, v)) shelves (sorted-put partition_total at v rows sorted) in_order each))
   where
     step : (q : OffsetKey) (b : Bool)
-        → cond (cond b (eq_by_cmp partition_cmp (at_of q) at) false) (Some v) (find partition_cmp (at_of q) (cond b rows (rows_at q.group shelves))) ≡ find partition_cmp (at_of q) (cond b (put_row rows (at, v)) (rows_at q.group shelves))
-    step q true = sym (find-put partition_cmp partition_total (at_of q) at v rows)
+        → cond (cond b (eq_by_cmp partition_cmp q.partition at) false) (Some v) (find partition_cmp q.partition (cond b rows (rows_at q.group shelves))) ≡ find partition_cmp q.partition (cond b (put_row rows (at, v)) (rows_at q.group shelves))
+    step q true = sym (find-put partition_cmp partition_total q.partition at v rows)
     step q false = refl
 
 fold-mapped : (g : List ℕ) (entries : List Entry) (rows : List KeptRow) (shelves : List KeptShelf) → T (is_sorted partition_cmp rows) → T (is_sorted name_cmp shelves) → EachSound shelves
@@ -117,8 +118,8 @@ mapped-same g shelves in_order each =
     get-stock q shelves in_order each ∙ step q (eq_by_cmp name_cmp q.group g) refl
     ∙ sym (get-mapped q g (rows_at g shelves) shelves (sorted-at g shelves each) in_order each))
   where
-    step : (q : OffsetKey) (b : Bool) → eq_by_cmp name_cmp q.group g ≡ b → find partition_cmp (at_of q) (rows_at q.group shelves) ≡ find partition_cmp (at_of q) (cond b (rows_at g shelves) (rows_at q.group shelves))
-    step q true is = ap (λ h. find partition_cmp (at_of q) (rows_at h shelves)) (tied q.group g is)
+    step : (q : OffsetKey) (b : Bool) → eq_by_cmp name_cmp q.group g ≡ b → find partition_cmp q.partition (rows_at q.group shelves) ≡ find partition_cmp q.partition (cond b (rows_at g shelves) (rows_at q.group shelves))
+    step q true is = ap (λ h. find partition_cmp q.partition (rows_at h shelves)) (tied q.group g is)
     step q false is = refl
 
 -- the effect of a commit on the map
@@ -138,7 +139,7 @@ length-kept : (g : List ℕ) (rows : List KeptRow) (others : List KeptOffset) �
 length-kept g [] others = omega arith
 length-kept g (row ∷ rows) others = omega (arith, length-kept g rows others)
 
-length-stock-put : (g : List ℕ) (rows : List KeptRow) (shelves : List KeptShelf) → T (is_sorted name_cmp shelves)
+pub length-stock-put : (g : List ℕ) (rows : List KeptRow) (shelves : List KeptShelf) → T (is_sorted name_cmp shelves)
     → length (stock (put name_cmp g rows shelves)) + length (rows_at g shelves) ≡ length (stock shelves) + length rows
 length-stock-put g rows [] sorted = omega (arith, length-kept g rows [])
 length-stock-put g rows (s ∷ shelves) sorted =
@@ -164,7 +165,7 @@ length-stock-more g len before after more are put_is =
 
 -- ---- the removal of a group
 
-each-filter : (p : List ℕ → Bool) (shelves : List KeptShelf) → EachShelf shelves → EachShelf (filter (λ s. p s.0) shelves)
+pub each-filter : (p : List ℕ → Bool) (shelves : List KeptShelf) → EachShelf shelves → EachShelf (filter (λ s. p s.0) shelves)
 each-filter p [] each = tt
 each-filter p (s ∷ shelves) each = step (p s.0) (each-filter p shelves each.1)
   where
@@ -184,8 +185,8 @@ shelves-forget g len before after now are left is =
     ap (λ l. map_of (stock l)) left
     ∙ map.same_map key_total key_same _ _ (λ q.
     get-stock q others sorted (sound others (each-filter (is_another g) before are.each))
-    ∙ ap (λ f. find partition_cmp (at_of q) (rows_on f)) (find-where_key name_cmp (is_another g) q.group (λ x tie. ap (is_another g) (sym (name_same q.group x tie))) before)
-    ∙ found-kept (at_of q) (is_another g q.group) (find name_cmp q.group before)
+    ∙ ap (λ f. find partition_cmp q.partition (rows_on f)) (find-where_key name_cmp (is_another g) q.group (λ x tie. ap (is_another g) (sym (name_same q.group x tie))) before)
+    ∙ found-kept q.partition (is_another g q.group) (find name_cmp q.group before)
     ∙ ap (λ o. cond (is_another g q.group) o None) (sym (get-stock q before (tested are.by_group) (sound before are.each)))
     ∙ sym (map.get-retain_keys (map_of (stock before)) (is_of_other g) q (λ x tie. ap (is_of_other g) (sym (key_same q x tie)))))
     ∙ ap (λ m. map.retain_keys m (is_of_other g)) is

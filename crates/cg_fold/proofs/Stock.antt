@@ -1,8 +1,8 @@
 -- Sorted shelves as the map of their offsets.
 use Rattle.std.proofs.Common.{◌≡◌, ℕ, ◌<◌, Bool, true, false, cond, List, [], ◌∷◌, ◌++◌, length, map as each, Some, None, ap, sym, ◌∙◌, refl, subst, arith, append-nil}
 use Rattle.std.proofs.Math.Dec.{T}
-use Rattle.std.specs.Prelude.{◌||◌, IsTrue, filter, bytes_eq}
-use Rattle.std.specs.List.{list_any}
+use Rattle.std.specs.Prelude.{◌||◌, ◌&&◌, IsTrue, filter, bytes_eq, is_some}
+use Rattle.std.specs.List.{list_all, list_any}
 use Rattle.std.specs.Ordering.{eq_by_cmp, is_eq, is_lt, ordering_then}
 use Rattle.std.specs.declared.cmp.Ordering.TheVariants.{Less}
 use Rattle.std.specs.FinMap as map
@@ -12,11 +12,14 @@ use Rattle.std.proofs.lemmas.List.Elements.{filter-append}
 use Rattle.std.proofs.lemmas.List.Folds.{list_any-append}
 use Rattle.std.proofs.lemmas.Slice.Eq.{bytes_eq-Decides}
 use Rattle.std.proofs.Math.Bool.{or-false, or_self}
-use Rattle.cg_fold.specs.declared.key.TopicPartition.{TopicPartition}
-use Rattle.cg_fold.specs.Key.{KeptOffset, KeptRow, OffsetKey, in_group, key_cmp, key_of, name_cmp, topic_partition, partition_cmp, without_group_id}
+use Rattle.cg_record.specs.declared.entry.Entry.{Entry}
+use Rattle.cg_record.specs.declared.topic_partition.TopicPartition.{TopicPartition}
+use Rattle.cg_record.specs.Partitions.{partition_cmp}
+use Rattle.cg_fold.specs.Key.{KeptOffset, KeptRow, OffsetKey, in_group, kept_of, key_cmp, key_of, name_cmp, without_group_id}
 use Rattle.cg_fold.specs.Record.{KeptRecord}
 use Rattle.cg_fold.specs.Shelf.{KeptShelf, EachShelf, AreShelves, stock, rows_on, rows_at}
-use Rattle.cg_fold.specs.Durable.{State}
+use Rattle.cg_fold.specs.Durable.{State, has_offset}
+use Rattle.cg_fold.specs.Renewed.{has_row}
 use Rattle.cg_fold.specs.Snapshot.{groups_in, groups_of_either, in_order, is_of_group, offsets_in}
 use Rattle.cg_fold.proofs.KeyOrder.{cmp_in, key_same}
 use Rattle.cg_fold.proofs.Place.{and, below_all, both, less}
@@ -29,16 +32,12 @@ use Rattle.cg_fold.proofs.Kept.{Offsets, map_of, state}
 abbrev pub kept_all : List ℕ → List KeptRow → List KeptOffset
 kept_all g rows = each (in_group g) rows
 
--- the partition of a key
-abbrev pub at_of : OffsetKey → TopicPartition
-at_of k = topic_partition k.topic k.partition
-
 -- a search among the offsets of a group is a search among its rows
-pub find-kept : (k : OffsetKey) (rows : List KeptRow) → find key_cmp k (kept_all k.group rows) ≡ find partition_cmp (at_of k) rows
+pub find-kept : (k : OffsetKey) (rows : List KeptRow) → find key_cmp k (kept_all k.group rows) ≡ find partition_cmp k.partition rows
 find-kept k [] = refl
 find-kept k (row ∷ rows) =
-    ap (λ o. cond (is_eq o) (Some row.1) (find key_cmp k (kept_all k.group rows))) (cmp_in k.group (at_of k) row.0)
-    ∙ ap (cond (is_eq (partition_cmp (at_of k) row.0)) (Some row.1)) (find-kept k rows)
+    ap (λ o. cond (is_eq o) (Some row.1) (find key_cmp k (kept_all k.group rows))) (cmp_in k.group k.partition row.0)
+    ∙ ap (cond (is_eq (partition_cmp k.partition row.0)) (Some row.1)) (find-kept k rows)
 
 pub rows-kept : (g : List ℕ) (rows : List KeptRow) → each without_group_id (kept_all g rows) ≡ rows
 rows-kept g [] = refl
@@ -54,14 +53,14 @@ kept-filter g (k ∷ kept) = step (is_of_group g k.0) refl (kept-filter g kept)
 
     step : (b : Bool) → is_of_group g k.0 ≡ b → kept_all g (each without_group_id others) ≡ others → kept_all g (each without_group_id (cond b (k ∷ others) others)) ≡ cond b (k ∷ others) others
     step true is rest =
-        ap (λ h. (key_of h k.0.topic k.0.partition, k.1) ∷ kept_all g (each without_group_id others)) (sym ((bytes_eq-Decides k.0.group g).0 is))
+        ap (λ h. (key_of h k.0.partition, k.1) ∷ kept_all g (each without_group_id others)) (sym ((bytes_eq-Decides k.0.group g).0 is))
         ∙ ap (λ l. k ∷ l) rest
     step false is rest = rest
 
-below-kept : (g : List ℕ) (at : TopicPartition) (rows : List KeptRow) → T (below_all partition_cmp at rows) → T (below_all key_cmp (key_of g at.topic at.partition) (kept_all g rows))
+below-kept : (g : List ℕ) (at : TopicPartition) (rows : List KeptRow) → T (below_all partition_cmp at rows) → T (below_all key_cmp (key_of g at) (kept_all g rows))
 below-kept g at [] below = tt
 below-kept g at (row ∷ rows) below =
-    let k = key_of g at.topic at.partition in
+    let k = key_of g at in
     let parts = both (is_lt (partition_cmp at row.0)) (below_all partition_cmp at rows) below in
     let first : T (is_lt (key_cmp k (in_group g row).0)) = subst (λ o. T (is_lt o)) (sym (cmp_in g at row.0)) parts.0 in
     and (is_lt (key_cmp k (in_group g row).0)) (below_all key_cmp k (kept_all g rows)) first (below-kept g at rows parts.1)
@@ -113,7 +112,7 @@ filter-stock g (s ∷ shelves) sorted =
     step false is above = ap (λ l. l ++ kept_all g (rows_at g shelves)) (filter-strange g s.0 s.1 (strange g s.0 is))
 
 -- a search among all offsets is a search on the shelf of the key's group
-find-stock : (k : OffsetKey) (shelves : List KeptShelf) → T (is_sorted name_cmp shelves) → find key_cmp k (stock shelves) ≡ find partition_cmp (at_of k) (rows_at k.group shelves)
+find-stock : (k : OffsetKey) (shelves : List KeptShelf) → T (is_sorted name_cmp shelves) → find key_cmp k (stock shelves) ≡ find partition_cmp k.partition (rows_at k.group shelves)
 find-stock k shelves sorted =
     sym (find-where_key key_cmp (is_of_group k.group) k (λ x tie. ap (is_of_group k.group) (sym (key_same k x tie))) (stock shelves)
     ∙ ap (λ b. cond b (find key_cmp k (stock shelves)) None) (itself k.group))
@@ -131,7 +130,7 @@ below-append k (row ∷ rows) others p q =
 below-rows : (k : OffsetKey) (g : List ℕ) (rows : List KeptRow) → name_cmp k.group g ≡ Less → T (below_all key_cmp k (kept_all g rows))
 below-rows k g [] lt = tt
 below-rows k g (row ∷ rows) lt =
-    let first : T (is_lt (key_cmp k (in_group g row).0)) = subst (λ r. T (is_lt (ordering_then r (partition_cmp (at_of k) row.0)))) (sym lt) tt in
+    let first : T (is_lt (key_cmp k (in_group g row).0)) = subst (λ r. T (is_lt (ordering_then r (partition_cmp k.partition row.0)))) (sym lt) tt in
     and (is_lt (key_cmp k (in_group g row).0)) (below_all key_cmp k (kept_all g rows)) first (below-rows k g rows lt)
 
 below-stock : (k : OffsetKey) (shelves : List KeptShelf) → T (below_all name_cmp k.group shelves) → T (below_all key_cmp k (stock shelves))
@@ -156,11 +155,11 @@ sorted-stock (s ∷ shelves) sorted each =
     sorted-shelf s.0 s.1 shelves each.0 parts.0 (sorted-stock shelves parts.1 each.1)
 
 -- a look-up in the map of all offsets
-pub get-stock : (k : OffsetKey) (shelves : List KeptShelf) → T (is_sorted name_cmp shelves) → EachSound shelves → map.get (map_of (stock shelves)) k ≡ find partition_cmp (at_of k) (rows_at k.group shelves)
+pub get-stock : (k : OffsetKey) (shelves : List KeptShelf) → T (is_sorted name_cmp shelves) → EachSound shelves → map.get (map_of (stock shelves)) k ≡ find partition_cmp k.partition (rows_at k.group shelves)
 get-stock k shelves sorted each = map.get-from_sorted key_cmp (stock shelves) k (sorted-stock shelves sorted each) ∙ find-stock k shelves sorted
 
 -- a search among the offsets of the key's group is a look-up in the map
-pub find-offsets_in : (k : OffsetKey) (now : Offsets) → find partition_cmp (at_of k) (offsets_in now k.group) ≡ map.get now k
+pub find-offsets_in : (k : OffsetKey) (now : Offsets) → find partition_cmp k.partition (offsets_in now k.group) ≡ map.get now k
 find-offsets_in k now =
     sym (find-kept k (offsets_in now k.group))
     ∙ ap (find key_cmp k) (kept-filter k.group (map.entries now))
@@ -216,3 +215,13 @@ groups_of_shelves len records shelves now sorted are is =
     ∙ ap (λ l. list_any (bytes_eq q) (map.keys held.records) || list_any (bytes_eq q) (each (λ k. k.group) (each (λ row. row.0) l))) (sym stored)
     ∙ sym (list_any-append (bytes_eq q) (map.keys held.records) (each (λ k. k.group) (map.keys held.offsets))))
     ∙ ap (λ s. in_order (groups_in s)) is
+
+-- the entries have offsets where they have rows on the shelf of their group
+pub known_on : (g : List ℕ) (len : ℕ) (shelves : List KeptShelf) (now : Offsets) → AreShelves len shelves → map_of (stock shelves) ≡ now
+    → (entries : List Entry) → list_all (has_row (rows_at g shelves)) entries ≡ list_all (has_offset g now) entries
+known_on g len shelves now are is [] = refl
+known_on g len shelves now are is (entry ∷ entries) =
+    let key = (kept_of g entry).0 in
+    let one : has_row (rows_at g shelves) entry ≡ has_offset g now entry =
+    ap is_some (ap (find partition_cmp entry.key) (shelves-group g len shelves now are is) ∙ find-offsets_in key now) in
+    ap (λ b. b && list_all (has_row (rows_at g shelves)) entries) one ∙ ap (λ b. has_offset g now entry && b) (known_on g len shelves now are is entries)

@@ -1,15 +1,17 @@
 -- The durable state, and the effect of each command on it.
-use Rattle.std.specs.Prelude.{ℕ, Bool, not, List, Option, Some, None, bytes_eq, refl}
-use Rattle.std.specs.List.{fold}
+use Rattle.std.specs.Prelude.{◌≡◌, ℕ, ◌+◌, ◌^◌, ◌<◌, Bool, true, not, ◌||◌, List, length, Option, Some, None, is_some, bytes_eq, refl}
+use Rattle.std.specs.List.{fold, list_all}
 use Rattle.std.specs.FinMap as map
 use Rattle.std.specs.Coded.{Coded, code_by, coded×, coded_list, coded_ℕ}
 use Rattle.cg_record.specs.declared.command.Command.{Command}
 use Rattle.cg_record.specs.declared.command.Command.TheVariants.{Assigned, Emptied, Replaced, Committed, Deleted}
+use Rattle.cg_record.specs.declared.committed.Committed as commits
 use Rattle.cg_record.specs.declared.entry.Entry.{Entry}
 use Rattle.cg_record.specs.declared.member.Member.{Member}
-use Rattle.cg_fold.specs.declared.key.StoredOffset.{StoredOffset}
+use Rattle.cg_record.specs.declared.topic_partition.TopicPartition.{TopicPartition}
+use Rattle.cg_fold.specs.declared.stored_offset.StoredOffset.{StoredOffset}
 use Rattle.cg_fold.specs.declared.record.GroupRecord.{GroupRecord}
-use Rattle.cg_fold.specs.Key.{OffsetKey, key_cmp, name_cmp, kept_of, offsets_code}
+use Rattle.cg_fold.specs.Key.{OffsetKey, is_among, key_cmp, name_cmp, kept_of, offsets_code}
 use Rattle.cg_fold.specs.Record.{assigned_record, emptied_record, replaced_record, record_code}
 use Rattle.cg_fold.specs.Grouped.{is_another}
 
@@ -39,9 +41,26 @@ with_member state group new (Some held) = with_record state group (replaced_reco
 abbrev pub with_entry : List ℕ → map.FinMap key_cmp StoredOffset → Entry → map.FinMap key_cmp StoredOffset
 with_entry group offsets entry = map.insert offsets (kept_of group entry).0 (kept_of group entry).1
 
+-- the partition of the entry has an offset, for this group
+abbrev pub has_offset : List ℕ → map.FinMap key_cmp StoredOffset → Entry → Bool
+has_offset group offsets entry = is_some (map.get offsets (kept_of group entry).0)
+
+-- a commit all of whose partitions have an offset; the count of offsets, in 64 bits, could take its entries
+pub record Renews (offsets : map.FinMap key_cmp StoredOffset) (commit : commits.Committed) : Type 0 where
+  pub each : list_all (has_offset commit.group offsets) commit.entries ≡ true
+  pub few : map.len offsets + length commit.entries < 2 ^ 64
+
 -- the offset is one of another group
 abbrev pub is_of_other : List ℕ → OffsetKey → Bool
 is_of_other group key = not (bytes_eq key.group group)
+
+-- the offset is one of another group, or of none of these partitions
+abbrev pub is_beside : List ℕ → List TopicPartition → OffsetKey → Bool
+is_beside group partitions key = is_of_other group key || not (is_among partitions key.partition)
+
+-- the state without the offsets of these partitions of a group
+abbrev pub without_offsets : State → List ℕ → List TopicPartition → State
+without_offsets state group partitions = record state { offsets = map.retain_keys state.offsets (is_beside group partitions) }
 
 -- the state without the record and the offsets of a group
 abbrev pub without_group : State → List ℕ → State

@@ -1,5 +1,6 @@
 -- Committed offsets and their order.
-use Rattle.std.specs.Prelude.{◌≡◌, ℕ, ◌<◌, Bool, List, length, map as each, slice_index_or, refl}
+use Rattle.std.specs.Prelude.{◌≡◌, ℕ, ◌<◌, Bool, not, List, length, map as each, filter, slice_index_or, refl}
+use Rattle.std.specs.List.{list_any}
 use Rattle.std.specs.declared.cmp.Ordering.{Ordering}
 use Rattle.std.specs.declared.cmp.Ordering.TheVariants.{Equal}
 use Rattle.std.specs.Ordering.{nat_cmp, is_lt, on, then_cmp}
@@ -8,8 +9,9 @@ use Rattle.std.specs.Coded.{Coded, code_by, coded×, coded_list, coded_ℕ}
 use Rattle.std.specs.FinMap as map
 use Rattle.std.specs.FinMap.{put}
 use Rattle.cg_record.specs.declared.entry.Entry.{Entry}
-use Rattle.cg_fold.specs.declared.key.StoredOffset.{StoredOffset}
-use Rattle.cg_fold.specs.declared.key.TopicPartition.{TopicPartition}
+use Rattle.cg_record.specs.declared.topic_partition.TopicPartition.{TopicPartition}
+use Rattle.cg_record.specs.Partitions.{are_one, partition_cmp, topic_partition}
+use Rattle.cg_fold.specs.declared.stored_offset.StoredOffset.{StoredOffset}
 
 -- the order of names: by bytes
 abbrev pub name_cmp : List ℕ → List ℕ → Ordering
@@ -20,16 +22,15 @@ name_cmp = slice_cmp nat_cmp
 -- the key of a committed offset: one partition of one topic, for one group
 pub record OffsetKey : Type 0 where
   pub group : List ℕ
-  pub topic : List ℕ
-  pub partition : ℕ
+  pub partition : TopicPartition
 
--- the key of this partition of this topic, for this group
-abbrev pub key_of : List ℕ → List ℕ → ℕ → OffsetKey
-key_of group topic partition = record { group = group; topic = topic; partition = partition }
+-- the key of this partition, for this group
+abbrev pub key_of : List ℕ → TopicPartition → OffsetKey
+key_of group partition = record { group = group; partition = partition }
 
--- the order of keys: by group, then by topic, then by partition
+-- the order of keys: by group, then by partition
 abbrev pub key_cmp : OffsetKey → OffsetKey → Ordering
-key_cmp = then_cmp (on (λ k. k.group) name_cmp) (then_cmp (on (λ k. k.topic) name_cmp) (on (λ k. k.partition) nat_cmp))
+key_cmp = then_cmp (on (λ k. k.group) name_cmp) (on (λ k. k.partition) partition_cmp)
 
 -- an offset with its key
 abbrev pub KeptOffset : Type 0
@@ -37,25 +38,25 @@ KeptOffset = OffsetKey × StoredOffset
 
 -- ---- the offsets of one group
 
--- a partition of a topic
-abbrev pub topic_partition : List ℕ → ℕ → TopicPartition
-topic_partition topic partition = record { topic = topic; partition = partition }
-
--- the order of partitions: by topic, then by number
-abbrev pub partition_cmp : TopicPartition → TopicPartition → Ordering
-partition_cmp = then_cmp (on (λ p. p.topic) name_cmp) (on (λ p. p.partition) nat_cmp)
-
 -- an offset with its partition
 abbrev pub KeptRow : Type 0
 KeptRow = TopicPartition × StoredOffset
 
 -- the row as an offset of this group
 abbrev pub in_group : List ℕ → KeptRow → KeptOffset
-in_group group row = (key_of group row.0.topic row.0.partition, row.1)
+in_group group row = (key_of group row.0, row.1)
 
 -- the offset without its group
 abbrev pub without_group_id : KeptOffset → KeptRow
-without_group_id kept = (topic_partition kept.0.topic kept.0.partition, kept.1)
+without_group_id kept = (kept.0.partition, kept.1)
+
+-- the partition is one of these
+abbrev pub is_among : List TopicPartition → TopicPartition → Bool
+is_among partitions partition = list_any (are_one partition) partitions
+
+-- the rows of other partitions than these
+abbrev pub rows_beside : List TopicPartition → List KeptRow → List KeptRow
+rows_beside partitions rows = filter (λ row. not (is_among partitions row.0)) rows
 
 -- the row comes before the partition
 abbrev pub is_below : TopicPartition → KeptRow → Bool
@@ -71,7 +72,7 @@ IsOther rows at key = (d : KeptRow) → at < length rows → partition_cmp (slic
 
 -- the partition and the offset of one entry
 abbrev pub row_of : Entry → KeptRow
-row_of entry = (topic_partition entry.topic entry.partition, record { offset = entry.offset; metadata = entry.metadata })
+row_of entry = (entry.key, record { offset = entry.offset; metadata = entry.metadata })
 
 -- the partitions and offsets of entries
 abbrev pub rows_of : List Entry → List KeptRow
@@ -87,12 +88,12 @@ put_row rows new = put partition_cmp new.0 new.1 rows
 
 -- ---- codes
 
--- a key, a partition and a stored offset have the codes of their parts
-abbrev pub key_code : Coded OffsetKey
-key_code = code_by (List ℕ × (List ℕ × ℕ)) (coded× (coded_list coded_ℕ) (coded× (coded_list coded_ℕ) coded_ℕ)) (λ k. (k.group, (k.topic, k.partition))) (λ p. record { group = p.0; topic = p.1.0; partition = p.1.1 }) (λ _. refl)
-
+-- a partition, a key and a stored offset have the codes of their parts
 abbrev pub partition_code : Coded TopicPartition
-partition_code = code_by (List ℕ × ℕ) (coded× (coded_list coded_ℕ) coded_ℕ) (λ p. (p.topic, p.partition)) (λ p. record { topic = p.0; partition = p.1 }) (λ _. refl)
+partition_code = code_by (List ℕ × ℕ) (coded× (coded_list coded_ℕ) coded_ℕ) (λ p. (p.topic, p.partition)) (λ p. topic_partition p.0 p.1) (λ _. refl)
+
+abbrev pub key_code : Coded OffsetKey
+key_code = code_by (List ℕ × TopicPartition) (coded× (coded_list coded_ℕ) partition_code) (λ k. (k.group, k.partition)) (λ p. key_of p.0 p.1) (λ _. refl)
 
 abbrev pub stored_code : Coded StoredOffset
 stored_code = code_by (ℕ × List ℕ) (coded× coded_ℕ (coded_list coded_ℕ)) (λ s. (s.offset, s.metadata)) (λ p. record { offset = p.0; metadata = p.1 }) (λ _. refl)

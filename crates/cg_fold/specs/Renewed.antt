@@ -4,7 +4,8 @@ use Rattle.std.specs.List.{AllByRecursion, AllZip, prefix_len}
 use Rattle.std.specs.FinMap.{find}
 use Rattle.cg_record.specs.declared.entry.Entry.{Entry}
 use Rattle.cg_fold.specs.declared.renewals.Renewal.{Renewal}
-use Rattle.cg_fold.specs.Key.{IsOwn, KeptRow, is_below, topic_partition, partition_cmp, row_of}
+use Rattle.cg_record.specs.Partitions.{partition_cmp, topic_partition}
+use Rattle.cg_fold.specs.Key.{IsOwn, KeptRow, is_below}
 
 -- the renewal has the index of the row with this partition, and the new value
 pub record IsRenewal (rows : List KeptRow) (kept : KeptRow) (renewal : Renewal) : Type 0 where
@@ -22,7 +23,7 @@ AreBelow len renewals = AllByRecursion (λ renewal. renewal.at < len) renewals
 
 -- the partition of the entry has a row
 abbrev pub has_row : List KeptRow → Entry → Bool
-has_row rows entry = is_some (find partition_cmp (row_of entry).0 rows)
+has_row rows entry = is_some (find partition_cmp entry.key rows)
 
 -- the rows with the new value at this index, under the partition that is there
 abbrev pub renewed : List KeptRow → Renewal → List KeptRow

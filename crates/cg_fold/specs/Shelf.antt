@@ -1,10 +1,12 @@
 -- The shelves: the offsets of each group that has any.
-use Rattle.std.specs.Prelude.{◌≡◌, ℕ, ◌<◌, List, [], ◌∷◌, length, map as each, flat_map, Option, Some, None, IsTrue}
+use Rattle.std.specs.Prelude.{◌≡◌, ℕ, ◌<◌, List, [], ◌∷◌, length, map as each, filter, flat_map, Option, Some, None, IsTrue}
 use Rattle.std.specs.List.{fold}
 use Rattle.std.specs.Coded.{Coded, coded×, coded_list}
 use Rattle.std.specs.FinMap.{find, is_sorted, put}
-use Rattle.cg_fold.specs.Key.{KeptOffset, KeptRow, in_group, name_cmp, partition_cmp, partition_code, put_row, stored_code}
-use Rattle.cg_fold.specs.Grouped.{OfGroup}
+use Rattle.cg_record.specs.declared.topic_partition.TopicPartition.{TopicPartition}
+use Rattle.cg_record.specs.Partitions.{partition_cmp}
+use Rattle.cg_fold.specs.Key.{KeptOffset, KeptRow, in_group, name_cmp, partition_code, put_row, rows_beside, stored_code}
+use Rattle.cg_fold.specs.Grouped.{OfGroup, is_another}
 
 -- the offsets of a group, with the id of the group
 abbrev pub KeptShelf : Type 0
@@ -45,3 +47,12 @@ rows_at group shelves = rows_on (find name_cmp group shelves)
 -- the shelves with these offsets added to the group's
 abbrev pub with_more : List ℕ → List KeptRow → List KeptShelf → List KeptShelf
 with_more group new shelves = put name_cmp group (fold put_row (rows_at group shelves) new) shelves
+
+-- the shelves with these rows for the group, which has no shelf if there are none
+abbrev pub with_shelf : List ℕ → List KeptRow → List KeptShelf → List KeptShelf
+with_shelf group [] shelves = filter (λ shelf. is_another group shelf.0) shelves
+with_shelf group (row ∷ rows) shelves = put name_cmp group (row ∷ rows) shelves
+
+-- the shelves without the offsets of these partitions of the group
+abbrev pub with_fewer : List ℕ → List TopicPartition → List KeptShelf → List KeptShelf
+with_fewer group partitions shelves = with_shelf group (rows_beside partitions (rows_at group shelves)) shelves

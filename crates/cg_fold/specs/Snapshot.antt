@@ -1,5 +1,5 @@
 -- The commands that build a state from the empty one.
-use Rattle.std.specs.Prelude.{◌≡◌, ℕ, zero, suc, ◌+◌, ◌<◌, Bool, List, [], ◌∷◌, ◌++◌, length, map as each, take, drop, filter, flat_map, Option, Some, None, IsTrue, bytes_eq}
+use Rattle.std.specs.Prelude.{◌≡◌, ℕ, zero, suc, ◌+◌, ◌<◌, ◌≤◌, min, Bool, List, [], ◌∷◌, ◌++◌, length, map as each, take, drop, filter, flat_map, Option, Some, None, IsTrue, bytes_eq}
 use Rattle.std.specs.Option.{option_to_list}
 use Rattle.std.specs.declared.cmp.Ordering.{Ordering}
 use Rattle.std.specs.declared.cmp.Ordering.TheVariants.{Less, Greater}
@@ -11,7 +11,7 @@ use Rattle.cg_record.specs.declared.entries.TheConstants.{ENTRIES_MAX}
 use Rattle.cg_record.specs.declared.entry.Entry.{Entry}
 use Rattle.cg_record.specs.Rosters.{RosterParts}
 use Rattle.cg_fold.specs.declared.record.GroupRecord.{GroupRecord}
-use Rattle.cg_fold.specs.declared.key.StoredOffset.{StoredOffset}
+use Rattle.cg_fold.specs.declared.stored_offset.StoredOffset.{StoredOffset}
 use Rattle.cg_fold.specs.Key.{KeptRow, OffsetKey, key_cmp, name_cmp, without_group_id}
 use Rattle.cg_fold.specs.Record.{KeptRecord}
 use Rattle.cg_fold.specs.Shelf.{KeptShelf, AreShelves, stock}
@@ -79,18 +79,35 @@ record_commands group (Some held) = record_command group held.generation held.ki
 
 -- the entry of a commit that sets an offset
 abbrev pub entry_of : KeptRow → Entry
-entry_of row = record { topic = row.0.topic; partition = row.0.partition; offset = row.1.offset; metadata = row.1.metadata }
+entry_of row = record { key = row.0; offset = row.1.offset; metadata = row.1.metadata }
 
 -- the commit that sets these offsets
 abbrev pub commit_command : List ℕ → List KeptRow → Command
 commit_command group rows = Committed (record { group = group; entries = each entry_of rows })
 
--- the commits of these offsets, `ENTRIES_MAX` entries each; there are at most `most` offsets
-unfoldable pub commits_of : ℕ → List ℕ → List KeptRow → List Command
-commits_of zero group rows = []
-commits_of (suc most) group [] = []
-commits_of (suc most) group (row ∷ rows) =
-    commit_command group (take ENTRIES_MAX (row ∷ rows)) ∷ commits_of most group (drop ENTRIES_MAX (row ∷ rows))
+-- a length of the next run of these offsets: at least one, at most `ENTRIES_MAX`, and no more than there are
+pub record IsRun (rows : List KeptRow) (len : ℕ) : Type 0 where
+  pub some : 0 < len
+  pub few : len ≤ ENTRIES_MAX
+  pub within : len ≤ length rows
+
+-- a rule for the runs into which a snapshot cuts offsets: the length of the next one
+abbrev pub CutsRuns : (List KeptRow → ℕ) → Type 0
+CutsRuns run = (rows : List KeptRow) → 0 < length rows → IsRun rows (run rows)
+
+-- the commits of these offsets, one for each run; there are at most `most` offsets
+unfoldable pub commits_by : (List KeptRow → ℕ) → ℕ → List ℕ → List KeptRow → List Command
+commits_by run zero group rows = []
+commits_by run (suc most) group [] = []
+commits_by run (suc most) group (row ∷ rows) =
+    commit_command group (take (run (row ∷ rows)) (row ∷ rows)) ∷ commits_by run most group (drop (run (row ∷ rows)) (row ∷ rows))
+
+-- the rule of this coordinator: as many offsets as one commit may have
+unfoldable pub first_len : List KeptRow → ℕ
+first_len rows = min (length rows) ENTRIES_MAX
+
+abbrev pub commits_of : ℕ → List ℕ → List KeptRow → List Command
+commits_of = commits_by first_len
 
 -- the offset is the group's
 abbrev pub is_of_group : List ℕ → OffsetKey → Bool
@@ -104,12 +121,18 @@ abbrev pub offsets_of : State → List ℕ → List KeptRow
 offsets_of state group = offsets_in state.offsets group
 
 -- the commands that build one group: its record, and then its offsets
-unfoldable pub group_commands : State → List ℕ → List Command
-group_commands state group = record_commands group (map.get state.records group) ++ commits_of (length (offsets_of state group)) group (offsets_of state group)
+unfoldable pub group_commands_by : (List KeptRow → ℕ) → State → List ℕ → List Command
+group_commands_by run state group = record_commands group (map.get state.records group) ++ commits_by run (length (offsets_of state group)) group (offsets_of state group)
+
+abbrev pub group_commands : State → List ℕ → List Command
+group_commands = group_commands_by first_len
 
 -- the commands that build a state, group by group
+abbrev pub snapshot_by : (List KeptRow → ℕ) → State → List Command
+snapshot_by run state = flat_map (group_commands_by run state) (in_order (groups_in state))
+
 abbrev pub snapshot_of : State → List Command
-snapshot_of state = flat_map (group_commands state) (in_order (groups_in state))
+snapshot_of = snapshot_by first_len
 
 -- the state of sorted records and shelves
 abbrev pub listed : List KeptRecord → List KeptShelf → State

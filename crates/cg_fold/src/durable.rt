@@ -2,19 +2,22 @@
 ghost use Rattle.std.specs.Prelude.{◌≡◌, ◌++◌, IfOk, IsOk, OnOk, OnErr};
 ghost use Rattle.std.specs.Option.{option_copied};
 ghost use Rattle.std.specs.FinMap as finmap;
+ghost use Rattle.cg_record.specs.declared.committed.Committed.{Committed};
 ghost use Rattle.cg_record.specs.declared.deleted.Deleted.{Deleted};
 ghost use Rattle.cg_fold.specs.Key.{key_of};
-ghost use Rattle.cg_fold.specs.Durable.{counts_of, effect, empty, with_record};
+ghost use Rattle.cg_fold.specs.Durable.{Renews, counts_of, effect, empty, with_record, without_offsets};
 ghost use Rattle.cg_fold.specs.Snapshot.{Ascending, AreListed, group_commands, groups_in, in_order, listed, snapshot_of};
 
-use crate::key::StoredOffset;
 use crate::offsets::Offsets;
 use crate::record::GroupRecord;
 use crate::records::{self, Records};
 use crate::shelves::Shelves;
+use crate::stored_offset::StoredOffset;
 use crate::{either, grouped, snapshots};
-use cg_names::{GroupId, Topic};
-use cg_record::{Assigned, Command, Committed, Deleted, Emptied, Metadata, Partition, Replaced};
+use cg_names::GroupId;
+use cg_record::{
+    Assigned, Command, Committed, Deleted, Emptied, Metadata, Replaced, TopicPartition,
+};
 use std::alloc::{AllocError, Global};
 use std::collections::BTreeMap;
 use std::marker::Model;
@@ -82,6 +85,7 @@ impl Durable {
         ensures ok { OnOk result (self.new ≡ effect self.old command) }
         ensures err { OnErr result (self.new ≡ self.old) }
         ensures deleted { (deleted : Deleted) → command ≡ Command.Deleted deleted → IsOk result }
+        ensures known { (commit : Committed) → command ≡ Command.Committed commit → Renews self.old.offsets commit → IsOk result }
     {
         let mut room = Vec::new(self.alloc);
         self.apply_owned_in(&mut room, command)?;
@@ -98,6 +102,7 @@ impl Durable {
         ensures ok { OnOk result (self.new ≡ effect self.old command) }
         ensures err { OnErr result (self.new ≡ self.old) }
         ensures deleted { (deleted : Deleted) → command ≡ Command.Deleted deleted → IsOk result }
+        ensures known { (commit : Committed) → command ≡ Command.Committed commit → Renews self.old.offsets commit → IsOk result }
     {
         match command {
             Command::Committed(commit) => self.take_commit(room, commit),
@@ -153,6 +158,13 @@ impl Durable {
         self.offsets.forget(&deleted.group);
     }
 
+    // Removes the offsets of these partitions of a group, and leaves its record.
+    fn forget_partitions(&mut self, group: &GroupId, partitions: &[TopicPartition])
+        ensures { self.new ≡ without_offsets self.old group.now partitions.now }
+    {
+        self.offsets.forget_partitions(group, partitions);
+    }
+
     fn commit(&mut self, commit: &Committed) -> Result<(), AllocError>
         ensures ok { OnOk result (self.new ≡ effect self.old (Command.Committed commit.now)) }
         ensures err { OnErr result (self.new ≡ self.old) }
@@ -164,6 +176,7 @@ impl Durable {
     fn take_commit(&mut self, room: &mut Vec<Metadata>, commit: Committed) -> Result<(), AllocError>
         ensures ok { OnOk result (self.new ≡ effect self.old (Command.Committed commit)) }
         ensures err { OnErr result (self.new ≡ self.old) }
+        ensures known { Renews self.old.offsets commit → IsOk result }
     {
         self.offsets.take_commit_in(room, commit)?;
         Ok(())
@@ -177,15 +190,10 @@ impl Durable {
     }
 
     /// Returns the committed offset of a partition, if there is one. Costs two look-ups, no allocation.
-    pub fn offset(
-        &self,
-        group: &GroupId,
-        topic: &Topic,
-        partition: Partition,
-    ) -> Option<&StoredOffset>
-        ensures { option_copied result ≡ finmap.get self.now.offsets (key_of group.now topic.now partition) }
+    pub fn offset(&self, group: &GroupId, partition: &TopicPartition) -> Option<&StoredOffset>
+        ensures { option_copied result ≡ finmap.get self.now.offsets (key_of group.now partition.now) }
     {
-        self.offsets.get(group, topic, partition)
+        self.offsets.get(group, partition)
     }
 
     /// Returns the number of group records and the number of offsets, in constant time.
@@ -205,7 +213,7 @@ impl Durable {
     }
 
     // Appends the commands that build one group.
-    #[tactic(auto, unfolding(crate::specs::Snapshot::group_commands))]
+    #[tactic(auto, unfolding(crate::specs::Snapshot::group_commands_by))]
     fn push_group(&self, commands: &mut Vec<Command>, group: &GroupId) -> Result<(), AllocError>
         ensures { OnOk result (commands.new.items ≡ commands.old.items ++ group_commands self.now group.now) }
     {

@@ -3,12 +3,13 @@
 ghost use Rattle.std.specs.Prelude.{◌≡◌, IsTrue, true, length, IfOk};
 ghost use Rattle.std.specs.List.{fold, list_all, prefix_len};
 ghost use Rattle.std.specs.FinMap.{is_sorted};
-ghost use Rattle.cg_fold.specs.Key.{IsOwn, is_below, partition_cmp, put_row, row_of, rows_of};
+ghost use Rattle.cg_record.specs.Partitions.{partition_cmp};
+ghost use Rattle.cg_fold.specs.Key.{IsOwn, is_below, put_row, row_of, rows_of};
 ghost use Rattle.cg_fold.specs.Renewed.{has_row};
 
-use crate::key::{StoredOffset, TopicPartition};
 use crate::renewals::{Renewal, renew_in};
 use crate::rows::{Row, is_at, place, stored_at};
+use crate::stored_offset::StoredOffset;
 use cg_record::{Entry, Metadata};
 use std::alloc::{AllocError, Global};
 use std::collections::VecDeque;
@@ -17,15 +18,11 @@ fn row_from(entry: Entry) -> Row
     ensures { result ≡ row_of entry }
 {
     let Entry {
-        topic,
-        partition,
+        key,
         offset,
         metadata,
     } = entry;
-    (
-        TopicPartition { topic, partition },
-        StoredOffset { offset, metadata },
-    )
+    (key, StoredOffset { offset, metadata })
 }
 
 /// Builds the rows of these entries, in order, without a copy.
@@ -44,8 +41,7 @@ fn has_row(rows: &[Row], near: usize, entry: &Entry) -> bool
     requires { IsTrue (is_sorted partition_cmp rows.now) }
     ensures { result ≡ has_row rows.now entry.now }
 {
-    is_at(rows, near, &entry.topic, entry.partition)
-        || stored_at(rows, &entry.topic, entry.partition).is_some()
+    is_at(rows, near, &entry.key) || stored_at(rows, &entry.key).is_some()
 }
 
 // Returns whether the partition of each entry has a row. The row of the first may be the one at `near`.
@@ -74,14 +70,14 @@ pub fn have_rows(rows: &[Row], entries: &[Entry]) -> bool
 fn own_place(rows: &[Row], near: usize, entry: &Entry) -> usize
     requires sorted { IsTrue (is_sorted partition_cmp rows.now) }
     requires has { has_row rows.now entry.now ≡ true }
-    ensures value { result ≡ prefix_len (is_below (row_of entry.now).0) rows.now }
-    ensures own { IsOwn rows.now result (row_of entry.now).0 }
+    ensures value { result ≡ prefix_len (is_below entry.now.key) rows.now }
+    ensures own { IsOwn rows.now result entry.now.key }
 {
-    if is_at(rows, near, &entry.topic, entry.partition) {
+    if is_at(rows, near, &entry.key) {
         return near;
     }
-    let at = place(rows, &entry.topic, entry.partition);
-    if !is_at(rows, at, &entry.topic, entry.partition) {
+    let at = place(rows, &entry.key);
+    if !is_at(rows, at, &entry.key) {
         unreachable!()
     }
     at

@@ -1,19 +1,20 @@
 //! The committed offsets of all groups.
-ghost use Rattle.std.specs.Prelude.{◌≡◌, IsTrue, OnOk, OnErr};
+ghost use Rattle.std.specs.Prelude.{◌≡◌, IsTrue, IsOk, OnOk, OnErr};
 ghost use Rattle.std.specs.List.{fold};
 ghost use Rattle.std.specs.Option.{option_copied};
 ghost use Rattle.std.specs.FinMap as finmap;
 ghost use Rattle.std.specs.FinMap.{from_sorted, is_sorted};
-ghost use Rattle.cg_fold.specs.Key.{key_of, partition_cmp};
+ghost use Rattle.cg_record.specs.Partitions.{partition_cmp};
+ghost use Rattle.cg_fold.specs.Key.{key_of};
 ghost use Rattle.cg_fold.specs.Shelf.{AreShelves, stock};
 ghost use Rattle.cg_fold.specs.Snapshot.{offsets_in};
-ghost use Rattle.cg_fold.specs.Durable.{is_of_other, with_entry};
+ghost use Rattle.cg_fold.specs.Durable.{Renews, is_beside, is_of_other, with_entry};
 
-use crate::key::StoredOffset;
 use crate::rows::{self, Row};
 use crate::shelves::{self, Shelves};
-use cg_names::{GroupId, Topic};
-use cg_record::{Committed, Metadata, Partition};
+use crate::stored_offset::StoredOffset;
+use cg_names::GroupId;
+use cg_record::{Committed, Metadata, TopicPartition};
 use std::alloc::{AllocError, Global};
 use std::collections::BTreeMap;
 use std::marker::Model;
@@ -34,7 +35,7 @@ pub struct Offsets {
 
 impl Model for Offsets {
     ghost use Rattle.std.specs.FinMap.{FinMap, from_sorted};
-    ghost use Rattle.cg_fold.specs.declared.key.StoredOffset.{StoredOffset};
+    ghost use Rattle.cg_fold.specs.declared.stored_offset.StoredOffset.{StoredOffset};
     ghost use Rattle.cg_fold.specs.Key.{key_cmp, offsets_code};
     ghost use Rattle.cg_fold.specs.Shelf.{AreShelves, stock};
 
@@ -60,10 +61,10 @@ impl Offsets {
     }
 
     /// Returns the committed offset of a partition, if there is one. Costs two look-ups, no allocation.
-    pub fn get(&self, group: &GroupId, topic: &Topic, partition: Partition) -> Option<&StoredOffset>
-        ensures { option_copied result ≡ finmap.get self.now (key_of group.now topic.now partition) }
+    pub fn get(&self, group: &GroupId, partition: &TopicPartition) -> Option<&StoredOffset>
+        ensures { option_copied result ≡ finmap.get self.now (key_of group.now partition.now) }
     {
-        rows::stored_at(self.of_group(group), topic, partition)
+        rows::stored_at(self.of_group(group), partition)
     }
 
     /// Returns the offsets of a group, by topic and partition. Costs one look-up, no allocation.
@@ -111,6 +112,7 @@ impl Offsets {
     pub fn take_commit(&mut self, commit: Committed) -> Result<(), AllocError>
         ensures ok { OnOk result (self.new ≡ fold (with_entry commit.group) self.old commit.entries) }
         ensures err { OnErr result (self.new ≡ self.old) }
+        ensures known { Renews self.old commit → IsOk result }
     {
         let mut room = Vec::new(self.alloc);
         self.take_commit_in(&mut room, commit)?;
@@ -126,6 +128,7 @@ impl Offsets {
     ) -> Result<(), AllocError>
         ensures ok { OnOk result (self.new ≡ fold (with_entry commit.group) self.old commit.entries) }
         ensures err { OnErr result (self.new ≡ self.old) }
+        ensures known { Renews self.old commit → IsOk result }
     {
         if commit.entries.len() as u64 > u64::MAX - self.len {
             return Err(AllocError);
@@ -141,6 +144,15 @@ impl Offsets {
     {
         let gone = shelves::remove(&mut self.shelves, group);
         self.len -= gone;
+    }
+
+    /// Removes the offsets of these partitions of a group; those that have none change nothing. Costs one look-up, a second
+    /// one if the group keeps no offset, and a comparison of each of its offsets with each partition. No allocation.
+    pub fn forget_partitions(&mut self, group: &GroupId, partitions: &[TopicPartition])
+        ensures { self.new ≡ finmap.retain_keys self.old (is_beside group.now partitions.now) }
+    {
+        let dropped = shelves::remove_rows(&mut self.shelves, group, partitions);
+        self.len -= dropped;
     }
 
     /// Returns the number of offsets, in constant time.

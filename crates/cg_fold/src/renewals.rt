@@ -2,11 +2,12 @@
 ghost use Rattle.std.specs.Prelude.{◌≡◌, ◌<◌, IsTrue, false, length, IfOk, MatchOption};
 ghost use Rattle.std.specs.List.{fold, list_all};
 ghost use Rattle.std.specs.FinMap.{find, is_sorted};
-ghost use Rattle.cg_fold.specs.Key.{partition_cmp, row_of, rows_of};
+ghost use Rattle.cg_record.specs.Partitions.{partition_cmp};
+ghost use Rattle.cg_fold.specs.Key.{row_of, rows_of};
 ghost use Rattle.cg_fold.specs.Renewed.{AreBelow, AreRenewals, IsRenewal, has_row, renewed};
 
-use crate::key::StoredOffset;
 use crate::rows::{self, Row};
+use crate::stored_offset::StoredOffset;
 use cg_record::{Entry, Metadata};
 use std::alloc::{AllocError, Global};
 use std::collections::VecDeque;
@@ -23,11 +24,11 @@ pub struct Renewal {
 pub fn renewal_of(rows: &[Row], entry: &Entry) -> Result<Option<Renewal>, AllocError>
     requires { IsTrue (is_sorted partition_cmp rows.now) }
     ensures { IfOk result (λ found. MatchOption found
-        (find partition_cmp (row_of entry.now).0 rows.now ≡ None)
+        (find partition_cmp entry.now.key rows.now ≡ None)
         (λ renewal. IsRenewal rows.now (row_of entry.now) renewal)) }
 {
-    let at = rows::place(rows, &entry.topic, entry.partition);
-    if !rows::is_at(rows, at, &entry.topic, entry.partition) {
+    let at = rows::place(rows, &entry.key);
+    if !rows::is_at(rows, at, &entry.key) {
         return Ok(None);
     }
     let stored = StoredOffset {

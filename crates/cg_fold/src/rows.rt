@@ -1,16 +1,17 @@
 //! The offsets of a group as rows, sorted by partition. A look-up is a binary search, without an allocation.
-ghost use Rattle.std.specs.Prelude.{◌≡◌, ◌+◌, ◌<◌, ◌≤◌, IsTrue, length, vec_len, vec_capacity, [], IfOk, OnErr, OnOk};
-ghost use Rattle.std.specs.List.{fold, prefix_len};
+ghost use Rattle.std.specs.Prelude.{◌≡◌, ◌+◌, ◌<◌, ◌≤◌, IsTrue, length, vec_len, vec_capacity, [], true, IfOk, IsOk, OnErr, OnOk};
+ghost use Rattle.std.specs.List.{fold, list_all, prefix_len};
 ghost use Rattle.std.specs.FinMap.{find, is_sorted};
 ghost use Rattle.std.specs.Bool.{OnTrue, OnFalse};
 ghost use Rattle.std.specs.Option.{option_copied};
 ghost use Rattle.std.specs.VecDeque.{deque_len};
-ghost use Rattle.cg_fold.specs.Key.{IsOther, IsOwn, is_below, topic_partition, partition_cmp, put_row, row_of, rows_of};
+ghost use Rattle.cg_record.specs.Partitions.{partition_cmp};
+ghost use Rattle.cg_fold.specs.Key.{IsOther, IsOwn, is_among, is_below, put_row, row_of, rows_beside, rows_of};
+ghost use Rattle.cg_fold.specs.Renewed.{has_row};
 
-use crate::key::{StoredOffset, TopicPartition};
+use crate::stored_offset::StoredOffset;
 use crate::{moves, renewals};
-use cg_names::Topic;
-use cg_record::{Entries, Entry, Metadata, Partition};
+use cg_record::{Entries, Entry, Keyed, Metadata, TopicPartition};
 use std::alloc::{AllocError, Global};
 use std::cmp::Ordering;
 use std::collections::VecDeque;
@@ -28,7 +29,8 @@ pub struct Rows {
 impl Model for Rows {
     ghost use Rattle.std.specs.Prelude.{List, IsTrue};
     ghost use Rattle.std.specs.FinMap.{is_sorted};
-    ghost use Rattle.cg_fold.specs.Key.{KeptRow, partition_cmp};
+    ghost use Rattle.cg_record.specs.Partitions.{partition_cmp};
+    ghost use Rattle.cg_fold.specs.Key.{KeptRow};
     ghost use Rattle.cg_fold.specs.Shelf.{rows_code};
 
     ghost Value = { List KeptRow };
@@ -86,8 +88,8 @@ impl Rows {
     }
 
     /// Sets the offsets of these entries, in order, and moves their topics and metadata. Keeps the metadata of replaced
-    /// offsets in `room`, as far as that has the capacity. Returns the number of new rows. If an allocation fails, nothing
-    /// changes.
+    /// offsets in `room`, as far as that has the capacity. Returns the number of new rows. Needs no memory if each of the
+    /// partitions has a row. If an allocation fails, nothing changes.
     pub fn take_entries(
         &mut self,
         alloc: Global,
@@ -97,6 +99,7 @@ impl Rows {
         ensures ok { OnOk result (self.new ≡ fold put_row self.old (rows_of entries)) }
         ensures grown { IfOk result (λ grown. length self.new ≡ length self.old + grown) }
         ensures err { OnErr result (self.new ≡ self.old) }
+        ensures known { list_all (has_row self.old) entries ≡ true → IsOk result }
     {
         let entries = entries.into_vec();
         if !moves::have_rows(&self.rows, &entries) {
@@ -105,6 +108,16 @@ impl Rows {
         }
         moves::move_entries(&mut self.rows, room, entries);
         Ok(0)
+    }
+
+    /// Removes the rows of these partitions. Returns their number. Compares each row with each partition, no allocation.
+    pub fn remove(&mut self, partitions: &[TopicPartition]) -> u64
+        ensures rows { self.new ≡ rows_beside partitions.now self.old }
+        ensures gone { length self.new + result ≡ length self.old }
+    {
+        let before = self.rows.len();
+        keep_beside(&mut self.rows, partitions);
+        (before - self.rows.len()) as u64
     }
 
     // Sets the offsets of several entries, in place if all of them have a row. Returns the number of new rows.
@@ -160,20 +173,20 @@ impl Rows {
 }
 
 /// Returns the number of rows before a partition.
-pub fn place(rows: &[Row], topic: &Topic, partition: Partition) -> usize
+pub fn place(rows: &[Row], key: &TopicPartition) -> usize
     requires { IsTrue (is_sorted partition_cmp rows.now) }
-    ensures value { result ≡ prefix_len (is_below (topic_partition topic.now partition)) rows.now }
+    ensures value { result ≡ prefix_len (is_below key.now) rows.now }
     ensures within { result ≤ length rows.now }
 {
-    rows.partition_point(|row| row.0.compare(topic, partition) == Ordering::Less)
+    rows.partition_point(|row| row.0.compare(key) == Ordering::Less)
 }
 
 /// Returns whether the row at this index has the partition.
-pub fn is_at(rows: &[Row], at: usize, topic: &Topic, partition: Partition) -> bool
-    ensures own { OnTrue result (IsOwn rows.now at (topic_partition topic.now partition)) }
-    ensures other { OnFalse result (IsOther rows.now at (topic_partition topic.now partition)) }
+pub fn is_at(rows: &[Row], at: usize, key: &TopicPartition) -> bool
+    ensures own { OnTrue result (IsOwn rows.now at key.now) }
+    ensures other { OnFalse result (IsOther rows.now at key.now) }
 {
-    at < rows.len() && rows[at].0.compare(topic, partition) == Ordering::Equal
+    at < rows.len() && rows[at].0.compare(key) == Ordering::Equal
 }
 
 // Inserts the row or replaces the one with its partition, without an allocation: the caller reserves the room.
@@ -186,8 +199,8 @@ fn put_row(rows: &mut Vec<Row>, row: Row)
     ensures capacity { vec_capacity rows.new ≡ vec_capacity rows.old }
 {
     let (key, stored) = row;
-    let at = place(rows, &key.topic, key.partition);
-    if is_at(rows, at, &key.topic, key.partition) {
+    let at = place(rows, &key);
+    if is_at(rows, at, &key) {
         rows[at].1 = stored;
     } else {
         rows.insert(at, (key, stored)).unwrap();
@@ -206,13 +219,23 @@ fn put_rows(rows: &mut Vec<Row>, mut waiting: VecDeque<Row>)
     }
 }
 
+fn is_among(key: &TopicPartition, partitions: &[TopicPartition]) -> bool
+    ensures { result ≡ is_among partitions.now key.now }
+{
+    partitions.iter().any(|partition| key.shares_key(partition))
+}
+
+// Keeps the rows of other partitions than these.
+fn keep_beside(rows: &mut Vec<Row>, partitions: &[TopicPartition])
+    ensures { rows.new.items ≡ rows_beside partitions.now rows.old.items }
+{
+    rows.retain(|row| !is_among(&row.0, partitions));
+}
+
 fn row_of(entry: &Entry) -> Result<Row, AllocError>
     ensures { IfOk result (λ row. row ≡ row_of entry.now) }
 {
-    let key = TopicPartition {
-        topic: entry.topic.clone()?,
-        partition: entry.partition,
-    };
+    let key = entry.key.clone()?;
     let stored = StoredOffset {
         offset: entry.offset,
         metadata: entry.metadata.clone()?,
@@ -232,16 +255,12 @@ fn rows_of(alloc: Global, entries: &[Entry]) -> Result<VecDeque<Row>, AllocError
 }
 
 /// Returns the offset of a partition, if there is one. Logarithmic in the rows, no allocation.
-pub fn stored_at<'a>(
-    rows: &'a [Row],
-    topic: &Topic,
-    partition: Partition,
-) -> Option<&'a StoredOffset>
+pub fn stored_at<'a>(rows: &'a [Row], key: &TopicPartition) -> Option<&'a StoredOffset>
     requires { IsTrue (is_sorted partition_cmp rows.now) }
-    ensures { option_copied result ≡ find partition_cmp (topic_partition topic.now partition) rows.now }
+    ensures { option_copied result ≡ find partition_cmp key.now rows.now }
 {
-    let at = place(rows, topic, partition);
-    if is_at(rows, at, topic, partition) {
+    let at = place(rows, key);
+    if is_at(rows, at, key) {
         Some(&rows[at].1)
     } else {
         None

@@ -1,15 +1,17 @@
 //! The shelves: the offsets of each group that has any, by group id.
-ghost use Rattle.std.specs.Prelude.{◌≡◌, ◌+◌, [], IsTrue, filter, length, IfOk, OnErr, OnOk};
-ghost use Rattle.std.specs.List.{fold};
+ghost use Rattle.std.specs.Prelude.{◌≡◌, ◌+◌, ◌<◌, [], IsTrue, filter, length, true, IfOk, IsOk, OnErr, OnOk};
+ghost use Rattle.std.specs.List.{fold, list_all};
 ghost use Rattle.std.specs.FinMap.{is_sorted};
-ghost use Rattle.cg_fold.specs.Key.{name_cmp, partition_cmp, put_row, rows_of};
+ghost use Rattle.cg_record.specs.Partitions.{partition_cmp};
+ghost use Rattle.cg_fold.specs.Key.{name_cmp, put_row, rows_of};
 ghost use Rattle.cg_fold.specs.Grouped.{is_another};
-ghost use Rattle.cg_fold.specs.Shelf.{rows_at, with_more};
+ghost use Rattle.cg_fold.specs.Renewed.{has_row};
+ghost use Rattle.cg_fold.specs.Shelf.{rows_at, with_fewer, with_more};
 
 use crate::grouped::{self, ByGroup};
 use crate::rows::{Row, Rows};
 use cg_names::GroupId;
-use cg_record::{Committed, Entries, Metadata};
+use cg_record::{Committed, Entries, Metadata, TopicPartition};
 use std::alloc::{AllocError, Global};
 
 /// The offsets of each group that has any.
@@ -76,6 +78,7 @@ pub fn take(
     ensures ok { OnOk result (shelves.new.entries ≡ with_more commit.group (rows_of commit.entries) shelves.old.entries) }
     ensures grown { IfOk result (λ grown. length (rows_at commit.group shelves.new.entries) ≡ length (rows_at commit.group shelves.old.entries) + grown) }
     ensures err { OnErr result (shelves.new.entries ≡ shelves.old.entries) }
+    ensures known { 0 < length commit.entries → list_all (has_row (rows_at commit.group shelves.old.entries)) commit.entries ≡ true → IsOk result }
 {
     let Committed { group, entries } = commit;
     if let Some(rows) = shelves.get_mut(&group) {
@@ -99,4 +102,22 @@ pub fn remove(shelves: &mut Shelves, group: &GroupId) -> u64
         None => 0,
         Some(rows) => rows.as_slice().len() as u64,
     }
+}
+
+/// Removes the offsets of these partitions from the shelf of a group, and the shelf if it has no others. Returns the number
+/// of offsets that are gone. Costs one look-up, a second one if the shelf goes, and a comparison of each offset of the group
+/// with each partition.
+pub fn remove_rows(shelves: &mut Shelves, group: &GroupId, partitions: &[TopicPartition]) -> u64
+    requires { IsTrue (is_sorted name_cmp shelves.old.entries) }
+    ensures others { shelves.new.entries ≡ with_fewer group.now partitions.now shelves.old.entries }
+    ensures gone { length (rows_at group.now shelves.new.entries) + result ≡ length (rows_at group.now shelves.old.entries) }
+{
+    let Some(rows) = shelves.get_mut(group) else {
+        return 0;
+    };
+    let gone = rows.remove(partitions);
+    if rows.as_slice().is_empty() {
+        let _rows = grouped::take_away(shelves, group);
+    }
+    gone
 }

@@ -64,17 +64,17 @@ fn next_of(
 }
 
 impl Snapshot {
-    /// Takes a state whose commands are to be read.
-    pub fn new(alloc: Global, durable: Durable) -> Result<Self, AllocError>
-        ensures { IfOk result (λ snapshot. snapshot ≡ snapshot_of durable) }
+    /// Takes a state whose commands are to be read, without an allocation.
+    pub fn new(alloc: Global, durable: Durable) -> Self
+        ensures { result ≡ snapshot_of durable }
     {
         let (records, shelves) = durable.into_maps();
-        Ok(Snapshot {
+        Snapshot {
             alloc,
             records,
             shelves,
             commands: Vec::new(alloc).into_iter(),
-        })
+        }
     }
 
     /// Removes the next command and returns it; `None` if there are no more. If an allocation fails, the commands of a

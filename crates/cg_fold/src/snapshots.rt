@@ -3,13 +3,14 @@ ghost use Rattle.std.specs.Prelude.{◌≡◌, ◌<◌, ◌≤◌, ◌++◌, IsT
 ghost use Rattle.std.specs.FinMap.{is_sorted};
 ghost use Rattle.std.specs.Option.{option_copied};
 ghost use Rattle.cg_record.specs.declared.entries.TheConstants.{ENTRIES_MAX};
-ghost use Rattle.cg_fold.specs.Key.{partition_cmp};
-ghost use Rattle.cg_fold.specs.Snapshot.{commit_command, commits_of, entry_of, record_command, record_commands};
+ghost use Rattle.cg_record.specs.Partitions.{partition_cmp};
+ghost use Rattle.cg_fold.specs.Snapshot.{IsRun, commit_command, commits_of, entry_of, first_len, record_command, record_commands};
 
 use crate::record::GroupRecord;
 use crate::rows::Row;
+use crate::runs::first_len;
 use cg_names::GroupId;
-use cg_record::{Assigned, Command, Committed, ENTRIES_MAX, Emptied, Entries, Entry};
+use cg_record::{Assigned, Command, Committed, Emptied, Entries, Entry};
 use std::alloc::{AllocError, Global};
 
 // Returns the command that sets the record of a group.
@@ -56,11 +57,10 @@ pub fn push_record(
 fn entry_of(row: &Row) -> Result<Entry, AllocError>
     ensures { IfOk result (λ entry. entry ≡ entry_of row.now) }
 {
-    let topic = row.0.topic.clone()?;
+    let key = row.0.clone()?;
     let metadata = row.1.metadata.clone()?;
     Ok(Entry {
-        topic,
-        partition: row.0.partition,
+        key,
         offset: row.1.offset,
         metadata,
     })
@@ -91,19 +91,17 @@ fn commit_of(alloc: Global, group: &GroupId, rows: &[Row]) -> Result<Command, Al
     }))
 }
 
-// Splits off as many rows as one commit may have.
+// Splits off the rows of the next commit.
 fn first_entries(rows: &[Row]) -> (&[Row], &[Row])
-    ensures first { result.0.now ≡ take ENTRIES_MAX rows.now }
-    ensures others { result.1.now ≡ drop ENTRIES_MAX rows.now }
+    requires { 0 < length rows.now }
+    ensures first { result.0.now ≡ take (first_len rows.now) rows.now }
+    ensures others { result.1.now ≡ drop (first_len rows.now) rows.now }
+    ensures run { IsRun rows.now (first_len rows.now) }
 {
-    if rows.len() <= ENTRIES_MAX {
-        (rows, &[])
-    } else {
-        rows.split_at(ENTRIES_MAX)
-    }
+    rows.split_at(first_len(rows))
 }
 
-/// Appends the commits of a group's offsets, each with at most `ENTRIES_MAX` entries.
+/// Appends the commits of a group's offsets, one for each run.
 pub fn push_commits(
     alloc: Global,
     commands: &mut Vec<Command>,

@@ -2,17 +2,17 @@
 ghost use Rattle.std.specs.Prelude.{◌≡◌, ◌<◌, ◌≤◌, ◌++◌, IsTrue, length, drop, take, map, IfOk, OnOk};
 ghost use Rattle.std.specs.FinMap.{is_sorted};
 ghost use Rattle.std.specs.Vec.Iter.{into_iter_items};
-ghost use Rattle.cg_record.specs.declared.entries.TheConstants.{ENTRIES_MAX};
-ghost use Rattle.cg_fold.specs.Key.{partition_cmp};
+ghost use Rattle.cg_record.specs.Partitions.{partition_cmp};
 ghost use Rattle.cg_fold.specs.Shelf.{rows_on};
-ghost use Rattle.cg_fold.specs.Snapshot.{commit_command, commits_of, entry_of, record_command, record_commands};
+ghost use Rattle.cg_fold.specs.Snapshot.{IsRun, commit_command, commits_of, entry_of, first_len, record_command, record_commands};
 
 use crate::first_group::FirstGroup;
-use crate::key::{StoredOffset, TopicPartition};
 use crate::record::GroupRecord;
 use crate::rows::{Row, Rows};
+use crate::runs::first_len;
+use crate::stored_offset::StoredOffset;
 use cg_names::GroupId;
-use cg_record::{Assigned, Command, Committed, ENTRIES_MAX, Emptied, Entries, Entry};
+use cg_record::{Assigned, Command, Committed, Emptied, Entries, Entry};
 use std::alloc::{AllocError, Global};
 use std::collections::VecDeque;
 use std::vec::IntoIter;
@@ -62,27 +62,23 @@ fn take_record(
 fn entry_from(row: Row) -> Entry
     ensures { result ≡ entry_of row }
 {
-    let (TopicPartition { topic, partition }, stored) = row;
+    let (key, stored) = row;
     let StoredOffset { offset, metadata } = stored;
     Entry {
-        topic,
-        partition,
+        key,
         offset,
         metadata,
     }
 }
 
 // Returns how many of these rows the next commit has.
-fn first_len(rows: &VecDeque<Row>) -> usize
-    ensures first { take result rows.now.items ≡ take ENTRIES_MAX rows.now.items }
-    ensures others { drop result rows.now.items ≡ drop ENTRIES_MAX rows.now.items }
-    ensures within { result ≤ length rows.now.items }
+fn next_len(rows: &mut VecDeque<Row>) -> usize
+    requires { 0 < length rows.old.items }
+    ensures len { result ≡ first_len rows.old.items }
+    ensures rows { rows.new.items ≡ rows.old.items }
+    ensures run { IsRun rows.old.items (first_len rows.old.items) }
 {
-    if rows.len() <= ENTRIES_MAX {
-        rows.len()
-    } else {
-        ENTRIES_MAX
-    }
+    first_len(rows.make_contiguous())
 }
 
 // Removes this many rows, and returns their entries.
@@ -113,11 +109,11 @@ fn take_commit(
 ) -> Result<Command, AllocError>
     requires some { 0 < length rows.old.items }
     requires sorted { IsTrue (is_sorted partition_cmp rows.old.items) }
-    ensures command { IfOk result (λ command. command ≡ commit_command group.now (take ENTRIES_MAX rows.old.items)) }
-    ensures others { OnOk result (rows.new.items ≡ drop ENTRIES_MAX rows.old.items) }
+    ensures command { IfOk result (λ command. command ≡ commit_command group.now (take (first_len rows.old.items) rows.old.items)) }
+    ensures others { OnOk result (rows.new.items ≡ drop (first_len rows.old.items) rows.old.items) }
 {
     let group = group.clone()?;
-    let len = first_len(rows);
+    let len = next_len(rows);
     let entries = take_entries(alloc, rows, len)?;
     Ok(Command::Committed(Committed {
         group,
@@ -125,7 +121,7 @@ fn take_commit(
     }))
 }
 
-// Appends the commits of a group's offsets, each with at most `ENTRIES_MAX` entries.
+// Appends the commits of a group's offsets, one for each run.
 fn take_commits(
     alloc: Global,
     commands: &mut Vec<Command>,

@@ -8,7 +8,7 @@ use Rattle.std.proofs.lemmas.Bool.{or_left, or_right, false≢true, not-true}
 use Rattle.std.proofs.lemmas.Cmp.{nat_list_eq_equiv}
 use Rattle.cg_names.specs.declared.code.Code.{Code}
 use Rattle.cg_record.specs.declared.entry.Entry.{Entry}
-use Rattle.cg_fold.specs.declared.key.StoredOffset.{StoredOffset}
+use Rattle.cg_fold.specs.declared.stored_offset.StoredOffset.{StoredOffset}
 use Rattle.cg_fold.specs.Durable.{State, after, effect, is_of_other, with_entry}
 use Rattle.cg_fold.specs.Key.{OffsetKey, key_cmp, kept_of}
 use Rattle.cg_fold.proofs.KeyOrder.{key_same, key_total}

@@ -32,7 +32,7 @@ use Rattle.cg_held.specs.Kept.{Each, Kept, kept_in}
 use Rattle.cg_held.proofs.Kept.{kept-after, kept_after}
 use Rattle.cg_group.specs.Laws.{AreRequests, IsRecordedAs, TellsOf, after_all, state_after}
 use Rattle.cg_group.proofs.Asked.{has_named, is_earned, is_earned_in, is_in_roster, is_kept_for}
-use Rattle.cg_request.specs.declared.topic_partition.TopicPartition.{TopicPartition}
+use Rattle.cg_record.specs.declared.topic_partition.TopicPartition.{TopicPartition}
 use Rattle.cg_member.specs.Fetching.{fetched}
 use Rattle.cg_member.specs.Offsets.{OffsetMap}
 use Rattle.cg_member.specs.Leaving.{after_removal, gone_in, leave_taken, left}

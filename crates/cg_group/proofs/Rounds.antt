@@ -24,7 +24,7 @@ use Rattle.cg_turn.specs.Beating.{beat_taken}
 use Rattle.cg_member.specs.Joining.{admitted, is_current, join_again, join_current, join_known, join_new, new_group, new_member, rejoined, updating, waiting}
 use Rattle.cg_held.specs.Kept.{Each}
 use Rattle.cg_group.specs.Laws.{IsInRounds, IsOneRound, Names, RoundsAreOne, replies_by_group}
-use Rattle.cg_request.specs.declared.topic_partition.TopicPartition.{TopicPartition}
+use Rattle.cg_record.specs.declared.topic_partition.TopicPartition.{TopicPartition}
 use Rattle.cg_member.specs.Fetching.{fetched}
 use Rattle.cg_member.specs.Offsets.{OffsetMap}
 use Rattle.cg_member.specs.Leaving.{after_removal, gone_in, leave_taken, left}

@@ -41,7 +41,6 @@ pub use cg_request::commit_entry::CommitEntry;
 pub use cg_request::commits::Commits;
 pub use cg_request::event::Event;
 pub use cg_request::listed::Listed;
-pub use cg_request::partitions::Partitions;
 pub use cg_request::protocol::{PROTOCOLS_MAX, Protocol};
 pub use cg_request::protocols::Protocols;
 pub use cg_request::request::{
@@ -49,5 +48,4 @@ pub use cg_request::request::{
 };
 pub use cg_request::sync_entries::SyncEntries;
 pub use cg_request::ticket::Ticket;
-pub use cg_request::topic_partition::TopicPartition;
 pub use cg_turn::bounds::GROUPS_MAX;

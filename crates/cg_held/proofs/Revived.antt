@@ -16,6 +16,7 @@ use Rattle.std.proofs.lemmas.List.Folds.{list_any-append}
 use Rattle.std.proofs.lemmas.Map.Text.{is_eq-slice_cmp}
 use Rattle.cg_fold.specs.declared.record.GroupRecord.{GroupRecord}
 use Rattle.cg_fold.specs.Durable.{State}
+use Rattle.cg_record.specs.Partitions.{partition_cmp}
 use Rattle.cg_fold.specs.Key.{OffsetKey, key_cmp, name_cmp}
 use Rattle.cg_fold.specs.Snapshot.{groups_in, in_order, marked}
 use Rattle.cg_fold.proofs.KeyOrder.{key_total}
@@ -128,7 +129,7 @@ held_revived now state id h =
 
 -- keys that compare equal have equal groups
 same_group : (k x : OffsetKey) → eq_by_cmp key_cmp k x ≡ true → eq_by_cmp name_cmp k.group x.group ≡ true
-same_group k x e = first (name_cmp k.group x.group) (ordering_then (name_cmp k.topic x.topic) (nat_cmp k.partition x.partition)) e
+same_group k x e = first (name_cmp k.group x.group) (partition_cmp k.partition x.partition) e
   where
     first : (a b : Ordering) → is_eq (ordering_then a b) ≡ true → is_eq a ≡ true
     first Less b e = absurd (false≢true e)

@@ -7,6 +7,7 @@ use Rattle.std.proofs.lemmas.List.{length-map}
 use Rattle.std.proofs.lemmas.Bool.{and_from}
 use Rattle.cg_names.specs.declared.name.TheConstants.{NAME_BYTES_MAX, MEMBER_ID_BYTES_MAX}
 use Rattle.cg_record.specs.declared.millis.TheConstants.{REBALANCE_MS_MAX}
+use Rattle.cg_record.specs.Lawful.{IsKey}
 use Rattle.cg_request.specs.declared.asking.Request.{Request}
 use Rattle.cg_request.specs.declared.asking.Request.TheVariants as request
 use Rattle.cg_request.specs.declared.request.JoinRequest.{JoinRequest}
@@ -18,7 +19,7 @@ use Rattle.cg_request.specs.declared.request.FetchRequest.{FetchRequest}
 use Rattle.cg_line.specs.declared.parsing.TheConstants.{SESSION_LINE_MS_MAX}
 use Rattle.cg_line.specs.declared.parsing.splitting.TheConstants.{WORDS_MAX}
 use Rattle.cg_line.specs.Parsing.{are_terms, beat_of, commit_in, commit_of, fetch_of, group_call_of, group_of, is_call, is_caller, join_of, leave_of, member_call_of, partition_in, protocol_in, request_of, sync_entry_in, sync_of}
-use Rattle.cg_line.specs.Requests.{IsBeat, IsCommit, IsCommitEntry, IsFetch, IsGeneration, IsJoin, IsLeave, IsOptional, IsProtocol, IsRequest, IsSync, IsSyncEntry, IsTopicPartition, Spells, commit_word, partition_word, protocol_word, request_line, request_words, sync_entry_word}
+use Rattle.cg_line.specs.Requests.{IsBeat, IsCommit, IsCommitEntry, IsFetch, IsGeneration, IsJoin, IsLeave, IsOptional, IsProtocol, IsRequest, IsSync, IsSyncEntry, Spells, commit_word, partition_word, protocol_word, request_line, request_words, sync_entry_word}
 use Rattle.cg_line.specs.Splitting.{words_of}
 use Rattle.cg_line.specs.Words.{name_word, spaced}
 use Rattle.cg_line.proofs.Decimals.{is_number-decimal, value_of-decimal}
@@ -95,7 +96,7 @@ fetch_complete : (r : FetchRequest) → IsFetch r → fetch_of (name_word r.grou
 unfolding fetch_of
 fetch_complete r is =
     picked _ _ r (and_from _ _ (is_optional-name_word NAME_BYTES_MAX r.group is.group) (are_partitions-words r.partitions is.partitions is.each))
-    (made_fetch r _ (optional_in-name_word NAME_BYTES_MAX r.group is.group) (read_all IsTopicPartition partition_in partition_word partition_in-word r.partitions is.each))
+    (made_fetch r _ (optional_in-name_word NAME_BYTES_MAX r.group is.group) (read_all IsKey partition_in partition_word partition_in-word r.partitions is.each))
 
 group_complete : (o : Option (List ℕ)) → IsOptional NAME_BYTES_MAX o → group_of (name_word o ∷ []) ≡ Some o
 unfolding group_of
@@ -212,7 +213,7 @@ line_words (request.Commit r) is = words_of-spaced (codes "COMMIT") _ (
   ),
 )
 line_words (request.Fetch r) is = words_of-spaced (codes "FETCH") _
-    (refl, (name_word_free NAME_BYTES_MAX r.group is.group, free_all IsTopicPartition partition_word partition_free r.partitions is.each))
+    (refl, (name_word_free NAME_BYTES_MAX r.group is.group, free_all IsKey partition_word partition_free r.partitions is.each))
 line_words (request.Describe group) is = words_of-spaced (codes "DESCRIBE") _ (refl, (name_word_free NAME_BYTES_MAX group is, tt))
 line_words (request.Delete group) is = words_of-spaced (codes "DELETE") _ (refl, (name_word_free NAME_BYTES_MAX group is, tt))
 line_words request.List is = words_of-spaced (codes "LIST") [] (refl, tt)

@@ -8,6 +8,7 @@ pub mod Digits
 pub mod Each
 pub mod Generations
 pub mod Hexed
+pub mod Iteration
 pub mod Joined
 pub mod Keyed
 pub mod Known

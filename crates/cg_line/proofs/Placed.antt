@@ -12,14 +12,15 @@ use Rattle.cg_names.specs.declared.name.TheConstants.{NAME_BYTES_MAX}
 use Rattle.cg_record.specs.declared.entries.TheConstants.{ENTRIES_MAX}
 use Rattle.cg_record.specs.declared.offset.TheConstants.{OFFSET_MAX}
 use Rattle.cg_record.specs.declared.partition.TheConstants.{PARTITION_MAX}
+use Rattle.cg_record.specs.declared.topic_partition.TopicPartition.{TopicPartition}
+use Rattle.cg_record.specs.Lawful.{IsKey}
+use Rattle.cg_record.specs.Partitions.{ArePartitions, are_one, topic_partition}
 use Rattle.cg_request.specs.declared.commit_entry.CommitEntry.{CommitEntry}
-use Rattle.cg_request.specs.declared.topic_partition.TopicPartition.{TopicPartition}
 use Rattle.cg_request.specs.Commits.{AreCommits, share_partition}
-use Rattle.cg_request.specs.Partitions.{ArePartitions, are_one}
 use Rattle.cg_line.specs.Fields.{bytes_in, is_bytes, is_name}
 use Rattle.cg_line.specs.Numbers.{is_digit, is_number, value_of}
 use Rattle.cg_line.specs.Parsing.{are_commits, are_partitions, commit_in, have_own_places, is_commit, is_partition, is_place, metadata_field, offset_field, partition_field, partition_in, share_place, topic_field}
-use Rattle.cg_line.specs.Requests.{IsCommitEntry, IsTopicPartition, commit_word, partition_word}
+use Rattle.cg_line.specs.Requests.{IsCommitEntry, commit_word, partition_word}
 use Rattle.cg_line.specs.Splitting.{before, behind, joined}
 use Rattle.cg_line.specs.Words.{bytes_word}
 use Rattle.cg_line.proofs.Apart.{own_places}
@@ -99,8 +100,7 @@ unfolding commit_in
 commit_lawful w is =
     let parts = commit_parts w is in
     record {
-      topic = IsName-from_test NAME_BYTES_MAX (topic_field w) parts.topic;
-      partition = value_of-le PARTITION_MAX (partition_field w) parts.partition;
+      key = record { topic = IsName-from_test NAME_BYTES_MAX (topic_field w) parts.topic; partition = value_of-le PARTITION_MAX (partition_field w) parts.partition };
       offset = value_of-le OFFSET_MAX (offset_field w) parts.offset;
       metadata = (bytes_spelled (metadata_field w) parts.metadata).1;
     }
@@ -125,10 +125,10 @@ fields_of t p o m free_t free_p free_o =
       metadata = ap (λ v. behind 58 (behind 58 v)) one ∙ (ap (behind 58) two ∙ three);
     }
 
-fields_of_word : (e : CommitEntry) → IsCommitEntry e → HasFields (commit_word e) e.topic (decimal e.partition) (decimal e.offset) (bytes_word e.metadata)
+fields_of_word : (e : CommitEntry) → IsCommitEntry e → HasFields (commit_word e) e.key.topic (decimal e.key.partition) (decimal e.offset) (bytes_word e.metadata)
 fields_of_word e is =
-    fields_of e.topic (decimal e.partition) (decimal e.offset) (bytes_word e.metadata) (name_free 58 NAME_BYTES_MAX e.topic refl is.topic)
-    (decimal_free 58 e.partition refl (partition_small e.partition is.partition)) (decimal_free 58 e.offset refl (offset_small e.offset is.offset))
+    fields_of e.key.topic (decimal e.key.partition) (decimal e.offset) (bytes_word e.metadata) (name_free 58 NAME_BYTES_MAX e.key.topic refl is.key.topic)
+    (decimal_free 58 e.key.partition refl (partition_small e.key.partition is.key.partition)) (decimal_free 58 e.offset refl (offset_small e.offset is.offset))
 
 pub is_commit-word : (e : CommitEntry) → IsCommitEntry e → is_commit (commit_word e) ≡ true
 unfolding is_commit is_place
@@ -139,13 +139,13 @@ is_commit-word e is =
       fields.partition,
       fields.offset,
       fields.metadata,
-      is_name-from_name NAME_BYTES_MAX e.topic is.topic,
-      is_number-decimal PARTITION_MAX e.partition is.partition (partition_small e.partition is.partition),
+      is_name-from_name NAME_BYTES_MAX e.key.topic is.key.topic,
+      is_number-decimal PARTITION_MAX e.key.partition is.key.partition (partition_small e.key.partition is.key.partition),
       is_number-decimal OFFSET_MAX e.offset is.offset (offset_small e.offset is.offset),
     ) (is_bytes-bytes_word e.metadata is.metadata)
 
-made : (t : List ℕ) (p o : ℕ) (m : List ℕ) (e : CommitEntry) → t ≡ e.topic → p ≡ e.partition → o ≡ e.offset → m ≡ e.metadata
-    → record { topic = t; partition = p; offset = o; metadata = m } ≡ e
+made : (t : List ℕ) (p o : ℕ) (m : List ℕ) (e : CommitEntry) → t ≡ e.key.topic → p ≡ e.key.partition → o ≡ e.offset → m ≡ e.metadata
+    → record { key = topic_partition t p; offset = o; metadata = m } ≡ e
 made t p o m e is_t is_p is_o is_m = rw (is_t, is_p, is_o, is_m) refl
 
 pub commit_in-word : (e : CommitEntry) → IsCommitEntry e → commit_in (commit_word e) ≡ e
@@ -153,7 +153,7 @@ unfolding commit_in
 commit_in-word e is =
     let fields = fields_of_word e is in
     made (topic_field (commit_word e)) (value_of (partition_field (commit_word e))) (value_of (offset_field (commit_word e))) (bytes_in (metadata_field (commit_word e))) e fields.topic
-    (ap value_of fields.partition ∙ value_of-decimal e.partition (partition_small e.partition is.partition))
+    (ap value_of fields.partition ∙ value_of-decimal e.key.partition (partition_small e.key.partition is.key.partition))
     (ap value_of fields.offset ∙ value_of-decimal e.offset (offset_small e.offset is.offset))
     (ap bytes_in fields.metadata ∙ bytes_in-bytes_word e.metadata is.metadata)
 
@@ -163,13 +163,13 @@ free_mark mark w other free = rw other free
 pub commit_free : (e : CommitEntry) → IsCommitEntry e → IsFree 32 (commit_word e)
 unfolding joined
 commit_free e is =
-    let p = decimal_free 32 e.partition refl (partition_small e.partition is.partition) in
+    let p = decimal_free 32 e.key.partition refl (partition_small e.key.partition is.key.partition) in
     let o = decimal_free 32 e.offset refl (offset_small e.offset is.offset) in
     let m = bytes_free 32 e.metadata refl refl is.metadata in
     let rest = free_append 32 (decimal e.offset) (58 ∷ bytes_word e.metadata) o (free_mark 58 (bytes_word e.metadata) refl m) in
-    let more = free_append 32 (decimal e.partition) (58 ∷ (decimal e.offset ++ 58 ∷ bytes_word e.metadata)) p (free_mark 58 (decimal e.offset ++ 58 ∷ bytes_word e.metadata) refl rest) in
-    free_append 32 e.topic (58 ∷ (decimal e.partition ++ 58 ∷ (decimal e.offset ++ 58 ∷ bytes_word e.metadata))) (name_free 32 NAME_BYTES_MAX e.topic refl is.topic)
-    (free_mark 58 (decimal e.partition ++ 58 ∷ (decimal e.offset ++ 58 ∷ bytes_word e.metadata)) refl more)
+    let more = free_append 32 (decimal e.key.partition) (58 ∷ (decimal e.offset ++ 58 ∷ bytes_word e.metadata)) p (free_mark 58 (decimal e.offset ++ 58 ∷ bytes_word e.metadata) refl rest) in
+    free_append 32 e.key.topic (58 ∷ (decimal e.key.partition ++ 58 ∷ (decimal e.offset ++ 58 ∷ bytes_word e.metadata))) (name_free 32 NAME_BYTES_MAX e.key.topic refl is.key.topic)
+    (free_mark 58 (decimal e.key.partition ++ 58 ∷ (decimal e.offset ++ 58 ∷ bytes_word e.metadata)) refl more)
 
 share_agree : (a b : List ℕ) → is_commit a ≡ true → is_commit b ≡ true → share_place a b ≡ share_partition (commit_in a) (commit_in b)
 unfolding share_place commit_in
@@ -234,27 +234,27 @@ partition_spelled w is =
     ap (λ p. before 58 w ++ 58 ∷ p) (decimal-value_of PARTITION_MAX (behind 58 w) (partition_small PARTITION_MAX (omega arith)) parts.partition)
     ∙ joined-cut 58 w (number_some PARTITION_MAX (behind 58 w) parts.partition)
 
-pub partition_lawful : (w : List ℕ) → is_partition w ≡ true → IsTopicPartition (partition_in w)
+pub partition_lawful : (w : List ℕ) → is_partition w ≡ true → IsKey (partition_in w)
 unfolding partition_in
 partition_lawful w is =
     let parts = partition_parts w is in
     record { topic = IsName-from_test NAME_BYTES_MAX (before 58 w) parts.topic; partition = value_of-le PARTITION_MAX (behind 58 w) parts.partition }
 
-pub is_partition-word : (p : TopicPartition) → IsTopicPartition p → is_partition (partition_word p) ≡ true
+pub is_partition-word : (p : TopicPartition) → IsKey p → is_partition (partition_word p) ≡ true
 unfolding is_partition joined
 is_partition-word p is =
     let free = name_free 58 NAME_BYTES_MAX p.topic refl is.topic in
     rw (before-joined 58 p.topic (decimal p.partition) free, behind-joined 58 p.topic (decimal p.partition) free, is_name-from_name NAME_BYTES_MAX p.topic is.topic)
     (is_number-decimal PARTITION_MAX p.partition is.partition (partition_small p.partition is.partition))
 
-pub partition_in-word : (p : TopicPartition) → IsTopicPartition p → partition_in (partition_word p) ≡ p
+pub partition_in-word : (p : TopicPartition) → IsKey p → partition_in (partition_word p) ≡ p
 unfolding partition_in joined
 partition_in-word p is =
     let free = name_free 58 NAME_BYTES_MAX p.topic refl is.topic in
     rw (before-joined 58 p.topic (decimal p.partition) free, behind-joined 58 p.topic (decimal p.partition) free)
-    (ap (λ n. record { topic = p.topic; partition = n }) (value_of-decimal p.partition (partition_small p.partition is.partition)))
+    (ap (topic_partition p.topic) (value_of-decimal p.partition (partition_small p.partition is.partition)))
 
-pub partition_free : (p : TopicPartition) → IsTopicPartition p → IsFree 32 (partition_word p)
+pub partition_free : (p : TopicPartition) → IsKey p → IsFree 32 (partition_word p)
 unfolding joined
 partition_free p is =
     free_append 32 p.topic (58 ∷ decimal p.partition) (name_free 32 NAME_BYTES_MAX p.topic refl is.topic)
@@ -297,11 +297,11 @@ partitions_lawful ws are =
     let own = own_places are_one is_partition partition_in one_agree ws words.each in
     record { some = omega (arith, len); few = omega (arith, len); distinct = own.0 words.apart }
 
-pub are_partitions-words : (ps : List TopicPartition) → ArePartitions ps → AllByRecursion IsTopicPartition ps → are_partitions (map partition_word ps) ≡ true
+pub are_partitions-words : (ps : List TopicPartition) → ArePartitions ps → AllByRecursion IsKey ps → are_partitions (map partition_word ps) ≡ true
 unfolding are_partitions
 are_partitions-words ps are each =
-    let pass = pass_all IsTopicPartition is_partition partition_word is_partition-word ps each in
-    let back = read_all IsTopicPartition partition_in partition_word partition_in-word ps each in
+    let pass = pass_all IsKey is_partition partition_word is_partition-word ps each in
+    let back = read_all IsKey partition_in partition_word partition_in-word ps each in
     let own = own_places are_one is_partition partition_in one_agree (map partition_word ps) pass in
     let apart = own.1 (subst (λ (read : List TopicPartition). IsDistinct are_one read) (sym back) are.distinct) in
     rw (length-map ps partition_word, le-leb 1 (length ps) are.some, le-leb (length ps) ENTRIES_MAX are.few, pass) apart

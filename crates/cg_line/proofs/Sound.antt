@@ -7,6 +7,7 @@ use Rattle.std.specs.Fmt.{signed_decimal}
 use Rattle.std.proofs.lemmas.Slice.Eq.{bytes_eq-Decides}
 use Rattle.cg_names.specs.declared.name.TheConstants.{NAME_BYTES_MAX, MEMBER_ID_BYTES_MAX}
 use Rattle.cg_record.specs.declared.millis.TheConstants.{REBALANCE_MS_MAX}
+use Rattle.cg_record.specs.Lawful.{IsKey}
 use Rattle.cg_request.specs.declared.asking.Request.{Request}
 use Rattle.cg_request.specs.declared.asking.Request.TheVariants as request
 use Rattle.cg_request.specs.declared.request.JoinRequest.{JoinRequest}
@@ -19,7 +20,7 @@ use Rattle.cg_line.specs.declared.parsing.TheConstants.{SESSION_LINE_MS_MAX}
 use Rattle.cg_line.specs.Fields.{is_name, is_optional, optional_in}
 use Rattle.cg_line.specs.Numbers.{generation_in, is_generation, is_number}
 use Rattle.cg_line.specs.Parsing.{are_commits, are_partitions, are_protocols, are_sync_entries, are_terms, beat_of, commit_in, commit_of, fetch_of, group_call_of, group_of, is_call, is_caller, is_commit, is_member_call, is_partition, is_protocol, is_sync_entry, join_of, leave_of, member_call_of, nothing_of, partition_in, protocol_in, request_of, sync_entry_in, sync_of}
-use Rattle.cg_line.specs.Requests.{IsBeat, IsCommit, IsCommitEntry, IsFetch, IsJoin, IsLeave, IsOptional, IsProtocol, IsRequest, IsSync, IsSyncEntry, IsTopicPartition, Spells, beat_words, commit_word, commit_words, fetch_words, join_words, leave_words, partition_word, protocol_word, request_line, request_words, sync_entry_word, sync_words}
+use Rattle.cg_line.specs.Requests.{IsBeat, IsCommit, IsCommitEntry, IsFetch, IsJoin, IsLeave, IsOptional, IsProtocol, IsRequest, IsSync, IsSyncEntry, Spells, beat_words, commit_word, commit_words, fetch_words, join_words, leave_words, partition_word, protocol_word, request_line, request_words, sync_entry_word, sync_words}
 use Rattle.cg_line.specs.Splitting.{words_of}
 use Rattle.cg_line.specs.Words.{name_word, spaced}
 use Rattle.cg_line.proofs.Decimals.{decimal-value_of, value_of-le}
@@ -163,7 +164,7 @@ fetch_sound (g ∷ ps) r e =
       record {
         group = optional_lawful NAME_BYTES_MAX g parts.0;
         partitions = partitions_lawful ps parts.1;
-        each = lawful_all IsTopicPartition is_partition partition_in partition_lawful ps each;
+        each = lawful_all IsKey is_partition partition_in partition_lawful ps each;
       },
       words_1 (codes "FETCH") g _ ps _ (sym (optional_spelled NAME_BYTES_MAX g parts.0)) (sym (spelled_all is_partition partition_in partition_word partition_spelled ps each)),
     )

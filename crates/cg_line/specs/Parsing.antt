@@ -10,6 +10,8 @@ use Rattle.cg_record.specs.declared.offset.TheConstants.{OFFSET_MAX}
 use Rattle.cg_record.specs.declared.opaque.TheConstants.{SUBSCRIPTION_BYTES_MAX, ASSIGNMENT_BYTES_MAX}
 use Rattle.cg_record.specs.declared.partition.TheConstants.{PARTITION_MAX}
 use Rattle.cg_record.specs.declared.roster.TheConstants.{MEMBERS_MAX}
+use Rattle.cg_record.specs.declared.topic_partition.TopicPartition.{TopicPartition}
+use Rattle.cg_record.specs.Partitions.{topic_partition}
 use Rattle.cg_request.specs.declared.asking.Request.{Request}
 use Rattle.cg_request.specs.declared.asking.Request.TheVariants as request
 use Rattle.cg_request.specs.declared.commit_entry.CommitEntry.{CommitEntry}
@@ -22,7 +24,6 @@ use Rattle.cg_request.specs.declared.request.BeatRequest.{BeatRequest}
 use Rattle.cg_request.specs.declared.request.LeaveRequest.{LeaveRequest}
 use Rattle.cg_request.specs.declared.request.CommitRequest.{CommitRequest}
 use Rattle.cg_request.specs.declared.request.FetchRequest.{FetchRequest}
-use Rattle.cg_request.specs.declared.topic_partition.TopicPartition.{TopicPartition}
 use Rattle.cg_request.specs.Names.{are_distinct}
 use Rattle.cg_line.specs.declared.line_fault.LineFault.{LineFault}
 use Rattle.cg_line.specs.declared.line_fault.LineFault.TheVariants.{Memory, Malformed, TooLong}
@@ -91,7 +92,7 @@ unfoldable pub is_partition : List ℕ → Bool
 is_partition word = is_name NAME_BYTES_MAX (before colon word) && is_number PARTITION_MAX (behind colon word)
 
 unfoldable pub partition_in : List ℕ → TopicPartition
-partition_in word = record { topic = before colon word; partition = value_of (behind colon word) }
+partition_in word = topic_partition (before colon word) (value_of (behind colon word))
 
 -- topic:partition:offset:bytes
 unfoldable pub is_commit : List ℕ → Bool
@@ -99,8 +100,7 @@ is_commit word = is_place word && is_number OFFSET_MAX (offset_field word) && is
 
 unfoldable pub commit_in : List ℕ → CommitEntry
 commit_in word = record {
-  topic = topic_field word;
-  partition = value_of (partition_field word);
+  key = topic_partition (topic_field word) (value_of (partition_field word));
   offset = value_of (offset_field word);
   metadata = bytes_in (metadata_field word);
 }

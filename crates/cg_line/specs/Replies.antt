@@ -3,7 +3,7 @@ use Rattle.std.specs.Prelude.{ℕ, List, [], ◌∷◌, ◌++◌, map, codes, Op
 use Rattle.std.specs.Fmt.{decimal, signed_decimal}
 use Rattle.cg_names.specs.declared.code.Code.{Code}
 use Rattle.cg_names.specs.Codes.{name_of, number_of}
-use Rattle.cg_fold.specs.declared.key.StoredOffset.{StoredOffset}
+use Rattle.cg_fold.specs.declared.stored_offset.StoredOffset.{StoredOffset}
 use Rattle.cg_member.specs.declared.group.Phase.{Phase}
 use Rattle.cg_member.specs.declared.group.Phase.TheVariants.{Empty, Preparing, Completing, Stable}
 use Rattle.cg_member.specs.declared.reply.Joined.{Joined}
@@ -34,7 +34,7 @@ stored_word (Some stored) = decimal stored.offset ++ codes ":" ++ bytes_word sto
 
 -- topic:partition:offset:metadata
 unfoldable pub fetched_word : FetchedPartition → List ℕ
-fetched_word p = p.topic ++ codes ":" ++ decimal p.partition ++ codes ":" ++ stored_word p.stored
+fetched_word p = p.key.topic ++ codes ":" ++ decimal p.key.partition ++ codes ":" ++ stored_word p.stored
 
 -- id:instance:client:subscription:assignment
 unfoldable pub described_word : DescribedMember → List ℕ

@@ -8,7 +8,9 @@ use Rattle.cg_names.specs.declared.name.TheConstants.{NAME_BYTES_MAX, MEMBER_ID_
 use Rattle.cg_record.specs.declared.millis.TheConstants.{REBALANCE_MS_MAX}
 use Rattle.cg_record.specs.declared.offset.TheConstants.{OFFSET_MAX}
 use Rattle.cg_record.specs.declared.opaque.TheConstants.{SUBSCRIPTION_BYTES_MAX, ASSIGNMENT_BYTES_MAX}
-use Rattle.cg_record.specs.declared.partition.TheConstants.{PARTITION_MAX}
+use Rattle.cg_record.specs.declared.topic_partition.TopicPartition.{TopicPartition}
+use Rattle.cg_record.specs.Lawful.{IsKey}
+use Rattle.cg_record.specs.Partitions.{ArePartitions}
 use Rattle.cg_request.specs.declared.asking.Request.{Request}
 use Rattle.cg_request.specs.declared.asking.Request.TheVariants as request
 use Rattle.cg_request.specs.declared.commit_entry.CommitEntry.{CommitEntry}
@@ -20,11 +22,9 @@ use Rattle.cg_request.specs.declared.request.BeatRequest.{BeatRequest}
 use Rattle.cg_request.specs.declared.request.LeaveRequest.{LeaveRequest}
 use Rattle.cg_request.specs.declared.request.CommitRequest.{CommitRequest}
 use Rattle.cg_request.specs.declared.request.FetchRequest.{FetchRequest}
-use Rattle.cg_request.specs.declared.topic_partition.TopicPartition.{TopicPartition}
 use Rattle.cg_request.specs.Commits.{AreCommits}
 use Rattle.cg_request.specs.Handing.{AreSyncEntries}
 use Rattle.cg_request.specs.Offers.{AreProtocols}
-use Rattle.cg_request.specs.Partitions.{ArePartitions}
 use Rattle.cg_line.specs.declared.parsing.TheConstants.{SESSION_LINE_MS_MAX}
 use Rattle.cg_line.specs.Splitting.{colon, equals, joined}
 use Rattle.cg_line.specs.Words.{spaced, bytes_word, name_word}
@@ -39,7 +39,7 @@ sync_entry_word e = joined equals (e.member ∷ bytes_word e.assignment ∷ [])
 
 -- topic:partition:offset:bytes
 abbrev pub commit_word : CommitEntry → List ℕ
-commit_word e = joined colon (e.topic ∷ decimal e.partition ∷ decimal e.offset ∷ bytes_word e.metadata ∷ [])
+commit_word e = joined colon (e.key.topic ∷ decimal e.key.partition ∷ decimal e.offset ∷ bytes_word e.metadata ∷ [])
 
 -- topic:partition
 abbrev pub partition_word : TopicPartition → List ℕ
@@ -103,14 +103,9 @@ pub record IsSyncEntry (e : SyncEntry) : Type 0 where
   pub assignment : IsOpaque ASSIGNMENT_BYTES_MAX e.assignment
 
 pub record IsCommitEntry (e : CommitEntry) : Type 0 where
-  pub topic : IsName NAME_BYTES_MAX e.topic
-  pub partition : e.partition ≤ PARTITION_MAX
+  pub key : IsKey e.key
   pub offset : e.offset ≤ OFFSET_MAX
   pub metadata : IsBytes e.metadata
-
-pub record IsTopicPartition (p : TopicPartition) : Type 0 where
-  pub topic : IsName NAME_BYTES_MAX p.topic
-  pub partition : p.partition ≤ PARTITION_MAX
 
 pub record IsJoin (r : JoinRequest) : Type 0 where
   pub group : IsOptional NAME_BYTES_MAX r.group
@@ -153,7 +148,7 @@ pub record IsCommit (r : CommitRequest) : Type 0 where
 pub record IsFetch (r : FetchRequest) : Type 0 where
   pub group : IsOptional NAME_BYTES_MAX r.group
   pub partitions : ArePartitions r.partitions
-  pub each : AllByRecursion IsTopicPartition r.partitions
+  pub each : AllByRecursion IsKey r.partitions
 
 -- a request whose parts are in their grammars, ranges and limits
 abbrev pub IsRequest : Request → Type 0

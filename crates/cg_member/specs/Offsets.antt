@@ -1,7 +1,7 @@
 -- The committed offsets of all groups, as the commands define them.
 use Rattle.std.specs.Prelude.{List}
 use Rattle.std.specs.FinMap as finmap
-use Rattle.cg_fold.specs.declared.key.StoredOffset.{StoredOffset}
+use Rattle.cg_fold.specs.declared.stored_offset.StoredOffset.{StoredOffset}
 use Rattle.cg_fold.specs.Key.{key_cmp}
 use Rattle.cg_fold.specs.Durable.{after}
 use Rattle.cg_record.specs.declared.command.Command.{Command}

@@ -6,9 +6,9 @@ ghost use Rattle.cg_member.specs.Fetching.{fetched, fetched_partition};
 use crate::reply::{FetchedPartition, Reply};
 use cg_fold::{Offsets, StoredOffset};
 use cg_names::{Code, GroupId};
+use cg_record::TopicPartition;
 use cg_request::listed::Listed;
 use cg_request::request::FetchRequest;
-use cg_request::topic_partition::TopicPartition;
 use std::alloc::{AllocError, Global};
 
 fn copied_offset(stored: Option<&StoredOffset>) -> Result<Option<StoredOffset>, AllocError>
@@ -33,12 +33,8 @@ fn fetched_partition(
 ) -> Result<FetchedPartition, AllocError>
     ensures { IfOk result (λ p. p ≡ fetched_partition offsets.now group.now asked) }
 {
-    let stored = copied_offset(offsets.get(group, &asked.topic, asked.partition))?;
-    Ok(FetchedPartition {
-        topic: asked.topic,
-        partition: asked.partition,
-        stored,
-    })
+    let stored = copied_offset(offsets.get(group, &asked))?;
+    Ok(FetchedPartition { key: asked, stored })
 }
 
 fn fetched_all(

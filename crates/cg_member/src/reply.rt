@@ -2,8 +2,8 @@
 use crate::boxed::Boxed;
 use crate::group::Phase;
 use cg_fold::StoredOffset;
-use cg_names::{ClientId, Code, Generation, GroupId, InstanceId, MemberId, ProtocolName, Topic};
-use cg_record::{Assignment, Partition, Subscription};
+use cg_names::{ClientId, Code, Generation, GroupId, InstanceId, MemberId, ProtocolName};
+use cg_record::{Assignment, Subscription, TopicPartition};
 use cg_request::listed::Listed;
 
 /// A member in the JOIN reply of the leader.
@@ -31,8 +31,7 @@ pub struct Joined {
 /// The committed offset of one partition.
 #[derive(Debug, Drop)]
 pub struct FetchedPartition {
-    pub topic: Topic,
-    pub partition: Partition,
+    pub key: TopicPartition,
     /// `None` if the group has no committed offset for the partition.
     pub stored: Option<StoredOffset>,
 }

@@ -8,6 +8,7 @@ use Rattle.cg_record.specs.declared.format.Version.{Version}
 use Rattle.cg_record.specs.declared.fault.RecordFault.{RecordFault}
 use Rattle.cg_record.specs.declared.command.Command.{Command}
 use Rattle.cg_record.specs.declared.entry.Entry.{Entry}
+use Rattle.cg_record.specs.declared.topic_partition.TopicPartition.{TopicPartition}
 use Rattle.cg_record.specs.declared.member.Member.{Member}
 use Rattle.cg_names.specs.declared.name.TheConstants.{NAME_BYTES_MAX, MEMBER_ID_BYTES_MAX}
 use Rattle.cg_record.specs.Keys.{is_of}
@@ -81,17 +82,17 @@ many_snoc {X} at (suc n) front bytes all rest x after reads next =
 -- ---- checks of values
 
 -- an entry, from its parts
-pub entry_reads : (version : Version) (front : List Entry) (bytes topic : List ℕ) (partition : ℕ) (rest : List ℕ) (offset : ℕ) (metadata after : List ℕ) → key_at bytes ≡ Ok ((topic, partition), rest) → list_any (is_of topic partition) front ≡ false → kept_at version rest ≡ Ok ((offset, metadata), after)
-    → entry_at version front bytes ≡ Ok (record { topic = topic; partition = partition; offset = offset; metadata = metadata }, after)
+pub entry_reads : (front : List Entry) (bytes : List ℕ) (key : TopicPartition) (rest : List ℕ) (offset : ℕ) (metadata after : List ℕ) → key_at bytes ≡ Ok (key, rest) → list_any (is_of key) front ≡ false → kept_at rest ≡ Ok ((offset, metadata), after)
+    → entry_at front bytes ≡ Ok (record { key = key; offset = offset; metadata = metadata }, after)
 unfolding entry_at
-entry_reads version front bytes topic partition rest offset metadata after key new kept = rw (key, new, kept) refl
+entry_reads front bytes key rest offset metadata after read new kept = rw (read, new, kept) refl
 
 -- a member, from its parts
-pub member_reads : (version : Version) (front : List Member) (bytes id rest : List ℕ) (instance : Option (List ℕ)) (more : List ℕ) (profile : Profile) (after : List ℕ)
-    → name_at MEMBER_ID_BYTES_MAX bytes ≡ Ok (id, rest) → list_any (has_id id) front ≡ false → optional_name_at NAME_BYTES_MAX rest ≡ Ok (instance, more) → list_any (has_instance instance) front ≡ false → profile_at version more ≡ Ok (profile, after)
-    → member_at version front bytes ≡ Ok (member_of id instance profile, after)
+pub member_reads : (front : List Member) (bytes id rest : List ℕ) (instance : Option (List ℕ)) (more : List ℕ) (profile : Profile) (after : List ℕ)
+    → name_at MEMBER_ID_BYTES_MAX bytes ≡ Ok (id, rest) → list_any (has_id id) front ≡ false → optional_name_at NAME_BYTES_MAX rest ≡ Ok (instance, more) → list_any (has_instance instance) front ≡ false → profile_at more ≡ Ok (profile, after)
+    → member_at front bytes ≡ Ok (member_of id instance profile, after)
 unfolding member_at
-member_reads version front bytes id rest instance more profile after named new known other kept = rw (named, new, known, other, kept) refl
+member_reads front bytes id rest instance more profile after named new known other kept = rw (named, new, known, other, kept) refl
 
 -- i values were decoded from the start, and the remaining ones follow them
 pub record IsChecked {X : Type 0} (at : List X → List ℕ → Read X) (count i : ℕ) (start rest : List ℕ) : Type 0 where

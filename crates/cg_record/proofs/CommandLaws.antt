@@ -13,7 +13,8 @@ use Rattle.cg_record.specs.declared.fault.RecordFault.TheVariants.{Memory, BadKi
 use Rattle.cg_record.specs.declared.command.Command.{Command}
 use Rattle.cg_record.specs.declared.command.Command.TheVariants as kinds
 use Rattle.cg_record.specs.Lawful.{IsCommand, AreCommands}
-use Rattle.cg_record.specs.Spelling.{assigned_text, emptied_text, replaced_text, deleted_text, committed_text, command_text, spelling}
+use Rattle.cg_record.specs.Spelling.{assigned_text, emptied_text, replaced_text, deleted_text, committed_text, command_bytes, payload, IsPayload, command_text, spelling}
+use Rattle.cg_record.specs.Versions.{byte_of, newest}
 use Rattle.cg_record.specs.Fields.{Read, ◌>>=◌, made, byte_at}
 use Rattle.cg_record.specs.Reading.{Builds, Skips, body_at, command_at, commands_to_end, version_of, commands_of, Tells}
 use Rattle.cg_record.proofs.Laws.{IsBytes, bind_ok, ok_is, Takes, ReadsRest, Reads, Anything, reads_then, reads_as, test_ok}
@@ -34,23 +35,23 @@ kind_of (kinds.Committed committed) = COMMITTED_KIND
 kind_of (kinds.Deleted deleted) = DELETED_KIND
 
 -- the encoded fields of a command
-abbrev pub body_text : Command → List ℕ
-body_text (kinds.Assigned assigned) = assigned_text assigned
-body_text (kinds.Emptied emptied) = emptied_text emptied
-body_text (kinds.Replaced replaced) = replaced_text replaced
-body_text (kinds.Committed committed) = committed_text committed
-body_text (kinds.Deleted deleted) = deleted_text deleted
+abbrev pub body_text : Version → Command → List ℕ
+body_text version (kinds.Assigned assigned) = assigned_text assigned
+body_text version (kinds.Emptied emptied) = emptied_text version emptied
+body_text version (kinds.Replaced replaced) = replaced_text replaced
+body_text version (kinds.Committed committed) = committed_text version committed
+body_text version (kinds.Deleted deleted) = deleted_text deleted
 
 -- what the decoder of one kind accepts, as the command of that kind
-kind_takes : {A : Type 0} {at : List ℕ → Read A} {text : A → List ℕ} {Is : A → Type 0} (make : A → Command) → Reads at text Is
-    → ((a : A) → body_text (make a) ≡ text a) → ((a : A) → Is a → IsCommand (make a))
-    → (bytes : List ℕ) (x : Command) (rest : List ℕ) → IsBytes bytes → made make (at bytes) ≡ Ok (x, rest) → Takes bytes (body_text x) rest × ((a : A) × (make a ≡ x)) × IsCommand x
-kind_takes {A} {at} {text} {Is} make reader same there bytes x rest fits e =
+kind_takes : {A : Type 0} {at : List ℕ → Read A} {text : A → List ℕ} {Is : A → Type 0} (version : Version) (make : A → Command) → Reads at text Is
+    → ((a : A) → body_text version (make a) ≡ text a) → ((a : A) → Is a → IsCommand (make a))
+    → (bytes : List ℕ) (x : Command) (rest : List ℕ) → IsBytes bytes → made make (at bytes) ≡ Ok (x, rest) → Takes bytes (body_text version x) rest × ((a : A) × (make a ≡ x)) × IsCommand x
+kind_takes {A} {at} {text} {Is} version make reader same there bytes x rest fits e =
     let b = bind_ok (at bytes) (λ y. Ok (make y.0, y.1)) (x, rest) e in
     let t = reader.takes bytes b.0.0 b.0.1 fits b.1 in
     let made_is : (make b.0.0, b.0.1) ≡ (x, rest) = ok_is (make b.0.0, b.0.1) (x, rest) b.2 in
-    let taken : Takes bytes (body_text (make b.0.0)) b.0.1 = subst (λ (l : List ℕ). Takes bytes l b.0.1) (sym (same b.0.0)) t.0 in
-    subst (λ (y : Command × List ℕ). Takes bytes (body_text y.0) y.1 × ((a : A) × (make a ≡ y.0)) × IsCommand y.0) made_is (taken, (b.0.0, refl), there b.0.0 t.2)
+    let taken : Takes bytes (body_text version (make b.0.0)) b.0.1 = subst (λ (l : List ℕ). Takes bytes l b.0.1) (sym (same b.0.0)) t.0 in
+    subst (λ (y : Command × List ℕ). Takes bytes (body_text version y.0) y.1 × ((a : A) × (make a ≡ y.0)) × IsCommand y.0) made_is (taken, (b.0.0, refl), there b.0.0 t.2)
 
 -- the result of a chain of kinds comes from this kind, or from the others
 kind_cases : {A : Type 0} (kind this : ℕ) (x y : Read A) (z : A × List ℕ) (P : Type 0) → cond (eqb kind this) x y ≡ Ok z → (kind ≡ this → x ≡ Ok z → P) → (y ≡ Ok z → P) → P
@@ -61,36 +62,36 @@ kind_cases {A} kind this x y z P e here there =
     ] refl e
 
 -- a command of this kind was decoded, with its kind byte
-abbrev IsRead : List ℕ → ℕ → Command → List ℕ → Type 0
-IsRead bytes kind x rest = Takes bytes (body_text x) rest × (kind_of x ≡ kind) × IsCommand x
+abbrev IsRead : Version → List ℕ → ℕ → Command → List ℕ → Type 0
+IsRead version bytes kind x rest = Takes bytes (body_text version x) rest × (kind_of x ≡ kind) × IsCommand x
 
-body_takes : (version : Version) (kind : ℕ) (bytes : List ℕ) (x : Command) (rest : List ℕ) → IsBytes bytes → body_at version kind bytes ≡ Ok (x, rest) → IsRead bytes kind x rest
+body_takes : (version : Version) (kind : ℕ) (bytes : List ℕ) (x : Command) (rest : List ℕ) → IsBytes bytes → body_at version kind bytes ≡ Ok (x, rest) → IsRead version bytes kind x rest
 unfolding body_at
 body_takes version kind bytes x rest fits e =
-    kind_cases kind ASSIGNED_KIND _ _ (x, rest) (IsRead bytes kind x rest) e
-    (λ is got. let t = kind_takes kinds.Assigned (reads_assigned version) (λ a. refl) (λ a h. h) bytes x rest fits got in (t.0, ap kind_of (sym t.1.1) ∙ sym is, t.2))
-    (λ second. kind_cases kind EMPTIED_KIND _ _ (x, rest) (IsRead bytes kind x rest) second
-    (λ is got. let t = kind_takes kinds.Emptied (reads_emptied version) (λ a. refl) (λ a h. h) bytes x rest fits got in (t.0, ap kind_of (sym t.1.1) ∙ sym is, t.2))
-    (λ third. kind_cases kind REPLACED_KIND _ _ (x, rest) (IsRead bytes kind x rest) third
-    (λ is got. let t = kind_takes kinds.Replaced (reads_replaced version) (λ a. refl) (λ a h. h) bytes x rest fits got in (t.0, ap kind_of (sym t.1.1) ∙ sym is, t.2))
-    (λ fourth. kind_cases kind COMMITTED_KIND _ _ (x, rest) (IsRead bytes kind x rest) fourth
-    (λ is got. let t = kind_takes kinds.Committed (reads_committed version) (λ a. refl) (λ a h. h) bytes x rest fits got in (t.0, ap kind_of (sym t.1.1) ∙ sym is, t.2))
-    (λ fifth. kind_cases kind DELETED_KIND _ _ (x, rest) (IsRead bytes kind x rest) fifth
-    (λ is got. let t = kind_takes kinds.Deleted (reads_deleted version) (λ a. refl) (λ a h. h) bytes x rest fits got in (t.0, ap kind_of (sym t.1.1) ∙ sym is, t.2))
+    kind_cases kind ASSIGNED_KIND _ _ (x, rest) (IsRead version bytes kind x rest) e
+    (λ is got. let t = kind_takes version kinds.Assigned reads_assigned (λ a. refl) (λ a h. h) bytes x rest fits got in (t.0, ap kind_of (sym t.1.1) ∙ sym is, t.2))
+    (λ second. kind_cases kind EMPTIED_KIND _ _ (x, rest) (IsRead version bytes kind x rest) second
+    (λ is got. let t = kind_takes version kinds.Emptied (reads_emptied version) (λ a. refl) (λ a h. h) bytes x rest fits got in (t.0, ap kind_of (sym t.1.1) ∙ sym is, t.2))
+    (λ third. kind_cases kind REPLACED_KIND _ _ (x, rest) (IsRead version bytes kind x rest) third
+    (λ is got. let t = kind_takes version kinds.Replaced reads_replaced (λ a. refl) (λ a h. h) bytes x rest fits got in (t.0, ap kind_of (sym t.1.1) ∙ sym is, t.2))
+    (λ fourth. kind_cases kind COMMITTED_KIND _ _ (x, rest) (IsRead version bytes kind x rest) fourth
+    (λ is got. let t = kind_takes version kinds.Committed (reads_committed version) (λ a. refl) (λ a h. h) bytes x rest fits got in (t.0, ap kind_of (sym t.1.1) ∙ sym is, t.2))
+    (λ fifth. kind_cases kind DELETED_KIND _ _ (x, rest) (IsRead version bytes kind x rest) fifth
+    (λ is got. let t = kind_takes version kinds.Deleted reads_deleted (λ a. refl) (λ a h. h) bytes x rest fits got in (t.0, ap kind_of (sym t.1.1) ∙ sym is, t.2))
     (λ none. absurd cc)))))
 
-body_again : (version : Version) (x : Command) (rest : List ℕ) → IsCommand x → body_at version (kind_of x) (body_text x ++ rest) ≡ Ok (x, rest)
+body_again : (version : Version) (x : Command) (rest : List ℕ) → IsCommand x → body_at version (kind_of x) (body_text version x ++ rest) ≡ Ok (x, rest)
 unfolding body_at
-body_again version (kinds.Assigned a) rest is = rw ((reads_assigned version).again a rest tt is) refl
+body_again version (kinds.Assigned a) rest is = rw (reads_assigned.again a rest tt is) refl
 body_again version (kinds.Emptied e) rest is = rw ((reads_emptied version).again e rest tt is) refl
-body_again version (kinds.Replaced r) rest is = rw ((reads_replaced version).again r rest tt is) refl
+body_again version (kinds.Replaced r) rest is = rw (reads_replaced.again r rest tt is) refl
 body_again version (kinds.Committed c) rest is = rw ((reads_committed version).again c rest tt is) refl
-body_again version (kinds.Deleted d) rest is = rw ((reads_deleted version).again d rest tt is) refl
+body_again version (kinds.Deleted d) rest is = rw (reads_deleted.again d rest tt is) refl
 
-reads_body : (version : Version) (kind : ℕ) → ReadsRest (body_at version kind) (λ x. Anything x × (kind_of x ≡ kind)) body_text IsCommand
+reads_body : (version : Version) (kind : ℕ) → ReadsRest (body_at version kind) (λ x. Anything x × (kind_of x ≡ kind)) (body_text version) IsCommand
 reads_body version kind = record {
   takes = λ bytes x rest fits e. let t = body_takes version kind bytes x rest fits e in (t.0, (tt, t.1), t.2);
-  again = λ x rest known is. ap (λ k. body_at version k (body_text x ++ rest)) (sym known.1) ∙ body_again version x rest is;
+  again = λ x rest known is. ap (λ k. body_at version k (body_text version x ++ rest)) (sym known.1) ∙ body_again version x rest is;
 }
 
 kind_small : (x : Command) → kind_of x < 256
@@ -100,50 +101,53 @@ kind_small (kinds.Replaced r) = omega arith
 kind_small (kinds.Committed c) = omega arith
 kind_small (kinds.Deleted d) = omega arith
 
-text_is : (x : Command) → (kind_of x ∷ []) ++ body_text x ≡ command_text x
-unfolding command_text
-text_is (kinds.Assigned a) = refl
-text_is (kinds.Emptied e) = refl
-text_is (kinds.Replaced r) = refl
-text_is (kinds.Committed c) = refl
-text_is (kinds.Deleted d) = refl
+bytes_are : (version : Version) (x : Command) → (kind_of x ∷ []) ++ body_text version x ≡ command_bytes version x
+unfolding command_bytes
+bytes_are version (kinds.Assigned a) = refl
+bytes_are version (kinds.Emptied e) = refl
+bytes_are version (kinds.Replaced r) = refl
+bytes_are version (kinds.Committed c) = refl
+bytes_are version (kinds.Deleted d) = refl
 
-pub reads_command : (version : Version) → Reads (command_at version) command_text IsCommand
+pub reads_command : (version : Version) → Reads (command_at version) (command_bytes version) IsCommand
 unfolding command_at
 reads_command version =
     reads_as
     (reads_then kind_of reads_byte (λ kind is_kind. reads_body version kind))
-    text_is
+    (bytes_are version)
     (λ x known is. is.1)
     (λ x known is. (kind_small x, is))
 
 -- an encoded command has at least one byte
+pub bytes_not_empty : (version : Version) (x : Command) → 1 ≤ length (command_bytes version x)
+unfolding command_bytes
+bytes_not_empty version (kinds.Assigned a) = omega arith
+bytes_not_empty version (kinds.Emptied e) = omega arith
+bytes_not_empty version (kinds.Replaced r) = omega arith
+bytes_not_empty version (kinds.Committed c) = omega arith
+bytes_not_empty version (kinds.Deleted d) = omega arith
+
 pub text_not_empty : (x : Command) → 1 ≤ length (command_text x)
-unfolding command_text
-text_not_empty (kinds.Assigned a) = omega arith
-text_not_empty (kinds.Emptied e) = omega arith
-text_not_empty (kinds.Replaced r) = omega arith
-text_not_empty (kinds.Committed c) = omega arith
-text_not_empty (kinds.Deleted d) = omega arith
+text_not_empty x = bytes_not_empty newest x
 
 -- ---- all commands
 
-to_end_take : (version : Version) (most : ℕ) (bytes : List ℕ) (commands : List Command) → IsBytes bytes → length bytes ≤ most → commands_to_end version most bytes ≡ Ok commands → AreCommands commands × (bytes ≡ flat_map command_text commands)
+to_end_take : (version : Version) (most : ℕ) (bytes : List ℕ) (commands : List Command) → IsBytes bytes → length bytes ≤ most → commands_to_end version most bytes ≡ Ok commands → AreCommands commands × (bytes ≡ flat_map (command_bytes version) commands)
 unfolding commands_to_end
 to_end_take version zero bytes commands fits le e =
     let nothing : bytes ≡ [] = nil_from_length bytes (omega arith) in
-    subst (λ (l : List Command). AreCommands l × (bytes ≡ flat_map command_text l)) (ok_is [] commands e) (tt, nothing)
+    subst (λ (l : List Command). AreCommands l × (bytes ≡ flat_map (command_bytes version) l)) (ok_is [] commands e) (tt, nothing)
 to_end_take version (suc most) [] commands fits le e =
-    subst (λ (l : List Command). AreCommands l × ([] ≡ flat_map command_text l)) (ok_is [] commands e) (tt, refl)
+    subst (λ (l : List Command). AreCommands l × ([] ≡ flat_map (command_bytes version) l)) (ok_is [] commands e) (tt, refl)
 to_end_take version (suc most) (b ∷ bytes) commands fits le e =
     let p = bind_ok (command_at version (b ∷ bytes)) (λ first. commands_to_end version most first.1 >>= λ others. Ok (first.0 ∷ others)) commands e in
     let q = bind_ok (commands_to_end version most p.0.1) (λ others. Ok (p.0.0 ∷ others)) commands p.2 in
     let t = (reads_command version).takes (b ∷ bytes) p.0.0 p.0.1 fits p.1 in
-    let some = text_not_empty p.0.0 in
-    let shorter : length p.0.1 ≤ most = omega (arith, ap length t.0.parts, length-append (command_text p.0.0) p.0.1) in
+    let some = bytes_not_empty version p.0.0 in
+    let shorter : length p.0.1 ≤ most = omega (arith, ap length t.0.parts, length-append (command_bytes version p.0.0) p.0.1) in
     let u = to_end_take version most p.0.1 q.0 t.0.rest_fits shorter q.1 in
-    let whole : b ∷ bytes ≡ flat_map command_text (p.0.0 ∷ q.0) = t.0.parts ∙ ap (λ (l : List ℕ). command_text p.0.0 ++ l) u.1 ∙ sym (flat_map-cons command_text p.0.0 q.0) in
-    subst (λ (l : List Command). AreCommands l × (b ∷ bytes ≡ flat_map command_text l)) (ok_is (p.0.0 ∷ q.0) commands q.2) ((t.2, u.0), whole)
+    let whole : b ∷ bytes ≡ flat_map (command_bytes version) (p.0.0 ∷ q.0) = t.0.parts ∙ ap (λ (l : List ℕ). command_bytes version p.0.0 ++ l) u.1 ∙ sym (flat_map-cons (command_bytes version) p.0.0 q.0) in
+    subst (λ (l : List Command). AreCommands l × (b ∷ bytes ≡ flat_map (command_bytes version) l)) (ok_is (p.0.0 ∷ q.0) commands q.2) ((t.2, u.0), whole)
 
 -- where bytes are left, the next command is decoded
 pub to_end_step : (version : Version) (most : ℕ) (bytes : List ℕ) → 1 ≤ length bytes → commands_to_end version (suc most) bytes ≡ (command_at version bytes >>= λ first. commands_to_end version most first.1 >>= λ others. Ok (first.0 ∷ others))
@@ -156,53 +160,66 @@ unfolding commands_to_end
 to_end_nil version zero = refl
 to_end_nil version (suc most) = refl
 
-to_end_again : (version : Version) (commands : List Command) (most : ℕ) → AreCommands commands → length (flat_map command_text commands) ≤ most → commands_to_end version most (flat_map command_text commands) ≡ Ok commands
+to_end_again : (version : Version) (commands : List Command) (most : ℕ) → AreCommands commands → length (flat_map (command_bytes version) commands) ≤ most → commands_to_end version most (flat_map (command_bytes version) commands) ≡ Ok commands
 to_end_again version [] most are le = to_end_nil version most
 to_end_again version (x ∷ commands) zero are le =
-    absurd (omega (arith, text_not_empty x, length-append (command_text x) (flat_map command_text commands), ap length (flat_map-cons command_text x commands)))
+    absurd (omega (arith, bytes_not_empty version x, length-append (command_bytes version x) (flat_map (command_bytes version) commands), ap length (flat_map-cons (command_bytes version) x commands)))
 to_end_again version (x ∷ commands) (suc most) are le =
-    let rest = flat_map command_text commands in
-    let spelled : flat_map command_text (x ∷ commands) ≡ command_text x ++ rest = flat_map-cons command_text x commands in
-    let some : 1 ≤ length (command_text x ++ rest) = omega (arith, text_not_empty x, length-append (command_text x) rest) in
-    let shorter : length rest ≤ most = omega (arith, text_not_empty x, length-append (command_text x) rest, ap length spelled) in
-    ap (commands_to_end version (suc most)) spelled ∙ to_end_step version most (command_text x ++ rest) some
+    let rest = flat_map (command_bytes version) commands in
+    let spelled : flat_map (command_bytes version) (x ∷ commands) ≡ command_bytes version x ++ rest = flat_map-cons (command_bytes version) x commands in
+    let some : 1 ≤ length (command_bytes version x ++ rest) = omega (arith, bytes_not_empty version x, length-append (command_bytes version x) rest) in
+    let shorter : length rest ≤ most = omega (arith, bytes_not_empty version x, length-append (command_bytes version x) rest, ap length spelled) in
+    ap (commands_to_end version (suc most)) spelled ∙ to_end_step version most (command_bytes version x ++ rest) some
     ∙ rw ((reads_command version).again x rest tt are.0, to_end_again version commands most are.1 shorter) refl
 
+-- ---- a payload
+
+-- the version of a first byte
+version_is : (b : ℕ) (version : Version) → version_of b ≡ Ok version → b ≡ byte_of version
+unfolding version_of
+version_is b One e = eqb-true _ _ (test_ok (eqb b VERSION_ONE) BadKind One One e).0
+
+version_again : (version : Version) → version_of (byte_of version) ≡ Ok version
+unfolding version_of
+version_again One = refl
+
 -- decoded bytes are the encoding of their commands
-pub commands_take : (bytes : List ℕ) (commands : List Command) → IsBytes bytes → commands_of bytes ≡ Ok commands → AreCommands commands × (bytes ≡ spelling commands)
-unfolding commands_of version_of spelling
+pub commands_take : (bytes : List ℕ) (commands : List Command) → IsBytes bytes → commands_of bytes ≡ Ok commands → AreCommands commands × IsPayload commands bytes
+unfolding commands_of
 commands_take bytes commands fits e =
     let a = bind_ok (byte_at bytes) (λ first. version_of first.0 >>= λ version. commands_to_end version (length first.1) first.1) commands e in
     let b = bind_ok (version_of a.0.0) (λ version. commands_to_end version (length a.0.1) a.0.1) commands a.2 in
-    let g = test_ok (eqb a.0.0 VERSION_ONE) BadKind One b.0 b.1 in
     let t = reads_byte.takes bytes a.0.0 a.0.1 fits a.1 in
     let u = to_end_take b.0 (length a.0.1) a.0.1 commands t.0.rest_fits (omega arith) b.2 in
-    let first : a.0.0 ≡ VERSION_ONE = eqb-true _ _ g.0 in
-    (u.0, t.0.parts ∙ ap (λ (n : ℕ). n ∷ a.0.1) first ∙ ap (λ (l : List ℕ). VERSION_ONE ∷ l) u.1)
+    (u.0, (b.0, t.0.parts ∙ ap (λ (n : ℕ). n ∷ a.0.1) (version_is a.0.0 b.0 b.1) ∙ ap (λ (l : List ℕ). byte_of b.0 ∷ l) u.1))
 
 -- an encoding decodes to its commands
+pub payload_again : (version : Version) (commands : List Command) → AreCommands commands → commands_of (payload version commands) ≡ Ok commands
+unfolding commands_of byte_at
+payload_again version commands are = rw (version_again version) (to_end_again version commands (length (flat_map (command_bytes version) commands)) are (omega arith))
+
 pub commands_again : (commands : List Command) → AreCommands commands → commands_of (spelling commands) ≡ Ok commands
-unfolding commands_of version_of spelling byte_at
-commands_again commands are = to_end_again One commands (length (flat_map command_text commands)) are (omega arith)
+unfolding spelling
+commands_again commands are = payload_again newest commands are
 
 -- the bytes after a command are fewer
 pub command_shortens : {X : Type 0} (view : X → Command × List ℕ) (r : Result X RecordFault) (version : Version) (bytes : List ℕ) → IsBytes bytes → Builds view r (command_at version bytes) → IfOk r (λ x. length (view x).1 < length bytes)
 command_shortens view (Ok x) version bytes fits built =
     let t = (reads_command version).takes bytes (view x).0 (view x).1 fits built in
-    omega (arith, text_not_empty (view x).0, ap length t.0.parts, length-append (command_text (view x).0) (view x).1)
+    omega (arith, bytes_not_empty version (view x).0, ap length t.0.parts, length-append (command_bytes version (view x).0) (view x).1)
 command_shortens view (Err fault) version bytes fits built = tt
 
 -- the same for a command that is only checked
 pub skipped_shortens : {X : Type 0} (behind : X → List ℕ) (r : Result X RecordFault) (version : Version) (bytes : List ℕ) → IsBytes bytes → Skips behind r (command_at version bytes) → IfOk r (λ x. length (behind x) < length bytes)
 skipped_shortens behind (Ok x) version bytes fits skips =
     let t = (reads_command version).takes bytes skips.0 (behind x) fits skips.1 in
-    omega (arith, text_not_empty skips.0, ap length t.0.parts, length-append (command_text skips.0) (behind x))
+    omega (arith, bytes_not_empty version skips.0, ap length t.0.parts, length-append (command_bytes version skips.0) (behind x))
 skipped_shortens behind (Err fault) version bytes fits skips = tt
 
 -- ---- the result of the decoder of a payload
 
 pub is_found : {X : Type 0} (items : X → List Command) (r : Result X RecordFault) (bytes : List ℕ) → IsBytes bytes
-    → MatchResult r (λ v. commands_of bytes ≡ Ok (items v)) (λ fault. Tells fault (commands_of bytes)) → IfOk r (λ v. AreCommands (items v) × (bytes ≡ spelling (items v)))
+    → MatchResult r (λ v. commands_of bytes ≡ Ok (items v)) (λ fault. Tells fault (commands_of bytes)) → IfOk r (λ v. AreCommands (items v) × IsPayload (items v) bytes)
 is_found items (Ok v) bytes fits told = commands_take bytes (items v) fits told
 is_found items (Err fault) bytes fits told = tt
 
@@ -211,16 +228,16 @@ none_but_memory : {A : Type 0} (fault : RecordFault) (x : A) (read : Result A Re
 none_but_memory Memory x read e told = refl
 none_but_memory fault x read e told = absurd cc
 
-pub is_only : {X : Type 0} (items : X → List Command) (r : Result X RecordFault) (bytes : List ℕ) (commands : List Command) → AreCommands commands → bytes ≡ spelling commands
+pub is_only : {X : Type 0} (items : X → List Command) (r : Result X RecordFault) (bytes : List ℕ) (commands : List Command) → AreCommands commands → IsPayload commands bytes
     → MatchResult r (λ v. commands_of bytes ≡ Ok (items v)) (λ fault. Tells fault (commands_of bytes)) → MatchResult r (λ v. items v ≡ commands) (λ fault. fault ≡ Memory)
-is_only items (Ok v) bytes commands are spelled told = ok_is (items v) commands (sym told ∙ ap commands_of spelled ∙ commands_again commands are)
-is_only items (Err fault) bytes commands are spelled told = none_but_memory fault commands (commands_of bytes) (ap commands_of spelled ∙ commands_again commands are) told
+is_only items (Ok v) bytes commands are spelled told = ok_is (items v) commands (sym told ∙ ap commands_of spelled.1 ∙ payload_again spelled.0 commands are)
+is_only items (Err fault) bytes commands are spelled told = none_but_memory fault commands (commands_of bytes) (ap commands_of spelled.1 ∙ payload_again spelled.0 commands are) told
 
 -- ---- the result of the encoder of a payload
 
-pub whole_spelled : (commands : List Command) (i : ℕ) (text : List ℕ) → length commands ≤ i → text ≡ VERSION_ONE ∷ flat_map command_text (take i commands) → text ≡ spelling commands
+pub whole_spelled : (commands : List Command) (i : ℕ) (text : List ℕ) → length commands ≤ i → text ≡ byte_of newest ∷ flat_map command_text (take i commands) → text ≡ spelling commands
 unfolding spelling
-whole_spelled commands i text le e = e ∙ ap (λ (l : List Command). VERSION_ONE ∷ flat_map command_text l) (take_all i commands le)
+whole_spelled commands i text le e = e ∙ ap (λ (l : List Command). byte_of newest ∷ flat_map command_text l) (take_all i commands le)
 
 pub whole_lawful : (commands : List Command) (i : ℕ) → length commands ≤ i → AllByRecursion IsCommand (take i commands) → AreCommands commands
 whole_lawful commands i le each = subst AreCommands (take_all i commands le) each

@@ -9,9 +9,9 @@ use Rattle.cg_record.specs.Decoding.{after_front, left_in}
 use Rattle.cg_record.specs.Fields.{◌>>=◌}
 use Rattle.cg_record.specs.Lawful.{IsCommand}
 use Rattle.cg_record.specs.Reading.{Builds, Fails, command_at, commands_to_end}
-use Rattle.cg_record.specs.Spelling.{command_text}
+use Rattle.cg_record.specs.Spelling.{command_bytes}
 use Rattle.cg_record.proofs.Laws.{IsBytes}
-use Rattle.cg_record.proofs.CommandLaws.{reads_command, text_not_empty, to_end_nil, to_end_step}
+use Rattle.cg_record.proofs.CommandLaws.{reads_command, bytes_not_empty, to_end_nil, to_end_step}
 use Rattle.cg_record.proofs.Steps.{commands_fail, commands_start}
 
 -- what follows a step may be replaced where the step gives the same
@@ -23,7 +23,7 @@ same_then (Err fault) f g same = refl
 is_decoded : (version : Version) (bytes : List ℕ) (x : Command) (rest : List ℕ) → IsBytes bytes → command_at version bytes ≡ Ok (x, rest) → IsCommand x × IsBytes rest × (length rest < length bytes)
 is_decoded version bytes x rest fits e =
     let t = (reads_command version).takes bytes x rest fits e in
-    (t.2, t.0.rest_fits, omega (arith, text_not_empty x, ap length t.0.parts, length-append (command_text x) rest))
+    (t.2, t.0.rest_fits, omega (arith, bytes_not_empty version x, ap length t.0.parts, length-append (command_bytes version x) rest))
 
 -- the bytes have no more commands than they are, whatever the bound above that
 same_left : (version : Version) (m n : ℕ) (bytes : List ℕ) → IsBytes bytes → length bytes ≤ m → length bytes ≤ n → commands_to_end version m bytes ≡ commands_to_end version n bytes

@@ -18,7 +18,7 @@ use Rattle.cg_record.proofs.FieldLaws.{reads_four, reads_name, from_to-true, is_
 abbrev emptied_of : List ℕ → ℕ → List ℕ → Emptied
 emptied_of group generation kind = record { group = group; generation = generation; kind = kind }
 
-pub reads_emptied : (version : Version) → Reads (emptied_at version) emptied_text IsEmptied
+pub reads_emptied : (version : Version) → Reads (emptied_at version) (emptied_text version) IsEmptied
 unfolding emptied_at emptied_text
 reads_emptied version =
     reads_as
@@ -35,9 +35,9 @@ reads_emptied version =
 abbrev deleted_of : List ℕ → Deleted
 deleted_of group = record { group = group }
 
-pub reads_deleted : (version : Version) → Reads (deleted_at version) deleted_text IsDeleted
+pub reads_deleted : Reads deleted_at deleted_text IsDeleted
 unfolding deleted_at deleted_text
-reads_deleted version =
+reads_deleted =
     reads_as
     (reads_then (λ (d : Deleted). d.group) (reads_name NAME_BYTES_MAX (omega arith)) (λ group is_group.
     reads_end (deleted_of group) (tt, refl) (λ d known. let same : deleted_of group ≡ deleted_of d.group = cc in same)))

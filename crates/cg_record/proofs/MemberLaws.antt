@@ -9,8 +9,6 @@ use Rattle.cg_names.proofs.Names.{length_from_name}
 use Rattle.cg_names.specs.declared.name.TheConstants.{NAME_BYTES_MAX, MEMBER_ID_BYTES_MAX}
 use Rattle.cg_record.specs.declared.millis.TheConstants.{SESSION_MS_MIN, SESSION_MS_MAX, REBALANCE_MS_MAX}
 use Rattle.cg_record.specs.declared.opaque.TheConstants.{SUBSCRIPTION_BYTES_MAX, ASSIGNMENT_BYTES_MAX}
-use Rattle.cg_record.specs.declared.format.Version.{Version}
-use Rattle.cg_record.specs.declared.format.Version.TheVariants.{One}
 use Rattle.cg_record.specs.declared.fault.RecordFault.TheVariants.{BadName, BadLength, Repeated}
 use Rattle.cg_record.specs.declared.member.Member.{Member}
 use Rattle.cg_record.specs.declared.replaced.Replaced.{Replaced}
@@ -32,9 +30,9 @@ abbrev profile_from : List ℕ → ℕ → ℕ → List ℕ → List ℕ → Pro
 profile_from client session rebalance subscription assignment =
     record { client = client; session = session; rebalance = rebalance; subscription = subscription; assignment = assignment }
 
-pub reads_profile : (version : Version) → Reads (profile_at version) profile_text IsProfile
+pub reads_profile : Reads profile_at profile_text IsProfile
 unfolding profile_at profile_text
-reads_profile One =
+reads_profile =
     reads_as
     (reads_then (λ (p : Profile). p.client) (reads_name NAME_BYTES_MAX (omega arith)) (λ client is_client.
     reads_then (λ (p : Profile). p.session) (reads_only (is_from_to SESSION_MS_MIN SESSION_MS_MAX) BadLength reads_four) (λ session is_session.
@@ -119,13 +117,13 @@ reads_optional max below =
 abbrev pub IsNext : List Member → Member → Type 0
 IsNext front m = list_any (λ other. have_one_name other m) front ≡ false
 
-pub reads_member : (version : Version) (front : List Member) → Reads (member_at version front) member_text (λ m. IsMember m × IsNext front m)
+pub reads_member : (front : List Member) → Reads (member_at front) member_text (λ m. IsMember m × IsNext front m)
 unfolding member_at member_text
-reads_member version front =
+reads_member front =
     reads_as
     (reads_then (λ (m : Member). m.id) (reads_only (is_new_id front) Repeated (reads_name MEMBER_ID_BYTES_MAX (omega arith))) (λ id is_id.
     reads_then (λ (m : Member). m.instance) (reads_only (is_new_instance front) Repeated (reads_optional NAME_BYTES_MAX (omega arith))) (λ instance is_instance.
-    reads_then profile_of (reads_profile version) (λ profile is_profile.
+    reads_then profile_of reads_profile (λ profile is_profile.
     reads_end (member_of id instance profile) (((tt, refl), refl), refl)
     (λ m known. sym (ap (λ (i : List ℕ). member_of i m.instance (profile_of m)) known.0.0.1 ∙ ap (λ (o : Option (List ℕ)). member_of id o (profile_of m)) known.0.1 ∙ ap (member_of id instance) known.1))))))
     (λ m. ap (λ (more : List ℕ). name_text m.id ++ (optional_text m.instance ++ more)) (append-nil (profile_text (profile_of m))) ∙ sym (append_assoc (name_text m.id) (optional_text m.instance) (profile_text (profile_of m))))
@@ -159,14 +157,14 @@ grouped a b c d = simp (append-nil, append_assoc)
 abbrev replaced_of : List ℕ → Member → Replaced
 replaced_of group member = record { group = group; member = member }
 
-pub reads_replaced : (version : Version) → Reads (replaced_at version) replaced_text IsReplaced
+pub reads_replaced : Reads replaced_at replaced_text IsReplaced
 unfolding replaced_at replaced_text member_text
-reads_replaced version =
+reads_replaced =
     reads_as
     (reads_then (λ (r : Replaced). r.group) (reads_name NAME_BYTES_MAX (omega arith)) (λ group is_group.
     reads_then (λ (r : Replaced). r.member.id) (reads_name MEMBER_ID_BYTES_MAX (omega arith)) (λ id is_id.
     reads_then (λ (r : Replaced). r.member.instance) (reads_required NAME_BYTES_MAX (omega arith)) (λ instance is_instance.
-    reads_then (λ (r : Replaced). profile_of r.member) (reads_profile version) (λ profile is_profile.
+    reads_then (λ (r : Replaced). profile_of r.member) reads_profile (λ profile is_profile.
     reads_end (replaced_of group (member_of id instance profile)) ((((tt, refl), refl), refl), refl)
     (λ r known. sym (ap (λ (g : List ℕ). replaced_of g (member_of r.member.id r.member.instance (profile_of r.member))) known.0.0.0.1
     ∙ ap (λ (i : List ℕ). replaced_of group (member_of i r.member.instance (profile_of r.member))) known.0.0.1

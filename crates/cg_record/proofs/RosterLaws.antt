@@ -5,7 +5,6 @@ use Rattle.std.proofs.lemmas.List.{append-nil}
 use Rattle.cg_names.specs.declared.name.TheConstants.{NAME_BYTES_MAX, MEMBER_ID_BYTES_MAX}
 use Rattle.cg_names.specs.declared.generation.TheConstants.{GENERATION_MAX}
 use Rattle.cg_record.specs.declared.roster.TheConstants.{MEMBERS_MAX}
-use Rattle.cg_record.specs.declared.format.Version.{Version}
 use Rattle.cg_record.specs.declared.fault.RecordFault.TheVariants.{BadName, BadLength}
 use Rattle.cg_record.specs.declared.member.Member.{Member}
 use Rattle.cg_record.specs.declared.assigned.Assigned.{Assigned}
@@ -29,8 +28,8 @@ members_grow = record {
   middle = λ front m more apart. IsDistinct-middle have_one_name front m more apart;
 }
 
-pub reads_members : (version : Version) (n : ℕ) → Reads (many_at (member_at version) n []) (flat_map member_text) (AreRead IsMember AreApart n)
-reads_members version n = reads_many (member_at version) member_text IsMember AreApart IsNext members_grow (reads_member version) n
+pub reads_members : (n : ℕ) → Reads (many_at member_at n []) (flat_map member_text) (AreRead IsMember AreApart n)
+reads_members n = reads_many member_at member_text IsMember AreApart IsNext members_grow reads_member n
 
 -- the members of a group, each in range
 abbrev pub AreListed : List Member → Type 0
@@ -39,23 +38,23 @@ AreListed members = AreMembers members × AllByRecursion IsMember members
 abbrev listed_text : List Member → List ℕ
 listed_text members = length members ∷ flat_map member_text members
 
-pub reads_listed : (version : Version) → Reads (listed_at version) listed_text AreListed
+pub reads_listed : Reads listed_at listed_text AreListed
 unfolding listed_at
-reads_listed version =
+reads_listed =
     reads_as
-    (reads_counted (member_at version) member_text IsMember AreApart IsNext members_grow (reads_member version) MEMBERS_MAX (omega arith))
+    (reads_counted member_at member_text IsMember AreApart IsNext members_grow reads_member MEMBERS_MAX (omega arith))
     (λ ms. refl)
     (λ ms known is. (record { some = is.some; few = is.few; apart = is.distinct }, is.each))
     (λ ms known is. record { some = is.0.some; few = is.0.few; distinct = is.0.apart; each = is.1 })
 
-pub reads_roster : (version : Version) → Reads (roster_at version) roster_text IsJoined
+pub reads_roster : Reads roster_at roster_text IsJoined
 unfolding roster_at roster_text
-reads_roster version =
+reads_roster =
     reads_as
     (reads_then (λ (r : RosterParts). r.protocol) (reads_name NAME_BYTES_MAX (omega arith)) (λ protocol is_protocol.
     reads_then (λ (r : RosterParts). r.leader) (reads_name MEMBER_ID_BYTES_MAX (omega arith)) (λ leader is_leader.
     reads_as {Other = λ r. AreListed r.members × (is_led_by r.leader r.members ≡ true)}
-    (reads_then (λ (r : RosterParts). r.members) (reads_only (is_led_by leader) BadName (reads_listed version)) (λ members are_members.
+    (reads_then (λ (r : RosterParts). r.members) (reads_only (is_led_by leader) BadName reads_listed) (λ members are_members.
     reads_end (roster_of protocol leader members) (((tt, refl), refl), refl)
     (λ r known. let same : roster_of protocol leader members ≡ roster_of r.protocol r.leader r.members = cc in same)))
     (λ r. append-nil (listed_text r.members))
@@ -71,14 +70,14 @@ assigned_of group generation kind roster = record { group = group; generation = 
 regrouped : (a b c d : List ℕ) → a ++ (b ++ (c ++ (d ++ []))) ≡ ((a ++ b) ++ c) ++ d
 regrouped a b c d = simp (append-nil, append_assoc)
 
-pub reads_assigned : (version : Version) → Reads (assigned_at version) assigned_text IsAssigned
+pub reads_assigned : Reads assigned_at assigned_text IsAssigned
 unfolding assigned_at assigned_text
-reads_assigned version =
+reads_assigned =
     reads_as
     (reads_then (λ (a : Assigned). a.group) (reads_name NAME_BYTES_MAX (omega arith)) (λ group is_group.
     reads_then (λ (a : Assigned). a.generation) (reads_only (is_from_to 1 GENERATION_MAX) BadLength reads_four) (λ generation is_generation.
     reads_then (λ (a : Assigned). a.kind) (reads_name NAME_BYTES_MAX (omega arith)) (λ kind is_kind.
-    reads_then (λ (a : Assigned). a.roster) (reads_roster version) (λ roster is_roster.
+    reads_then (λ (a : Assigned). a.roster) reads_roster (λ roster is_roster.
     reads_end (assigned_of group generation kind roster) ((((tt, refl), refl), refl), refl)
     (λ a known. let same : assigned_of group generation kind roster ≡ assigned_of a.group a.generation a.kind a.roster = cc in same))))))
     (λ a. regrouped (name_text a.group) (four a.generation) (name_text a.kind) (roster_text a.roster))

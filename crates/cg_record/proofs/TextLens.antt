@@ -10,8 +10,9 @@ use Rattle.cg_record.specs.declared.member.Member.{Member}
 use Rattle.cg_record.specs.declared.replaced.Replaced.{Replaced}
 use Rattle.cg_record.specs.Rosters.{RosterParts}
 use Rattle.cg_record.specs.Members.{Profile, profile_of, profile_text, member_text}
+use Rattle.cg_record.specs.Versions.{newest}
 use Rattle.cg_record.specs.Texts.{number, four, eight, name_text, optional_text, bytes_text}
-use Rattle.cg_record.specs.Spelling.{entry_text, roster_text, assigned_text, emptied_text, replaced_text, committed_text}
+use Rattle.cg_record.specs.Spelling.{entry_text, key_text, roster_text, assigned_text, emptied_text, replaced_text, committed_text}
 
 four_len : (n : ℕ) → length (four n) ≡ 4
 unfolding number
@@ -21,21 +22,21 @@ eight_len : (n : ℕ) → length (eight n) ≡ 8
 unfolding number
 eight_len n = refl
 
-pub entry_len : (e : Entry) → length (entry_text e) ≡ length e.topic + length e.metadata + 17
+pub entry_len : (e : Entry) → length (entry_text e) ≡ length e.key.topic + length e.metadata + 17
 unfolding entry_text
 entry_len e =
     omega (
       arith,
-      length-append (name_text e.topic ++ four e.partition ++ eight e.offset) (bytes_text e.metadata),
-      length-append (name_text e.topic ++ four e.partition) (eight e.offset),
-      length-append (name_text e.topic) (four e.partition),
+      length-append (key_text e.key ++ eight e.offset) (bytes_text e.metadata),
+      length-append (key_text e.key) (eight e.offset),
+      length-append (name_text e.key.topic) (four e.key.partition),
       length-append (four (length e.metadata)) e.metadata,
-      four_len e.partition,
+      four_len e.key.partition,
       eight_len e.offset,
       four_len (length e.metadata),
     )
 
-pub committed_len : (c : Committed) → length (committed_text c) ≡ length c.group + length (flat_map entry_text c.entries) + 2
+pub committed_len : (c : Committed) → length (committed_text newest c) ≡ length c.group + length (flat_map entry_text c.entries) + 2
 unfolding committed_text
 committed_len c = omega (arith, length-append (name_text c.group) (length c.entries ∷ flat_map entry_text c.entries))
 
@@ -90,6 +91,6 @@ pub replaced_len : (r : Replaced) → length (replaced_text r) ≡ length r.grou
 unfolding replaced_text
 replaced_len r = omega (arith, length-append (name_text r.group) (member_text r.member))
 
-pub emptied_len : (e : Emptied) → length (emptied_text e) ≡ length e.group + length e.kind + 6
+pub emptied_len : (e : Emptied) → length (emptied_text newest e) ≡ length e.group + length e.kind + 6
 unfolding emptied_text
 emptied_len e = omega (arith, length-append (name_text e.group ++ four e.generation) (name_text e.kind), length-append (name_text e.group) (four e.generation), four_len e.generation)

@@ -93,17 +93,17 @@ told_key bytes =
     told_then _ _ (told_name NAME_BYTES_MAX bytes) (λ topic.
     told_then _ _ (told_only (at_most PARTITION_MAX) BadLength _ tt (told_number _ topic.1)) (λ partition. tt))
 
-told_kept : (version : Version) (bytes : List ℕ) → Told (kept_at version bytes)
+told_kept : (bytes : List ℕ) → Told (kept_at bytes)
 unfolding kept_at
-told_kept One bytes =
+told_kept bytes =
     told_then _ _ (told_only (at_most OFFSET_MAX) BadLength _ tt (told_number _ bytes)) (λ offset.
     told_then _ _ (told_text METADATA_BYTES_MAX offset.1) (λ metadata. tt))
 
-told_entry : (version : Version) (front : List Entry) (bytes : List ℕ) → Told (entry_at version front bytes)
+told_entry : (front : List Entry) (bytes : List ℕ) → Told (entry_at front bytes)
 unfolding entry_at
-told_entry version front bytes =
+told_entry front bytes =
     told_then _ _ (told_only (is_new front) Repeated _ tt (told_key bytes)) (λ key.
-    told_then _ _ (told_kept version key.1) (λ kept. tt))
+    told_then _ _ (told_kept key.1) (λ kept. tt))
 
 told_many : {X : Type 0} (at : List X → List ℕ → Read X) → ((front : List X) (bytes : List ℕ) → Told (at front bytes)) → (n : ℕ) (front : List X) (bytes : List ℕ) → Told (many_at at n front bytes)
 unfolding many_at
@@ -116,50 +116,50 @@ unfolding committed_at
 told_committed version bytes =
     told_then _ _ (told_name NAME_BYTES_MAX bytes) (λ group.
     told_then _ _ (told_only (is_from_to 1 ENTRIES_MAX) BadLength _ tt (told_byte group.1)) (λ count.
-    told_then _ _ (told_many (entry_at version) (told_entry version) count.0 [] count.1) (λ entries. tt)))
+    told_then _ _ (told_many entry_at told_entry count.0 [] count.1) (λ entries. tt)))
 
 -- ---- members
 
-told_profile : (version : Version) (bytes : List ℕ) → Told (profile_at version bytes)
+told_profile : (bytes : List ℕ) → Told (profile_at bytes)
 unfolding profile_at
-told_profile One bytes =
+told_profile bytes =
     told_then _ _ (told_name NAME_BYTES_MAX bytes) (λ client.
     told_then _ _ (told_only (is_from_to SESSION_MS_MIN SESSION_MS_MAX) BadLength _ tt (told_number _ client.1)) (λ session.
     told_then _ _ (told_only (at_most REBALANCE_MS_MAX) BadLength _ tt (told_number _ session.1)) (λ rebalance.
     told_then _ _ (told_text SUBSCRIPTION_BYTES_MAX rebalance.1) (λ subscription.
     told_then _ _ (told_text ASSIGNMENT_BYTES_MAX subscription.1) (λ assignment. tt)))))
 
-told_member : (version : Version) (front : List Member) (bytes : List ℕ) → Told (member_at version front bytes)
+told_member : (front : List Member) (bytes : List ℕ) → Told (member_at front bytes)
 unfolding member_at
-told_member version front bytes =
+told_member front bytes =
     told_then _ _ (told_only (is_new_id front) Repeated _ tt (told_name MEMBER_ID_BYTES_MAX bytes)) (λ id.
     told_then _ _ (told_only (is_new_instance front) Repeated _ tt (told_optional NAME_BYTES_MAX id.1)) (λ instance.
-    told_then _ _ (told_profile version instance.1) (λ profile. tt)))
+    told_then _ _ (told_profile instance.1) (λ profile. tt)))
 
-told_listed : (version : Version) (bytes : List ℕ) → Told (listed_at version bytes)
+told_listed : (bytes : List ℕ) → Told (listed_at bytes)
 unfolding listed_at
-told_listed version bytes =
-    told_then _ _ (told_only (is_from_to 1 MEMBERS_MAX) BadLength _ tt (told_byte bytes)) (λ count. told_many (member_at version) (told_member version) count.0 [] count.1)
+told_listed bytes =
+    told_then _ _ (told_only (is_from_to 1 MEMBERS_MAX) BadLength _ tt (told_byte bytes)) (λ count. told_many member_at told_member count.0 [] count.1)
 
 -- ---- groups
 
-told_roster : (version : Version) (bytes : List ℕ) → Told (roster_at version bytes)
+told_roster : (bytes : List ℕ) → Told (roster_at bytes)
 unfolding roster_at
-told_roster version bytes =
+told_roster bytes =
     told_then _ _ (told_name NAME_BYTES_MAX bytes) (λ protocol.
     told_then _ _ (told_name MEMBER_ID_BYTES_MAX protocol.1) (λ leader.
-    told_then _ _ (told_only (is_led_by leader.0) BadName _ tt (told_listed version leader.1)) (λ members. tt)))
+    told_then _ _ (told_only (is_led_by leader.0) BadName _ tt (told_listed leader.1)) (λ members. tt)))
 
 told_generation : (bytes : List ℕ) → Told (only (is_from_to 1 GENERATION_MAX) BadLength (number_at w32 bytes))
 told_generation bytes = told_only (is_from_to 1 GENERATION_MAX) BadLength _ tt (told_number w32 bytes)
 
-told_assigned : (version : Version) (bytes : List ℕ) → Told (assigned_at version bytes)
+told_assigned : (bytes : List ℕ) → Told (assigned_at bytes)
 unfolding assigned_at
-told_assigned version bytes =
+told_assigned bytes =
     told_then _ _ (told_name NAME_BYTES_MAX bytes) (λ group.
     told_then _ _ (told_generation group.1) (λ generation.
     told_then _ _ (told_name NAME_BYTES_MAX generation.1) (λ kind.
-    told_then _ _ (told_roster version kind.1) (λ roster. tt))))
+    told_then _ _ (told_roster kind.1) (λ roster. tt))))
 
 told_emptied : (version : Version) (bytes : List ℕ) → Told (emptied_at version bytes)
 unfolding emptied_at
@@ -168,28 +168,28 @@ told_emptied version bytes =
     told_then _ _ (told_generation group.1) (λ generation.
     told_then _ _ (told_name NAME_BYTES_MAX generation.1) (λ kind. tt)))
 
-told_replaced : (version : Version) (bytes : List ℕ) → Told (replaced_at version bytes)
+told_replaced : (bytes : List ℕ) → Told (replaced_at bytes)
 unfolding replaced_at
-told_replaced version bytes =
+told_replaced bytes =
     told_then _ _ (told_name NAME_BYTES_MAX bytes) (λ group.
     told_then _ _ (told_name MEMBER_ID_BYTES_MAX group.1) (λ id.
     told_then _ _ (told_then _ _ (told_name NAME_BYTES_MAX id.1) (λ name. tt)) (λ instance.
-    told_then _ _ (told_profile version instance.1) (λ profile. tt))))
+    told_then _ _ (told_profile instance.1) (λ profile. tt))))
 
-told_deleted : (version : Version) (bytes : List ℕ) → Told (deleted_at version bytes)
+told_deleted : (bytes : List ℕ) → Told (deleted_at bytes)
 unfolding deleted_at
-told_deleted version bytes = told_then _ _ (told_name NAME_BYTES_MAX bytes) (λ group. tt)
+told_deleted bytes = told_then _ _ (told_name NAME_BYTES_MAX bytes) (λ group. tt)
 
 -- ---- commands
 
 told_body : (version : Version) (kind : ℕ) (bytes : List ℕ) → Told (body_at version kind bytes)
 unfolding body_at
 told_body version kind bytes =
-    told_if (eqb kind ASSIGNED_KIND) _ _ (told_then _ _ (told_assigned version bytes) (λ a. tt))
+    told_if (eqb kind ASSIGNED_KIND) _ _ (told_then _ _ (told_assigned bytes) (λ a. tt))
     (told_if (eqb kind EMPTIED_KIND) _ _ (told_then _ _ (told_emptied version bytes) (λ e. tt))
-    (told_if (eqb kind REPLACED_KIND) _ _ (told_then _ _ (told_replaced version bytes) (λ r. tt))
+    (told_if (eqb kind REPLACED_KIND) _ _ (told_then _ _ (told_replaced bytes) (λ r. tt))
     (told_if (eqb kind COMMITTED_KIND) _ _ (told_then _ _ (told_committed version bytes) (λ c. tt))
-    (told_if (eqb kind DELETED_KIND) _ _ (told_then _ _ (told_deleted version bytes) (λ d. tt))
+    (told_if (eqb kind DELETED_KIND) _ _ (told_then _ _ (told_deleted bytes) (λ d. tt))
     tt))))
 
 told_command : (version : Version) (bytes : List ℕ) → Told (command_at version bytes)

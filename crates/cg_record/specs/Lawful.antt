@@ -7,6 +7,7 @@ use Rattle.cg_record.specs.declared.partition.TheConstants.{PARTITION_MAX}
 use Rattle.cg_record.specs.declared.offset.TheConstants.{OFFSET_MAX}
 use Rattle.cg_record.specs.declared.metadata.TheConstants.{METADATA_BYTES_MAX}
 use Rattle.cg_record.specs.declared.entry.Entry.{Entry}
+use Rattle.cg_record.specs.declared.topic_partition.TopicPartition.{TopicPartition}
 use Rattle.cg_record.specs.declared.committed.Committed.{Committed}
 use Rattle.cg_names.specs.declared.generation.TheConstants.{GENERATION_MAX}
 use Rattle.cg_record.specs.declared.assigned.Assigned.{Assigned}
@@ -20,9 +21,9 @@ use Rattle.cg_record.specs.Rosters.{RosterParts, IsRoster}
 use Rattle.cg_record.specs.Members.{IsMember}
 
 -- a partition of a topic
-pub record IsKey (name : List ℕ) (number : ℕ) : Type 0 where
-  pub topic : IsName NAME_BYTES_MAX name
-  pub partition : number ≤ PARTITION_MAX
+pub record IsKey (key : TopicPartition) : Type 0 where
+  pub topic : IsName NAME_BYTES_MAX key.topic
+  pub partition : key.partition ≤ PARTITION_MAX
 
 -- an offset and its metadata
 pub record IsKept (number : ℕ) (bytes : List ℕ) : Type 0 where
@@ -31,7 +32,7 @@ pub record IsKept (number : ℕ) (bytes : List ℕ) : Type 0 where
 
 -- a committed offset of one partition
 pub record IsEntry (entry : Entry) : Type 0 where
-  pub key : IsKey entry.topic entry.partition
+  pub key : IsKey entry.key
   pub kept : IsKept entry.offset entry.metadata
 
 -- a commit of a group

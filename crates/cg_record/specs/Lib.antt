@@ -1,10 +1,12 @@
 pub mod Texts
 pub mod Fields
 pub mod Distinct
+pub mod Partitions
 pub mod Keys
 pub mod Rosters
 pub mod Members
 pub mod Lawful
+pub mod Versions
 pub mod Spelling
 pub mod Reading
 pub mod Decoding

@@ -5,8 +5,6 @@ use Rattle.cg_names.specs.Grammar.{IsName}
 use Rattle.cg_names.specs.declared.name.TheConstants.{NAME_BYTES_MAX, MEMBER_ID_BYTES_MAX}
 use Rattle.cg_record.specs.declared.millis.TheConstants.{SESSION_MS_MIN, SESSION_MS_MAX, REBALANCE_MS_MAX}
 use Rattle.cg_record.specs.declared.opaque.TheConstants.{SUBSCRIPTION_BYTES_MAX, ASSIGNMENT_BYTES_MAX}
-use Rattle.cg_record.specs.declared.format.Version.{Version}
-use Rattle.cg_record.specs.declared.format.Version.TheVariants.{One}
 use Rattle.cg_record.specs.declared.fault.RecordFault.TheVariants.{BadLength, Repeated}
 use Rattle.cg_record.specs.declared.member.Member.{Member}
 use Rattle.cg_record.specs.Rosters.{has_id, has_instance}
@@ -51,8 +49,8 @@ member_text m = name_text m.id ++ optional_text m.instance ++ profile_text (prof
 
 -- ---- decoding
 
-unfoldable pub profile_at : Version → List ℕ → Read Profile
-profile_at One bytes = do
+unfoldable pub profile_at : List ℕ → Read Profile
+profile_at bytes = do
   client ← name_at NAME_BYTES_MAX bytes
   session ← only (is_from_to SESSION_MS_MIN SESSION_MS_MAX) BadLength (four_at client.1)
   rebalance ← only (at_most REBALANCE_MS_MAX) BadLength (four_at session.1)
@@ -73,9 +71,9 @@ abbrev pub is_new_instance : List Member → Option (List ℕ) → Bool
 is_new_instance front instance = not (list_any (has_instance instance) front)
 
 -- the next member of a group, after those in front
-unfoldable pub member_at : Version → List Member → List ℕ → Read Member
-member_at version front bytes = do
+unfoldable pub member_at : List Member → List ℕ → Read Member
+member_at front bytes = do
   id ← only (is_new_id front) Repeated (name_at MEMBER_ID_BYTES_MAX bytes)
   instance ← only (is_new_instance front) Repeated (optional_name_at NAME_BYTES_MAX id.1)
-  profile ← profile_at version instance.1
+  profile ← profile_at instance.1
   Ok (member_of id.0 instance.0 profile.0, profile.1)

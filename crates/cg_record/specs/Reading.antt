@@ -14,6 +14,7 @@ use Rattle.cg_record.specs.declared.format.Version.TheVariants.{One}
 use Rattle.cg_record.specs.declared.fault.RecordFault.{RecordFault}
 use Rattle.cg_record.specs.declared.fault.RecordFault.TheVariants.{Memory, BadKind, BadName, BadLength, Repeated}
 use Rattle.cg_record.specs.declared.entry.Entry.{Entry}
+use Rattle.cg_record.specs.declared.topic_partition.TopicPartition.{TopicPartition}
 use Rattle.cg_record.specs.declared.member.Member.{Member}
 use Rattle.cg_record.specs.declared.committed.Committed.{Committed}
 use Rattle.cg_record.specs.declared.assigned.Assigned.{Assigned}
@@ -23,6 +24,7 @@ use Rattle.cg_record.specs.declared.deleted.Deleted.{Deleted}
 use Rattle.cg_record.specs.declared.command.Command.{Command}
 use Rattle.cg_record.specs.declared.command.Command.TheVariants as kinds
 use Rattle.cg_record.specs.Keys.{is_of}
+use Rattle.cg_record.specs.Partitions.{topic_partition}
 use Rattle.cg_record.specs.Rosters.{RosterParts, roster_of, is_led_by}
 use Rattle.cg_record.specs.Members.{member_of, profile_at, member_at}
 pub use Rattle.cg_record.specs.Fields.{Read, ◌>>=◌, only, made, at_most, is_from_to, byte_at, bytes_at, number_at, four_at, eight_at, is_name, name_at, optional_name_at, text_at, many_at}
@@ -30,67 +32,67 @@ pub use Rattle.cg_record.specs.Fields.{Read, ◌>>=◌, only, made, at_most, is_
 -- ---- a commit
 
 -- a partition of a topic
-unfoldable pub key_at : List ℕ → Read (List ℕ × ℕ)
+unfoldable pub key_at : List ℕ → Read TopicPartition
 key_at bytes = do
   topic ← name_at NAME_BYTES_MAX bytes
   partition ← only (at_most PARTITION_MAX) BadLength (four_at topic.1)
-  Ok ((topic.0, partition.0), partition.1)
+  Ok (topic_partition topic.0 partition.0, partition.1)
 
 -- an offset and its metadata
-unfoldable pub kept_at : Version → List ℕ → Read (ℕ × List ℕ)
-kept_at One bytes = do
+unfoldable pub kept_at : List ℕ → Read (ℕ × List ℕ)
+kept_at bytes = do
   offset ← only (at_most OFFSET_MAX) BadLength (eight_at bytes)
   metadata ← text_at METADATA_BYTES_MAX offset.1
   Ok ((offset.0, metadata.0), metadata.1)
 
 -- none of the entries is for this partition
-abbrev pub is_new : List Entry → List ℕ × ℕ → Bool
-is_new front key = not (list_any (is_of key.0 key.1) front)
+abbrev pub is_new : List Entry → TopicPartition → Bool
+is_new front key = not (list_any (is_of key) front)
 
 -- the next entry of a commit, after those in front
-unfoldable pub entry_at : Version → List Entry → List ℕ → Read Entry
-entry_at version front bytes = do
+unfoldable pub entry_at : List Entry → List ℕ → Read Entry
+entry_at front bytes = do
   key ← only (is_new front) Repeated (key_at bytes)
-  kept ← kept_at version key.1
-  Ok (record { topic = key.0.0; partition = key.0.1; offset = kept.0.0; metadata = kept.0.1 }, kept.1)
+  kept ← kept_at key.1
+  Ok (record { key = key.0; offset = kept.0.0; metadata = kept.0.1 }, kept.1)
 
 -- n more entries of a commit, after those in front
-abbrev pub entries_at : Version → ℕ → List Entry → List ℕ → Read (List Entry)
-entries_at version n front bytes = many_at (entry_at version) n front bytes
+abbrev pub entries_at : ℕ → List Entry → List ℕ → Read (List Entry)
+entries_at n front bytes = many_at (entry_at) n front bytes
 
 unfoldable pub committed_at : Version → List ℕ → Read Committed
 committed_at version bytes = do
   group ← name_at NAME_BYTES_MAX bytes
   count ← only (is_from_to 1 ENTRIES_MAX) BadLength (byte_at group.1)
-  entries ← entries_at version count.0 [] count.1
+  entries ← entries_at count.0 [] count.1
   Ok (record { group = group.0; entries = entries.0 }, entries.1)
 
 -- ---- groups
 
 -- n more members of a group, after those in front
-abbrev pub members_at : Version → ℕ → List Member → List ℕ → Read (List Member)
-members_at version n front bytes = many_at (member_at version) n front bytes
+abbrev pub members_at : ℕ → List Member → List ℕ → Read (List Member)
+members_at n front bytes = many_at (member_at) n front bytes
 
 -- the number of members, and the members
-unfoldable pub listed_at : Version → List ℕ → Read (List Member)
-listed_at version bytes = do
+unfoldable pub listed_at : List ℕ → Read (List Member)
+listed_at bytes = do
   count ← only (is_from_to 1 MEMBERS_MAX) BadLength (byte_at bytes)
-  members_at version count.0 [] count.1
+  members_at count.0 [] count.1
 
 -- a leader that is not a member is a fault only at the end of the members
-unfoldable pub roster_at : Version → List ℕ → Read RosterParts
-roster_at version bytes = do
+unfoldable pub roster_at : List ℕ → Read RosterParts
+roster_at bytes = do
   protocol ← name_at NAME_BYTES_MAX bytes
   leader ← name_at MEMBER_ID_BYTES_MAX protocol.1
-  members ← only (is_led_by leader.0) BadName (listed_at version leader.1)
+  members ← only (is_led_by leader.0) BadName (listed_at leader.1)
   Ok (roster_of protocol.0 leader.0 members.0, members.1)
 
-unfoldable pub assigned_at : Version → List ℕ → Read Assigned
-assigned_at version bytes = do
+unfoldable pub assigned_at : List ℕ → Read Assigned
+assigned_at bytes = do
   group ← name_at NAME_BYTES_MAX bytes
   generation ← only (is_from_to 1 GENERATION_MAX) BadLength (four_at group.1)
   kind ← name_at NAME_BYTES_MAX generation.1
-  roster ← roster_at version kind.1
+  roster ← roster_at kind.1
   Ok (record { group = group.0; generation = generation.0; kind = kind.0; roster = roster.0 }, roster.1)
 
 unfoldable pub emptied_at : Version → List ℕ → Read Emptied
@@ -101,16 +103,16 @@ emptied_at version bytes = do
   Ok (record { group = group.0; generation = generation.0; kind = kind.0 }, kind.1)
 
 -- the member of a `Replaced` has an instance
-unfoldable pub replaced_at : Version → List ℕ → Read Replaced
-replaced_at version bytes = do
+unfoldable pub replaced_at : List ℕ → Read Replaced
+replaced_at bytes = do
   group ← name_at NAME_BYTES_MAX bytes
   id ← name_at MEMBER_ID_BYTES_MAX group.1
   instance ← made Some (name_at NAME_BYTES_MAX id.1)
-  profile ← profile_at version instance.1
+  profile ← profile_at instance.1
   Ok (record { group = group.0; member = member_of id.0 instance.0 profile.0 }, profile.1)
 
-unfoldable pub deleted_at : Version → List ℕ → Read Deleted
-deleted_at version bytes = do
+unfoldable pub deleted_at : List ℕ → Read Deleted
+deleted_at bytes = do
   group ← name_at NAME_BYTES_MAX bytes
   Ok (record { group = group.0 }, group.1)
 
@@ -119,11 +121,11 @@ deleted_at version bytes = do
 -- the fields of a command of this kind
 unfoldable pub body_at : Version → ℕ → List ℕ → Read Command
 body_at version kind bytes =
-    if kind == ASSIGNED_KIND then made kinds.Assigned (assigned_at version bytes)
+    if kind == ASSIGNED_KIND then made kinds.Assigned (assigned_at bytes)
     else (if kind == EMPTIED_KIND then made kinds.Emptied (emptied_at version bytes)
-    else (if kind == REPLACED_KIND then made kinds.Replaced (replaced_at version bytes)
+    else (if kind == REPLACED_KIND then made kinds.Replaced (replaced_at bytes)
     else (if kind == COMMITTED_KIND then made kinds.Committed (committed_at version bytes)
-    else (if kind == DELETED_KIND then made kinds.Deleted (deleted_at version bytes)
+    else (if kind == DELETED_KIND then made kinds.Deleted (deleted_at bytes)
     else Err BadKind))))
 
 unfoldable pub command_at : Version → List ℕ → Read Command

@@ -4,6 +4,7 @@ ghost use Rattle.std.specs.Prelude.{◌≡◌, ◌<◌, [], ◌∷◌, length, I
 ghost use Rattle.cg_record.specs.Decoding.{after_front, left_in};
 ghost use Rattle.cg_record.specs.Keys.{HasDistinctKeys};
 ghost use Rattle.cg_record.specs.Lawful.{IsCommand, IsKey, IsKept};
+ghost use Rattle.cg_record.specs.Partitions.{topic_partition};
 ghost use Rattle.cg_record.specs.Reading.{Builds, entry_at, entries_at, committed_at, body_at, command_at, commands_to_end, commands_of};
 
 use crate::command::Command;
@@ -20,6 +21,7 @@ use crate::grouping::{assigned_at, deleted_at, emptied_at, replaced_at};
 use crate::metadata::Metadata;
 use crate::offset::Offset;
 use crate::partition::Partition;
+use crate::topic_partition::TopicPartition;
 use cg_names::{NAME_BYTES_MAX, Name, Topic};
 use std::alloc::{AllocError, Global};
 
@@ -30,17 +32,16 @@ fn entry_of(
     key: Key<'_>,
     kept: Kept<'_>,
 ) -> Result<Entry, AllocError>
-    requires key { IsKey key.topic.now key.partition }
+    requires key { IsKey (topic_partition key.topic.now key.partition) }
     requires kept { IsKept kept.offset kept.metadata.now }
-    ensures { IfOk result (λ e. e ≡ record { topic = key.entry.topic.now; partition = key.entry.partition; offset = kept.entry.offset; metadata = kept.entry.metadata.now }) }
+    ensures { IfOk result (λ e. e ≡ record { key = topic_partition key.entry.topic.now key.entry.partition; offset = kept.entry.offset; metadata = kept.entry.metadata.now }) }
 {
     let partition = Partition::new(key.partition).unwrap();
     let offset = Offset::new(kept.offset).unwrap();
     let topic = Topic::from_lawful(alloc, key.topic)?;
     let metadata = Metadata::from_bytes_in(alloc, room, kept.metadata)?;
     Ok(Entry {
-        topic,
-        partition,
+        key: TopicPartition { topic, partition },
         offset,
         metadata,
     })
@@ -51,17 +52,16 @@ fn entry_of(
 fn entry_at<'a>(
     alloc: Global,
     room: &mut Vec<Metadata>,
-    version: Version,
     front: &[Entry],
     bytes: &'a [u8],
 ) -> Result<(Entry, &'a [u8]), RecordFault>
-    ensures { Builds (λ x. (x.0, x.1.now)) result (entry_at version front.now bytes.now) }
+    ensures { Builds (λ x. (x.0, x.1.now)) result (entry_at front.now bytes.now) }
 {
     let (key, rest) = key_at(bytes)?;
     if is_taken(front, key.topic, key.partition) {
         return Err(RecordFault::Repeated);
     }
-    let (kept, rest) = kept_at(version, rest)?;
+    let (kept, rest) = kept_at(rest)?;
     let entry = entry_of(alloc, room, key, kept)?;
     Ok((entry, rest))
 }
@@ -71,18 +71,17 @@ fn entry_at<'a>(
 fn entries_at<'a>(
     alloc: Global,
     room: &mut Vec<Metadata>,
-    version: Version,
     count: u8,
     bytes: &'a [u8],
 ) -> Result<(Vec<Entry>, &'a [u8]), RecordFault>
-    ensures builds { Builds (λ x. (x.0.items, x.1.now)) result (entries_at version count [] bytes.now) }
+    ensures builds { Builds (λ x. (x.0.items, x.1.now)) result (entries_at count [] bytes.now) }
     ensures len { IfOk result (λ x. length x.0.items ≡ count) }
     ensures distinct { IfOk result (λ x. HasDistinctKeys x.0.items) }
 {
     let mut entries = Vec::with_capacity(alloc, count as usize)?;
     let mut rest = bytes;
     for _ in 0..count {
-        let (entry, after) = entry_at(alloc, room, version, entries.as_slice(), rest)?;
+        let (entry, after) = entry_at(alloc, room, entries.as_slice(), rest)?;
         entries.push(entry)?;
         rest = after;
     }
@@ -101,7 +100,7 @@ fn committed_at<'a>(
     let (group, rest) = name_at::<NAME_BYTES_MAX>(bytes)?;
     let (count, rest) = count_at(rest)?;
     let group = Name::from_lawful(alloc, group)?;
-    let (entries, rest) = entries_at(alloc, room, version, count, rest)?;
+    let (entries, rest) = entries_at(alloc, room, count, rest)?;
     let entries = Entries::from_lawful(entries);
     Ok((Committed { group, entries }, rest))
 }
@@ -117,19 +116,19 @@ fn body_at<'a>(
     ensures { Builds (λ x. (x.0, x.1.now)) result (body_at version kind bytes.now) }
 {
     if kind == ASSIGNED_KIND {
-        let (assigned, rest) = assigned_at(alloc, version, bytes)?;
+        let (assigned, rest) = assigned_at(alloc, bytes)?;
         Ok((Command::Assigned(assigned), rest))
     } else if kind == EMPTIED_KIND {
         let (emptied, rest) = emptied_at(alloc, version, bytes)?;
         Ok((Command::Emptied(emptied), rest))
     } else if kind == REPLACED_KIND {
-        let (replaced, rest) = replaced_at(alloc, version, bytes)?;
+        let (replaced, rest) = replaced_at(alloc, bytes)?;
         Ok((Command::Replaced(replaced), rest))
     } else if kind == COMMITTED_KIND {
         let (committed, rest) = committed_at(alloc, room, version, bytes)?;
         Ok((Command::Committed(committed), rest))
     } else if kind == DELETED_KIND {
-        let (deleted, rest) = deleted_at(alloc, version, bytes)?;
+        let (deleted, rest) = deleted_at(alloc, bytes)?;
         Ok((Command::Deleted(deleted), rest))
     } else {
         Err(RecordFault::BadKind)

@@ -1,10 +1,10 @@
 //! The check for faults without an allocation: earlier fields are re-read from the bytes when needed.
 
-ghost use Rattle.std.specs.Prelude.{◌≡◌, ◌<◌, ◌==◌, ◌&&◌, ℕ, List, [], Ok, length, IfOk, IsSomeAnd};
+ghost use Rattle.std.specs.Prelude.{◌≡◌, ◌<◌, ℕ, List, [], Ok, length, IfOk, IsSomeAnd};
 ghost use Rattle.std.specs.List.{list_any};
-ghost use Rattle.std.specs.Str.{bytes_eq};
 ghost use Rattle.cg_record.specs.declared.entry.Entry.{Entry};
 ghost use Rattle.cg_record.specs.Keys.{is_of};
+ghost use Rattle.cg_record.specs.Partitions.{are_one, topic_partition};
 ghost use Rattle.cg_record.specs.Reading.{Skips, Checks, entry_at, entries_at, committed_at, body_at, command_at, commands_to_end, commands_of};
 
 use crate::commit::{Key, count_at, kept_at, key_at};
@@ -18,29 +18,29 @@ use cg_names::NAME_BYTES_MAX;
 
 // Decodes the partition of an entry again, and returns the bytes after the entry.
 #[tactic(auto, unfolding(crate::specs::Reading::entry_at))]
-fn read_again(version: Version, bytes: &[u8]) -> Option<(Key<'_>, &[u8])>
-    ensures { (front : List Entry) (e : Entry) (after : List ℕ) → entry_at version front bytes.now ≡ Ok (e, after) →
-        IsSomeAnd result (λ x. (x.0.topic.now ≡ e.topic) × (x.0.partition ≡ e.partition) × (x.1.now ≡ after)) }
+fn read_again(bytes: &[u8]) -> Option<(Key<'_>, &[u8])>
+    ensures { (front : List Entry) (e : Entry) (after : List ℕ) → entry_at front bytes.now ≡ Ok (e, after) →
+        IsSomeAnd result (λ x. (topic_partition x.0.topic.now x.0.partition ≡ e.key) × (x.1.now ≡ after)) }
 {
     let (key, rest) = key_at(bytes).ok()?;
-    let (_, rest) = kept_at(version, rest).ok()?;
+    let (_, rest) = kept_at(rest).ok()?;
     Some((key, rest))
 }
 
 fn is_same(key: Key<'_>, topic: &[u8], partition: u32) -> bool
-    ensures { result ≡ (key.entry.partition == partition && bytes_eq key.entry.topic.now topic.now) }
+    ensures { result ≡ are_one (topic_partition key.entry.topic.now key.entry.partition) (topic_partition topic.now partition) }
 {
     key.partition == partition && key.topic == topic
 }
 
 // Returns whether one of the first `count` entries from `start` has this partition. Decodes them again.
-fn is_repeated(version: Version, start: &[u8], count: u8, topic: &[u8], partition: u32) -> bool
-    ensures { (front : List Entry) (rest : List ℕ) → entries_at version count [] start.now ≡ Ok (front, rest) →
-        result ≡ list_any (is_of topic.now partition) front }
+fn is_repeated(start: &[u8], count: u8, topic: &[u8], partition: u32) -> bool
+    ensures { (front : List Entry) (rest : List ℕ) → entries_at count [] start.now ≡ Ok (front, rest) →
+        result ≡ list_any (is_of (topic_partition topic.now partition)) front }
 {
     let mut rest = start;
     for _ in 0..count {
-        match read_again(version, rest) {
+        match read_again(rest) {
             None => return false,
             Some((key, after)) => {
                 if is_same(key, topic, partition) {
@@ -55,31 +55,26 @@ fn is_repeated(version: Version, start: &[u8], count: u8, topic: &[u8], partitio
 
 // Checks the next entry, after the first `count` entries from `start`. Returns the bytes after it.
 #[tactic(auto, unfolding(crate::specs::Reading::entry_at))]
-fn check_entry<'a>(
-    version: Version,
-    start: &[u8],
-    count: u8,
-    bytes: &'a [u8],
-) -> Result<&'a [u8], RecordFault>
-    ensures { (front : List Entry) → entries_at version count [] start.now ≡ Ok (front, bytes.now) →
-        Skips (λ rest. rest.now) result (entry_at version front bytes.now) }
+fn check_entry<'a>(start: &[u8], count: u8, bytes: &'a [u8]) -> Result<&'a [u8], RecordFault>
+    ensures { (front : List Entry) → entries_at count [] start.now ≡ Ok (front, bytes.now) →
+        Skips (λ rest. rest.now) result (entry_at front bytes.now) }
 {
     let (key, rest) = key_at(bytes)?;
-    if is_repeated(version, start, count, key.topic, key.partition) {
+    if is_repeated(start, count, key.topic, key.partition) {
         return Err(RecordFault::Repeated);
     }
-    let (_, rest) = kept_at(version, rest)?;
+    let (_, rest) = kept_at(rest)?;
     Ok(rest)
 }
 
 // Checks this many entries. Quadratic in their number, which is at most 64.
 #[tactic(auto, using(crate::proofs::Again::checked_start, crate::proofs::Again::checked_on, crate::proofs::Again::checked_fail, crate::proofs::Again::checked_end))]
-fn check_entries(version: Version, count: u8, bytes: &[u8]) -> Result<&[u8], RecordFault>
-    ensures { Skips (λ rest. rest.now) result (entries_at version count [] bytes.now) }
+fn check_entries(count: u8, bytes: &[u8]) -> Result<&[u8], RecordFault>
+    ensures { Skips (λ rest. rest.now) result (entries_at count [] bytes.now) }
 {
     let mut rest = bytes;
     for i in 0..count {
-        rest = check_entry(version, bytes, i, rest)?;
+        rest = check_entry(bytes, i, rest)?;
     }
     Ok(rest)
 }
@@ -90,7 +85,7 @@ fn check_committed(version: Version, bytes: &[u8]) -> Result<&[u8], RecordFault>
 {
     let (_, rest) = name_at::<NAME_BYTES_MAX>(bytes)?;
     let (count, rest) = count_at(rest)?;
-    check_entries(version, count, rest)
+    check_entries(count, rest)
 }
 
 #[tactic(auto, unfolding(crate::specs::Reading::body_at))]
@@ -98,15 +93,15 @@ fn check_body(version: Version, kind: u8, bytes: &[u8]) -> Result<&[u8], RecordF
     ensures { Skips (λ rest. rest.now) result (body_at version kind bytes.now) }
 {
     if kind == ASSIGNED_KIND {
-        check_assigned(version, bytes)
+        check_assigned(bytes)
     } else if kind == EMPTIED_KIND {
         check_emptied(version, bytes)
     } else if kind == REPLACED_KIND {
-        check_replaced(version, bytes)
+        check_replaced(bytes)
     } else if kind == COMMITTED_KIND {
         check_committed(version, bytes)
     } else if kind == DELETED_KIND {
-        check_deleted(version, bytes)
+        check_deleted(bytes)
     } else {
         Err(RecordFault::BadKind)
     }

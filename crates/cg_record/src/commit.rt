@@ -3,6 +3,7 @@
 ghost use Rattle.std.specs.Prelude.{◌≡◌, ◌≤◌, IfOk};
 ghost use Rattle.std.specs.List.{list_any};
 ghost use Rattle.cg_record.specs.Keys.{is_of};
+ghost use Rattle.cg_record.specs.Partitions.{topic_partition};
 ghost use Rattle.cg_record.specs.Lawful.{IsKey, IsKept};
 ghost use Rattle.cg_record.specs.Reading.{Gives, only, is_from_to, byte_at, key_at, kept_at};
 
@@ -11,7 +12,6 @@ use crate::entry::Entry;
 use crate::fault::RecordFault;
 use crate::fault::RecordFault::BadLength;
 use crate::fields::{byte_at, eight_at, four_at, name_at, text_at};
-use crate::format::Version;
 use crate::metadata::METADATA_BYTES_MAX;
 use crate::offset::OFFSET_MAX;
 use crate::partition::PARTITION_MAX;
@@ -34,8 +34,8 @@ pub struct Kept<'a> {
 /// Decodes the topic and partition of an entry.
 #[tactic(auto, unfolding(crate::specs::Reading::key_at))]
 pub fn key_at(bytes: &[u8]) -> Result<(Key<'_>, &[u8]), RecordFault>
-    ensures gives { Gives (λ x. ((x.0.topic.now, x.0.partition), x.1.now)) result (key_at bytes.now) }
-    ensures key { IfOk result (λ x. IsKey x.0.topic.now x.0.partition) }
+    ensures gives { Gives (λ x. (topic_partition x.0.topic.now x.0.partition, x.1.now)) result (key_at bytes.now) }
+    ensures key { IfOk result (λ x. IsKey (topic_partition x.0.topic.now x.0.partition)) }
 {
     let (topic, rest) = name_at::<NAME_BYTES_MAX>(bytes)?;
     let (partition, rest) = four_at(rest)?;
@@ -45,9 +45,10 @@ pub fn key_at(bytes: &[u8]) -> Result<(Key<'_>, &[u8]), RecordFault>
     Ok((Key { topic, partition }, rest))
 }
 
+/// Decodes the offset and metadata of an entry.
 #[tactic(auto, unfolding(crate::specs::Reading::kept_at))]
-fn kept_in_one(bytes: &[u8]) -> Result<(Kept<'_>, &[u8]), RecordFault>
-    ensures gives { Gives (λ x. ((x.0.offset, x.0.metadata.now), x.1.now)) result (kept_at Version.One bytes.now) }
+pub fn kept_at(bytes: &[u8]) -> Result<(Kept<'_>, &[u8]), RecordFault>
+    ensures gives { Gives (λ x. ((x.0.offset, x.0.metadata.now), x.1.now)) result (kept_at bytes.now) }
     ensures kept { IfOk result (λ x. IsKept x.0.offset x.0.metadata.now) }
 {
     let (offset, rest) = eight_at(bytes)?;
@@ -56,16 +57,6 @@ fn kept_in_one(bytes: &[u8]) -> Result<(Kept<'_>, &[u8]), RecordFault>
     }
     let (metadata, rest) = text_at(METADATA_BYTES_MAX, rest)?;
     Ok((Kept { offset, metadata }, rest))
-}
-
-/// Decodes the offset and metadata of an entry.
-pub fn kept_at(version: Version, bytes: &[u8]) -> Result<(Kept<'_>, &[u8]), RecordFault>
-    ensures gives { Gives (λ x. ((x.0.offset, x.0.metadata.now), x.1.now)) result (kept_at version bytes.now) }
-    ensures kept { IfOk result (λ x. IsKept x.0.offset x.0.metadata.now) }
-{
-    match version {
-        Version::One => kept_in_one(bytes),
-    }
 }
 
 /// Decodes the number of entries of a commit.
@@ -84,7 +75,7 @@ pub fn count_at(bytes: &[u8]) -> Result<(u8, &[u8]), RecordFault>
 
 /// Returns whether one of the entries has this partition. Linear in the entries.
 pub fn is_taken(front: &[Entry], topic: &[u8], partition: u32) -> bool
-    ensures { result ≡ list_any (is_of topic.now partition) front.now }
+    ensures { result ≡ list_any (is_of (topic_partition topic.now partition)) front.now }
 {
-    front.iter().any(|e| e.partition.get() == partition && e.topic.as_bytes() == topic)
+    front.iter().any(|e| e.key.partition.get() == partition && e.key.topic.as_bytes() == topic)
 }

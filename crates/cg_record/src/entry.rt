@@ -1,27 +1,23 @@
 //! A committed offset.
-ghost use Rattle.std.specs.Prelude.{◌≡◌};
-ghost use Rattle.cg_record.specs.Keys.{have_one_key};
-
+use crate::distinct::Keyed;
 use crate::metadata::Metadata;
 use crate::offset::Offset;
-use crate::partition::Partition;
-use cg_names::Topic;
+use crate::topic_partition::TopicPartition;
 
 /// A committed offset of one partition of one topic.
 #[derive(Debug, Drop)]
 pub struct Entry {
-    pub topic: Topic,
-    pub partition: Partition,
+    pub key: TopicPartition,
     pub offset: Offset,
     pub metadata: Metadata,
 }
 
-impl Entry {
-    /// Returns whether both entries are for the same partition of the same topic.
-    pub fn has_key_of(&self, other: &Entry) -> bool
-        ensures { result ≡ have_one_key self.now other.now }
-    {
-        self.partition.get() == other.partition.get()
-            && self.topic.as_bytes() == other.topic.as_bytes()
+impl Keyed for Entry {
+    ghost use Rattle.cg_record.specs.Keys.{have_one_key};
+
+    ghost shares = { have_one_key };
+
+    fn shares_key(&self, other: &Self) -> bool {
+        self.key.shares_key(&other.key)
     }
 }

@@ -1,11 +1,12 @@
 //! The version byte and the kind bytes of the format.
 ghost use Rattle.std.specs.Prelude.{◌≡◌};
 ghost use Rattle.cg_record.specs.Reading.{version_of, Gives};
+ghost use Rattle.cg_record.specs.Versions.{byte_of, newest};
 ghost use Rattle.cg_record.specs.declared.format.TheConstants.{ASSIGNED_KIND, COMMITTED_KIND, DELETED_KIND, EMPTIED_KIND, REPLACED_KIND, VERSION_ONE};
 
 use crate::fault::RecordFault;
 
-/// First byte of a payload in version 1, the version that `write` encodes.
+/// First byte of a payload in version 1.
 pub const VERSION_ONE: u8 = 1;
 
 /// Kind byte of `Assigned`.
@@ -23,7 +24,7 @@ pub const COMMITTED_KIND: u8 = 4;
 /// Kind byte of `Deleted`.
 pub const DELETED_KIND: u8 = 5;
 
-/// A version of the format. A later version is decoded in addition to the first.
+/// A version of the format. Each is decoded; `write` encodes the newest.
 #[derive(Clone, Copy, Debug, PartialEq, Eq)]
 pub enum Version {
     One,
@@ -39,6 +40,22 @@ impl Version {
             Ok(Version::One)
         } else {
             Err(RecordFault::BadKind)
+        }
+    }
+
+    /// The version that `write` encodes.
+    pub fn newest() -> Version
+        ensures { result ≡ newest }
+    {
+        Version::One
+    }
+
+    /// Returns the first byte of a payload in this version.
+    pub fn byte(self) -> u8
+        ensures { result ≡ byte_of self }
+    {
+        match self {
+            Version::One => VERSION_ONE,
         }
     }
 }

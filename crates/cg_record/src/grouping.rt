@@ -44,11 +44,10 @@ fn is_instance_taken(front: &[Member], instance: Option<&[u8]>) -> bool
 #[tactic(auto, unfolding(crate::specs::Members::member_at))]
 fn member_at<'a>(
     alloc: Global,
-    version: Version,
     front: &[Member],
     bytes: &'a [u8],
 ) -> Result<(Member, &'a [u8]), RecordFault>
-    ensures { Builds (λ x. (x.0, x.1.now)) result (member_at version front.now bytes.now) }
+    ensures { Builds (λ x. (x.0, x.1.now)) result (member_at front.now bytes.now) }
 {
     let (id, rest) = name_at::<MEMBER_ID_BYTES_MAX>(bytes)?;
     if is_led_by(id, front) {
@@ -58,7 +57,7 @@ fn member_at<'a>(
     if is_instance_taken(front, instance) {
         return Err(RecordFault::Repeated);
     }
-    let (fields, rest) = profile_at(version, rest)?;
+    let (fields, rest) = profile_at(rest)?;
     let member = member_of(alloc, id, instance, fields)?;
     Ok((member, rest))
 }
@@ -67,18 +66,17 @@ fn member_at<'a>(
 #[tactic(auto, using(crate::proofs::Steps::many_on, crate::proofs::Steps::many_fail, crate::proofs::Steps::many_end))]
 fn members_at<'a>(
     alloc: Global,
-    version: Version,
     count: u8,
     bytes: &'a [u8],
 ) -> Result<(Vec<Member>, &'a [u8]), RecordFault>
-    ensures builds { Builds (λ x. (x.0.items, x.1.now)) result (members_at version count [] bytes.now) }
+    ensures builds { Builds (λ x. (x.0.items, x.1.now)) result (members_at count [] bytes.now) }
     ensures len { IfOk result (λ x. length x.0.items ≡ count) }
     ensures distinct { IfOk result (λ x. AreApart x.0.items) }
 {
     let mut members = Vec::with_capacity(alloc, count as usize)?;
     let mut rest = bytes;
     for _ in 0..count {
-        let (member, after) = member_at(alloc, version, members.as_slice(), rest)?;
+        let (member, after) = member_at(alloc, members.as_slice(), rest)?;
         members.push(member)?;
         rest = after;
     }
@@ -87,26 +85,22 @@ fn members_at<'a>(
 
 // Decodes the number of members and the members.
 #[tactic(auto, unfolding(crate::specs::Reading::listed_at))]
-fn listed_at(
-    alloc: Global,
-    version: Version,
-    bytes: &[u8],
-) -> Result<(Vec<Member>, &[u8]), RecordFault>
-    ensures builds { Builds (λ x. (x.0.items, x.1.now)) result (listed_at version bytes.now) }
+fn listed_at(alloc: Global, bytes: &[u8]) -> Result<(Vec<Member>, &[u8]), RecordFault>
+    ensures builds { Builds (λ x. (x.0.items, x.1.now)) result (listed_at bytes.now) }
     ensures lawful { IfOk result (λ x. AreMembers x.0.items) }
 {
     let (count, rest) = members_count_at(bytes)?;
-    let (members, rest) = members_at(alloc, version, count, rest)?;
+    let (members, rest) = members_at(alloc, count, rest)?;
     Ok((members, rest))
 }
 
 #[tactic(auto, unfolding(crate::specs::Reading::roster_at))]
-fn roster_at(alloc: Global, version: Version, bytes: &[u8]) -> Result<(Roster, &[u8]), RecordFault>
-    ensures { Builds (λ x. (x.0, x.1.now)) result (roster_at version bytes.now) }
+fn roster_at(alloc: Global, bytes: &[u8]) -> Result<(Roster, &[u8]), RecordFault>
+    ensures { Builds (λ x. (x.0, x.1.now)) result (roster_at bytes.now) }
 {
     let (protocol, rest) = name_at::<NAME_BYTES_MAX>(bytes)?;
     let (leader, rest) = name_at::<MEMBER_ID_BYTES_MAX>(rest)?;
-    let (members, rest) = listed_at(alloc, version, rest)?;
+    let (members, rest) = listed_at(alloc, rest)?;
     if !is_led_by(leader, members.as_slice()) {
         return Err(RecordFault::BadName);
     }
@@ -117,17 +111,13 @@ fn roster_at(alloc: Global, version: Version, bytes: &[u8]) -> Result<(Roster, &
 
 /// Decodes the fields of an `Assigned`, after its kind byte.
 #[tactic(auto, unfolding(crate::specs::Reading::assigned_at))]
-pub fn assigned_at(
-    alloc: Global,
-    version: Version,
-    bytes: &[u8],
-) -> Result<(Assigned, &[u8]), RecordFault>
-    ensures { Builds (λ x. (x.0, x.1.now)) result (assigned_at version bytes.now) }
+pub fn assigned_at(alloc: Global, bytes: &[u8]) -> Result<(Assigned, &[u8]), RecordFault>
+    ensures { Builds (λ x. (x.0, x.1.now)) result (assigned_at bytes.now) }
 {
     let (group, rest) = name_at::<NAME_BYTES_MAX>(bytes)?;
     let (generation, rest) = generation_at(rest)?;
     let (kind, rest) = name_at::<NAME_BYTES_MAX>(rest)?;
-    let (roster, rest) = roster_at(alloc, version, rest)?;
+    let (roster, rest) = roster_at(alloc, rest)?;
     let generation = CompletedGeneration::new(generation).unwrap();
     let group = Name::from_lawful(alloc, group)?;
     let kind = Name::from_lawful(alloc, kind)?;
@@ -169,12 +159,8 @@ pub fn emptied_at(
 
 /// Decodes the fields of a `Deleted`, after its kind byte.
 #[tactic(auto, unfolding(crate::specs::Reading::deleted_at))]
-pub fn deleted_at(
-    alloc: Global,
-    version: Version,
-    bytes: &[u8],
-) -> Result<(Deleted, &[u8]), RecordFault>
-    ensures { Builds (λ x. (x.0, x.1.now)) result (deleted_at version bytes.now) }
+pub fn deleted_at(alloc: Global, bytes: &[u8]) -> Result<(Deleted, &[u8]), RecordFault>
+    ensures { Builds (λ x. (x.0, x.1.now)) result (deleted_at bytes.now) }
 {
     let (group, rest) = name_at::<NAME_BYTES_MAX>(bytes)?;
     let group = Name::from_lawful(alloc, group)?;
@@ -183,17 +169,13 @@ pub fn deleted_at(
 
 /// Decodes the fields of a `Replaced`, after its kind byte.
 #[tactic(auto, unfolding(crate::specs::Reading::replaced_at))]
-pub fn replaced_at(
-    alloc: Global,
-    version: Version,
-    bytes: &[u8],
-) -> Result<(Replaced, &[u8]), RecordFault>
-    ensures { Builds (λ x. (x.0, x.1.now)) result (replaced_at version bytes.now) }
+pub fn replaced_at(alloc: Global, bytes: &[u8]) -> Result<(Replaced, &[u8]), RecordFault>
+    ensures { Builds (λ x. (x.0, x.1.now)) result (replaced_at bytes.now) }
 {
     let (group, rest) = name_at::<NAME_BYTES_MAX>(bytes)?;
     let (id, rest) = name_at::<MEMBER_ID_BYTES_MAX>(rest)?;
     let (instance, rest) = name_at::<NAME_BYTES_MAX>(rest)?;
-    let (fields, rest) = profile_at(version, rest)?;
+    let (fields, rest) = profile_at(rest)?;
     let group = Name::from_lawful(alloc, group)?;
     let member = member_of(alloc, id, Some(instance), fields)?;
     let member = StaticMember::from_lawful(member);

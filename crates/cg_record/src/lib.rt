@@ -27,6 +27,7 @@ mod millis;
 mod offset;
 mod opaque;
 mod partition;
+mod partitions;
 mod passing;
 mod profile;
 mod put_member;
@@ -34,6 +35,7 @@ mod reading;
 mod replaced;
 mod roster;
 mod sizes;
+mod topic_partition;
 mod writing;
 
 pub use assigned::Assigned;
@@ -56,8 +58,10 @@ pub use millis::{
 pub use offset::{OFFSET_MAX, Offset};
 pub use opaque::{ASSIGNMENT_BYTES_MAX, Assignment, Opaque, SUBSCRIPTION_BYTES_MAX, Subscription};
 pub use partition::{PARTITION_MAX, Partition};
+pub use partitions::Partitions;
 pub use reading::read;
 pub use replaced::{Replaced, StaticMember};
 pub use roster::{MEMBERS_MAX, Roster};
 pub use sizes::{COMMAND_BYTES_MAX, size};
+pub use topic_partition::TopicPartition;
 pub use writing::{append_command, write};

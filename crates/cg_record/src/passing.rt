@@ -25,13 +25,13 @@ struct Names<'a> {
 
 // Decodes the id and instance of a member again, and returns the bytes after the member.
 #[tactic(auto, unfolding(crate::specs::Members::member_at))]
-fn read_again(version: Version, bytes: &[u8]) -> Option<(Names<'_>, &[u8])>
-    ensures { (front : List Member) (m : Member) (after : List ℕ) → member_at version front bytes.now ≡ Ok (m, after) →
+fn read_again(bytes: &[u8]) -> Option<(Names<'_>, &[u8])>
+    ensures { (front : List Member) (m : Member) (after : List ℕ) → member_at front bytes.now ≡ Ok (m, after) →
         IsSomeAnd result (λ x. (x.0.id.now ≡ m.id) × (option_copied x.0.instance ≡ m.instance) × (x.1.now ≡ after)) }
 {
     let (id, rest) = name_at::<MEMBER_ID_BYTES_MAX>(bytes).ok()?;
     let (instance, rest) = optional_name_at::<NAME_BYTES_MAX>(rest).ok()?;
-    let (_, rest) = profile_at(version, rest).ok()?;
+    let (_, rest) = profile_at(rest).ok()?;
     Some((Names { id, instance }, rest))
 }
 
@@ -52,13 +52,13 @@ fn is_one_instance(a: Option<&[u8]>, b: Option<&[u8]>) -> bool
 }
 
 // Returns whether one of the first `count` members from `start` has this id. Decodes them again.
-fn is_id_repeated(version: Version, start: &[u8], count: u8, id: &[u8]) -> bool
-    ensures { (front : List Member) (rest : List ℕ) → members_at version count [] start.now ≡ Ok (front, rest) →
+fn is_id_repeated(start: &[u8], count: u8, id: &[u8]) -> bool
+    ensures { (front : List Member) (rest : List ℕ) → members_at count [] start.now ≡ Ok (front, rest) →
         result ≡ list_any (has_id id.now) front }
 {
     let mut rest = start;
     for _ in 0..count {
-        match read_again(version, rest) {
+        match read_again(rest) {
             None => return false,
             Some((names, after)) => {
                 if is_same_id(names.id, id) {
@@ -72,13 +72,13 @@ fn is_id_repeated(version: Version, start: &[u8], count: u8, id: &[u8]) -> bool
 }
 
 // Returns whether an instance is given and one of the first `count` members from `start` has it. Decodes them again.
-fn is_instance_repeated(version: Version, start: &[u8], count: u8, instance: Option<&[u8]>) -> bool
-    ensures { (front : List Member) (rest : List ℕ) → members_at version count [] start.now ≡ Ok (front, rest) →
+fn is_instance_repeated(start: &[u8], count: u8, instance: Option<&[u8]>) -> bool
+    ensures { (front : List Member) (rest : List ℕ) → members_at count [] start.now ≡ Ok (front, rest) →
         result ≡ list_any (has_instance (option_copied instance.entry)) front }
 {
     let mut rest = start;
     for _ in 0..count {
-        match read_again(version, rest) {
+        match read_again(rest) {
             None => return false,
             Some((names, after)) => {
                 if is_one_instance(names.instance, instance) {
@@ -93,49 +93,44 @@ fn is_instance_repeated(version: Version, start: &[u8], count: u8, instance: Opt
 
 // Checks the next member, after the first `count` members from `start`. Returns the bytes after it.
 #[tactic(auto, unfolding(crate::specs::Members::member_at))]
-fn check_member<'a>(
-    version: Version,
-    start: &[u8],
-    count: u8,
-    bytes: &'a [u8],
-) -> Result<&'a [u8], RecordFault>
-    ensures { (front : List Member) → members_at version count [] start.now ≡ Ok (front, bytes.now) →
-        Skips (λ rest. rest.now) result (member_at version front bytes.now) }
+fn check_member<'a>(start: &[u8], count: u8, bytes: &'a [u8]) -> Result<&'a [u8], RecordFault>
+    ensures { (front : List Member) → members_at count [] start.now ≡ Ok (front, bytes.now) →
+        Skips (λ rest. rest.now) result (member_at front bytes.now) }
 {
     let (id, rest) = name_at::<MEMBER_ID_BYTES_MAX>(bytes)?;
-    if is_id_repeated(version, start, count, id) {
+    if is_id_repeated(start, count, id) {
         return Err(RecordFault::Repeated);
     }
     let (instance, rest) = optional_name_at::<NAME_BYTES_MAX>(rest)?;
-    if is_instance_repeated(version, start, count, instance) {
+    if is_instance_repeated(start, count, instance) {
         return Err(RecordFault::Repeated);
     }
-    let (_, rest) = profile_at(version, rest)?;
+    let (_, rest) = profile_at(rest)?;
     Ok(rest)
 }
 
 // Checks this many members. Quadratic in their number, which is at most 64.
 #[tactic(auto, using(crate::proofs::Again::checked_start, crate::proofs::Again::checked_on, crate::proofs::Again::checked_fail, crate::proofs::Again::checked_end))]
-fn check_members(version: Version, count: u8, bytes: &[u8]) -> Result<&[u8], RecordFault>
-    ensures { Skips (λ rest. rest.now) result (members_at version count [] bytes.now) }
+fn check_members(count: u8, bytes: &[u8]) -> Result<&[u8], RecordFault>
+    ensures { Skips (λ rest. rest.now) result (members_at count [] bytes.now) }
 {
     let mut rest = bytes;
     for i in 0..count {
-        rest = check_member(version, bytes, i, rest)?;
+        rest = check_member(bytes, i, rest)?;
     }
     Ok(rest)
 }
 
 // Checks the protocol, the leader and the members, of whom one has to be the leader.
 #[tactic(auto, unfolding(crate::specs::Reading::roster_at, crate::specs::Reading::listed_at))]
-fn check_roster(version: Version, bytes: &[u8]) -> Result<&[u8], RecordFault>
-    ensures { Skips (λ rest. rest.now) result (roster_at version bytes.now) }
+fn check_roster(bytes: &[u8]) -> Result<&[u8], RecordFault>
+    ensures { Skips (λ rest. rest.now) result (roster_at bytes.now) }
 {
     let (_, rest) = name_at::<NAME_BYTES_MAX>(bytes)?;
     let (leader, rest) = name_at::<MEMBER_ID_BYTES_MAX>(rest)?;
     let (count, members) = members_count_at(rest)?;
-    let rest = check_members(version, count, members)?;
-    if is_id_repeated(version, members, count, leader) {
+    let rest = check_members(count, members)?;
+    if is_id_repeated(members, count, leader) {
         Ok(rest)
     } else {
         Err(RecordFault::BadName)
@@ -144,13 +139,13 @@ fn check_roster(version: Version, bytes: &[u8]) -> Result<&[u8], RecordFault>
 
 /// Checks the fields of an `Assigned`, after its kind byte. Returns the bytes after them.
 #[tactic(auto, unfolding(crate::specs::Reading::assigned_at))]
-pub fn check_assigned(version: Version, bytes: &[u8]) -> Result<&[u8], RecordFault>
-    ensures { Skips (λ rest. rest.now) result (assigned_at version bytes.now) }
+pub fn check_assigned(bytes: &[u8]) -> Result<&[u8], RecordFault>
+    ensures { Skips (λ rest. rest.now) result (assigned_at bytes.now) }
 {
     let (_, rest) = name_at::<NAME_BYTES_MAX>(bytes)?;
     let (_, rest) = generation_at(rest)?;
     let (_, rest) = name_at::<NAME_BYTES_MAX>(rest)?;
-    let rest = check_roster(version, rest)?;
+    let rest = check_roster(rest)?;
     Ok(rest)
 }
 
@@ -167,8 +162,8 @@ pub fn check_emptied(version: Version, bytes: &[u8]) -> Result<&[u8], RecordFaul
 
 /// Checks the fields of a `Deleted`, after its kind byte. Returns the bytes after them.
 #[tactic(auto, unfolding(crate::specs::Reading::deleted_at))]
-pub fn check_deleted(version: Version, bytes: &[u8]) -> Result<&[u8], RecordFault>
-    ensures { Skips (λ rest. rest.now) result (deleted_at version bytes.now) }
+pub fn check_deleted(bytes: &[u8]) -> Result<&[u8], RecordFault>
+    ensures { Skips (λ rest. rest.now) result (deleted_at bytes.now) }
 {
     let (_, rest) = name_at::<NAME_BYTES_MAX>(bytes)?;
     Ok(rest)
@@ -176,12 +171,12 @@ pub fn check_deleted(version: Version, bytes: &[u8]) -> Result<&[u8], RecordFaul
 
 /// Checks the fields of a `Replaced`, after its kind byte. Returns the bytes after them.
 #[tactic(auto, unfolding(crate::specs::Reading::replaced_at))]
-pub fn check_replaced(version: Version, bytes: &[u8]) -> Result<&[u8], RecordFault>
-    ensures { Skips (λ rest. rest.now) result (replaced_at version bytes.now) }
+pub fn check_replaced(bytes: &[u8]) -> Result<&[u8], RecordFault>
+    ensures { Skips (λ rest. rest.now) result (replaced_at bytes.now) }
 {
     let (_, rest) = name_at::<NAME_BYTES_MAX>(bytes)?;
     let (_, rest) = name_at::<MEMBER_ID_BYTES_MAX>(rest)?;
     let (_, rest) = name_at::<NAME_BYTES_MAX>(rest)?;
-    let (_, rest) = profile_at(version, rest)?;
+    let (_, rest) = profile_at(rest)?;
     Ok(rest)
 }

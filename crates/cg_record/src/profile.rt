@@ -7,7 +7,6 @@ ghost use Rattle.cg_record.specs.Reading.{Gives};
 use crate::fault::RecordFault;
 use crate::fault::RecordFault::BadLength;
 use crate::fields::{four_at, name_at, text_at};
-use crate::format::Version;
 use crate::millis::{REBALANCE_MS_MAX, SESSION_MS_MAX, SESSION_MS_MIN};
 use crate::opaque::{ASSIGNMENT_BYTES_MAX, SUBSCRIPTION_BYTES_MAX};
 use cg_names::NAME_BYTES_MAX;
@@ -22,9 +21,10 @@ pub struct Fields<'a> {
     pub assignment: &'a [u8],
 }
 
+/// Decodes the fields of a member after its id and instance.
 #[tactic(auto, unfolding(crate::specs::Members::profile_at))]
-fn profile_in_one(bytes: &[u8]) -> Result<(Fields<'_>, &[u8]), RecordFault>
-    ensures gives { Gives (λ x. (record { client = x.0.client.now; session = x.0.session; rebalance = x.0.rebalance; subscription = x.0.subscription.now; assignment = x.0.assignment.now }, x.1.now)) result (profile_at Version.One bytes.now) }
+pub fn profile_at(bytes: &[u8]) -> Result<(Fields<'_>, &[u8]), RecordFault>
+    ensures gives { Gives (λ x. (record { client = x.0.client.now; session = x.0.session; rebalance = x.0.rebalance; subscription = x.0.subscription.now; assignment = x.0.assignment.now }, x.1.now)) result (profile_at bytes.now) }
     ensures lawful { IfOk result (λ x. IsProfile (record { client = x.0.client.now; session = x.0.session; rebalance = x.0.rebalance; subscription = x.0.subscription.now; assignment = x.0.assignment.now })) }
 {
     let (client, rest) = name_at::<NAME_BYTES_MAX>(bytes)?;
@@ -46,14 +46,4 @@ fn profile_in_one(bytes: &[u8]) -> Result<(Fields<'_>, &[u8]), RecordFault>
         assignment,
     };
     Ok((fields, rest))
-}
-
-/// Decodes the fields of a member after its id and instance.
-pub fn profile_at(version: Version, bytes: &[u8]) -> Result<(Fields<'_>, &[u8]), RecordFault>
-    ensures gives { Gives (λ x. (record { client = x.0.client.now; session = x.0.session; rebalance = x.0.rebalance; subscription = x.0.subscription.now; assignment = x.0.assignment.now }, x.1.now)) result (profile_at version bytes.now) }
-    ensures lawful { IfOk result (λ x. IsProfile (record { client = x.0.client.now; session = x.0.session; rebalance = x.0.rebalance; subscription = x.0.subscription.now; assignment = x.0.assignment.now })) }
-{
-    match version {
-        Version::One => profile_in_one(bytes),
-    }
 }

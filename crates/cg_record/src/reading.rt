@@ -2,7 +2,7 @@
 ghost use Rattle.std.specs.Prelude.{◌≡◌, List, Ok, IfOk, MatchResult};
 ghost use Rattle.cg_record.specs.declared.command.Command.{Command};
 ghost use Rattle.cg_record.specs.Lawful.{AreCommands};
-ghost use Rattle.cg_record.specs.Spelling.{spelling};
+ghost use Rattle.cg_record.specs.Spelling.{IsPayload};
 ghost use Rattle.cg_record.specs.Reading.{Fails, Tells, commands_of};
 
 use crate::building::build;
@@ -37,10 +37,10 @@ fn read_or_tell(alloc: Global, bytes: &[u8]) -> Result<Vec<Command>, RecordFault
 /// linear in the bytes, except that each entry of a commit and each member of a group is compared with those before it,
 /// 64 at most. If an allocation fails, a second pass without an allocation looks for a fault of the bytes.
 pub fn read(alloc: Global, bytes: &[u8]) -> Result<Vec<Command>, RecordFault>
-    // The bytes are the encoding of the commands.
-    ensures found { IfOk result (λ v. AreCommands v.items × (bytes.now ≡ spelling v.items)) }
-    // Every encoding is decoded, unless an allocation fails.
-    ensures only { (commands : List Command) → AreCommands commands → bytes.now ≡ spelling commands →
+    // The bytes are the encoding of the commands in some version.
+    ensures found { IfOk result (λ v. AreCommands v.items × IsPayload v.items bytes.now) }
+    // Every encoding is decoded, in each version, unless an allocation fails.
+    ensures only { (commands : List Command) → AreCommands commands → IsPayload commands bytes.now →
         MatchResult result (λ v. v.items ≡ commands) (λ fault. fault ≡ RecordFault.Memory) }
     // The fault is the first from left to right; `Memory` only if the bytes have none.
     ensures exact { MatchResult result

@@ -1,8 +1,9 @@
-//! The sizes of encoded commands, in bytes.
+//! The sizes of encoded commands in the newest version, in bytes.
 ghost use Rattle.std.specs.Prelude.{◌≡◌, ◌≤◌, ◌*◌, length};
 ghost use Rattle.std.specs.List.{flat_map};
 ghost use Rattle.cg_record.specs.Spelling.{entry_text, optional_text, roster_text, assigned_text, emptied_text, replaced_text, deleted_text, committed_text, command_text};
 ghost use Rattle.cg_record.specs.Members.{member_text};
+ghost use Rattle.cg_record.specs.Versions.{newest};
 
 use crate::assigned::Assigned;
 use crate::command::Command;
@@ -48,7 +49,7 @@ fn entry_size(entry: &Entry) -> u64
     ensures size { result ≡ length (entry_text entry.now) }
     ensures bound { result ≤ ENTRY_BYTES_MAX }
 {
-    let topic = entry.topic.as_bytes();
+    let topic = entry.key.topic.as_bytes();
     let metadata = entry.metadata.as_bytes();
     ENTRY_FIXED_BYTES + topic.len() as u64 + metadata.len() as u64
 }
@@ -67,7 +68,7 @@ fn entries_size(entries: &[Entry]) -> u64
 
 #[tactic(auto, using(crate::proofs::TextLens::committed_len, cg_names::proofs::Names::length_from_name))]
 fn committed_size(committed: &Committed) -> u64
-    ensures size { result ≡ length (committed_text committed.now) }
+    ensures size { result ≡ length (committed_text newest committed.now) }
     ensures bound { result ≤ 300_000 }
 {
     let group = committed.group.as_bytes();
@@ -77,7 +78,7 @@ fn committed_size(committed: &Committed) -> u64
 
 #[tactic(auto, using(crate::proofs::TextLens::emptied_len, cg_names::proofs::Names::length_from_name))]
 fn emptied_size(emptied: &Emptied) -> u64
-    ensures size { result ≡ length (emptied_text emptied.now) }
+    ensures size { result ≡ length (emptied_text newest emptied.now) }
     ensures bound { result ≤ 300 }
 {
     let group = emptied.group.as_bytes();
@@ -170,7 +171,7 @@ fn deleted_size(deleted: &Deleted) -> u64
 }
 
 /// Returns the number of bytes of the encoded command. Linear in its members or entries, no allocation.
-#[tactic(auto, unfolding(crate::specs::Spelling::command_text))]
+#[tactic(auto, unfolding(crate::specs::Spelling::command_bytes))]
 pub fn size(command: &Command) -> u64
     ensures size { result ≡ length (command_text command.now) }
     ensures bound { result ≤ COMMAND_BYTES_MAX }

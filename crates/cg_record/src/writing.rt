@@ -1,11 +1,12 @@
-//! The encoder of commands.
+//! The encoder of commands, in the newest version.
 ghost use Rattle.std.specs.Prelude.{◌≡◌, ◌<◌, ◌≤◌, ◌+◌, ◌++◌, Ok, length, sum_by, IfOk, OnOk, OnErr};
 ghost use Rattle.std.specs.Io.{StartsWith};
 ghost use Rattle.std.specs.List.{flat_map, AllByRecursion};
 ghost use Rattle.cg_names.specs.Grammar.{IsName};
-ghost use Rattle.cg_record.specs.Lawful.{IsEntry, IsAssigned, IsEmptied, IsReplaced, IsDeleted, IsCommitted, IsCommand, AreCommands};
-ghost use Rattle.cg_record.specs.Spelling.{four, eight, name_text, bytes_text, entry_text, assigned_text, emptied_text, replaced_text, deleted_text, committed_text, command_text, spelling};
+ghost use Rattle.cg_record.specs.Lawful.{IsEntry, IsKey, IsAssigned, IsEmptied, IsReplaced, IsDeleted, IsCommitted, IsCommand, AreCommands};
+ghost use Rattle.cg_record.specs.Spelling.{four, eight, name_text, bytes_text, entry_text, assigned_text, emptied_text, replaced_text, deleted_text, committed_text, command_text, key_text, spelling};
 ghost use Rattle.cg_record.specs.Reading.{commands_of};
+ghost use Rattle.cg_record.specs.Versions.{newest};
 
 use crate::assigned::Assigned;
 use crate::command::Command;
@@ -14,12 +15,13 @@ use crate::deleted::Deleted;
 use crate::emptied::Emptied;
 use crate::entry::Entry;
 use crate::format::{
-    ASSIGNED_KIND, COMMITTED_KIND, DELETED_KIND, EMPTIED_KIND, REPLACED_KIND, VERSION_ONE,
+    ASSIGNED_KIND, COMMITTED_KIND, DELETED_KIND, EMPTIED_KIND, REPLACED_KIND, Version,
 };
 use crate::metadata::{METADATA_BYTES_MAX, Metadata};
 use crate::put_member::{put_member, put_roster};
 use crate::replaced::Replaced;
 use crate::sizes::size;
+use crate::topic_partition::TopicPartition;
 use cg_names::{NAME_BYTES_MAX, Name, ShortName};
 use std::alloc::{AllocError, Global};
 
@@ -93,6 +95,18 @@ fn put_metadata(out: &mut Vec<u8>, metadata: &Metadata) -> Result<(), AllocError
     Ok(())
 }
 
+// Appends a partition of a topic.
+#[tactic(auto, using(crate::proofs::Kept::front_kept))]
+fn put_key(out: &mut Vec<u8>, key: &TopicPartition) -> Result<(), AllocError>
+    ensures ok { OnOk result (out.new.items ≡ out.old.items ++ key_text key.now) }
+    ensures err { OnErr result (StartsWith out.new.items out.old.items) }
+    ensures lawful { OnOk result (IsKey key.now) }
+{
+    put_short_name(out, &key.topic)?;
+    put_four(out, key.partition.get())?;
+    Ok(())
+}
+
 #[tactic(auto, using(crate::proofs::Kept::front_kept), unfolding(crate::specs::Spelling::entry_text))]
 fn put_entry(out: &mut Vec<u8>, entry: &Entry) -> Result<(), AllocError>
     ensures ok { OnOk result (out.new.items ≡ out.old.items ++ entry_text entry.now) }
@@ -100,8 +114,7 @@ fn put_entry(out: &mut Vec<u8>, entry: &Entry) -> Result<(), AllocError>
     ensures lawful { OnOk result (IsEntry entry.now) }
 {
     let metadata = &entry.metadata;
-    put_short_name(out, &entry.topic)?;
-    put_four(out, entry.partition.get())?;
+    put_key(out, &entry.key)?;
     put_eight(out, entry.offset.get())?;
     put_metadata(out, metadata)?;
     Ok(())
@@ -121,7 +134,7 @@ fn put_entries(out: &mut Vec<u8>, entries: &[Entry]) -> Result<(), AllocError>
 
 #[tactic(auto, using(crate::proofs::Kept::front_kept), unfolding(crate::specs::Spelling::committed_text))]
 fn put_committed(out: &mut Vec<u8>, committed: &Committed) -> Result<(), AllocError>
-    ensures ok { OnOk result (out.new.items ≡ out.old.items ++ committed_text committed.now) }
+    ensures ok { OnOk result (out.new.items ≡ out.old.items ++ committed_text newest committed.now) }
     ensures err { OnErr result (StartsWith out.new.items out.old.items) }
     ensures lawful { OnOk result (IsCommitted committed.now) }
 {
@@ -158,7 +171,7 @@ fn put_replaced(out: &mut Vec<u8>, replaced: &Replaced) -> Result<(), AllocError
 
 #[tactic(auto, using(crate::proofs::Kept::front_kept), unfolding(crate::specs::Spelling::emptied_text))]
 fn put_emptied(out: &mut Vec<u8>, emptied: &Emptied) -> Result<(), AllocError>
-    ensures ok { OnOk result (out.new.items ≡ out.old.items ++ emptied_text emptied.now) }
+    ensures ok { OnOk result (out.new.items ≡ out.old.items ++ emptied_text newest emptied.now) }
     ensures err { OnErr result (StartsWith out.new.items out.old.items) }
     ensures lawful { OnOk result (IsEmptied emptied.now) }
 {
@@ -178,7 +191,7 @@ fn put_deleted(out: &mut Vec<u8>, deleted: &Deleted) -> Result<(), AllocError>
     Ok(())
 }
 
-#[tactic(auto, using(crate::proofs::Kept::front_kept), unfolding(crate::specs::Spelling::command_text))]
+#[tactic(auto, using(crate::proofs::Kept::front_kept), unfolding(crate::specs::Spelling::command_bytes))]
 fn put_command(out: &mut Vec<u8>, command: &Command) -> Result<(), AllocError>
     ensures ok { OnOk result (out.new.items ≡ out.old.items ++ command_text command.now) }
     ensures err { OnErr result (StartsWith out.new.items out.old.items) }
@@ -245,7 +258,7 @@ pub fn write(alloc: Global, commands: &[Command]) -> Result<Vec<u8>, AllocError>
     ensures reads_back { IfOk result (λ v. commands_of v.items ≡ Ok commands.now) }
 {
     let mut out = Vec::with_capacity(alloc, text_size(commands))?;
-    out.push(VERSION_ONE)?;
+    out.push(Version::newest().byte())?;
     for command in commands {
         put_command(&mut out, command)?;
     }

@@ -5,17 +5,17 @@ use Rattle.cg_record.specs.declared.entries.TheConstants.{ENTRIES_MAX}
 use Rattle.cg_record.specs.declared.entry.Entry.{Entry}
 use Rattle.cg_record.specs.declared.metadata.TheConstants.{METADATA_BYTES_MAX}
 use Rattle.cg_record.specs.Distinct.{AreDistinct}
-use Rattle.cg_record.specs.Keys.{have_one_key}
+use Rattle.cg_record.specs.Partitions.{are_one}
 use Rattle.cg_request.specs.declared.commit_entry.CommitEntry.{CommitEntry}
 use Rattle.cg_request.specs.declared.commits.TheConstants.{COMMIT_METADATA_BYTES_MAX}
 
 -- the entry of the command
 abbrev pub kept_entry : CommitEntry → Entry
-kept_entry e = record { topic = e.topic; partition = e.partition; offset = e.offset; metadata = e.metadata }
+kept_entry e = record { key = e.key; offset = e.offset; metadata = e.metadata }
 
 -- both entries are for one partition of one topic
 abbrev pub share_partition : CommitEntry → CommitEntry → Bool
-share_partition a b = have_one_key (kept_entry a) (kept_entry b)
+share_partition a b = are_one a.key b.key
 
 -- the entries of one COMMIT
 abbrev pub AreCommits : List CommitEntry → Type 0

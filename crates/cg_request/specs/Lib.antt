@@ -1,4 +1,3 @@
-pub mod Partitions
 pub mod Names
 pub mod Offers
 pub mod Handing

@@ -19,8 +19,7 @@ impl Keyed for CommitEntry {
     ghost shares = { share_partition };
 
     fn shares_key(&self, other: &Self) -> bool {
-        self.partition.get() == other.partition.get()
-            && self.topic.as_bytes() == other.topic.as_bytes()
+        self.key.shares_key(&other.key)
     }
 }
 
@@ -57,15 +56,13 @@ fn kept(entry: CommitEntry) -> Option<Entry>
         (λ kept. (is_long entry ≡ false) × (kept ≡ kept_entry entry)) }
 {
     let CommitEntry {
-        topic,
-        partition,
+        key,
         offset,
         metadata,
     } = entry;
     match Metadata::from_vec(metadata.into_vec()) {
         Ok(metadata) => Some(Entry {
-            topic,
-            partition,
+            key,
             offset,
             metadata,
         }),

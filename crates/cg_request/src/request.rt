@@ -1,10 +1,9 @@
 //! The fields of each request.
 use crate::commits::Commits;
-use crate::partitions::Partitions;
 use crate::protocols::Protocols;
 use crate::sync_entries::SyncEntries;
 use cg_names::{ClientId, GroupId, InstanceId, MemberId, ProtocolName};
-use cg_record::{Assignment, RebalanceTimeout};
+use cg_record::{Assignment, Partitions, RebalanceTimeout};
 
 /// JOIN (JoinGroup request).
 #[derive(Debug, Drop)]
@@ -78,5 +77,6 @@ pub struct CommitRequest {
 #[derive(Debug, Drop)]
 pub struct FetchRequest {
     pub group: Option<GroupId>,
+    /// Partitions whose offsets are asked for, in request order.
     pub partitions: Partitions,
 }

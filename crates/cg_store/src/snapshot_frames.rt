@@ -96,15 +96,14 @@ impl Model for SnapshotFrames {
 }
 
 impl SnapshotFrames {
-    /// Begins with the commands that make a state.
-    pub(crate) fn new(alloc: Global, durable: Durable) -> Result<Self, AllocError>
-        ensures { IfOk result (λ frames. frames ≡ snapshot_of durable) }
+    /// Begins with the commands that make a state, without an allocation.
+    pub(crate) fn new(alloc: Global, durable: Durable) -> Self
+        ensures { result ≡ snapshot_of durable }
     {
-        let snapshot = Snapshot::new(alloc, durable)?;
-        Ok(SnapshotFrames {
-            snapshot,
+        SnapshotFrames {
+            snapshot: Snapshot::new(alloc, durable),
             ahead: None,
-        })
+        }
     }
 
     /// Moves as many commands as fit one frame to a payload, in place of what that has. Returns `false` if there are no

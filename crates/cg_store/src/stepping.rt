@@ -152,7 +152,7 @@ fn writing_of(alloc: Global, reading: Reading) -> Result<Writing, AllocError>
     ensures cut { IfOk result (λ writing. writing.cut ≡ reading.cut) }
 {
     let text = Commands::new(alloc, &[])?;
-    let frames = SnapshotFrames::new(alloc, reading.durable)?;
+    let frames = SnapshotFrames::new(alloc, reading.durable);
     Ok(Writing {
         cut: reading.cut,
         frames,

@@ -4,7 +4,7 @@ use cg_disk::{Crash, MemDisk, SectorDisk};
 use cg_engine::{PARTS, SessionPass};
 use cg_fold::Durable;
 use cg_names::{GroupId, Topic};
-use cg_record::Partition;
+use cg_record::{Partition, TopicPartition};
 use cg_store::Store;
 use std::alloc::Global;
 use std::marker::Brand;
@@ -166,7 +166,7 @@ fn stored_in(rt: &impl Abort, alloc: Global, durable: &Durable, group: &str, who
     let group = GroupId::parse(alloc, group).expect(rt, "a group");
     let topic = Topic::parse(alloc, "t").expect(rt, "a topic");
     let partition = Partition::new(who).expect(rt, "a partition");
-    match durable.offset(&group, &topic, partition) {
+    match durable.offset(&group, &TopicPartition { topic, partition }) {
         Some(stored) => stored.offset.get(),
         None => 0,
     }

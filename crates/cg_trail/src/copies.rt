@@ -3,9 +3,10 @@ ghost use Rattle.std.specs.Prelude.{◌≡◌, IfOk};
 
 use cg_group::{
     BeatRequest, CommitEntry, CommitRequest, Commits, FetchRequest, JoinRequest, LeaveRequest,
-    Listed, Partitions, Request, SyncEntries, SyncEntry, SyncRequest, TopicPartition,
+    Listed, Request, SyncEntries, SyncEntry, SyncRequest,
 };
 use cg_member::copies::copied_name;
+use cg_record::{Partitions, TopicPartition};
 use std::alloc::{AllocError, Global};
 
 // A type whose values can be copied into one allocator.
@@ -34,11 +35,10 @@ impl Copied for SyncEntry {
 
 impl Copied for CommitEntry {
     fn copied(&self, alloc: Global) -> Result<Self, AllocError> {
-        let topic = self.topic.clone()?;
+        let key = self.key.clone()?;
         let metadata = Vec::from_slice(alloc, self.metadata.as_slice())?;
         Ok(CommitEntry {
-            topic,
-            partition: self.partition,
+            key,
             offset: self.offset,
             metadata: Listed::from_vec(metadata),
         })
@@ -47,11 +47,8 @@ impl Copied for CommitEntry {
 
 impl Copied for TopicPartition {
     fn copied(&self, _alloc: Global) -> Result<Self, AllocError> {
-        let topic = self.topic.clone()?;
-        Ok(TopicPartition {
-            topic,
-            partition: self.partition,
-        })
+        let copy = self.clone()?;
+        Ok(copy)
     }
 }
 

@@ -2,7 +2,7 @@
 use crate::same::{Same, are_same};
 use cg_record::{
     Assigned, Command, Committed, Deleted, Emptied, Entries, Entry, Member, Replaced, Roster,
-    StaticMember,
+    StaticMember, TopicPartition,
 };
 
 impl Same for Member {
@@ -31,10 +31,15 @@ impl Same for StaticMember {
     }
 }
 
+impl Same for TopicPartition {
+    fn is_same(&self, other: &Self) -> bool {
+        self.topic.is_same(&other.topic) && self.partition.get() == other.partition.get()
+    }
+}
+
 impl Same for Entry {
     fn is_same(&self, other: &Self) -> bool {
-        self.topic.is_same(&other.topic)
-            && self.partition.get() == other.partition.get()
+        self.key.is_same(&other.key)
             && self.offset.get() == other.offset.get()
             && self.metadata.is_same(&other.metadata)
     }

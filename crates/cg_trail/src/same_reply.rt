@@ -38,9 +38,7 @@ impl<T: Same> Same for Boxed<T> {
 
 impl Same for FetchedPartition {
     fn is_same(&self, other: &Self) -> bool {
-        self.topic.is_same(&other.topic)
-            && self.partition.get() == other.partition.get()
-            && self.stored.is_same(&other.stored)
+        self.key.is_same(&other.key) && self.stored.is_same(&other.stored)
     }
 }
 

@@ -13,7 +13,7 @@ use crate::parsing::numbers::{is_number, number_in};
 use crate::parsing::places::{have_own_places, is_place, partition_field, topic_field};
 use crate::parsing::splitting::{before, behind};
 use cg_group::{CommitEntry, Commits, Listed};
-use cg_record::{ENTRIES_MAX, OFFSET_MAX, Offset, PARTITION_MAX, Partition};
+use cg_record::{ENTRIES_MAX, OFFSET_MAX, Offset, PARTITION_MAX, Partition, TopicPartition};
 use std::alloc::{AllocError, Global};
 
 // Returns the part after the second colon.
@@ -94,8 +94,7 @@ fn commit_in(alloc: Global, word: &[u8]) -> Result<CommitEntry, AllocError>
     let topic = short_name_in(alloc, topic_field(word))?;
     let metadata = Listed::from_vec(bytes_in(alloc, metadata_field(word))?);
     Ok(CommitEntry {
-        topic,
-        partition,
+        key: TopicPartition { topic, partition },
         offset,
         metadata,
     })

@@ -8,9 +8,8 @@ use crate::parsing::names::{is_name, short_name_in};
 use crate::parsing::numbers::is_number;
 use crate::parsing::places::{have_own_places, topic_field};
 use crate::parsing::splitting::behind;
-use cg_group::{Partitions, TopicPartition};
 use cg_names::NAME_BYTES_MAX;
-use cg_record::{ENTRIES_MAX, PARTITION_MAX};
+use cg_record::{ENTRIES_MAX, PARTITION_MAX, Partitions, TopicPartition};
 use std::alloc::{AllocError, Global};
 
 #[tactic(auto, unfolding(crate::specs::Parsing::is_partition))]

@@ -57,9 +57,9 @@ fn put_fetched_partition(out: &mut Vec<u8>, fetched: &FetchedPartition) -> Resul
     ensures err { OnErr result (StartsWith out.new.items out.old.items) }
 {
     out.push(b' ')?;
-    out.extend_from_slice(fetched.topic.as_bytes())?;
+    out.extend_from_slice(fetched.key.topic.as_bytes())?;
     out.push(b':')?;
-    put_number(out, u64::from(fetched.partition.get()))?;
+    put_number(out, u64::from(fetched.key.partition.get()))?;
     out.push(b':')?;
     put_stored(out, &fetched.stored)?;
     Ok(())

@@ -1,9 +1,8 @@
-use Rattle.std.proofs.Common.{◌≡◌, List, [], ◌∷◌, ◌++◌, length, map, sym, ap, ◌∙◌, rules, arith}
+use Rattle.std.proofs.Common.{◌≡◌, List, [], ◌∷◌, length, map, sym, ap, ◌∙◌, rules, arith}
 use Rattle.std.specs.Vec.Iter.{into_iter_items}
 use Rattle.std.proofs.lemmas.List.{nil_from_length}
 use Rattle.cg_member.specs.declared.reply.Reply.{Reply}
 use Rattle.cg_request.specs.declared.ticket.Ticket.{Ticket}
-use Rattle.cg_desk.specs.Answering.{after_answering, answering}
 use Rattle.cg_desk.specs.Origins.{sent}
 use Rattle.cg_desk.proofs.Leaving.{told_one, told_out, told_then, told_tokens}
 use Rattle.cg_desk.proofs.answering.answer_many.Goals as goal
@@ -16,7 +15,7 @@ loop-reply-preserved c =
     let steps : into_iter_items l.reply-iterator ≡ c.in-Some.reply ∷ rest = c.in-Some.ensures.steps.0 in
     let one = told_one (map (sent o) (into_iter_items l.reply-iterator)) (map (sent o) rest) (sent o c.in-Some.reply) l.tokens.items c.answer_call.new.tokens.items l.out.items c.answer_call.new.out.items (ap (map (sent o)) steps) c.answer_call.ensures.tokens c.answer_call.ensures.out in
     record {
-      told = told_then _ _ _ _ _ _ _ _ _ l.invariant.told one;
+      told = told_then l.invariant.told one;
       len =
           let was = l.invariant.len in
           let gone = c.in-Some.ensures.steps.1 in
@@ -33,9 +32,11 @@ returns c =
     let o = c.args.origin.now in
     let none : into_iter_items l.reply-iterator ≡ [] = nil_from_length _ (sym l.invariant.len ∙ c.in-None.ensures.steps.0) in
     let begun : into_iter_items c.into_iter-reply-iterator.result ≡ c.args.replies.items = c.into_iter-reply-iterator.ensures.into_iter_gives.0 in
+    let all = ap (map (sent o)) begun in
+    let empty = ap (map (sent o)) none in
     record {
-      out = told_out _ _ _ _ _ _ (ap (map (sent o)) none) l.invariant.told ∙ ap (λ rs. c.args.out.now.items ++ answering (map (sent o) rs) c.args.tokens.now.items) begun;
-      tokens = told_tokens _ _ _ _ _ _ (ap (map (sent o)) none) l.invariant.told ∙ ap (λ rs. after_answering (map (sent o) rs) c.args.tokens.now.items) begun;
+      out = told_out all empty l.invariant.told;
+      tokens = told_tokens all empty l.invariant.told;
       room = search rules;
       fewer = search rules;
       capacity = search rules;

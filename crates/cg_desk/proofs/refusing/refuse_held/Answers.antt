@@ -1,4 +1,4 @@
-use Rattle.std.proofs.Common.{◌≡◌, List, ◌∷◌, [], map, ap, ◌∙◌, rules}
+use Rattle.std.proofs.Common.{◌≡◌, List, ◌∷◌, [], map, refl, ap, ◌∙◌, rules}
 use Rattle.cg_desk.specs.Answering.{refusal}
 use Rattle.cg_desk.specs.Held.{calls_of, replies_of}
 use Rattle.cg_desk.specs.declared.held.HeldStep.{HeldStep}
@@ -13,7 +13,7 @@ loop-replies-preserved c =
     let gone = ap (λ held. map refusal (calls_of (replies_of held))) items ∙ refusals-append c.in-Some.field-0.replies (replies_of rest) in
     let many = told_many (map refusal (calls_of (replies_of l.held.items))) (map refusal (calls_of c.in-Some.field-0.replies)) (map refusal (calls_of (replies_of rest))) l.tokens.items c.refuse_calls.new.tokens.items l.out.items c.refuse_calls.new.out.items gone (search rules) (search rules) in
     record {
-      told = told_then _ _ _ _ _ _ _ _ _ l.invariant.told many;
+      told = told_then l.invariant.told many;
       room = search rules;
       capacity = search rules;
     }
@@ -24,8 +24,8 @@ returns c =
     let none : l.held.items ≡ [] = search rules in
     let empty = ap (λ held. map refusal (calls_of (replies_of held))) none in
     record {
-      out = told_out _ _ _ _ _ _ empty l.invariant.told;
-      tokens = told_tokens _ _ _ _ _ _ empty l.invariant.told;
+      out = told_out refl empty l.invariant.told;
+      tokens = told_tokens refl empty l.invariant.told;
       held = search rules;
       room = search rules;
       capacity = search rules;

@@ -1,7 +1,7 @@
-use Rattle.std.proofs.Common.{◌≡◌, ◌≤◌, List, ◌++◌, length, map, ap, ◌∙◌, rules, arith}
+use Rattle.std.proofs.Common.{◌≡◌, ◌≤◌, List, length, map, ap, rules, arith}
 use Rattle.std.proofs.Math.ListN.{drop_of_length-le}
 use Rattle.cg_member.specs.declared.member.Member.{Member}
-use Rattle.cg_desk.specs.Answering.{after_answering, answering, refusal}
+use Rattle.cg_desk.specs.Answering.{refusal}
 use Rattle.cg_desk.proofs.Leaving.{told_many, told_out, told_then, told_tokens}
 use Rattle.cg_desk.proofs.Parked.{parked_in, refused_from}
 use Rattle.cg_desk.proofs.refusing.refuse_members.Goals as goal
@@ -15,7 +15,7 @@ loop-member-preserved c =
     let first = refused_from members n member c.loop-member-test.true c.member-item.is in
     let many = told_many _ _ _ l.tokens.items c.refuse_member.new.tokens.items l.out.items c.refuse_member.new.out.items first c.refuse_member.ensures.tokens c.refuse_member.ensures.out in
     record {
-      told = told_then _ _ _ _ _ _ _ _ _ l.invariant.told many;
+      told = told_then l.invariant.told many;
       room = search rules;
       capacity = search rules;
     }
@@ -27,9 +27,10 @@ returns c =
     let past : length members ≤ l.member-index = omega arith in
     let empty = ap (λ (ms : List Member). map refusal (parked_in ms)) (drop_of_length-le members past) in
     let own : members ≡ c.args.group.now.members = search rules in
+    let all = ap (λ (ms : List Member). map refusal (parked_in ms)) own in
     record {
-      out = told_out _ _ _ _ _ _ empty l.invariant.told ∙ ap (λ ms. c.args.out.now.items ++ answering (map refusal (parked_in ms)) c.args.tokens.now.items) own;
-      tokens = told_tokens _ _ _ _ _ _ empty l.invariant.told ∙ ap (λ ms. after_answering (map refusal (parked_in ms)) c.args.tokens.now.items) own;
+      out = told_out all empty l.invariant.told;
+      tokens = told_tokens all empty l.invariant.told;
       room = search rules;
       capacity = search rules;
     }

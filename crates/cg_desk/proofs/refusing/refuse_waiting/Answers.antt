@@ -1,7 +1,7 @@
-use Rattle.std.proofs.Common.{◌≡◌, List, ◌∷◌, [], ◌++◌, map, ap, ◌∙◌, rules}
+use Rattle.std.proofs.Common.{◌≡◌, List, ◌∷◌, [], map, ap, ◌∙◌, rules}
 use Rattle.cg_member.specs.Waiting.{waiting_calls}
 use Rattle.cg_member.specs.declared.group.Group.{Group}
-use Rattle.cg_desk.specs.Answering.{after_answering, answering, refusal}
+use Rattle.cg_desk.specs.Answering.{refusal}
 use Rattle.cg_desk.proofs.Leaving.{told_many, told_out, told_then, told_tokens}
 use Rattle.cg_desk.proofs.Parked.{no_groups, refused_first}
 use Rattle.cg_desk.proofs.refusing.refuse_waiting.Goals as goal
@@ -15,7 +15,7 @@ loop-group-preserved c =
     let first = refused_first l.group-iterator rest group groups in
     let many = told_many _ _ _ l.tokens.items c.refuse_members.new.tokens.items l.out.items c.refuse_members.new.out.items first c.refuse_members.ensures.tokens c.refuse_members.ensures.out in
     record {
-      told = told_then _ _ _ _ _ _ _ _ _ l.invariant.told many;
+      told = told_then l.invariant.told many;
       room = search rules;
       capacity = search rules;
     }
@@ -26,9 +26,10 @@ returns c =
     let none : l.group-iterator ≡ [] = search rules in
     let empty = ap (λ (gs : List Group). map refusal (waiting_calls gs)) none ∙ ap (map refusal) no_groups in
     let begun : c.into_iter-group-iterator.result ≡ c.args.groups.now.groups = search rules in
+    let all = ap (λ (gs : List Group). map refusal (waiting_calls gs)) begun in
     record {
-      out = told_out _ _ _ _ _ _ empty l.invariant.told ∙ ap (λ gs. c.args.out.now.items ++ answering (map refusal (waiting_calls gs)) c.args.tokens.now.items) begun;
-      tokens = told_tokens _ _ _ _ _ _ empty l.invariant.told ∙ ap (λ gs. after_answering (map refusal (waiting_calls gs)) c.args.tokens.now.items) begun;
+      out = told_out all empty l.invariant.told;
+      tokens = told_tokens all empty l.invariant.told;
       room = search rules;
       capacity = search rules;
     }

@@ -1,6 +1,6 @@
 use Rattle.std.proofs.Common.{[], ap, sym, ◌∙◌}
 use Rattle.std.specs.Prelude.{is_some}
-use Rattle.cg_fold.specs.Key.{KeptRow, row_of}
+use Rattle.cg_fold.specs.Key.{KeptRow}
 use Rattle.cg_fold.proofs.KeyOrder.{partition_total}
 use Rattle.cg_fold.proofs.Place.{find-own, own-placed}
 use Rattle.cg_fold.proofs.Put.{tested}
@@ -9,7 +9,7 @@ use Rattle.cg_fold.proofs.moves.has_row.Goals as goal
 pub returns-then-is_at : goal.returns-then-is_at
 returns-then-is_at c =
     let rows = c.args.rows.now in
-    let key = (row_of c.args.entry.now).0 in
+    let key = c.args.entry.now.key in
     let none : KeptRow = (key, record { offset = 0; metadata = [] }) in
     let own = c.if-is_at.ensures.own in
     let placed = own-placed partition_total key rows c.args.near none (tested c.requires) own.0 (own.1 none) in

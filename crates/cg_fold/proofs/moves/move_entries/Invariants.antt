@@ -3,7 +3,8 @@ use Rattle.std.specs.Prelude.{IsTrue}
 use Rattle.std.specs.List.{fold, list_all}
 use Rattle.std.specs.FinMap.{is_sorted}
 use Rattle.std.specs.Vec.Iter.{into_iter_items}
-use Rattle.cg_fold.specs.Key.{partition_cmp, put_row, rows_of}
+use Rattle.cg_record.specs.Partitions.{partition_cmp}
+use Rattle.cg_fold.specs.Key.{put_row, rows_of}
 use Rattle.cg_fold.specs.Renewed.{has_row}
 use Rattle.cg_fold.proofs.moves.move_entries.Given as goal
 

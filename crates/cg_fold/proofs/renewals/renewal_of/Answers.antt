@@ -1,4 +1,3 @@
-use Rattle.cg_fold.specs.Key.{row_of}
 use Rattle.cg_fold.proofs.KeyOrder.{partition_total}
 use Rattle.cg_fold.proofs.Place.{find-other}
 use Rattle.cg_fold.proofs.Put.{tested}
@@ -6,4 +5,4 @@ use Rattle.cg_fold.proofs.renewals.renewal_of.Goals as goal
 
 pub returns-then-not-is_at : goal.returns-then-not-is_at
 returns-then-not-is_at c =
-    find-other partition_total (row_of c.args.entry.now).0 c.args.rows.now c.place-at.result (tested c.requires) c.place-at.ensures.value c.if-not-is_at.ensures.other
+    find-other partition_total c.args.entry.now.key c.args.rows.now c.place-at.result (tested c.requires) c.place-at.ensures.value c.if-not-is_at.ensures.other

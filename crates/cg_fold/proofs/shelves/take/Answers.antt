@@ -4,7 +4,7 @@ use Rattle.std.specs.BTreeMap.{is_at}
 use Rattle.std.specs.Map.{lookup, set_value}
 use Rattle.std.specs.FinMap.{put}
 use Rattle.cg_fold.specs.Key.{name_cmp, rows_of}
-use Rattle.cg_fold.proofs.Added.{added_over, grown_over, grown_between}
+use Rattle.cg_fold.proofs.Added.{added_over, grown_over, grown_between, none_known}
 use Rattle.cg_fold.proofs.shelves.take.Goals as goal
 
 pub returns-in_err-grown-clause-err : goal.returns-in_err-grown-clause-err
@@ -36,3 +36,13 @@ returns-clause-grown c =
     let absent : lookup (is_at (name_cmp c.args.commit.group)) shelves ≡ None = search rules in
     let stored : c.put.new.kept.entries ≡ put name_cmp c.args.commit.group c.in_ok-rows.rows shelves = search rules in
     grown_between shelves c.put.new.kept.entries c.args.commit.group c.in_ok-rows.rows (rows_of c.args.commit.entries) absent stored c.in_ok-rows.ensures c.as_slice.result.now c.as_slice.ensures.value
+
+pub returns-in_err-rows-clause-known : goal.returns-in_err-rows-clause-known
+returns-in_err-rows-clause-known c some known =
+    let absent : lookup (is_at (name_cmp c.args.commit.group)) c.args.shelves.now.entries ≡ None = search rules in
+    absurd (none_known c.args.shelves.now.entries c.args.commit.group c.args.commit.entries absent some known)
+
+pub returns-in_err-put-clause-known : goal.returns-in_err-put-clause-known
+returns-in_err-put-clause-known c some known =
+    let absent : lookup (is_at (name_cmp c.args.commit.group)) c.args.shelves.now.entries ≡ None = search rules in
+    absurd (none_known c.args.shelves.now.entries c.args.commit.group c.args.commit.entries absent some known)

@@ -1,7 +1,7 @@
 use Rattle.std.proofs.Common.{◌≡◌, ◌++◌, length}
 use Rattle.std.specs.Prelude.{IsTrue}
 use Rattle.std.specs.FinMap.{is_sorted}
-use Rattle.cg_fold.specs.Key.{partition_cmp}
+use Rattle.cg_record.specs.Partitions.{partition_cmp}
 use Rattle.cg_fold.specs.Snapshot.{commits_of}
 use Rattle.cg_fold.proofs.snapshots.push_commits.Given as goal
 

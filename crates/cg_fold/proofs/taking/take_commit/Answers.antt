@@ -1,17 +1,21 @@
-use Rattle.std.proofs.Common.{map as each, take, ap, ◌∙◌, arith, length-take}
-use Rattle.cg_record.specs.declared.entries.TheConstants.{ENTRIES_MAX}
-use Rattle.cg_fold.specs.Snapshot.{entry_of}
+use Rattle.std.proofs.Common.{length, map as each, take, ap, ◌∙◌, arith}
+use Rattle.cg_fold.specs.Snapshot.{entry_of, first_len}
 use Rattle.cg_fold.proofs.Own.{sorted-take}
 use Rattle.cg_fold.proofs.Put.{tested, is_true}
-use Rattle.cg_fold.proofs.Commits.{are_entries}
+use Rattle.cg_fold.proofs.Commits.{are_entries, length-run}
 use Rattle.cg_fold.proofs.taking.take_commit.Goals as goal
+
+pub take_entries-requires : goal.take_entries-requires
+take_entries-requires c = omega (arith, c.next_len-len.ensures.run.within, c.next_len-len.ensures.len, ap length c.next_len-len.ensures.rows)
 
 pub from_lawful-requires : goal.from_lawful-requires
 from_lawful-requires c =
-    let rows = c.args.rows.now.items in (
+    let rows = c.args.rows.now.items in
+    let len = first_len rows in
+    let run = c.next_len-len.ensures.run in (
       omega arith,
-      are_entries (take ENTRIES_MAX rows) c.in_ok-entries.entries.items
-          (omega (arith, length-take ENTRIES_MAX rows, c.requires.some)) (omega (arith, length-take ENTRIES_MAX rows))
-          (is_true _ (sorted-take ENTRIES_MAX rows (tested c.requires.sorted)))
-          (c.in_ok-entries.ensures.entries ∙ ap (each entry_of) c.first_len-len.ensures.first),
+      are_entries (take len rows) c.in_ok-entries.entries.items
+          (omega (arith, length-run rows run, run.some)) (omega (arith, length-run rows run, run.few))
+          (is_true _ (sorted-take len rows (tested c.requires.sorted)))
+          (c.in_ok-entries.ensures.entries ∙ ap (λ n. each entry_of (take n c.next_len-len.new.rows.items)) c.next_len-len.ensures.len ∙ ap (λ l. each entry_of (take len l)) c.next_len-len.ensures.rows),
     )

@@ -3,4 +3,4 @@ use Rattle.cg_record.specs.Reading.{entries_at}
 use Rattle.cg_record.proofs.building.entries_at.Given as goal
 
 abbrev pub invariant-loop : goal.invariant-loop
-invariant-loop l = entries_at l.version (l.count - l.counter) l.entries.items l.rest ≡ entries_at l.version l.count [] l.bytes
+invariant-loop l = entries_at (l.count - l.counter) l.entries.items l.rest ≡ entries_at l.count [] l.bytes

@@ -11,7 +11,7 @@ returns c = λ front h.
     let fields = c.in_ok-rest.field-0-0 in
     let profile : Profile = record { client = fields.client.now; session = fields.session; rebalance = fields.rebalance; subscription = fields.subscription.now; assignment = fields.assignment.now } in (
       member_of id instance profile,
-      member_reads c.args.version front c.args.bytes.now id c.in_ok-id.rest.now instance c.in_ok-instance.rest.now profile c.in_ok-rest.rest.now
+      member_reads front c.args.bytes.now id c.in_ok-id.rest.now instance c.in_ok-instance.rest.now profile c.in_ok-rest.rest.now
           c.in_ok-id.ensures.gives (sym (c.is_id_repeated.ensures front c.args.bytes.now h) ∙ c.if-is_id_repeated.false)
           c.in_ok-instance.ensures.gives (sym (c.is_instance_repeated.ensures front c.args.bytes.now h) ∙ c.if-is_instance_repeated.false)
           c.in_ok-rest.ensures.gives,

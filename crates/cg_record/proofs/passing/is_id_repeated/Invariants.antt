@@ -7,4 +7,4 @@ use Rattle.cg_record.proofs.Again.{IsUnmet}
 use Rattle.cg_record.proofs.passing.is_id_repeated.Given as goal
 
 abbrev pub invariant-loop : goal.invariant-loop
-invariant-loop l = (whole : List Member) (end : List ℕ) → members_at l.version l.count [] l.start ≡ Ok (whole, end) → IsUnmet (member_at l.version) l.count l.counter (has_id l.id) whole end l.rest
+invariant-loop l = (whole : List Member) (end : List ℕ) → members_at l.count [] l.start ≡ Ok (whole, end) → IsUnmet member_at l.count l.counter (has_id l.id) whole end l.rest

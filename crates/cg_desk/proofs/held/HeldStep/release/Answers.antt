@@ -1,4 +1,4 @@
-use Rattle.std.proofs.Common.{◌≡◌, ◌<◌, ◌≤◌, [], length, map, ap, sym, ◌∙◌, rules}
+use Rattle.std.proofs.Common.{◌≡◌, ◌<◌, ◌≤◌, [], length, map, refl, ap, sym, ◌∙◌, rules}
 use Rattle.std.proofs.lemmas.List.{nil_from_length}
 use Rattle.cg_desk.specs.Permits.{front_of}
 use Rattle.cg_desk.specs.Held.{ready, released}
@@ -20,7 +20,7 @@ loop-next-preserved c =
     let gone = released-front front popped c.pop_front.new.self.items l.held.items items passes in
     let many = told_many (released front l.held.items) (map (sent popped.origin) popped.replies) (released front c.pop_front.new.self.items) l.tokens.items c.answer_calls.new.tokens.items l.out.items c.answer_calls.new.out.items gone c.answer_calls.ensures.tokens c.answer_calls.ensures.out in
     record {
-      told = told_then _ _ _ _ _ _ _ _ _ l.invariant.told many;
+      told = told_then l.invariant.told many;
       held = sym (still-front front popped c.pop_front.new.self.items l.held.items items passes) ∙ l.invariant.held;
       room = search rules;
       fewer = search rules;
@@ -36,8 +36,8 @@ returns-then-next-front c =
     let none = ready-none front c.in-Some.next.now l.held.items some c.in-Some.ensures.lookup waits in
     let empty = none-released front l.held.items none in
     record {
-      out = told_out _ _ _ _ _ _ empty l.invariant.told;
-      tokens = told_tokens _ _ _ _ _ _ empty l.invariant.told;
+      out = told_out refl empty l.invariant.told;
+      tokens = told_tokens refl empty l.invariant.told;
       held = sym (all-held front l.held.items none) ∙ l.invariant.held;
       room = search rules;
       fewer = search rules;
@@ -52,8 +52,8 @@ returns-in_default c =
     let none = ap (ready front) no in
     let empty = none-released front l.held.items none in
     record {
-      out = told_out _ _ _ _ _ _ empty l.invariant.told;
-      tokens = told_tokens _ _ _ _ _ _ empty l.invariant.told;
+      out = told_out refl empty l.invariant.told;
+      tokens = told_tokens refl empty l.invariant.told;
       held = sym (all-held front l.held.items none) ∙ l.invariant.held;
       room = search rules;
       fewer = search rules;

@@ -1,7 +1,8 @@
-use Rattle.std.proofs.Common.{◌<◌, length, arith}
+use Rattle.std.proofs.Common.{◌<◌, length, arith, ◌∙◌, rules}
 use Rattle.std.proofs.lemmas.List.{length-map}
 use Rattle.cg_fold.specs.Key.{row_of, rows_of}
 use Rattle.cg_fold.proofs.Restock.{length-rows-more, length-stock-more, shelves-commit, shelves-more}
+use Rattle.cg_fold.proofs.Stock.{known_on, shelves-len}
 use Rattle.cg_fold.proofs.offsets.Offsets.take_commit_in.Goals as goal
 
 pub overflow_add-self : goal.overflow_add-self
@@ -30,3 +31,17 @@ pub returns-clause-ok : goal.returns-clause-ok
 returns-clause-ok c =
     shelves-commit c.args.commit c.self.inside.len c.self.inside.shelves.entries c.take.new.shelves.entries c.args.self.now
     c.self.invariant c.in_ok-grown.ensures.ok c.self.view_is
+
+pub returns-in_err-grown-clause-known : goal.returns-in_err-grown-clause-known
+returns-in_err-grown-clause-known c renews =
+    let known = known_on c.args.commit.group c.self.inside.len c.self.inside.shelves.entries c.args.self.now c.self.invariant c.self.view_is c.args.commit.entries in
+    let ok = c.take.ensures.known c.len.ensures.lawful.some (known ∙ renews.each) in
+    search (rules, ok)
+
+pub returns-then-len-self-clause-known : goal.returns-then-len-self-clause-known
+returns-then-len-self-clause-known c renews = absurd (omega (
+  arith,
+  renews.few,
+  c.if-len-self.true,
+  shelves-len c.self.inside.len c.self.inside.shelves.entries c.args.self.now c.self.invariant c.self.view_is,
+))

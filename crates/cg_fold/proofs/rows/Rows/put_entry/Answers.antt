@@ -1,6 +1,7 @@
 use Rattle.std.proofs.Common.{◌≡◌, length, None, ap, sym, ◌∙◌, arith}
 use Rattle.std.specs.FinMap.{find}
-use Rattle.cg_fold.specs.Key.{partition_cmp, put_row, row_of}
+use Rattle.cg_record.specs.Partitions.{partition_cmp}
+use Rattle.cg_fold.specs.Key.{put_row, row_of}
 use Rattle.cg_fold.specs.Renewed.{IsRenewal}
 use Rattle.cg_fold.proofs.KeyOrder.{partition_total}
 use Rattle.cg_fold.proofs.Own.{length-put_absent}

@@ -2,7 +2,8 @@ use Rattle.std.proofs.Common.{length, ap, sym, ◌∙◌, subst, arith}
 use Rattle.std.specs.Prelude.{IsTrue}
 use Rattle.std.specs.List.{fold}
 use Rattle.std.specs.FinMap.{is_sorted}
-use Rattle.cg_fold.specs.Key.{partition_cmp, put_row, rows_of}
+use Rattle.cg_record.specs.Partitions.{partition_cmp}
+use Rattle.cg_fold.specs.Key.{put_row, rows_of}
 use Rattle.cg_fold.specs.Renewed.{AreRenewals}
 use Rattle.cg_fold.proofs.Own.{sorted-fold}
 use Rattle.cg_fold.proofs.Put.{tested, is_true}
