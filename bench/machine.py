@@ -21,6 +21,11 @@ SEGMENTS = 200
 ROUNDS = {8: 5, 64: 3}
 ROOM_MIB = 1024
 REFUSED = b" ERR 24 INVALID_GROUP_ID\n"
+# The offsets of a group that only commits of non-members made, the ticks over such groups, and the `at` lines beside them.
+OFFSETS_A_GROUP = 64
+OFFSET_TICKS = 256
+OFFSET_MOMENTS = 65_536
+OFFSET_ROUNDS = 3
 
 
 @dataclass(frozen=True)
@@ -131,6 +136,15 @@ def _round(program, people, times):
         raise Fault(f"a compaction printed {printed.decode().strip()}")
 
 
+def _row(name, groups, members, count, ours, refused):
+    """Returns the row of an event, from the seconds of its blocks and of those of the comparison, for as many lines."""
+    middle, base = statistics.median(ours), statistics.median(refused)
+    share = statistics.median(other / own for own, other in zip(ours, refused))
+    print(f"  {name}, {members} members: {count / middle:,.0f}/s", flush=True)
+    return [name, number(groups), str(members), number(count / middle), number(count / base), ratio(share, 1),
+            number((middle - base) / count * 1e6, 2)]
+
+
 def _events(settings, folder, size):
     """Returns the rows of all events in groups of this size."""
     people = Population(settings.groups, size)
@@ -138,15 +152,29 @@ def _events(settings, folder, size):
     with ScriptProgram(settings.sim, folder, SEGMENTS) as program:
         for _ in range(ROUNDS[size]):
             _round(program, people, times)
-    rows = []
-    for event in KINDS:
-        count, ours, refused = event.count(people), times[event.name, False], times[event.name, True]
-        middle, base = statistics.median(ours), statistics.median(refused)
-        share = statistics.median(other / own for own, other in zip(ours, refused))
-        rows.append([event.name, number(people.groups), str(size), number(count / middle), number(count / base), ratio(share, 1),
-                     number((middle - base) / count * 1e6, 2)])
-        print(f"  {event.name}, {size} members: {count / middle:,.0f}/s", flush=True)
-    return rows
+    return [_row(event.name, people.groups, size, event.count(people), times[event.name, False], times[event.name, True])
+            for event in KINDS]
+
+
+def _offset_ticks(settings, folder):
+    """Returns the row of ticks over groups that only commits of non-members made: a tick looks at each offset, none is due."""
+    offsets = " ".join(f"t:{it}:1:x" for it in range(OFFSETS_A_GROUP))
+    moment, times = 0, defaultdict(list)
+    with ScriptProgram(settings.sim, folder, SEGMENTS) as program:
+        _, printed = program.play(flushed([f"s1 COMMIT g{it:04} -1 - - {offsets}" for it in range(settings.groups)]))
+        if printed.count(b" OK\n") != settings.groups:
+            raise Fault(f"of {settings.groups} commits {printed.count(b' OK')} were acknowledged")
+        for _ in range(OFFSET_ROUNDS):
+            for word, count in (("tick", OFFSET_TICKS), ("at", OFFSET_MOMENTS)):
+                seconds, printed = program.play([f"{word} {it}" for it in range(moment, moment + count)])
+                if printed:
+                    raise Fault(f"a line {word} printed {printed.decode().strip()}")
+                moment += count
+                times[word].append(seconds / count)
+        _, printed = program.play([f"s1 FETCH g0000 t:0 t:{OFFSETS_A_GROUP - 1}", "flush"])
+        if printed != f"s1 FETCHED t:0:1:x t:{OFFSETS_A_GROUP - 1}:1:x\n".encode():
+            raise Fault(f"after the ticks there is {printed.decode().strip()}")
+    return _row(f"Tick, none of {OFFSETS_A_GROUP} offsets due", settings.groups, 0, 1, times["tick"], times["at"])
 
 
 def _state(groups, size, differs):
@@ -192,6 +220,8 @@ def measure(settings, folder):
     """Returns the tables of this part."""
     has_room(folder, ROOM_MIB)
     events = [row for size in SIZES if settings.wants(f"{size} members") for row in _events(settings, folder, size)]
+    if settings.wants(f"{OFFSETS_A_GROUP} offsets"):
+        events.append(_offset_ticks(settings, folder))
     path = os.path.join(folder, "empty")
     log_file.write_log(path, SEGMENTS, [])
     empty = _resident(settings, folder, path, 0)

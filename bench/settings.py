@@ -43,7 +43,8 @@ def parser():
     it.add_argument("--slow", type=float, default=0, metavar="MS", dest="slow_ms",
                     help="of the part server alone: each sync of each server takes MS ms longer")
     it.add_argument("--only", default="", metavar="TEXT[,TEXT]",
-                    help="rows whose name has one of these: 'commits 64x16', 'beats 1x16', '8 members', '200 segments'")
+                    help="rows whose name has one of these: 'commits 64x16', 'beats 1x16', '8 members', '64 offsets', "
+                         "'200 segments'")
     it.add_argument("--groups", type=int, default=4096, metavar="N", help="groups of machine, for a quick look (%(default)s)")
     it.add_argument("--write", action="store_true", help="replaces the tables of bench/*.md by those of this run")
     return it

@@ -7,6 +7,7 @@
   describe GROUP                         its state and its members
   fetch GROUP TOPIC:PARTITION ..         committed offsets; -1 where there is none
   reset GROUP TOPIC:PARTITION:OFFSET ..  commits these offsets; the group may have no members
+  drop GROUP TOPIC:PARTITION ..          removes these committed offsets; the group may have no members
   delete GROUP                           deletes a group without members, with its offsets
   consume GROUP [--members N] [--topic TOPIC] [--partitions N] [--seconds S]
                                          N members read a topic and commit, until Ctrl-C or for S seconds
@@ -27,7 +28,9 @@ LATER = {-1, 14, 15}
 REJOIN = {22, 27}
 # The member is not in the group any more: it joins again without an id.
 UNKNOWN = 25
-PARTITIONS_MAX = 64
+# The group is not loaded.
+NO_GROUP = 69
+PARTITIONS_MAX = 256
 PAUSE_SECONDS = 0.2
 
 
@@ -175,6 +178,16 @@ def fetch(ask, group, partitions):
     return found
 
 
+def drop(ask, group, partitions):
+    """Removes the committed offsets of these partitions. The server forgets a group of which nothing is left: it is done then."""
+    for at in range(0, len(partitions), PARTITIONS_MAX):
+        try:
+            ask("DROP", group, *partitions[at:at + PARTITIONS_MAX])
+        except Refused as refused:
+            if at == 0 or refused.code != NO_GROUP:
+                raise
+
+
 def consume_as(member, name, say):
     """Reads what the member owns, one record a second of each partition, and commits it."""
     owned, offsets = None, {}
@@ -239,6 +252,9 @@ def operate(words):
         for at in range(0, len(words.offsets), PARTITIONS_MAX):
             connection.ask("COMMIT", words.group, "-1", "-", "-", *(f"{it}:x" for it in words.offsets[at:at + PARTITIONS_MAX]))
         print("OK")
+    elif words.command == "drop":
+        drop(connection.ask, words.group, words.partitions)
+        print("OK")
     elif words.command == "delete":
         connection.ask("DELETE", words.group)
         print("OK")
@@ -258,9 +274,10 @@ def parsed():
     commands = parser.add_subparsers(dest="command", required=True)
     for name in ("list", "shell"):
         commands.add_parser(name)
-    for name in ("describe", "delete", "fetch", "reset", "consume"):
+    for name in ("describe", "delete", "fetch", "reset", "drop", "consume"):
         commands.add_parser(name).add_argument("group")
-    commands.choices["fetch"].add_argument("partitions", nargs="+")
+    for name in ("fetch", "drop"):
+        commands.choices[name].add_argument("partitions", nargs="+")
     commands.choices["reset"].add_argument("offsets", nargs="+")
     for name, kind, default in (("members", int, 3), ("topic", str, "events"), ("partitions", int, 6), ("seconds", float, None)):
         commands.choices["consume"].add_argument(f"--{name}", type=kind, default=default)

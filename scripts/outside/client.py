@@ -39,7 +39,7 @@ def check_commands(report, server):
     said = client(server, 0, "describe", "demo")
     report.holds("describe", re.fullmatch(r"state Empty, generation \d+, type consumer, protocol -", said[0]), f"{said}")
     with server.connect() as member:
-        joined = member.ask("JOIN other - - c 10000 60000 consumer range=x6162").split()
+        joined = member.ask("JOIN other - - c 600000 60000 consumer range=x6162").split()
         report.equal("reset of a group with members", client(server, 1, "reset", "other", "t:0:1"), [])
         said = client(server, 0, "describe", "other")
         report.holds("describe of a member", said[1].startswith(f"{joined[5]} instance - client c "), f"{said}")
@@ -47,6 +47,13 @@ def check_commands(report, server):
     report.equal("reset", client(server, 0, "reset", "demo", "events:0:1000", *(f"{it}:{number}" for number, it in enumerate(many))), ["OK"])
     report.equal("fetch", client(server, 0, "fetch", "demo", "events:0", "none:9", *many),
                  ["events:0 1000", "none:9 -1", *(f"{it} {number}" for number, it in enumerate(many))])
+    report.equal("drop", client(server, 0, "drop", "demo", "events:0", "none:9", *many), ["OK"])
+    report.equal("fetch after a drop", client(server, 0, "fetch", "demo", "events:0", "t:99"), ["events:0 -1", "t:99 -1"])
+    report.equal("drop in a group with members", client(server, 1, "drop", "other", "t:0"), [])
+    report.equal("drop in a group that is not there", client(server, 1, "drop", "none", "t:0"), [])
+    numbers = range(300)
+    report.equal("reset in a new group", client(server, 0, "reset", "alone", *(f"t:{it}:1" for it in numbers)), ["OK"])
+    report.equal("drop of all offsets", client(server, 0, "drop", "alone", *(f"t:{it}" for it in numbers), "t:300"), ["OK"])
     said = client(server, 0, "shell", lines="LIST\nNONE\n")
     report.equal("shell", said, ["GROUPS demo:consumer:Empty other:consumer:CompletingRebalance", "ERR 42 INVALID_REQUEST"])
     report.equal("delete", client(server, 0, "delete", "demo"), ["OK"])

@@ -19,7 +19,7 @@ from outside.serving import WAIT_SECONDS
 def check(report, programs, folder):
     damaged_records.check_fields(report)
     cases = [*damaged_roots.roots(), *damaged_roots.frames(), *damaged_records.fields(), *damaged_records.twice(),
-             *damaged_records.ends()]
+             *damaged_records.versions(), *damaged_records.ends()]
     report.equal("damaged logs that Python reads", [it.name for it in cases if is_read(it)], [])
     check_poked(report, programs.sim, [*cases, *damaged_records.cuts()])
     check_files(report, programs.server, [*cases, *damaged_roots.late_gates()], folder)

@@ -1,9 +1,10 @@
 """Each field of each kind of record out of its range, alone, and each record cut at every byte."""
 from outside.damage import with_payload
-from outside.records import (ASSIGNED, ASSIGNMENT_MAX, COMMITTED, DELETED, EMPTIED, LIST_MAX, MEMBER_ID_MAX, METADATA_MAX,
-                             NAME_MAX, NUMBER_MAX, OFFSET_MAX, REPLACED, SESSION_MAX, SESSION_MIN, SUBSCRIPTION_MAX, Assigned,
-                             Committed, Deleted, Emptied, Entry, Member, Replaced, data, encode_entry, encode_member,
-                             encode_payload, name, number)
+from outside.records import (ASSIGNED, ASSIGNMENT_MAX, COMMIT_METADATA_MAX, COMMITTED, DELETED, DROPPED, EMPTIED, EXPIRED,
+                             LIST_MAX, MEMBER_ID_MAX, METADATA_MAX, NAME_MAX, NUMBER_MAX, OFFSET_MAX, PARTITIONS_MAX, REPLACED,
+                             SESSION_MAX, SESSION_MIN, SUBSCRIPTION_MAX, VERSION, Assigned, Committed, Deleted, Dropped, Emptied,
+                             Entry, Expired, Member, Replaced, count_field, data, encode_entry, encode_member, encode_partition,
+                             encode_payload, moment_field, name, number)
 
 # Bytes of a name that break a rule, each a first and a later byte where it makes a difference.
 BAD_NAMES = {"a lone -": b"\x01-", "a slash": b"\x01/", "a space": b"\x02a ", "a colon": b"\x02:a", "a zero": b"\x01\0",
@@ -25,8 +26,13 @@ def bad_data(most):
     return {"one byte too many": data(bytes(most + 1)), "2^31 bytes": number(2**31), "2^32 - 1 bytes": number(2**32 - 1)}
 
 
-def bad_count():
+def bad_member_count():
     return {"none": b"\0", "one too many": bytes([LIST_MAX + 1]), "255": b"\xff"}
+
+
+def bad_count():
+    return {"none": count_field(0), "one too many": count_field(PARTITIONS_MAX + 1), "512": count_field(512),
+            "65,535": count_field(65_535)}
 
 
 def member_fields(member, is_replacement=False):
@@ -41,33 +47,45 @@ def member_fields(member, is_replacement=False):
             ("assignment", data(member.assignment), bad_data(ASSIGNMENT_MAX))]
 
 
+def partition_fields(topic, partition):
+    return [("topic", name(topic), bad_name()), ("partition", number(partition), bad_number(0, NUMBER_MAX))]
+
+
 def entry_fields(entry):
-    return [("topic", name(entry.topic), bad_name()),
-            ("partition", number(entry.partition), bad_number(0, NUMBER_MAX)),
+    return [*partition_fields(entry.topic, entry.partition),
             ("offset", number(entry.offset, 8), bad_number(0, OFFSET_MAX, 8)),
             ("metadata", data(entry.metadata), bad_data(METADATA_MAX))]
 
 
 M, N = Member("m", "i", "c", 6_000, 5, b"\x09", b"\x08"), Member("n", "j", "d", 6_000, 5, b"\x07", b"\x06")
 T, U = Entry("t", 0, 42, b"m"), Entry("u", 1, 43, b"n")
-VERSION = ("version", b"\x01", {"0": b"\0", "2": b"\x02", "255": b"\xff"})
+# Two partitions.
+PAIR = ("t", 0), ("u", 1)
+VERSION_FIELD = ("version", bytes([VERSION]), {"0": b"\0", "4": b"\x04", "255": b"\xff"})
 GROUP = ("group", name("g"), bad_name())
 GENERATION = ("generation", number(7), bad_number(1, NUMBER_MAX))
 TYPE = ("type", name("k"), bad_name())
+MOMENT = ("moment", moment_field(5), {f"a first byte of {it}": bytes([it]) + number(5, 8) for it in (2, 255)})
+UNKNOWN = ("moment", moment_field(None), {"a first byte of 2": b"\x02"})
+COUNT = ("count", count_field(2), bad_count())
 
 
 def kind(number_of_kind):
-    return ("kind", bytes([number_of_kind]), {"0": b"\0", "6": b"\x06", "255": b"\xff"})
+    return ("kind", bytes([number_of_kind]), {"0": b"\0", "8": b"\x08", "255": b"\xff"})
 
 
 KINDS = {
-    "Assigned": [VERSION, kind(ASSIGNED), GROUP, GENERATION, TYPE, ("protocol", name("r"), bad_name()),
-                 ("leader", name("n"), bad_name(MEMBER_ID_MAX) | {"no member": name("o")}), ("members", b"\x02", bad_count()),
+    "Assigned": [VERSION_FIELD, kind(ASSIGNED), GROUP, GENERATION, TYPE, ("protocol", name("r"), bad_name()),
+                 ("leader", name("n"), bad_name(MEMBER_ID_MAX) | {"no member": name("o")}), ("members", b"\x02", bad_member_count()),
                  *member_fields(M), *member_fields(N)],
-    "Emptied": [VERSION, kind(EMPTIED), GROUP, GENERATION, TYPE],
-    "Replaced": [VERSION, kind(REPLACED), GROUP, *member_fields(M, is_replacement=True)],
-    "Committed": [VERSION, kind(COMMITTED), GROUP, ("entries", b"\x02", bad_count()), *entry_fields(T), *entry_fields(U)],
-    "Deleted": [VERSION, kind(DELETED), GROUP],
+    "Emptied": [VERSION_FIELD, kind(EMPTIED), GROUP, GENERATION, TYPE, MOMENT],
+    "Emptied at an unknown moment": [VERSION_FIELD, kind(EMPTIED), GROUP, GENERATION, TYPE, UNKNOWN],
+    "Replaced": [VERSION_FIELD, kind(REPLACED), GROUP, *member_fields(M, is_replacement=True)],
+    "Committed": [VERSION_FIELD, kind(COMMITTED), GROUP, MOMENT, COUNT, *entry_fields(T), *entry_fields(U)],
+    "Committed at an unknown moment": [VERSION_FIELD, kind(COMMITTED), GROUP, UNKNOWN, COUNT, *entry_fields(T), *entry_fields(U)],
+    "Deleted": [VERSION_FIELD, kind(DELETED), GROUP],
+    "Expired": [VERSION_FIELD, kind(EXPIRED), GROUP, COUNT, *partition_fields(*PAIR[0]), *partition_fields(*PAIR[1])],
+    "Dropped": [VERSION_FIELD, kind(DROPPED), GROUP, COUNT, *partition_fields(*PAIR[0]), *partition_fields(*PAIR[1])],
 }
 
 
@@ -77,8 +95,8 @@ def good_payload(fields):
 
 def check_fields(report):
     """The fields that are written down here are those that the encoder writes."""
-    commands = [Assigned("g", 7, "k", "r", "n", (M, N)), Emptied("g", 7, "k"), Replaced("g", M), Committed("g", (T, U)),
-                Deleted("g")]
+    commands = [Assigned("g", 7, "k", "r", "n", (M, N)), Emptied("g", 7, "k", 5), Emptied("g", 7, "k"), Replaced("g", M),
+                Committed("g", (T, U), 5), Committed("g", (T, U)), Deleted("g"), Expired("g", PAIR), Dropped("g", PAIR)]
     report.equal("fields and encoder agree", [*map(good_payload, KINDS.values())], [*map(encode_payload, commands)])
 
 
@@ -118,27 +136,68 @@ def committed(*entries):
 def twice():
     """Things that may not come twice, next to each other and apart, and lists that are too long or too short."""
     other = Member("o", "", "c")
-    many = tuple(Entry("t", it, it) for it in range(LIST_MAX + 1))
+    many = tuple(Entry("t", it, it) for it in range(PARTITIONS_MAX + 1))
+    pairs = tuple(("t", it) for it in range(PARTITIONS_MAX + 1))
+    full = tuple(Entry("t", it, it, b"m" * METADATA_MAX) for it in range(COMMIT_METADATA_MAX // METADATA_MAX))
     crowd = tuple(Member(f"m{it}") for it in range(LIST_MAX + 1))
-    head = bytes([1, ASSIGNED]) + name("g") + number(7) + name("k") + name("r") + name("m")
+    commit_head = bytes([VERSION, COMMITTED]) + name("g") + moment_field(5)
+    head = bytes([VERSION, ASSIGNED]) + name("g") + number(7) + name("k") + name("r") + name("m")
     return [with_payload(*it) for it in (
         ("a partition twice", committed(T, Entry("t", 0, 43))),
         ("a partition twice, apart", committed(T, U, Entry("t", 0, 42, b"m"))),
-        ("the last of 64 partitions twice", committed(*many[:LIST_MAX - 1], many[LIST_MAX - 2])),
+        ("the last of 256 partitions twice", committed(*many[:PARTITIONS_MAX - 1], many[PARTITIONS_MAX - 2])),
+        ("one byte of metadata too many together", committed(*full, Entry("u", 0, 0, b"m"))),
+        ("metadata of one entry too many together", committed(*full, Entry("u", 0, 0, b"m" * METADATA_MAX))),
         ("a member id twice", assigned("m", M, Member("m", "j"))),
         ("a member id twice, apart", assigned("m", M, other, Member("m"))),
         ("an instance twice", assigned("m", M, Member("n", "i"))),
         ("an instance twice, apart", assigned("m", M, other, Member("n", "i"))),
         ("a leader who is no member", assigned("x", M, N)),
         ("a leader who is an instance", assigned("i", M, N)),
-        ("65 partitions", committed(*many)),
+        ("257 partitions", committed(*many)),
         ("65 members", assigned("m0", *crowd)),
         ("no members", assigned("m")),
         ("no partitions", committed()),
         ("two members counted as one", head + b"\x01" + encode_member(M) + encode_member(N)),
         ("one member counted as two", head + b"\x02" + encode_member(M)),
-        ("two partitions counted as one", bytes([1, COMMITTED]) + name("g") + b"\x01" + encode_entry(T) + encode_entry(U)),
-        ("one partition counted as two", bytes([1, COMMITTED]) + name("g") + b"\x02" + encode_entry(T)),
+        ("two partitions counted as one", commit_head + count_field(1) + encode_entry(T) + encode_entry(U)),
+        ("one partition counted as two", commit_head + count_field(2) + encode_entry(T)),
+        *(case for kind_of in (Expired, Dropped) for case in twice_in(kind_of, pairs)),
+    )]
+
+
+def twice_in(kind_of, pairs):
+    title = kind_of.__name__
+    kind_byte = {Expired: EXPIRED, Dropped: DROPPED}[kind_of]
+    head = bytes([VERSION, kind_byte]) + name("g")
+    return [
+        (f"{title}: a partition twice", encode_payload(kind_of("g", (*PAIR, PAIR[0])))),
+        (f"{title}: the last of 256 partitions twice",
+         encode_payload(kind_of("g", (*pairs[:PARTITIONS_MAX - 1], pairs[PARTITIONS_MAX - 2])))),
+        (f"{title}: 257 partitions", encode_payload(kind_of("g", pairs))),
+        (f"{title}: no partitions", encode_payload(kind_of("g", ()))),
+        (f"{title}: two partitions counted as one", head + count_field(1) + b"".join(map(encode_partition, PAIR))),
+        (f"{title}: one partition counted as two", head + count_field(2) + encode_partition(PAIR[0])),
+    ]
+
+
+def versions():
+    """What a version does not have, and the fields of one version in another."""
+    many = tuple(Entry("t", it, it) for it in range(LIST_MAX + 1))
+    pairs = tuple(("t", it) for it in range(LIST_MAX + 1))
+    commit, emptied = Committed("g", (T, U), 5), Emptied("g", 7, "k", 5)
+    as_version = lambda version, payload: bytes([version]) + payload[1:]
+    return [with_payload(*it) for it in (
+        ("Expired in version 1", encode_payload(Expired("g", PAIR), version=1)),
+        *((f"Dropped in version {it}", encode_payload(Dropped("g", PAIR), version=it)) for it in (1, 2)),
+        *((f"65 partitions in version {it}", encode_payload(Committed("g", many), version=it)) for it in (1, 2)),
+        ("65 partitions that expire in version 2", encode_payload(Expired("g", pairs), version=2)),
+        *((f"Committed of version {written} in version {it}", as_version(it, encode_payload(commit, version=written)))
+          for written in (1, 2, 3) for it in (1, 2, 3) if it != written),
+        *((f"Emptied of version {written} in version {it}", as_version(it, encode_payload(emptied, version=written)))
+          for written in (1, 2, 3) for it in (1, 2, 3) if (it == 1) != (written == 1)),
+        *((f"Expired of version {written} in version {it}", as_version(it, encode_payload(Expired("g", PAIR), version=written)))
+          for written, it in ((2, 3), (3, 2))),
     )]
 
 

@@ -11,7 +11,8 @@ NAME = re.compile(r"[A-Za-z0-9._-]{1,100}")
 MEMBER = re.compile(r"[A-Za-z0-9._-]{1,137}")
 BYTES = re.compile(r"x((?:[0-9a-f]{2})*)")
 NUMBER = re.compile(r"0|[1-9][0-9]*")
-INT_MAX, OFFSET_MAX, LIST_MAX = 2**31 - 1, 2**63 - 1, 64
+INT_MAX, OFFSET_MAX = 2**31 - 1, 2**63 - 1
+LIST_MAX, PARTITIONS_MAX = 64, 256
 REFUSED = "ERR 42 INVALID_REQUEST"
 REPLY = re.compile(r"OK|FETCHED( \S+)+|GROUP \S+ -?\d+ \S+ \S+.*|GROUPS( \S+)*|ERR -?\d+ [A-Z_]+")
 # Requests that may be parked: their replies are not waited for.
@@ -78,7 +79,7 @@ def are_partitions(words, is_rest):
     """Returns whether these are different partitions, each with what else belongs to it."""
     parts = [it.split(":") for it in words]
     good = all(len(it) >= 2 and is_name(it[0]) and is_number(it[1], INT_MAX) and is_rest(it[2:]) for it in parts)
-    return good and 1 <= len(parts) <= LIST_MAX and len({tuple(it[:2]) for it in parts}) == len(parts)
+    return good and 1 <= len(parts) <= PARTITIONS_MAX and len({tuple(it[:2]) for it in parts}) == len(parts)
 
 
 def is_offset(rest):
@@ -105,7 +106,7 @@ def is_request(line):
         return is_optional(words[0]) and is_optional(words[1], MEMBER) and is_optional(words[2])
     if kind == "COMMIT" and len(words) > 4:
         return is_member(words) and are_partitions(words[4:], is_offset)
-    if kind == "FETCH" and len(words) > 1:
+    if kind in ("FETCH", "DROP") and len(words) > 1:
         return is_optional(words[0]) and are_partitions(words[1:], lambda rest: not rest)
     if kind in ("DESCRIBE", "DELETE") and len(words) == 1:
         return is_optional(words[0])
@@ -127,14 +128,18 @@ def drawn_request(draw):
     generation = lambda: draw.choice(["-1", "0", "1", "2147483647", "-2147483648", "-0"])
     several = lambda make: " ".join(make() for _ in range(draw.choice([0, 1, 1, 2, 4, 5, 64, 65]) if draw.random() < 0.1 else 1))
     partition = lambda: f"t:{draw.randrange(100) if draw.random() < 0.9 else number(INT_MAX)}"
-    kind = draw.choice(["JOIN", "SYNC", "BEAT", "LEAVE", *["COMMIT", "FETCH"] * 3, "DESCRIBE", "DELETE", "LIST"])
+    # Mostly one partition or a few of any kind, and now and then many different ones.
+    many = lambda: [f"t:{it}" for it in draw.sample(range(300), draw.choice([64, 65, 255, 256, 257]))]
+    partitions = lambda rest: " ".join(f"{it}{rest()}" for it in many()) if draw.random() < 0.05 else several(lambda: partition() + rest())
+    kind = draw.choice(["JOIN", "SYNC", "BEAT", "LEAVE", *["COMMIT", "FETCH", "DROP"] * 3, "DESCRIBE", "DELETE", "LIST"])
     return {
         "JOIN": lambda: f"JOIN {name()} {name()} {name()} c {number(INT_MAX)} {number(INT_MAX)} consumer {several(lambda: f'{name()}={data()}')}",
         "SYNC": lambda: f"SYNC {name()} {generation()} {name()} {name()} {several(lambda: f'{name()}={data()}')}".rstrip(),
         "BEAT": lambda: f"BEAT {name()} {generation()} {name()} {name()}",
         "LEAVE": lambda: f"LEAVE {name()} {name()} {name()}",
-        "COMMIT": lambda: f"COMMIT {name()} {generation()} {name()} {name()} " + several(lambda: f"{partition()}:{number(OFFSET_MAX)}:{data()}"),
-        "FETCH": lambda: f"FETCH {name()} {several(partition)}",
+        "COMMIT": lambda: f"COMMIT {name()} {generation()} {name()} {name()} " + partitions(lambda: f":{number(OFFSET_MAX)}:{data()}"),
+        "FETCH": lambda: f"FETCH {name()} {partitions(str)}",
+        "DROP": lambda: f"DROP {name()} {partitions(str)}",
         "DESCRIBE": lambda: f"DESCRIBE {name()}",
         "DELETE": lambda: f"DELETE {name()}",
         "LIST": lambda: "LIST",

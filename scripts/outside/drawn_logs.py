@@ -8,7 +8,8 @@ import subprocess
 from outside.drawing import seed
 from outside.folding import state_of
 from outside.logfile import CLOSED, NUMBER_MAX, OPEN, PAYLOAD_MAX, SECTOR, SEGMENT_SECTORS, BadLog, LogFile, Root, first_sector_of, padded, sectors_of
-from outside.records import LIST_MAX, Assigned, BadRecord, Committed, Deleted, Emptied, Entry, Member, Replaced, encode_payload
+from outside.records import (LIST_MAX, MOMENT_MAX, PARTITIONS_MAX, VERSION, VERSIONS, Assigned, BadRecord, Committed, Deleted,
+                             Dropped, Emptied, Entry, Expired, Member, Replaced, encode_payload)
 from outside.scripting import SECONDS, poke
 
 LOGS, LOGS_A_RUN = 10_000, 1_000
@@ -100,8 +101,9 @@ def drawn_slot(draw, root):
 def drawn_segment(draw, segment):
     sectors, at = {}, first_sector_of(segment)
     for _ in range(draw.randrange(4)):
-        commands = [drawn_command(draw) for _ in range(draw.choice([1, 1, 2, 5]))]
-        payload = encode_payload(*commands)
+        version = draw.choice([*VERSIONS, VERSION])
+        commands = [drawn_command(draw, version) for _ in range(draw.choice([1, 1, 2, 5]))]
+        payload = encode_payload(*commands, version=version)
         if draw.random() < 0.1:
             payload = damaged(draw, payload)[:draw.choice([1, len(payload) // 2, len(payload)])]
         count, length = len(commands), len(payload)
@@ -116,18 +118,22 @@ def drawn_segment(draw, segment):
     return {it: content for it, content in sectors.items() if it < first_sector_of(segment) + SEGMENT_SECTORS}
 
 
-def drawn_command(draw):
-    group, kind = draw.choice(NAMES), draw.randrange(12)
-    generation = draw.choice([1, 2, 2**31 - 1])
+def drawn_command(draw, version):
+    """Returns a command. The version has its counts, but maybe not its kind."""
+    group, kind = draw.choice(NAMES), draw.randrange(14)
+    generation, moment = draw.choice([1, 2, 2**31 - 1]), draw.choice([None, 0, 1, MOMENT_MAX])
+    few = range(draw.choice([1, 1, 2, PARTITIONS_MAX if version == VERSION else LIST_MAX]))
     if kind < 6:
-        few = range(draw.choice([1, 1, 2, LIST_MAX]))
-        return Committed(group, tuple(Entry("t", it, draw.choice([0, 42, 2**63 - 1]), b"m" * draw.choice([0, 1, 300])) for it in few))
+        entries = (Entry("t", it, draw.choice([0, 42, 2**63 - 1]), b"m" * draw.choice([0, 1, 300])) for it in few)
+        return Committed(group, tuple(entries), moment)
     if kind < 8:
         members = [drawn_member(draw, it) for it in range(draw.choice([1, 2, LIST_MAX]))]
         return Assigned(group, generation, "consumer", "range", draw.choice(members).id, tuple(members))
     if kind < 9:
         return Replaced(group, drawn_member(draw, 0, "i"))
-    return Emptied(group, generation, "consumer") if kind < 11 else Deleted(group)
+    if kind < 11:
+        return Emptied(group, generation, "consumer", moment)
+    return Deleted(group) if kind < 12 else draw.choice([Expired, Dropped])(group, tuple(("t", it) for it in few))
 
 
 def drawn_member(draw, number, instance=""):

@@ -16,6 +16,9 @@ C1, C2 = (f"c{it} 10000 20000 consumer range=x0{it}" for it in (1, 2))
 LONG_1, LONG_2 = (f"c{it} 60000 20000 consumer range=x0{it}" for it in (1, 2))
 NOTHING = ["LOADED 0 0 0", "s8 GROUPS", "s8 GROUP Dead 0 - -", "s8 FETCHED t:0:-1:x"]
 NO_OFFSET = "s8 FETCHED t:0:-1:x"
+ONLY_COMMITS = ["s8 GROUPS g:-:Empty", "s8 GROUP Empty 0 - -"]
+WAS_LEFT = ["s8 GROUPS g:consumer:Empty", "s8 GROUP Empty 2 consumer -"]
+RETENTION_MS = 604_800_000
 REFUSED = "ERR 15 COORDINATOR_NOT_AVAILABLE"
 LOOK = ["s8 LIST", "s8 DESCRIBE g", "s8 FETCH g t:0"]
 
@@ -62,6 +65,31 @@ ROWS = [
          (f"s1 JOINED 2 consumer range i1-{U1} i1-{U1} i1-{U1}:i1:x01 i2-{U2}:i2:x02", 0),
          (f"s2 JOINED 2 consumer range i1-{U1} i2-{U2}", 0), ("s3 OK", 0),
          (f"s4 GROUP PreparingRebalance 2 consumer - i1-{U1}:i1:c1:x:x", 0), ("s4 GROUP Empty 3 consumer -", 1)]),
+    Row("drops", ["s1 COMMIT g -1 - - t:0:1:x t:1:2:x", "s2 DROP g t:9", "flush", "s3 DROP g t:0 t:9", "s4 DROP g t:0", "flush",
+                  "s5 DROP g t:1", "s6 DROP g t:1", "flush", "s7 COMMIT g -1 - - t:0:3:x", "flush"],
+        [NOTHING,
+         ["LOADED 1 0 2", *ONLY_COMMITS, "s8 FETCHED t:0:1:x"], ["LOADED 2 0 1", *ONLY_COMMITS, NO_OFFSET],
+         ["LOADED 3 0 0", *NOTHING[1:]], ["LOADED 4 0 1", *ONLY_COMMITS, "s8 FETCHED t:0:3:x"]],
+        [("s1 OK", 1), ("s2 OK", 1), ("s3 OK", 2), ("s4 OK", 2), ("s5 OK", 3), ("s6 ERR 69 GROUP_ID_NOT_FOUND", 3), ("s7 OK", 4)]),
+    Row("offsets that expire", ["s1 COMMIT g -1 - - t:0:1:x", "at 1", "s2 COMMIT g -1 - - t:1:2:x", "flush", f"tick {RETENTION_MS}",
+                                "s3 FETCH g t:0 t:1", "flush", f"tick {RETENTION_MS + 1}", "s4 LIST", "flush",
+                                "s5 COMMIT g -1 - - t:0:3:x", "flush"],
+        [NOTHING, ["LOADED 1 0 1", *ONLY_COMMITS, "s8 FETCHED t:0:1:x"], ["LOADED 2 0 2", *ONLY_COMMITS, "s8 FETCHED t:0:1:x"],
+         ["LOADED 3 0 1", *ONLY_COMMITS, NO_OFFSET], ["LOADED 4 0 0", *NOTHING[1:]],
+         ["LOADED 5 0 1", *ONLY_COMMITS, "s8 FETCHED t:0:3:x"]],
+        [("s1 OK", 1), ("s2 OK", 2), ("s3 FETCHED t:0:-1:x t:1:2:x", 3), ("s4 GROUPS", 4), ("s5 OK", 5)]),
+    Row("a group that expires", [f"s1 JOIN g - - {C1}", f"s2 LEAVE g c1-{U1} -", "flush", "s3 COMMIT g -1 - - t:0:7:x", "flush",
+                                 f"tick {RETENTION_MS - 1}", "s4 DESCRIBE g", f"tick {RETENTION_MS}", "s5 DESCRIBE g", "flush",
+                                 "s6 COMMIT g -1 - - t:0:8:x", "flush"],
+        [NOTHING, ["LOADED 1 1 0", *WAS_LEFT, NO_OFFSET], ["LOADED 2 1 1", *WAS_LEFT, "s8 FETCHED t:0:7:x"],
+         ["LOADED 3 0 0", *NOTHING[1:]], ["LOADED 4 0 1", *ONLY_COMMITS, "s8 FETCHED t:0:8:x"]],
+        [(f"s1 JOINED 1 consumer range c1-{U1} c1-{U1} c1-{U1}:-:x01", 0), ("s2 OK", 1), ("s3 OK", 2),
+         ("s4 GROUP Empty 2 consumer -", 2), ("s5 GROUP Dead 0 - -", 3), ("s6 OK", 4)]),
+    Row("ticks that find nothing due after a commit", ["s1 COMMIT g -1 - - t:0:1:x", "flush", f"at {RETENTION_MS - 1}",
+                                                       "s2 COMMIT g -1 - - t:0:2:x", f"tick {RETENTION_MS}", "s3 FETCH g t:0",
+                                                       "flush"],
+        [NOTHING, ["LOADED 1 0 1", *ONLY_COMMITS, "s8 FETCHED t:0:1:x"], ["LOADED 2 0 1", *ONLY_COMMITS, "s8 FETCHED t:0:2:x"]],
+        [("s1 OK", 1), ("s2 OK", 2), ("s3 FETCHED t:0:2:x", 2)]),
 ]
 
 

@@ -7,7 +7,8 @@ import socket
 import subprocess
 import time
 
-from outside.logfile import SECTOR, Frame, Root, sectors_of, write_log
+from outside.logfile import SECTOR, Frame, LogFile, Root, frame_of, sectors_of, write_log
+from outside.records import VERSIONS, Committed, Deleted, Emptied, Entry, Expired
 from outside.serving import WAIT_SECONDS, Server, run
 
 JOIN = "JOIN g - - c 10000 60000 consumer range=x"
@@ -44,10 +45,16 @@ def bad_record(path):
     write_log(path, 1, [Root(1, tails=(0,)), None], {0: [Frame(1, b"\x01\xff")]})
 
 
+def newer_record(path):
+    write_log(path, 1, [Root(1, tails=(0,)), None], {0: [Frame(1, bytes([max(VERSIONS) + 1]) + frame_of(*DUE).payload[1:])]})
+
+
 def nothing(path):
     pass
 
 
+# What is due at the first tick of a server: an offset, and a group that had members.
+DUE = [Committed("g", (Entry("t", 0, 1), Entry("t", 1, 2)), 0), Emptied("h", 3, "k", 0)]
 FILE = ["--disk", "{path}"]
 NEW = [*FILE, "--format"]
 # What is done to the path first, words, the status, the fault, what standard error says, and what else is done to the process.
@@ -61,6 +68,7 @@ FAULTS = [
     (bad_root, FILE, 1, "BadRoot", "{path}: the root of the log is damaged", {}),
     (bad_frame, FILE, 1, "BadFrame", "{path}: a frame of the log is damaged", {}),
     (bad_record, FILE, 1, "BadRecord", "{path}: a record of the log is damaged", {}),
+    (newer_record, FILE, 1, "BadRecord", "{path}: a record of the log is damaged", {}),
 ]
 
 
@@ -68,7 +76,8 @@ def check(report, programs, folder):
     for number, row in enumerate(FAULTS):
         with report.check(f"{row[3]} {row[4]}"):
             check_fault(report, programs.server, os.path.join(folder, str(number)), *row)
-    for it in (taken_port, closed_output, read_that_fails, write_that_fails, end_after_a_fault):
+    for it in (taken_port, closed_output, read_that_fails, write_that_fails, drop_that_fails, tick_that_fails,
+               end_after_a_fault):
         with report.check(it.__name__):
             it(report, programs.server, os.path.join(folder, it.__name__))
 
@@ -141,11 +150,15 @@ def wait_for_lock(path):
     raise TimeoutError("the server did not lock its file")
 
 
-def failing(program, path, *words):
-    """Returns a server that is loaded, and whose disk fails from now on: the process may write no byte of a file any more."""
-    server = Server(program, "--disk", path, "--format", *words, restore_signals=False)
+def no_bytes():
+    resource.setrlimit(resource.RLIMIT_FSIZE, (0, 0))
+
+
+def failing(program, path, *words, written=()):
+    """Returns a server that has loaded a log with these commands, and whose disk fails: it may write no byte of a file."""
+    write_log(path, 1, [Root(1), None], {0: [frame_of(*written)] if written else []})
+    server = Server(program, "--disk", path, *words, preexec_fn=no_bytes, restore_signals=False)
     server.load()
-    resource.prlimit(server.process.pid, resource.RLIMIT_FSIZE, (0, 0))
     return server
 
 
@@ -165,6 +178,43 @@ def write_that_fails(report, program, path):
         server.kill()
         said = [f"cg_server: {path}: write: File too large (os error 27)\n", PAGE]
         report.equal("FAULT Device after LOADED: standard error", server.warnings, said)
+
+
+def drop_that_fails(report, program, path):
+    """A DROP that is not stored is refused, and the next start finds what was there before it."""
+    with failing(program, path, written=[Committed("g", (Entry("t", 0, 1),))]) as server, server.connect() as client:
+        report.equal("a DROP of nothing before the fault", client.ask("DROP g t:9"), "OK")
+        report.equal("a DROP that is not stored", client.ask("DROP g t:0"), REFUSED)
+        report.equal("FAULT Device after a DROP", server.line(), "FAULT Device")
+        report.equal("a DROP after the fault", client.ask("DROP g t:0"), REFUSED)
+    with Server(program, "--disk", path) as server:
+        report.equal("a load after a DROP that was not stored", server.load(), (1, 0, 1))
+        with server.connect() as client:
+            report.equal("an offset whose DROP was not stored", client.ask("FETCH g t:0"), "FETCHED t:0:1:x")
+            report.equal("the same DROP again", client.ask("DROP g t:0"), "OK")
+            report.equal("the group without its last offset", client.ask("DROP g t:0"), "ERR 69 GROUP_ID_NOT_FOUND")
+
+
+def tick_that_fails(report, program, path):
+    """What a tick takes cannot be stored: that is a fault without any request. The next start finds it due again."""
+    with failing(program, path, "--tick-ms", "10", written=DUE) as server:
+        report.equal("FAULT Device after a tick", server.line(), "FAULT Device")
+        with server.connect() as client:
+            report.equal("a FETCH after a tick that failed", client.ask("FETCH g t:0"), REFUSED)
+        server.kill()
+        said = [f"cg_server: {path}: write: File too large (os error 27)\n", PAGE]
+        report.equal("FAULT Device after a tick: standard error", server.warnings, said)
+    report.equal("the log after a tick that failed", LogFile.read(path).tail_commands, DUE)
+    with Server(program, "--disk", path, "--tick-ms", "10") as server:
+        report.equal("a load after a tick that failed", server.load(), (len(DUE), 1, 2))
+        with server.connect() as client:
+            end = time.monotonic() + WAIT_SECONDS
+            while (reply := client.ask("LIST")) != "GROUPS" and time.monotonic() < end:
+                time.sleep(0.01)
+            report.equal("what was due expires", reply, "GROUPS")
+        server.kill()
+    expired = [Expired("g", (("t", 0), ("t", 1))), Deleted("h")]
+    report.equal("what the tick stored", LogFile.read(path).tail_commands, [*DUE, *expired])
 
 
 def end_after_a_fault(report, program, path):

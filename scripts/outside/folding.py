@@ -1,12 +1,13 @@
 """The state that commands make, the replies that show it, and its snapshot."""
 from dataclasses import dataclass, field, replace
 
-from outside.records import LIST_MAX, Assigned, Committed, Deleted, Emptied, Entry, Replaced
+from outside.records import (COMMIT_METADATA_MAX, PARTITIONS_MAX, Assigned, Committed, Deleted, Dropped, Emptied, Entry, Expired,
+                             Replaced)
 
 
 @dataclass
 class State:
-    """The last record of each group, and of each group with offsets the entry of each topic and partition."""
+    """The last record of each group, and of each group with offsets the entry of each topic and partition, with its moment."""
     records: dict = field(default_factory=dict)
     offsets: dict = field(default_factory=dict)
 
@@ -16,11 +17,18 @@ class State:
                 self.records[group] = command
             case Replaced(group, member):
                 self.replace(group, member)
-            case Committed(group, entries):
-                self.offsets.setdefault(group, {}).update({(it.topic, it.partition): it for it in entries})
+            case Committed(group, entries, moment):
+                self.offsets.setdefault(group, {}).update({(it.topic, it.partition): (it, moment) for it in entries})
+            case Expired(group, partitions) | Dropped(group, partitions):
+                self.take(group, partitions)
             case Deleted(group):
                 self.records.pop(group, None)
                 self.offsets.pop(group, None)
+
+    def take(self, group, partitions):
+        left = {it: stored for it, stored in self.offsets.pop(group, {}).items() if it not in partitions}
+        if left:
+            self.offsets[group] = left
 
     def replace(self, group, member):
         """The member takes the position of the one with its instance, and the lead if that one led. If no member has the
@@ -42,7 +50,7 @@ class State:
     def fetched(self, group, partitions):
         """Returns the reply to a FETCH of these topics and partitions."""
         stored = self.offsets.get(group, {})
-        entries = (stored.get(it, Entry(*it, -1)) for it in partitions)
+        entries = (stored[it][0] if it in stored else Entry(*it, -1) for it in partitions)
         return " ".join(["FETCHED", *(f"{it.topic}:{it.partition}:{it.offset}:x{it.metadata.hex()}" for it in entries)])
 
     def described(self, group):
@@ -55,13 +63,26 @@ class State:
         return "GROUP Empty 0 - -" if group in self.offsets else "GROUP Dead 0 - -"
 
     def snapshot(self):
-        """Returns the commands of a snapshot: group by group, its record and then its offsets, 64 a commit."""
+        """Returns the commands of a snapshot: group by group, its record and then its offsets, a commit for each run."""
         commands = []
         for group in sorted({*self.records, *self.offsets}):
             commands += [self.records[group]] if group in self.records else []
-            entries = sorted(self.offsets.get(group, {}).values(), key=lambda it: (it.topic, it.partition))
-            commands += [Committed(group, tuple(entries[it:it + LIST_MAX])) for it in range(0, len(entries), LIST_MAX)]
+            stored = self.offsets.get(group, {})
+            commands += [Committed(group, *run) for run in runs(stored[it] for it in sorted(stored))]
         return commands
+
+
+def runs(stored):
+    """Cuts entries with their moments into runs of one moment that one commit can have, each as long as it can be."""
+    found = []
+    for entry, moment in stored:
+        entries, moment_before = found[-1] if found else ((), None)
+        metadata = sum(len(it.metadata) for it in (*entries, entry))
+        if entries and moment == moment_before and len(entries) < PARTITIONS_MAX and metadata <= COMMIT_METADATA_MAX:
+            found[-1] = (*entries, entry), moment
+        else:
+            found.append(((entry,), moment))
+    return found
 
 
 def shown(member):

@@ -20,6 +20,9 @@ STREAMS = [
     ("COMMIT g -1 - - t:0:42:xff\n", "OK\n"),
     ("COMMIT g -1 - - t:0:42:x", ""),
     ("DELETE none\n", "ERR 69 GROUP_ID_NOT_FOUND\n"),
+    ("DROP none t:0\n", "ERR 69 GROUP_ID_NOT_FOUND\n"),
+    ("DROP - t:0\n", "ERR 24 INVALID_GROUP_ID\n"),
+    ("DROP g none:0 none:1\n", "OK\n"),
     ("LIST\r\n", f"{INVALID}\n"),
     (" LIST\nLIST\n", f"{INVALID}\nGROUPS g:-:Empty\n"),
     ("LIST\n\nLIST \nLIST\nunfinished", f"GROUPS g:-:Empty\n{INVALID}\n{INVALID}\nGROUPS g:-:Empty\n"),
@@ -35,6 +38,11 @@ AHEAD = [
     ("FETCH g t:0", "FETCHED t:0:44:x"),
     ("DELETE none", "ERR 69 GROUP_ID_NOT_FOUND"),
     ("COMMIT g 7 - - t:0:45:x", UNKNOWN_MEMBER),
+    ("COMMIT h -1 - - t:0:1:x t:1:1:x", "OK"),
+    ("DROP h t:0 t:9", "OK"),
+    ("FETCH h t:0 t:1", "FETCHED t:0:-1:x t:1:1:x"),
+    ("DROP h t:1", "OK"),
+    ("DROP h t:1", "ERR 69 GROUP_ID_NOT_FOUND"),
     ("COMMIT g -1 - - t:0:46:x", "OK"),
     ("LIST", "GROUPS g:-:Empty"),
     ("FETCH g t:0", "FETCHED t:0:46:x"),
@@ -65,7 +73,7 @@ def streams(report, server):
 def sent_ahead(report, server):
     with server.connect() as client:
         client.send(*(line for line, _ in AHEAD))
-        report.equal("ten lines sent ahead", client.replies(len(AHEAD)), [wanted for _, wanted in AHEAD])
+        report.equal("lines sent ahead", client.replies(len(AHEAD)), [wanted for _, wanted in AHEAD])
 
 
 def pieces(report, server):

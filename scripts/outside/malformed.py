@@ -23,13 +23,18 @@ COMMITS_AND_FETCHES = [
     "COMMIT g 1 m -", "COMMIT g 1 m - t:0:0", "COMMIT g 1 m - t:0:0:x:x", "COMMIT g 1 m - t:0:0:00", "COMMIT g 1 m - t:00:0:x",
     "COMMIT g -1 - - t:0:01:xff", "COMMIT g 1 m - t:2147483648:0:x", "COMMIT g 1 m - t:0:9223372036854775808:x",
     "COMMIT g 1 m - t:0:-1:x", "COMMIT g 1 m - -:0:0:x", "COMMIT g 1 m - t:0:0:x t:0:1:x00",
-    f"COMMIT g -1 - - {' '.join(f't:{it}:0:x' for it in range(65))}",
+    f"COMMIT g -1 - - {' '.join(f't:{it}:0:x' for it in range(257))}",
     "FETCH g", "FETCH g t", "FETCH g t:", "FETCH g t:0:0", "FETCH g t:0 u:0 t:0", "FETCH g t:0 ",
-    f"FETCH g {' '.join(f't:{it}' for it in range(65))}",
+    f"FETCH g {' '.join(f't:{it}' for it in range(257))}",
+]
+DROPS = [
+    "DROP", "DROP g", "DROP g ", "DROP g t", "DROP g t:", "DROP g :0", "DROP g -:0", "DROP g t:0:0", "DROP g t:00", "DROP g t:-1",
+    "DROP g t:2147483648", "DROP g u:0 t:0 u:0", "DROP g t:0 ", "DROP g  t:0", "DROP g:h t:0", "DROP t:0", "drop g t:0",
+    "DROP g t:0\r", f"DROP g {' '.join(f't:{it}' for it in range(257))}",
 ]
 OTHERS = [
     "", " ", "list", "LIST ", " LIST", "LIST g", "LIST\r", "LIS T", "NONE g", "DESCRIBE", "DESCRIBE ", "DESCRIBE g h",
     "DESCRIBE  g", "DESCRIBE g ", "DESCRIBE g:h", "DELETE", "DELETE \u00e9", "LEAVE g m", "LEAVE g m - -", "GROUPS", "s1 LIST",
     "x\0y", "LIST\0",
 ]
-MALFORMED = JOINS + SYNCS_AND_BEATS + COMMITS_AND_FETCHES + OTHERS
+MALFORMED = JOINS + SYNCS_AND_BEATS + COMMITS_AND_FETCHES + DROPS + OTHERS

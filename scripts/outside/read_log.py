@@ -3,9 +3,10 @@ import os
 from dataclasses import dataclass, field
 
 from outside.folding import state_of
-from outside.logfile import GATE_POSITION_MAX, NUMBER_MAX, PAYLOAD_MAX, SECTOR, Root, first_sector_of, frame_of, write_log
-from outside.records import (LIST_MAX, MEMBER_ID_MAX, METADATA_MAX, NAME_MAX, OFFSET_MAX, SESSION_MAX, SESSION_MIN,
-                             SUBSCRIPTION_MAX, Assigned, Committed, Deleted, Emptied, Entry, Member, Replaced, commits_of_length)
+from outside.logfile import GATE_POSITION_MAX, NUMBER_MAX, PAYLOAD_MAX, SECTOR, Frame, Root, first_sector_of, frame_of, write_log
+from outside.records import (COMMIT_METADATA_MAX, LIST_MAX, MEMBER_ID_MAX, METADATA_MAX, MOMENT_MAX, NAME_MAX, OFFSET_MAX,
+                             PARTITIONS_MAX, SESSION_MAX, SESSION_MIN, SUBSCRIPTION_MAX, Assigned, Committed, Deleted, Dropped,
+                             Emptied, Entry, Expired, Member, Replaced, commits_of_length, encode_payload)
 from outside.records import NUMBER_MAX as FIELD_MAX
 from outside.serving import Server
 
@@ -36,8 +37,16 @@ def commit(group, partition, offset, metadata=b""):
 
 ONE, TWO = Member("m1", "i1", "c1", 10_000, 20_000, b"\x01", b"\x02"), Member("m2", "", "c2", 6_000, 0, b"", b"")
 NEW = Member("m3", "i1", "c3", 1_800_000, 1, b"\x03", b"\x04")
-EVERY_KIND = [Assigned("g", 7, "consumer", "range", "m2", (ONE, TWO)), Replaced("g", NEW), Emptied("e", 3, "k"),
-              commit("g", 0, 42, b"\xff"), commit("gone", 0, 1), Emptied("gone", 1, "k"), Deleted("gone")]
+# Nothing of this moment expires.
+LATE = MOMENT_MAX
+OLD_KINDS = [Assigned("g", 7, "consumer", "range", "m2", (ONE, TWO)), Replaced("g", NEW), Emptied("e", 3, "k"),
+             commit("g", 0, 42, b"\xff"), commit("gone", 0, 1), Emptied("gone", 1, "k"), Deleted("gone")]
+# Of the group `taken` no offset is left, and of the others the partitions that were not taken.
+EXPIRED = [Committed("x", (Entry("t", 0, 1), Entry("t", 1, 2)), LATE), commit("taken", 0, 1), Expired("x", (("t", 1), ("u", 1))),
+           Expired("taken", (("t", 0),)), Expired("none", (("t", 0),)), Emptied("f", 3, "k", LATE)]
+DROPPED = [Committed("d", (Entry("t", 0, 1), Entry("t", 1, 2)), LATE), commit("dropped", 0, 1), Dropped("d", (("t", 1), ("u", 1))),
+           Dropped("dropped", (("t", 0),)), Dropped("none", (("t", 0),))]
+EVERY_KIND = [*OLD_KINDS, *EXPIRED, *DROPPED]
 
 
 def filled(character, length):
@@ -56,6 +65,11 @@ GREATEST = [Assigned(filled("G", NAME_MAX), FIELD_MAX, filled("T", NAME_MAX), fi
             Assigned("a", 1, "-a", "_", "0", (Member("0", "", ".", SESSION_MIN, 0, b"", b"\0" * 4_096),)),
             Emptied("E", FIELD_MAX, "k"),
             Committed("g", tuple(Entry(filled("t", NAME_MAX), it, 0, b"m" * METADATA_MAX) for it in range(LIST_MAX))),
+            Committed("i", tuple(Entry(filled("u", NAME_MAX), it, 1, b"m" * (COMMIT_METADATA_MAX // PARTITIONS_MAX))
+                                 for it in range(PARTITIONS_MAX)), LATE),
+            Committed("j", tuple(Entry("t", it, 1) for it in range(PARTITIONS_MAX)), LATE),
+            Dropped("j", tuple(("t", FIELD_MAX - it) for it in range(PARTITIONS_MAX))),
+            Expired("j", tuple(("t", it + 1) for it in range(PARTITIONS_MAX))),
             Committed("h", (Entry("t", FIELD_MAX, OFFSET_MAX), Entry("t", 0, OFFSET_MAX - 1)))]
 
 
@@ -65,6 +79,16 @@ def commits(begin, end):
 
 def frames_each(commands):
     return [*map(frame_of, commands)]
+
+
+def of_version(version, *commands):
+    return Frame(len(commands), encode_payload(*commands, version=version))
+
+
+def three_versions():
+    """Frames of each version in one log. Moments that a version does not have are left out."""
+    frames = [of_version(1, *OLD_KINDS), of_version(2, *OLD_KINDS, *EXPIRED), of_version(3, *EVERY_KIND), of_version(1, *OLD_KINDS)]
+    return Log("three versions", [it for frame in frames for it in frame.commands], [Root(1), None], {0: frames})
 
 
 def several_segments():
@@ -119,7 +143,7 @@ def logs():
         Log("each kind of record, in one frame", EVERY_KIND, [Root(1), None], {0: [frame_of(*EVERY_KIND)]}),
         Log("each kind of record, in frames", EVERY_KIND, [None, Root(1)], {0: frames_each(EVERY_KIND)}),
         Log("the greatest and the least fields", GREATEST, [Root(1), None], {0: frames_each(GREATEST)}),
-        several_segments(),
+        three_versions(), several_segments(),
         two_roots("the greater epoch in slot 0", [Root(8, tails=(1,)), Root(7, tails=(0,))], counted=1),
         two_roots("the greater epoch in slot 1", [Root(8, tails=(1,)), Root(9, tails=(0,))], counted=0),
         two_roots("epochs that differ in one byte", [Root(255, tails=(0,)), Root(256, tails=(1,))], counted=1),
@@ -148,7 +172,8 @@ def check_load(report, program, path, log):
     log.write(path)
     before, state = read(path), state_of(log.commands)
     number = log.number or len(log.commands)
-    with Server(program, "--disk", path, "--compact-free", "0", "--connections", "1") as server:
+    # No tick comes, so no session ends on a slow machine.
+    with Server(program, "--disk", path, "--compact-free", "0", "--tick-ms", "60000", "--connections", "1") as server:
         report.equal(f"{log.name}: the numbers", server.load(), (number, *state.numbers()))
         with server.connect() as client:
             if number < NUMBER_MAX:
@@ -167,7 +192,7 @@ def check_state(report, name, client, state):
     report.equal(f"{name}: DESCRIBE", found, [*map(state.described, groups)])
     for group in groups:
         partitions = [*state.offsets.get(group, {("t", 0): None})]
-        for begin in range(0, len(partitions), LIST_MAX):
-            part = partitions[begin:begin + LIST_MAX]
+        for begin in range(0, len(partitions), PARTITIONS_MAX):
+            part = partitions[begin:begin + PARTITIONS_MAX]
             words = " ".join(f"{topic}:{partition}" for topic, partition in part)
             report.equal(f"{name}: FETCH", client.ask(f"FETCH {group} {words}"), state.fetched(group, part))

@@ -5,23 +5,29 @@ What a script prints before memory is missing is what it prints with ample memor
 next load. In the server a refusal costs a request its answer, or a connection, and nothing else: what the flusher or the
 compactor was refused it asks for again, and each reply comes.
 """
+import contextlib
 import os
 import re
 import shutil
 import subprocess
 import tempfile
+import time
 from concurrent.futures import ThreadPoolExecutor
 from dataclasses import dataclass, field
 
+from outside.logfile import Root, frame_of, write_log
+from outside.records import Committed, Emptied, Entry, encode_payload
 from outside.serving import WAIT_SECONDS, Server
-from outside.stops import COMPACTION, PARTITIONS, THREE, commit, with_offsets
+from outside.stops import COMPACTION, EXPIRE_0, EXPIRE_1, PARTITIONS, RETENTION_MS, THREE, Played, commit, session_of
 
 HERE = os.path.dirname(os.path.abspath(__file__))
 SAID = "memory was refused"
 COUNTED = re.compile(r"(\d+) requests for memory\n")
 # Of the requests for memory outside the part of a long run one in so many is refused.
 STRIDE = 331
-GROUPS_MAX, ENTRIES_MAX, METADATA_BYTES_MAX = 4_096, 64, 4_096
+GROUPS_MAX, ENTRIES_MAX, METADATA_BYTES_MAX = 4_096, 256, 4_096
+# So many entries with as much metadata as one may have are a commit with as much as it may have.
+LARGE_ENTRIES = 64
 MINUS_1, FAULTS = "ERR -1 UNKNOWN_SERVER_ERROR", ("FAULT Memory", "FAULT Device")
 # A run that is refused memory after so many requests still is a failure of the check.
 REQUESTS_MAX = 1_000_000
@@ -36,9 +42,15 @@ STATIC = [f"s1 JOIN g - i1 {LONG_1}", f"s2 JOIN g - i2 {LONG_2}", f"s1 JOIN g i1
 
 
 def large(offset):
-    """Returns the lines of a commit with as many entries as there may be, which have as much metadata as there may be."""
-    entries = " ".join(f"t:{it}:{offset}:x{'61' * METADATA_BYTES_MAX}" for it in range(100, 100 + ENTRIES_MAX))
+    """Returns the lines of a commit with as much metadata as there may be."""
+    entries = " ".join(f"t:{it}:{offset}:x{'61' * METADATA_BYTES_MAX}" for it in range(100, 100 + LARGE_ENTRIES))
     return [f"s8 COMMIT h -1 - - {entries}", "flush"]
+
+
+def wide(kind, first):
+    """Returns a COMMIT or a DROP of as many partitions as there may be."""
+    return " ".join([f"s8 {kind} h", *(["-1 - -"] if kind == "COMMIT" else []),
+                     *(f"t:{it}{':1:x' if kind == 'COMMIT' else ''}" for it in range(first, first + ENTRIES_MAX))])
 
 
 @dataclass(frozen=True)
@@ -50,13 +62,10 @@ class Row:
     segments: int = 5
     before: list = field(default_factory=list)
 
-    def script(self, crash):
-        """Returns the script, and for each partition how many commits it has."""
-        sent = [0] * PARTITIONS
+    def play(self, crash):
         fetch = "s9 FETCH g " + " ".join(f"t:{it}" for it in range(PARTITIONS))
-        lines = [*with_offsets([*self.before, *self.lines], sent)]
         # The last two lines of each kind are for a run whose refusal falls into the first of them.
-        return [*lines, "flush", "flush", f"stop {crash}", "load", "reload", fetch, fetch], sent
+        return Played([*self.before, *self.lines, "flush", "flush", f"stop {crash}", "load", "reload", fetch, fetch])
 
 
 ROWS = [
@@ -69,6 +78,16 @@ ROWS = [
                                              f"s2 SYNC g 1 i1-{U2} i1"]),
     Row("deletions", [DYNAMIC[0], "s8 DELETE g", f"s1 LEAVE g c1-{U1} -", "flush", "s8 DELETE g", "s8 DELETE g", "flush",
                       *commit(), "s8 DESCRIBE g", "s8 FETCH g t:0 t:1", "reload"]),
+    Row("drops", [*commit(), *commit(1), "drop 0", "flush", "s8 DROP g t:0 t:9", "s8 DROP h t:0", *commit(), "drop 1", "drop 0",
+                  "flush", "s8 DROP g t:0", *commit(2), "s8 LIST", "reload"]),
+    Row("offsets that expire", [*commit(), "at 1", *commit(1), EXPIRE_0, "flush", "s8 FETCH g t:0 t:1", *commit(2), EXPIRE_1, "flush",
+                                f"expire {2 * RETENTION_MS} 2", "flush", "s8 LIST", *commit(), "reload"]),
+    Row("a group that expires", [f"s1 JOIN h - - {C1}", f"s1 LEAVE h c1-{U1} -", "flush", "s8 COMMIT h -1 - - t:0:7:x", "flush",
+                                 f"at {RETENTION_MS - 1}", *commit(), f"tick {RETENTION_MS}", "s8 DESCRIBE h", "flush", "reload",
+                                 "s8 LIST"]),
+    Row("many offsets that are dropped or expire", [wide("DROP", 0), "flush", f"tick {RETENTION_MS}", "flush", *commit(), "s8 LIST",
+                                                    "reload"],
+        5, [*(wide("COMMIT", it) for it in range(0, 3 * ENTRIES_MAX, ENTRIES_MAX)), "flush"]),
     Row("time", [*STATIC, "s3 LEAVE g - i2", "tick 20000", "s8 DESCRIBE g", "tick 60000", "s8 DESCRIBE g", "flush", "gone s1"]),
     Row("a compaction beside commits", [*commit(), *commit(2), *COMPACTION, "compact"]),
     Row("a log of one segment", [*commit(), "compact", *commit()], 1),
@@ -126,21 +145,21 @@ def requests_of(program, library, row, ample):
     """Returns which requests are refused. The last one is a request that no run makes."""
     if not row.before:
         return range(1, REQUESTS_MAX)
-    first, last = (Script(with_offsets(lines, [0] * PARTITIONS), row.segments).play(program, library, 0).requests
+    first, last = (Script(Played(lines).lines, row.segments).play(program, library, 0).requests
                    for lines in (row.before, row.before + row.lines))
     return [*sorted({*range(1, ample.requests, STRIDE), *range(first + 1, last + 1)}), REQUESTS_MAX]
 
 
 def refuse_each(program, library, row, crash):
     """Returns what is wrong with the first run that is, or None."""
-    lines, sent = row.script(crash)
-    script = Script(lines, row.segments)
+    played = row.play(crash)
+    script = Script(played.lines, row.segments)
     ample = script.play(program, library, 0)
     if ample.status or any(is_short(it) for it in ample.lines):
         return f"with ample memory: status {ample.status}, {ample.lines}"
     for at in requests_of(program, library, row, ample):
         ran = script.play(program, library, at)
-        problem = problem_of(ran, ample.lines, sent)
+        problem = problem_of(ran, ample.lines, played)
         if problem:
             return f"request {at}: {problem}"
         if not ran.is_refused:
@@ -152,7 +171,7 @@ def is_short(line):
     return line in FAULTS or line.endswith(MINUS_1)
 
 
-def problem_of(ran, ample, sent):
+def problem_of(ran, ample, played):
     """Compares a run with the one that had ample memory, up to the first line of missing memory, and what it acknowledged with
     what was found after the load."""
     short = [it for it, line in enumerate(ran.lines) if is_short(line)]
@@ -167,31 +186,39 @@ def problem_of(ran, ample, sent):
     if ran.status or not fetched:
         return f"status {ran.status}, {ran.lines[-3:]}"
     found = [max(int(word.split(":")[2]), 0) for word in fetched[0].split()[2:]]
-    if not all(least <= offset <= most for least, offset, most in zip(acknowledged(ran.lines), found, sent)):
-        return f"acknowledged {acknowledged(ran.lines)}, found {found}, sent {sent}: {ran.lines}"
-    return None
+    wrong = [(it, offset) for it, offset in enumerate(found) if offset not in possible(ran.lines, played, it)]
+    return f"partition and offset {wrong} were found, which is not possible after {ran.lines}" if wrong else None
 
 
-def acknowledged(lines):
-    """Returns for each partition the last offset that was acknowledged: its commits are answered in their order."""
-    answers = [[line.partition(" ")[2] for line in lines if line.startswith(f"s{100 + it} ")] for it in range(PARTITIONS)]
-    return [max((at for at, answer in enumerate(of_one, 1) if answer == "OK"), default=0) for of_one in answers]
+def possible(lines, played, partition):
+    """Returns the offsets that a partition may have: that of the last command for it which was acknowledged, or of a later one.
+    Its requests are answered in their order."""
+    answers = iter([line.partition(" ")[2] for line in lines if line.startswith(f"s{session_of(partition)} ")])
+    offsets = [0]
+    for command in played.commands:
+        if partition in command.partitions:
+            offsets.append(command.offset)
+            if command.is_answered and next(answers, None) == "OK":
+                offsets = offsets[-1:]
+    return offsets
 
 
 # A server that ends does so within this time. It is a pause only where the test fails.
 ENDING_SECONDS = 5
 # What two clients ask, each in turn, and how the replies begin with ample memory.
-ASKED = [(0, "JOIN h - - c 10000 60000 consumer range=x", "JOINED "), (1, "COMMIT g -1 - - t:1:1:x", "OK"),
+ASKED = [(0, "JOIN h - - c 1800000 60000 consumer range=x", "JOINED "), (1, "COMMIT g -1 - - t:1:1:x", "OK"),
          (0, "COMMIT g -1 - - t:0:1:x", "OK"), (1, "FETCH g t:0 t:1", "FETCHED t:0:1:x t:1:1:x"), (0, "LIST", "GROUPS "),
-         (1, "COMMIT g -1 - - t:1:2:x", "OK"), (1, "DESCRIBE h", "GROUP "), (0, "COMMIT g -1 - - t:0:2:x", "OK")]
+         (1, "COMMIT g -1 - - t:1:2:x", "OK"), (1, "DESCRIBE h", "GROUP "), (0, "COMMIT g -1 - - t:0:2:x", "OK"),
+         (1, "COMMIT g -1 - - t:2:1:x", "OK"), (0, "DROP g t:2", "OK"), (1, "DROP g t:9 t:2", "OK")]
+# What the first tick of a server removes: an offset, and a group that had members.
+OLD = [Committed("old", (Entry("t", 0, 1),), 0), Emptied("left", 3, "k", 0)]
+TICKS = ["--tick-ms", "10"]
 
 
 def check_server(report, program, library, folder):
-    """The log is made first, so that a refusal falls into the start of a server or into its work."""
+    """The log is made first, so that a refusal falls into the start of a server, into its work or into its first tick."""
     made = os.path.join(folder, "made")
-    with Server(program, "--disk", made, "--format", "--segments", "2") as server:
-        server.load()
-        server.kill()
+    write_log(made, 2, [Root(1), None], {0: [frame_of(*OLD)]})
 
     def refuse(at):
         path = os.path.join(folder, f"log{at}")
@@ -215,7 +242,7 @@ def check_server(report, program, library, folder):
 
 def serve(program, library, path, at):
     """Starts a server on a log and asks it. Returns what is wrong, or None, and whether it was refused memory."""
-    with Server(program, "--disk", path, env=refusing(library, at)) as server:
+    with Server(program, "--disk", path, *TICKS, env=refusing(library, at)) as server:
         try:
             server.load()
             found, sent, lost = ask(server)
@@ -225,18 +252,20 @@ def serve(program, library, path, at):
             status, lines = server.end()
             is_right = status == 1 and is_told(server) and lines[-1:] in ([], ["FAULT Memory"])
             return None if is_right else f"status {status}, {lines}, {server.warnings}", True
+        problem = await_expiry(server)
         if server.process.poll() is not None:
             return f"the server ended with {server.process.returncode}, {server.warnings}", True
         server.kill()
         is_refused = is_told(server)
     # One reply at most is -1, or is missing with its connection, and none where nothing was refused.
-    if [it for it in lost if it[1] not in ("", MINUS_1)] or len(lost) > (1 if is_refused else 0):
-        return f"{lost}", is_refused
-    with Server(program, "--disk", path) as server:
-        server.load()
+    if problem or [it for it in lost if it[1] not in ("", MINUS_1)] or len(lost) > (1 if is_refused else 0):
+        return problem or f"{lost}", is_refused
+    with Server(program, "--disk", path, "--tick-ms", "60000") as server:
+        numbers = server.load()
         with server.connect() as client:
-            reply = client.ask("FETCH g t:0 t:1")
-    return None if is_within(reply, found, sent) else f"acknowledged {found}, found {reply}", is_refused
+            reply, left = client.ask("FETCH g t:0 t:1"), client.ask("LIST")
+    is_right = is_within(reply, found, sent) and (numbers[1], left) == (0, "GROUPS g:-:Empty")
+    return None if is_right else f"acknowledged {found}, found {reply}, {left} and {numbers}", is_refused
 
 
 def has_ended(server):
@@ -272,6 +301,19 @@ def ask(server):
     for client in clients:
         client.close()
     return found, sent, lost
+
+
+def await_expiry(server):
+    """Waits until a LIST shows that a tick removed what is due. Returns what is wrong, or None. A tick and a LIST that are
+    refused memory come again."""
+    end, reply = time.monotonic() + WAIT_SECONDS, ""
+    while server.process.poll() is None and time.monotonic() < end:
+        with contextlib.suppress(ConnectionError), server.connect() as client:
+            reply = client.ask("LIST")
+        if reply.startswith("GROUPS ") and not any(it.group in reply for it in OLD):
+            return None
+        time.sleep(0.01)
+    return f"nothing expired: {reply}"
 
 
 def is_within(reply, found, sent):

@@ -8,7 +8,8 @@ from dataclasses import replace
 
 from outside.folding import state_of
 from outside.logfile import LogFile, Root, frame_of, write_log
-from outside.records import Assigned, Committed, Deleted, Emptied, Entry, Member, Replaced
+from outside.records import (LIST_MAX, METADATA_MAX, MOMENT_MAX, Assigned, Committed, Deleted, Dropped, Emptied, Entry, Expired,
+                             Member, Replaced)
 from outside.serving import Server
 from outside.written_log import read_when
 
@@ -23,8 +24,21 @@ def assigned(leader, *members):
     return Assigned("g", 7, "k", "r", leader, members)
 
 
-def offsets(group, *entries):
-    return Committed(group, tuple(Entry("t", *it) for it in entries))
+# Moments that are not due while the check runs.
+LATE, LATER = MOMENT_MAX - 1, MOMENT_MAX
+
+
+def offsets(group, *entries, moment=None):
+    return Committed(group, tuple(Entry("t", *it) for it in entries), moment)
+
+
+def partitions(*numbers):
+    return tuple(("t", it) for it in numbers)
+
+
+def full(first, count, length=METADATA_MAX):
+    """A commit in this many partitions, each with metadata of this length."""
+    return offsets("g", *((it, 7, b"m" * length) for it in range(first, first + count)))
 
 
 def seven(first, count):
@@ -64,8 +78,25 @@ ROWS = [
     ([G42, BOTH_TURNED], [BOTH_LATER]),
     # Groups come in the order of their ids, each with its record before its offsets.
     ([H42, A42, EMPTIED, G42, EMPTIED_B], [A42, EMPTIED_B, EMPTIED, G42, H42]),
-    # 70 offsets are two commits, of 64 and of 6.
-    ([seven(35, 35), seven(0, 35)], [seven(0, 64), seven(64, 6)]),
+    # 300 offsets are two commits, of 256 and of 44.
+    ([seven(150, 150), seven(0, 150)], [seven(0, 256), seven(256, 44)]),
+    # One commit has the metadata of 64 partitions, and further partitions without any.
+    ([full(0, LIST_MAX), full(LIST_MAX, 1)], [full(0, LIST_MAX), full(LIST_MAX, 1)]),
+    ([full(0, LIST_MAX), full(LIST_MAX, 1, 0)], [Committed("g", full(0, LIST_MAX).entries + full(LIST_MAX, 1, 0).entries)]),
+    # Moments are kept, and one commit has one moment.
+    ([Emptied("g", 8, "k", LATE)], [Emptied("g", 8, "k", LATE)]),
+    ([Emptied("g", 8, "k", LATE), Emptied("g", 8, "k", LATER)], [Emptied("g", 8, "k", LATER)]),
+    ([offsets("g", (0, 1), (1, 1), moment=LATE), offsets("g", (1, 2), moment=LATER)],
+     [offsets("g", (0, 1), moment=LATE), offsets("g", (1, 2), moment=LATER)]),
+    ([offsets("g", (0, 1), moment=LATE), offsets("g", (1, 2), moment=LATE)], [offsets("g", (0, 1), (1, 2), moment=LATE)]),
+    ([offsets("g", (0, 1), (2, 1), moment=LATE), offsets("g", (1, 2))],
+     [offsets("g", (0, 1), moment=LATE), offsets("g", (1, 2)), offsets("g", (2, 1), moment=LATE)]),
+    # What expired or was dropped is gone; partitions without an offset and other groups are as they were.
+    ([BOTH, Expired("g", partitions(0, 7))], [offsets("g", (1, 6))]),
+    ([BOTH, Dropped("g", partitions(0, 7))], [offsets("g", (1, 6))]),
+    ([BOTH, EMPTIED, Expired("g", partitions(0, 1))], [EMPTIED]),
+    ([BOTH, H42, Dropped("g", partitions(1, 0))], [H42]),
+    ([G42, Expired("h", partitions(0)), Dropped("h", partitions(0))], [G42]),
 ]
 
 

@@ -1,10 +1,12 @@
 """What the server writes: the requests of clients are read back from the file, command by command and byte by byte."""
 import os
 import time
+from dataclasses import replace
 
 from outside.folding import state_of
-from outside.logfile import BadLog, LogFile, Root
-from outside.records import METADATA_MAX, Assigned, Committed, Deleted, Emptied, Entry, Member, Replaced
+from outside.logfile import BadLog, LogFile, Root, frame_of, write_log
+from outside.records import (METADATA_MAX, PARTITIONS_MAX, Assigned, Committed, Deleted, Dropped, Emptied, Entry, Expired,
+                             Member, Replaced, without_moment)
 from outside.serving import WAIT_SECONDS, Server
 
 SEGMENTS = 8
@@ -19,25 +21,38 @@ TIMEOUTS = f"{SESSION} {REBALANCE} consumer"
 def check(report, programs, folder):
     path = os.path.join(folder, "written")
     with report.check("what the server writes"):
-        wanted = check_requests(report, programs.server, path)
-        check_compaction(report, programs.server, path, wanted)
+        commands = check_requests(report, programs.server, path)
+        check_compaction(report, programs.server, path, commands)
+    with report.check("what expires"):
+        check_expiry(report, programs.server, os.path.join(folder, "expiry"))
     with report.check("commits sent ahead share frames"):
         check_shared_frames(report, programs.server, os.path.join(folder, "shared"))
 
 
 def check_requests(report, program, path):
-    """Serves each kind of request that is stored. Returns the commands that they have to leave."""
+    """Serves each kind of request that is stored. Returns the commands of the file, which have their moments."""
+    begun = millis_since_1970()
     words = ["--disk", path, "--format", "--segments", str(SEGMENTS), "--compact-free", "0", "--connections", "3"]
     with Server(program, *words) as server:
         report.equal("a formatted file loads empty", server.load(), (0, 0, 0))
         report.equal("a format has these bytes", LogFile.read(path).slots(), [Root(1), None])
         with server.connect() as first, server.connect() as second, server.connect() as third:
             commands = [*dynamic_members(first, second), *static_member(first, second), *emptied_group(first),
-                        *commits_and_delete(first, commands_so_far=2), *large_commits(first)]
+                        *commits_and_delete(first, commands_so_far=2), *drops(first), *large_commits(first)]
             check_replies(report, third, state_of(commands))
         report.equal("the server ends after its connections", server.end(), (0, [f"CLOSED {len(commands)}"]))
-    check_file(report, LogFile.read(path), commands)
-    return commands
+    log = LogFile.read(path)
+    check_file(report, log, commands)
+    # Both clocks are read in whole milliseconds.
+    moments = [it.moment for it in log.tail_commands if isinstance(it, (Committed, Emptied))]
+    is_present = all(it is not None and begun <= it <= millis_since_1970() + 1 for it in moments)
+    report.holds("moments are milliseconds since 1970", moments and is_present, f"{moments}")
+    report.holds("moments do not go back", moments == sorted(moments), f"{moments}")
+    return log.tail_commands
+
+
+def millis_since_1970():
+    return time.time_ns() // 1_000_000
 
 
 def joined(reply):
@@ -103,6 +118,21 @@ def commits_and_delete(client, commands_so_far):
             Committed("gone", (Entry("u", 0, 1, b"\0"),)), Deleted("gone")]
 
 
+def drops(client):
+    """The partitions that have an offset are stored, in the order of the line. Where none has one nothing is stored."""
+    numbers = range(PARTITIONS_MAX)
+    wanted(client.ask(f"COMMIT wide -1 - - {' '.join(f't:{it}:{it}:x' for it in numbers)}"), "OK")
+    wanted(client.ask(f"DROP wide t:7 none:0 t:{PARTITIONS_MAX} t:5"), "OK")
+    wanted(client.ask("DROP wide none:0 t:5"), "OK")
+    wanted(client.ask("COMMIT bare -1 - - t:0:1:x"), "OK")
+    wanted(client.ask("DROP bare t:0"), "OK")
+    wanted(client.ask("DROP bare t:0"), "ERR 69 GROUP_ID_NOT_FOUND")
+    wanted(client.ask("DROP st t:0"), "ERR 68 NON_EMPTY_GROUP")
+    wanted(client.ask("DROP em t:0"), "OK")
+    return [Committed("wide", tuple(Entry("t", it, it) for it in numbers)), Dropped("wide", (("t", 7), ("t", 5))),
+            Committed("bare", (Entry("t", 0, 1),)), Dropped("bare", (("t", 0),))]
+
+
 def large_commits(client):
     commits = []
     for offset in range(LARGE_COMMITS):
@@ -115,8 +145,8 @@ def large_commits(client):
 
 def check_replies(report, client, state):
     """FETCH and DESCRIBE show the state."""
-    for group in ("dyn", "st", "em", "solo", "gone", "big"):
-        partitions = [*state.offsets.get(group, {}), ("none", 0)][:PARTITIONS]
+    for group in ("dyn", "st", "em", "solo", "gone", "wide", "bare", "big"):
+        partitions = [*state.offsets.get(group, {}), ("none", 0)][:PARTITIONS_MAX]
         words = " ".join(f"{topic}:{partition}" for topic, partition in partitions)
         report.equal(f"FETCH of {group}", client.ask(f"FETCH {group} {words}"), state.fetched(group, partitions))
         report.equal(f"DESCRIBE of {group}", client.ask(f"DESCRIBE {group}"), state.described(group))
@@ -125,7 +155,7 @@ def check_replies(report, client, state):
 def check_file(report, log, commands):
     """One roll: the second segment is the free one of the least id, and its root went to the other slot."""
     report.equal("the roots after a roll", log.slots(), [Root(1), Root(2, tails=(0, 1))])
-    report.equal("the commands in the tails", log.tail_commands, commands)
+    report.equal("the commands in the tails", [*map(without_moment, log.tail_commands)], commands)
     report.equal("the commands of the first tail", len(LogFile.frames_of(log, 0)), len(commands) - 2)
     report.holds("free segments are as they were", all(map(log.is_untouched, log.free_segments())))
 
@@ -158,14 +188,42 @@ def check_compaction(report, program, path, commands):
         report.equal("the server ends after a compaction", server.end(), (0, [f"CLOSED {len(commands) + 1}"]))
     log = LogFile.read(path)
     found = state_of([*log.base_commands, *log.tail_commands])
+    moment = found.offsets["solo"]["u", 3][1]
+    report.holds("a later commit has a later moment", moment > max_moment(commands), f"{moment}")
+    later = replace(later, moment=moment)
     report.equal("the state of base and tails", found, state_of([*commands, later]))
     report.equal("the snapshot in the base", log.base_commands, state_of(found_before(log, commands, later)).snapshot())
     report.equal("the number of the last command", log.number, len(commands) + 1)
 
 
+def max_moment(commands):
+    return max(it.moment for it in commands if isinstance(it, (Committed, Emptied)))
+
+
 def found_before(log, commands, later):
     """Returns the commands that the base replaces."""
     return [*commands, later][:log.root.base_number]
+
+
+def check_expiry(report, program, path):
+    """The first tick takes a group that had members with its offsets, and single offsets of other groups."""
+    present, left = millis_since_1970(), "GROUPS mixed:-:Empty unknown:-:Empty"
+    commands = [Emptied("empty", 3, "k", 0), Committed("empty", (Entry("t", 0, 1),), present),
+                Committed("mixed", (Entry("t", 0, 1), Entry("t", 1, 1)), 0), Committed("mixed", (Entry("t", 1, 2),), present),
+                Committed("old", (Entry("u", 0, 1), Entry("t", 1, 1)), 0), Committed("unknown", (Entry("t", 0, 1),))]
+    expired = [Deleted("empty"), Expired("mixed", (("t", 0),)), Expired("old", (("t", 1), ("u", 0)))]
+    write_log(path, 2, [Root(1), None], {0: [frame_of(*commands)]})
+    words = ["--disk", path, "--compact-free", "0", "--tick-ms", "10", "--connections", "1"]
+    with Server(program, *words) as server:
+        report.equal("the numbers of a load before an expiry", server.load(), (len(commands), *state_of(commands).numbers()))
+        with server.connect() as client:
+            until = time.monotonic() + WAIT_SECONDS
+            while (reply := client.ask("LIST")) != left and time.monotonic() < until:
+                time.sleep(0.01)
+            report.equal("the groups that do not expire", reply, left)
+            report.equal("the offsets that do not expire", client.ask("FETCH mixed t:0 t:1"), "FETCHED t:0:-1:x t:1:2:x")
+        report.equal("the server ends after an expiry", server.end(), (0, [f"CLOSED {len(commands) + len(expired)}"]))
+    report.equal("what a tick takes", LogFile.read(path).tail_commands, [*commands, *expired])
 
 
 def check_shared_frames(report, program, path):
@@ -179,6 +237,6 @@ def check_shared_frames(report, program, path):
         report.equal("the number of commits sent ahead", server.end(), (0, [f"CLOSED {commits}"]))
     log = LogFile.read(path)
     frames = log.frames_of(0)
-    report.equal("commits sent ahead are stored in order", log.tail_commands,
+    report.equal("commits sent ahead are stored in order", [*map(without_moment, log.tail_commands)],
                  [Committed("g", (Entry("t", 0, it),)) for it in range(commits)])
     report.holds("commits sent ahead share frames", len(frames) <= commits // 4, f"{len(frames)} frames")

@@ -91,16 +91,16 @@ syncs-kept weight now t =
     let kept = answers-kept weight Syncs synced_reply now t.group.members in
     omega arith
 
-emptied-kept : (weight : Ticket → ℕ) (t : Turn) → total weight (emptied t) ≡ total weight t
+emptied-kept : (weight : Ticket → ℕ) (now : ℕ) (t : Turn) → total weight (emptied now t) ≡ total weight t
 unfolding emptied
-emptied-kept weight t = refl
+emptied-kept weight now t = refl
 
 round-kept : (weight : Ticket → ℕ) (t : Turn) → total weight (record t { group = next_round t.group }) ≡ total weight t
 unfolding next_round
 round-kept weight t = refl
 
-completed-at : (b : Bool) (weight : Ticket → ℕ) (now : ℕ) (t : Turn) → total weight (if b then emptied t else told_to_joins now (record t { group = next_round t.group })) ≡ total weight t
-completed-at true weight now t = emptied-kept weight t
+completed-at : (b : Bool) (weight : Ticket → ℕ) (now : ℕ) (t : Turn) → total weight (if b then emptied now t else told_to_joins now (record t { group = next_round t.group })) ≡ total weight t
+completed-at true weight now t = emptied-kept weight now t
 completed-at false weight now t = joins-kept weight now (record t { group = next_round t.group }) ∙ round-kept weight t
 
 completed-kept : (weight : Ticket → ℕ) (now : ℕ) (t : Turn) → total weight (completed now t) ≡ total weight t

@@ -1,10 +1,12 @@
 -- Requests keep the pending requests of all groups.
 use Rattle.std.proofs.Common.{◌≡◌, ℕ, ◌+◌, Bool, true, false, not, cond, List, [], ◌∷◌, find, is_some, refl, sym, ap, ◌∙◌, arith, Result, Ok, Err, ok_or}
-use Rattle.std.specs.Prelude.{Option, Some, None, max}
+use Rattle.std.specs.Prelude.{Option, Some, None, max, if◌then◌else◌, ◌&&◌}
 use Rattle.std.specs.List.{list_any}
-use Rattle.std.proofs.lemmas.Bool.{or_parts, and_parts, not-true}
+use Rattle.std.proofs.lemmas.Bool.{or_parts, and_parts, not-false, not-true}
 use Rattle.cg_names.specs.declared.code.Code.{Code}
 use Rattle.cg_names.specs.declared.code.Code.TheVariants.{FencedInstanceId, GroupIdNotFound, InvalidGroupId, NonEmptyGroup, UnknownMemberId}
+use Rattle.cg_record.specs.declared.command.Command.{Command}
+use Rattle.cg_record.specs.declared.topic_partition.TopicPartition.{TopicPartition}
 use Rattle.cg_request.specs.declared.asking.Request.{Request}
 use Rattle.cg_request.specs.declared.asking.Request.TheVariants as request
 use Rattle.cg_member.specs.declared.group.Group.{Group}
@@ -22,9 +24,11 @@ use Rattle.cg_turn.specs.Committing.{committed, hearing_committer}
 use Rattle.cg_member.specs.Joining.{join_known, join_new, new_group}
 use Rattle.cg_held.specs.Kept.{Each}
 use Rattle.cg_member.specs.Leaving.{leave_held, leave_taken, leaver, may_be}
-use Rattle.cg_group.specs.Machine.{beat, commit, concluded, deleted, deleting, join, leave, met, named_group, step, sync}
-use Rattle.cg_held.specs.Held.{InOrder, Machine, Outcome, find_group}
+use Rattle.cg_group.specs.Machine.{beat, commit, concluded, deleted, drop_command, dropped, founded_after, is_unfounded, join, leave, memberless, met, named_group, step, sync, with_offset}
+use Rattle.cg_held.specs.Expiring.{is_nil}
+use Rattle.cg_held.specs.Held.{InOrder, Machine, Outcome, find_group, without_group}
 use Rattle.cg_member.specs.Members.{AreDistinct, ids}
+use Rattle.cg_member.specs.Offsets.{OffsetMap, offsets_after}
 use Rattle.cg_member.specs.Membership.{find_instance, find_member, has_id, has_instance, is_empty, is_same}
 use Rattle.cg_request.specs.Names.{are_distinct}
 use Rattle.cg_member.specs.Refusing.{◌>>=◌, refused_if}
@@ -37,7 +41,7 @@ use Rattle.cg_desk.specs.Owed.{KeepsCalls}
 use Rattle.cg_desk.specs.Tokens.{call_of}
 use Rattle.cg_desk.specs.Turns.{told_of, waits_of}
 use Rattle.cg_desk.specs.declared.token.ReplyToken.{ReplyToken}
-use Rattle.cg_desk.proofs.CalledEverywhere.{groups-waiting, in_groups}
+use Rattle.cg_desk.proofs.CalledEverywhere.{empty-idle, groups-waiting, in_groups}
 use Rattle.cg_desk.proofs.CalledGroups.{Takes, removed-kept, takes-held, takes-made}
 use Rattle.cg_desk.proofs.CalledRequests.{beat-kept, commit-kept, known-kept, leave-kept, new-kept, sync-kept}
 use Rattle.cg_desk.proofs.CalledTurns.{replacing-kept}
@@ -135,8 +139,8 @@ module _ (now : ℕ) (ticket : Ticket) (s : Machine) (sound : IsSound s) where
   unfolding new_group
   commit-takes r =
       fine-commit (Takes s.groups ticket) now r ticket s.groups
-      (λ id none. takes-made s.groups id ticket (committed r.entries ticket (new_group id)) none (framed-committed now r.entries ticket None (new_group id)).0 (λ weight. commit-kept weight now r.entries ticket None (new_group id)))
-      (λ id g who found _. takes-held s.groups id g ticket (committed r.entries ticket (hearing_committer now who g)) sound.in_order found (framed-committed now r.entries ticket who g).0 (λ weight. commit-kept weight now r.entries ticket who g))
+      (λ id none. takes-made s.groups id ticket (committed now r.entries ticket (new_group id)) none (framed-committed now r.entries ticket None (new_group id)).0 (λ weight. commit-kept weight now r.entries ticket None (new_group id)))
+      (λ id g who found _. takes-held s.groups id g ticket (committed now r.entries ticket (hearing_committer now who g)) sound.in_order found (framed-committed now r.entries ticket who g).0 (λ weight. commit-kept weight now r.entries ticket who g))
 
 -- the requests before and the new one are those that are answered and those that are parked
 abbrev Keeps : Machine → Ticket → Outcome → Type 0
@@ -147,20 +151,40 @@ unfolding concluded
 concluded-keeps s ticket (Ok t) takes weight = takes weight
 concluded-keeps s ticket (Err code) takes weight = omega arith
 
-none-waits : (weight : Ticket → ℕ) (ms : List Member) → not (is_empty ms) ≡ false → waits_of weight ms ≡ 0
-none-waits weight [] none = refl
-none-waits weight (m ∷ ms) none = absurd (cc)
-
-deleted-keeps : (s : Machine) (ticket : Ticket) (id : Option (List ℕ)) (o : Result (List ℕ) Code) → deleting id s.groups ≡ o → Keeps s ticket (deleted s ticket o)
-unfolding deleted deleting
-deleted-keeps s ticket id (Err code) is weight = omega arith
-deleted-keeps s ticket id (Ok name) is weight =
-    let given = given_by id InvalidGroupId (λ i. ok_or (find_group i s.groups) GroupIdNotFound >>= λ g. refused_if (not (is_empty g.members)) NonEmptyGroup >>= λ _. Ok i) name is in
-    let found = given_by (find_group given.0 s.groups) GroupIdNotFound (λ g. refused_if (not (is_empty g.members)) NonEmptyGroup >>= λ _. Ok given.0) name given.2 in
+-- a group that a DELETE or a DROP may name has no parked request
+memberless-idle : (weight : Ticket → ℕ) (groups : List Group) (id : Option (List ℕ)) (name : List ℕ) → memberless id groups ≡ Ok name
+    → (g : Group) × (find_group name groups ≡ Some g) × (waits_of weight g.members ≡ 0)
+unfolding memberless
+memberless-idle weight groups id name is =
+    let given = given_by id InvalidGroupId (λ i. ok_or (find_group i groups) GroupIdNotFound >>= λ g. refused_if (not (is_empty g.members)) NonEmptyGroup >>= λ _. Ok i) name is in
+    let found = given_by (find_group given.0 groups) GroupIdNotFound (λ g. refused_if (not (is_empty g.members)) NonEmptyGroup >>= λ _. Ok given.0) name given.2 in
     let passed = tested (not (is_empty found.0.members)) NonEmptyGroup (λ _. Ok given.0) name found.2 in
     let same : given.0 ≡ name = cc in
-    let one = ap (λ i. find_group i s.groups) (sym same) ∙ found.1 in
-    let left = removed-kept weight name s.groups found.0 one (none-waits weight found.0.members passed.0) in
+    (found.0, ap (λ i. find_group i groups) (sym same) ∙ found.1, empty-idle weight found.0.members (not-false (is_empty found.0.members) passed.0))
+
+deleted-keeps : (s : Machine) (ticket : Ticket) (id : Option (List ℕ)) (o : Result (List ℕ) Code) → memberless id s.groups ≡ o → Keeps s ticket (deleted s ticket o)
+unfolding deleted
+deleted-keeps s ticket id (Err code) is weight = omega arith
+deleted-keeps s ticket id (Ok name) is weight =
+    let found = memberless-idle weight s.groups id name is in
+    let left = removed-kept weight name s.groups found.0 found.1 found.2 in
+    omega arith
+
+-- a group without parked requests may go after a drop
+founded-kept : (weight : Ticket → ℕ) (offsets : OffsetMap) (commands : List Command) (id : List ℕ) (groups : List Group) (g : Group) → find_group id groups ≡ Some g → waits_of weight g.members ≡ 0
+    → in_groups weight (founded_after offsets commands id groups) ≡ in_groups weight groups
+founded-kept weight offsets commands id groups g found idle =
+    elim (not (is_nil commands) && is_unfounded (offsets_after offsets commands) groups id) as (λ b. in_groups weight (if b then without_group id groups else groups) ≡ in_groups weight groups) [
+      | true ↦ removed-kept weight id groups g found idle
+      | false ↦ refl
+    ]
+
+dropped-keeps : (s : Machine) (ticket : Ticket) (partitions : List TopicPartition) (id : Option (List ℕ)) (o : Result (List ℕ) Code) → memberless id s.groups ≡ o → Keeps s ticket (dropped s ticket partitions o)
+unfolding dropped
+dropped-keeps s ticket partitions id (Err code) is weight = omega arith
+dropped-keeps s ticket partitions id (Ok name) is weight =
+    let found = memberless-idle weight s.groups id name is in
+    let left = founded-kept weight s.offsets (drop_command name (with_offset s.offsets name partitions)) name s.groups found.0 found.1 found.2 in
     omega arith
 
 met-keeps : (s : Machine) (r : Request) (ticket : Ticket) (fresh : List ℕ) → IsSound s → Keeps s ticket (met s (asked r ticket fresh))
@@ -171,7 +195,8 @@ met-keeps s (request.Beat r) ticket fresh sound = concluded-keeps s ticket (beat
 met-keeps s (request.Leave r) ticket fresh sound = concluded-keeps s ticket (leave s.last r ticket s.groups) (leave-takes s.last ticket s sound r)
 met-keeps s (request.Commit r) ticket fresh sound = concluded-keeps s ticket (commit s.last r ticket s.groups) (commit-takes s.last ticket s sound r)
 met-keeps s (request.Fetch r) ticket fresh sound = λ weight. omega arith
-met-keeps s (request.Delete id) ticket fresh sound = deleted-keeps s ticket id (deleting id s.groups) refl
+met-keeps s (request.Delete id) ticket fresh sound = deleted-keeps s ticket id (memberless id s.groups) refl
+met-keeps s (request.Drop r) ticket fresh sound = dropped-keeps s ticket r.partitions r.group (memberless r.group s.groups) refl
 met-keeps s (request.Describe id) ticket fresh sound = λ weight. omega arith
 met-keeps s request.List ticket fresh sound = λ weight. omega arith
 

@@ -293,6 +293,6 @@ committer-kept : (weight : Ticket → ℕ) (now : ℕ) (who : Option (List ℕ))
 committer-kept weight now None g = refl
 committer-kept weight now (Some id) g = hearing-kept weight now id g
 
-pub commit-kept : (weight : Ticket → ℕ) (now : ℕ) (entries : List CommitEntry) (ticket : Ticket) (who : Option (List ℕ)) (g : Group) → total weight (committed entries ticket (hearing_committer now who g)) ≡ waits_of weight g.members + weight ticket
+pub commit-kept : (weight : Ticket → ℕ) (now : ℕ) (entries : List CommitEntry) (ticket : Ticket) (who : Option (List ℕ)) (g : Group) → total weight (committed now entries ticket (hearing_committer now who g)) ≡ waits_of weight g.members + weight ticket
 unfolding keeping_entries
 commit-kept weight now entries ticket who g = let before = committer-kept weight now who g in omega arith

@@ -1,7 +1,10 @@
 -- A machine that events make after recovery: its groups stay ordered and its members distinct, so requests are kept.
-use Rattle.std.proofs.Common.{◌≡◌, ℕ, List, [], ◌∷◌, ◌++◌, refl, sym, ap, ◌∙◌, subst, max, Result, Ok, Err}
+use Rattle.std.proofs.Common.{◌≡◌, ℕ, true, false, not, ◌&&◌, List, [], ◌∷◌, ◌++◌, refl, sym, ap, ◌∙◌, subst, max, Result, Ok, Err}
+use Rattle.std.specs.Prelude.{if◌then◌else◌}
 use Rattle.cg_names.specs.declared.code.Code.{Code}
 use Rattle.cg_fold.specs.Durable.{State}
+use Rattle.cg_record.specs.declared.command.Command.{Command}
+use Rattle.cg_record.specs.declared.topic_partition.TopicPartition.{TopicPartition}
 use Rattle.cg_request.specs.declared.event.Event.{Event}
 use Rattle.cg_request.specs.declared.event.Event.TheVariants as event
 use Rattle.cg_member.specs.declared.group.Group.{Group}
@@ -10,10 +13,13 @@ use Rattle.cg_member.specs.declared.turn.Turn.{Turn}
 use Rattle.cg_held.specs.Kept.{Ascending}
 use Rattle.cg_group.specs.Laws.{after_all}
 use Rattle.cg_member.specs.Leaving.{gone_in}
-use Rattle.cg_group.specs.Machine.{beat, commit, concluded, deleted, deleting, join, leave, met, step, sync}
-use Rattle.cg_held.specs.Held.{InOrder, Machine, groups_after, everywhere}
+use Rattle.cg_group.specs.Machine.{beat, commit, concluded, deleted, drop_command, dropped, founded_after, is_unfounded, join, leave, memberless, met, step, sync, with_offset}
+use Rattle.cg_held.specs.Expiring.{goes, is_nil, lasting, tick, tick_effects}
+use Rattle.cg_held.specs.Held.{InOrder, Machine, groups_after, everywhere, without_group}
 use Rattle.cg_held.specs.Reviving.{revive}
+use Rattle.cg_member.specs.Offsets.{OffsetMap, offsets_after}
 use Rattle.cg_member.specs.Ticking.{ticked}
+use Rattle.cg_group.proofs.AgreeingTick.{ascending-filter}
 use Rattle.cg_group.proofs.DistinctMachine.{members_stay_distinct}
 use Rattle.cg_held.proofs.Framed.{framed-gone_in, framed-ticked}
 use Rattle.cg_held.proofs.KeptLists.{ascending-with_group, group_ids}
@@ -35,6 +41,15 @@ unfolding deleted
 deleted-ordered s ticket (Ok id) h = ascending-without id s.groups h
 deleted-ordered s ticket (Err code) h = h
 
+founded-ordered : (offsets : OffsetMap) (commands : List Command) (id : List ℕ) (groups : List Group) → InOrder groups → InOrder (founded_after offsets commands id groups)
+founded-ordered offsets commands id groups h =
+    elim (not (is_nil commands) && is_unfounded (offsets_after offsets commands) groups id) as (λ b. InOrder (if b then without_group id groups else groups)) [ true ↦ ascending-without id groups h | false ↦ h ]
+
+dropped-ordered : (s : Machine) (ticket : Ticket) (partitions : List TopicPartition) (o : Result (List ℕ) Code) → InOrder s.groups → InOrder (dropped s ticket partitions o).after.groups
+unfolding dropped
+dropped-ordered s ticket partitions (Ok id) h = founded-ordered s.offsets (drop_command id (with_offset s.offsets id partitions)) id s.groups h
+dropped-ordered s ticket partitions (Err code) h = h
+
 same-ids : (turn : Group → Turn) → ((g : Group) → (turn g).group.id ≡ g.id) → (gs : List Group) → group_ids (groups_after turn gs) ≡ group_ids gs
 same-ids turn same [] = refl
 same-ids turn same (g ∷ gs) = ap (λ x. x ∷ group_ids (groups_after turn gs)) (same g) ∙ ap (λ xs. g.id ∷ xs) (same-ids turn same gs)
@@ -42,6 +57,14 @@ same-ids turn same (g ∷ gs) = ap (λ x. x ∷ group_ids (groups_after turn gs)
 everywhere-ordered : (turn : Group → Turn) → ((g : Group) → (turn g).group.id ≡ g.id) → (s : Machine) → InOrder s.groups → InOrder (everywhere turn s).after.groups
 unfolding everywhere
 everywhere-ordered turn same s h = let P : List (List ℕ) → Type 0 = λ xs. Ascending xs in subst P (sym (same-ids turn same s.groups)) h
+
+tick-ordered : (s : Machine) → InOrder s.groups → InOrder (tick s).after.groups
+unfolding tick
+tick-ordered s h =
+    let P : List (List ℕ) → Type 0 = λ xs. Ascending xs in
+    let later : OffsetMap = offsets_after s.offsets (tick_effects s).commands in
+    subst P (sym (same-ids (ticked s.last) (λ g. (framed-ticked s.last g).0) (lasting s.loaded s.last s.offsets later s.groups)))
+    (ascending-filter (λ g. not (goes s.loaded s.last s.offsets later g)) s.groups h)
 
 met-ordered : (s : Machine) (e : Event) → InOrder s.groups → InOrder (met s e).after.groups
 unfolding met
@@ -51,11 +74,12 @@ met-ordered s (event.Beat ticket r) h = concluded-ordered s ticket (beat s.last 
 met-ordered s (event.Leave ticket r) h = concluded-ordered s ticket (leave s.last r ticket s.groups) h
 met-ordered s (event.Commit ticket r) h = concluded-ordered s ticket (commit s.last r ticket s.groups) h
 met-ordered s (event.Fetch ticket r) h = h
-met-ordered s (event.Delete ticket id) h = deleted-ordered s ticket (deleting id s.groups) h
+met-ordered s (event.Delete ticket id) h = deleted-ordered s ticket (memberless id s.groups) h
+met-ordered s (event.Drop ticket r) h = dropped-ordered s ticket r.partitions (memberless r.group s.groups) h
 met-ordered s (event.Describe ticket id) h = h
 met-ordered s (event.List ticket) h = h
 met-ordered s (event.Gone session) h = everywhere-ordered (gone_in s.last session) (λ g. (framed-gone_in s.last session g).0) s h
-met-ordered s event.Tick h = everywhere-ordered (ticked s.last) (λ g. (framed-ticked s.last g).0) s h
+met-ordered s event.Tick h = tick-ordered s h
 
 step-ordered : (s : Machine) (e : Event) (now : ℕ) → InOrder s.groups → InOrder (step s e now).after.groups
 unfolding step

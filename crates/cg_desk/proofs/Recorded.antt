@@ -1,19 +1,20 @@
 -- Lawful commands make lawful records.
 use Rattle.std.proofs.Common.{◌≡◌, ◌≤◌, ℕ, Bool, true, false, cond, not, List, [], ◌∷◌, map, Option, None, Some, IfSome, refl, sym, ap, subst}
 use Rattle.std.specs.List.{list_any}
-use Rattle.std.specs.Option.{option_map}
 use Rattle.std.specs.Ordering.{eq_by_cmp}
 use Rattle.std.specs.FinMap as finmap
 use Rattle.std.proofs.lemmas.Bool.{and_parts, not-true}
 use Rattle.cg_fold.specs.declared.record.GroupRecord.{GroupRecord}
+use Rattle.cg_fold.specs.declared.record.RecordedMembers.{RecordedMembers}
+use Rattle.cg_fold.specs.declared.record.RecordedMembers.TheVariants as recorded
 use Rattle.cg_fold.specs.Durable.{State, after, effect, empty, with_member, with_record}
 use Rattle.cg_fold.specs.Grouped.{is_another}
 use Rattle.cg_fold.specs.Key.{name_cmp}
-use Rattle.cg_fold.specs.Record.{assigned_record, emptied_record, replaced_record}
+use Rattle.cg_fold.specs.Record.{assigned_record, emptied_record, replaced_members, replaced_record, roster_in}
 use Rattle.cg_fold.proofs.KeyOrder.{name_same, name_total}
 use Rattle.cg_held.specs.Kept.{AreRecords, IsRecord, kept_in}
 use Rattle.cg_record.specs.declared.command.Command.{Command}
-use Rattle.cg_record.specs.declared.command.Command.TheVariants.{Assigned, Emptied, Replaced, Committed, Deleted}
+use Rattle.cg_record.specs.declared.command.Command.TheVariants.{Assigned, Emptied, Replaced, Committed, Deleted, Dropped, Expired}
 use Rattle.cg_record.specs.declared.member.Member.{Member}
 use Rattle.cg_record.specs.Lawful.{AreCommands, IsCommand}
 use Rattle.cg_record.specs.Rosters.{IsRoster, RosterParts, has_id_of_other, leader_after, may_replace, replaced_in, roster_of, seated, takes_place_of}
@@ -29,10 +30,10 @@ roster-at true new roster is h =
     seated_roster new roster h parts.0 (not-true (list_any (has_id_of_other new) roster.members) parts.1)
 roster-at false new roster is h = h
 
-replaced-roster : (new : Member) (o : Option RosterParts) → IfSome o IsRoster → IfSome (option_map (replaced_in new) o) IsRoster
+replaced-roster : (new : Member) (o : RecordedMembers) → IfSome (roster_in o) IsRoster → IfSome (roster_in (replaced_members new o)) IsRoster
 unfolding replaced_in
-replaced-roster new None h = tt
-replaced-roster new (Some roster) h = roster-at (may_replace new roster.members) new roster refl h
+replaced-roster new (recorded.Empty moment) h = tt
+replaced-roster new (recorded.Roster roster) h = roster-at (may_replace new roster.members) new roster refl h
 
 -- a lawful record of a generation above 0
 abbrev pub IsSound : GroupRecord → Type 0
@@ -52,7 +53,7 @@ set-lawful state group r h is q =
 
 member-lawful : (state : State) (group : List ℕ) (new : Member) (o : Option GroupRecord) → IfSome o IsSound → AreSound state → AreSound (with_member state group new o)
 member-lawful state group new None is h = h
-member-lawful state group new (Some r) is h = set-lawful state group (replaced_record new r) h (replaced-roster new r.roster is.0, is.1)
+member-lawful state group new (Some r) is h = set-lawful state group (replaced_record new r) h (replaced-roster new r.members is.0, is.1)
 
 gone-lawful : (state : State) (group : List ℕ) → AreSound state → (q : List ℕ) → IfSome (finmap.get (finmap.retain_keys state.records (is_another group)) q) IsSound
 gone-lawful state group h q =
@@ -70,6 +71,8 @@ effect-lawful state (Emptied e) is h = set-lawful state e.group (emptied_record 
 effect-lawful state (Replaced r) is h = member-lawful state r.group r.member (finmap.get state.records r.group) (h r.group) h
 effect-lawful state (Committed c) is h = h
 effect-lawful state (Deleted d) is h = gone-lawful state d.group h
+effect-lawful state (Expired e) is h = h
+effect-lawful state (Dropped d) is h = h
 
 after-lawful : (commands : List Command) (state : State) → AreCommands commands → AreSound state → AreSound (after state commands)
 after-lawful [] state lawful h = h

@@ -57,6 +57,6 @@ pub record TurnsKeepTheirCalls : Type 0 where
   pub sync : (now : ℕ) (r : SyncRequest) (id : List ℕ) (ticket : Ticket) (m : Member) (g : Group) (phase : Phase) → is_some (find_member id g.members) ≡ true → TakesIn g ticket (sync_taken now r id ticket m g phase)
   pub beat : (now : ℕ) (id : List ℕ) (ticket : Ticket) (g : Group) → TakesIn g ticket (beat_taken now id ticket g)
   pub leave : (now : ℕ) (id : List ℕ) (ticket : Ticket) (m : Member) (g : Group) → are_distinct (ids g.members) ≡ true → find_member id g.members ≡ Some m → TakesIn g ticket (leave_taken now id ticket m g)
-  pub commit : (now : ℕ) (entries : List CommitEntry) (ticket : Ticket) (who : Option (List ℕ)) (g : Group) → TakesIn g ticket (committed entries ticket (hearing_committer now who g))
+  pub commit : (now : ℕ) (entries : List CommitEntry) (ticket : Ticket) (who : Option (List ℕ)) (g : Group) → TakesIn g ticket (committed now entries ticket (hearing_committer now who g))
   pub gone : (now session : ℕ) (g : Group) → TakesNone g (gone_in now session g)
   pub tick : (now : ℕ) (g : Group) → TakesNone g (ticked now g)

@@ -55,6 +55,7 @@ fn copied_offset(stored: &Option<StoredOffset>) -> Result<Option<StoredOffset>, 
             Ok(Some(StoredOffset {
                 offset: stored.offset,
                 metadata,
+                moment: stored.moment,
             }))
         }
     }

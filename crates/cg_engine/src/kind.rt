@@ -9,8 +9,8 @@ use cg_group::{Reply, Request};
 pub enum CallKind {
     /// A COMMIT or a DELETE: OK says that a command was made.
     Write,
-    /// A JOIN, a SYNC or a LEAVE: it may make a command.
-    Membership,
+    /// A JOIN, a SYNC, a LEAVE or a DROP: it may make a command.
+    Changing,
     /// A BEAT, a FETCH, a DESCRIBE or a LIST: it makes no command.
     Read,
 }
@@ -22,7 +22,9 @@ impl CallKind {
     {
         match request {
             Request::Commit(_) | Request::Delete(_) => CallKind::Write,
-            Request::Join(_) | Request::Sync(_) | Request::Leave(_) => CallKind::Membership,
+            Request::Join(_) | Request::Sync(_) | Request::Leave(_) | Request::Drop(_) => {
+                CallKind::Changing
+            }
             Request::Beat(_) | Request::Fetch(_) | Request::Describe(_) | Request::List => {
                 CallKind::Read
             }
@@ -35,8 +37,8 @@ impl CallKind {
     {
         match (self, reply) {
             (CallKind::Write, Reply::Done) => 1,
-            (CallKind::Membership, Reply::Refused(_)) => 0,
-            (CallKind::Membership, _) => made.min(1),
+            (CallKind::Changing, Reply::Refused(_)) => 0,
+            (CallKind::Changing, _) => made.min(1),
             (_, _) => 0,
         }
     }

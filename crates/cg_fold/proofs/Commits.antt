@@ -6,20 +6,20 @@ use Rattle.std.specs.List.{AllByRecursion, IsDistinct}
 use Rattle.std.specs.Ordering.{is_lt}
 use Rattle.std.specs.Cmp.{tied_itself}
 use Rattle.std.specs.FinMap.{is_sorted}
-use Rattle.std.proofs.Math.Nat.{min-le_left, min-le_right, sub-add-min_cancel}
 use Rattle.std.proofs.lemmas.Bool.Decides.{Decides-eqb}
 use Rattle.std.proofs.lemmas.List.{length-map, length-take-le}
 use Rattle.std.proofs.lemmas.Slice.Eq.{bytes_eq-Decides}
 use Rattle.cg_record.specs.declared.command.Command.{Command}
-use Rattle.cg_record.specs.declared.entries.TheConstants.{ENTRIES_MAX}
+use Rattle.cg_record.specs.declared.entries.TheConstants.{COMMIT_METADATA_BYTES_MAX, ENTRIES_MAX}
 use Rattle.cg_record.specs.declared.entry.Entry.{Entry}
-use Rattle.cg_record.specs.Keys.{AreEntries, have_one_key}
+use Rattle.cg_record.specs.Keys.{AreEntries, have_one_key, metadata_bytes}
 use Rattle.cg_record.specs.Partitions.{partition_cmp, topic_partition}
 use Rattle.cg_fold.specs.Key.{KeptRow}
-use Rattle.cg_fold.specs.Snapshot.{CutsRuns, IsRun, commit_command, commits_by, commits_of, entry_of, first_len}
+use Rattle.cg_fold.specs.Snapshot.{CutsRuns, IsRun, commit_command, commits_by, commits_of, entry_of, first_len, first_moment}
 use Rattle.cg_fold.proofs.KeyOrder.{partition_total}
 use Rattle.cg_fold.proofs.Place.{below_all, both}
 use Rattle.cg_fold.proofs.Put.{tested, is_true}
+use Rattle.cg_fold.proofs.Longest.{first_run}
 
 -- ---- the offsets of one group are for different partitions
 
@@ -50,13 +50,17 @@ distinct_entries (row ∷ rows) sorted =
     let parts = both (below_all partition_cmp row.0 rows) (is_sorted partition_cmp rows) sorted in
     (apart_from row rows parts.0, distinct_entries rows parts.1)
 
-pub are_entries : (rows : List KeptRow) (entries : List Entry) → 0 < length rows → length rows ≤ ENTRIES_MAX → IsTrue (is_sorted partition_cmp rows) → entries ≡ each entry_of rows → AreEntries entries
-are_entries rows entries some few sorted is =
+pub are_entries : (rows : List KeptRow) (entries : List Entry) → 0 < length rows → length rows ≤ ENTRIES_MAX → metadata_bytes (each entry_of rows) ≤ COMMIT_METADATA_BYTES_MAX
+    → IsTrue (is_sorted partition_cmp rows) → entries ≡ each entry_of rows → AreEntries entries
+are_entries rows entries some few short sorted is =
     let same : length entries ≡ length rows = ap length is ∙ length-map rows entry_of in
     record {
-      some = omega (arith, same, some);
-      few = subst (λ n. n ≤ ENTRIES_MAX) (sym same) few;
-      distinct = subst (IsDistinct have_one_key) (sym is) (distinct_entries rows (tested sorted));
+      distinct = record {
+        some = omega (arith, same, some);
+        few = subst (λ n. n ≤ ENTRIES_MAX) (sym same) few;
+        distinct = subst (IsDistinct have_one_key) (sym is) (distinct_entries rows (tested sorted));
+      };
+      metadata = subst (λ l. metadata_bytes l ≤ COMMIT_METADATA_BYTES_MAX) (sym is) short;
     }
 
 -- ---- the list of commits
@@ -81,35 +85,26 @@ commits_any run cuts (suc most) (suc more) g [] le also = refl
 commits_any run cuts (suc most) (suc more) g (row ∷ rows) le also =
     let fewer = fewer_left run cuts row rows in
     let len = run (row ∷ rows) in
-    ap (λ l. commit_command g (take len (row ∷ rows)) ∷ l) (commits_any run cuts most more g (drop len (row ∷ rows)) (omega (arith, fewer, le)) (omega (arith, fewer, also)))
+    ap (λ l. commit_command g row.1.moment (take len (row ∷ rows)) ∷ l) (commits_any run cuts most more g (drop len (row ∷ rows)) (omega (arith, fewer, le)) (omega (arith, fewer, also)))
 
 commits_first : (run : List KeptRow → ℕ) → CutsRuns run → (g : List ℕ) (rows : List KeptRow) → 0 < length rows
-    → commits_by run (length rows) g rows ≡ commit_command g (take (run rows) rows) ∷ commits_by run (length (drop (run rows) rows)) g (drop (run rows) rows)
+    → commits_by run (length rows) g rows ≡ commit_command g (first_moment rows) (take (run rows) rows) ∷ commits_by run (length (drop (run rows) rows)) g (drop (run rows) rows)
 unfolding commits_by
 commits_first run cuts g [] some = absurd (omega (arith, some))
 commits_first run cuts g (row ∷ rows) some =
     let len = run (row ∷ rows) in
-    ap (λ l. commit_command g (take len (row ∷ rows)) ∷ l)
+    ap (λ l. commit_command g row.1.moment (take len (row ∷ rows)) ∷ l)
     (commits_any run cuts (length rows) (length (drop len (row ∷ rows))) g (drop len (row ∷ rows)) (fewer_left run cuts row rows) (omega arith))
-
--- the rule of this coordinator
-pub first_run : CutsRuns first_len
-unfolding first_len
-first_run rows some = record {
-  some = omega (arith, sub-add-min_cancel (length rows) ENTRIES_MAX, some);
-  few = min-le_right (length rows) ENTRIES_MAX;
-  within = min-le_left (length rows) ENTRIES_MAX;
-}
 
 -- the first commit, appended, in the form of the call
 pub commits_pushed : (g : List ℕ) (rows first others : List KeptRow) (command : Command) (before after all : List Command) → 0 < length rows
-    → first ≡ take (first_len rows) rows → others ≡ drop (first_len rows) rows → command ≡ commit_command g first → after ≡ before ++ command ∷ []
+    → first ≡ take (first_len rows) rows → others ≡ drop (first_len rows) rows → command ≡ commit_command g (first_moment rows) first → after ≡ before ++ command ∷ []
     → before ++ commits_of (length rows) g rows ≡ all → after ++ commits_of (length others) g others ≡ all
 commits_pushed g rows first others command before after all some taken left is pushed rest =
     ap (λ l. l ++ commits_of (length others) g others) pushed
     ∙ append_assoc before (command ∷ []) (commits_of (length others) g others)
-    ∙ ap (λ c. before ++ c ∷ commits_of (length others) g others) (is ∙ ap (commit_command g) taken)
-    ∙ ap (λ l. before ++ commit_command g (take (first_len rows) rows) ∷ commits_of (length l) g l) left
+    ∙ ap (λ c. before ++ c ∷ commits_of (length others) g others) (is ∙ ap (commit_command g (first_moment rows)) taken)
+    ∙ ap (λ l. before ++ commit_command g (first_moment rows) (take (first_len rows) rows) ∷ commits_of (length l) g l) left
     ∙ ap (λ l. before ++ l) (sym (commits_first first_len first_run g rows some)) ∙ rest
 
 pub commits_none : (g : List ℕ) (rows : List KeptRow) (before all : List Command) → length rows ≡ 0 → before ++ commits_of (length rows) g rows ≡ all → before ≡ all

@@ -76,10 +76,10 @@ state-nil records offsets none nothing = ap (λ r. state_of (records_of r) offse
 
 -- the effect of a commit on a state
 pub state-commit : (commit : Committed) (records : List KeptRecord) (before after : Offsets) (now : State)
-    → after ≡ fold (with_entry commit.group) before commit.entries → state records before ≡ now → state records after ≡ effect now (variants.Committed commit)
+    → after ≡ fold (with_entry commit.group commit.moment) before commit.entries → state records before ≡ now → state records after ≡ effect now (variants.Committed commit)
 unfolding effect
 state-commit commit records before after now committed is =
-    ap (state_of (records_of records)) committed ∙ ap (λ (s : State). state_of s.records (fold (with_entry commit.group) s.offsets commit.entries)) is
+    ap (state_of (records_of records)) committed ∙ ap (λ (s : State). state_of s.records (fold (with_entry commit.group commit.moment) s.offsets commit.entries)) is
 
 -- the effect of a command that sets a record
 pub state-keep : (group : List ℕ) (new : GroupRecord) (before after : List KeptRecord) (offsets : Offsets) (now : State)

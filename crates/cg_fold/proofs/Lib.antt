@@ -8,6 +8,7 @@ pub mod Maps
 pub mod Taken
 pub mod Merging
 pub mod Own
+pub mod Longest
 pub mod Stock
 pub mod Restock
 pub mod Added

@@ -40,7 +40,7 @@ prefix_from_point p (x ∷ xs) n within point =
 turned : {K : Type 0} {R : K → K → Ordering} → IsTotalOrder R → (x y : K) (r : Ordering) → R y x ≡ r → R x y ≡ ordering_reverse r
 turned o x y r is = o.antisymm x y ∙ ap ordering_reverse is
 
-one-more : (n : ℕ) → 1 + n ≡ suc n
+pub one-more : (n : ℕ) → 1 + n ≡ suc n
 one-more n = omega arith
 
 module _ {K X : Type 0} {R : K → K → Ordering} (o : IsTotalOrder R) where

@@ -2,7 +2,7 @@
 use Rattle.std.proofs.Common.{◌≡◌, ℕ, zero, suc, ◌≤◌, Bool, true, false, cond, List, [], ◌∷◌, length, map as each, take, drop, Option, Some, None, ap, sym, ◌∙◌, refl, arith}
 use Rattle.std.proofs.Math.Dec.{T}
 use Rattle.std.specs.Prelude.{◌||◌, filter, flat_map, bytes_eq, is_some}
-use Rattle.std.specs.List.{fold, list_any}
+use Rattle.std.specs.List.{fold, list_all, list_any}
 use Rattle.std.specs.Ordering.{eq_by_cmp, is_eq, is_lt}
 use Rattle.std.specs.declared.cmp.Ordering.{Ordering}
 use Rattle.std.specs.declared.cmp.Ordering.TheVariants.{Less, Equal, Greater}
@@ -15,13 +15,15 @@ use Rattle.std.proofs.lemmas.List.Folds.{list_any-append}
 use Rattle.std.proofs.lemmas.Slice.Eq.{bytes_eq-Decides}
 use Rattle.std.proofs.Math.Bool.{or-true}
 use Rattle.std.proofs.lemmas.List.Sums.{fold-append}
-use Rattle.cg_record.specs.Rosters.{RosterParts}
 use Rattle.cg_fold.specs.declared.stored_offset.StoredOffset.{StoredOffset}
 use Rattle.cg_fold.specs.declared.record.GroupRecord.{GroupRecord}
-use Rattle.cg_fold.specs.Key.{KeptOffset, KeptRow, OffsetKey, in_group, key_cmp, name_cmp}
+use Rattle.cg_fold.specs.declared.record.RecordedMembers.{RecordedMembers}
+use Rattle.cg_fold.specs.declared.record.RecordedMembers.TheVariants.{Empty, Roster}
+use Rattle.cg_fold.specs.Key.{KeptOffset, KeptRow, OffsetKey, in_group, key_cmp, key_of, name_cmp}
 use Rattle.cg_fold.specs.Durable.{State, after, effect, empty, folded, with_entry, with_record}
-use Rattle.cg_fold.specs.Snapshot.{CutsRuns, groups_in, in_order, record_command, record_commands, entry_of, commits_by, first_len, is_of_group, offsets_of, group_commands_by, snapshot_by, snapshot_of}
-use Rattle.cg_fold.proofs.Commits.{fewer_left, first_run}
+use Rattle.cg_fold.specs.Snapshot.{CutsRuns, groups_in, has_moment, in_order, record_command, record_commands, entry_of, commits_by, first_len, is_of_group, offsets_of, group_commands_by, snapshot_by, snapshot_of}
+use Rattle.cg_fold.proofs.Commits.{fewer_left}
+use Rattle.cg_fold.proofs.Longest.{both_true, first_run, same_moment}
 use Rattle.cg_fold.proofs.KeyOrder.{key_total, key_same, name_total, name_same}
 use Rattle.cg_fold.proofs.Place.{below_all, both}
 use Rattle.cg_fold.proofs.Stock.{kept-filter, kept_all}
@@ -37,11 +39,11 @@ or_else (Some x) y = Some x
 -- ---- the record of a group
 
 -- the effect of the command that sets a record of these parts
-made_record : (state : State) (group : List ℕ) (generation : ℕ) (kind : List ℕ) (roster : Option RosterParts)
-    → effect state (record_command group generation kind roster) ≡ with_record state group (record { generation = generation; kind = kind; roster = roster })
+made_record : (state : State) (group : List ℕ) (generation : ℕ) (kind : List ℕ) (members : RecordedMembers)
+    → effect state (record_command group generation kind members) ≡ with_record state group (record { generation = generation; kind = kind; members = members })
 unfolding effect
-made_record state group generation kind None = refl
-made_record state group generation kind (Some roster) = refl
+made_record state group generation kind (Empty moment) = refl
+made_record state group generation kind (Roster roster) = refl
 
 -- the record of a group after its command
 abbrev then_record : State → List ℕ → Option GroupRecord → State
@@ -50,16 +52,22 @@ then_record state group (Some held) = with_record state group held
 
 after_record : (state : State) (group : List ℕ) (held : Option GroupRecord) → after state (record_commands group held) ≡ then_record state group held
 after_record state group None = refl
-after_record state group (Some held) = made_record state group held.generation held.kind held.roster
+after_record state group (Some held) = made_record state group held.generation held.kind held.members
 
 -- ---- the offsets of a group
 
 abbrev with_kept : map.FinMap key_cmp StoredOffset → KeptOffset → map.FinMap key_cmp StoredOffset
 with_kept offsets kept = map.insert offsets kept.0 kept.1
 
-entries_as_rows : (group : List ℕ) (rows : List KeptRow) (offsets : map.FinMap key_cmp StoredOffset) → fold (with_entry group) offsets (each entry_of rows) ≡ fold with_kept offsets (kept_all group rows)
-entries_as_rows group [] offsets = refl
-entries_as_rows group (row ∷ rows) offsets = entries_as_rows group rows (with_entry group offsets (entry_of row))
+-- a commit at the moment of all its offsets sets them as they are
+entries_as_rows : (group : List ℕ) (moment : Option ℕ) (rows : List KeptRow) (offsets : map.FinMap key_cmp StoredOffset) → list_all (has_moment moment) rows ≡ true
+    → fold (with_entry group moment) offsets (each entry_of rows) ≡ fold with_kept offsets (kept_all group rows)
+entries_as_rows group moment [] offsets one = refl
+entries_as_rows group moment (row ∷ rows) offsets one =
+    let parts = both_true (has_moment moment row) (list_all (has_moment moment) rows) one in
+    let stored : Option ℕ → StoredOffset = λ m. record { offset = row.1.offset; metadata = row.1.metadata; moment = m } in
+    entries_as_rows group moment rows (with_entry group moment offsets (entry_of row)) parts.1
+    ∙ ap (λ m. fold with_kept (map.insert offsets (key_of group row.0) (stored m)) (kept_all group rows)) (sym (same_moment row.1.moment moment parts.0))
 
 -- the state with these offsets of a group
 abbrev with_rows : State → List ℕ → List KeptRow → State
@@ -75,8 +83,8 @@ after_commits run cuts (suc most) group (row ∷ rows) state le =
     let first = take len (row ∷ rows) in
     let others = drop len (row ∷ rows) in
     let shorter : length others ≤ most = omega (arith, fewer_left run cuts row rows) in
-    let one : record state { offsets = fold (with_entry group) state.offsets (each entry_of first) } ≡ with_rows state group first =
-    ap (λ m. record state { offsets = m }) (entries_as_rows group first state.offsets) in
+    let one : record state { offsets = fold (with_entry group row.1.moment) state.offsets (each entry_of first) } ≡ with_rows state group first =
+    ap (λ m. record state { offsets = m }) (entries_as_rows group row.1.moment first state.offsets (cuts (row ∷ rows) (omega arith)).one_moment) in
     let joined : fold with_kept (fold with_kept state.offsets (kept_all group first)) (kept_all group others) ≡ fold with_kept state.offsets (kept_all group (row ∷ rows)) =
     sym (fold-append with_kept state.offsets (kept_all group first) (kept_all group others))
     ∙ ap (fold with_kept state.offsets) (sym (map-append (in_group group) first others) ∙ ap (kept_all group) (take-append-drop len (row ∷ rows))) in

@@ -103,13 +103,13 @@ insert-mapped g at v rows shelves sorted in_order each =
     step q true = sym (find-put partition_cmp partition_total q.partition at v rows)
     step q false = refl
 
-fold-mapped : (g : List ℕ) (entries : List Entry) (rows : List KeptRow) (shelves : List KeptShelf) → T (is_sorted partition_cmp rows) → T (is_sorted name_cmp shelves) → EachSound shelves
-    → fold (with_entry g) (mapped g rows shelves) entries ≡ mapped g (fold put_row rows (rows_of entries)) shelves
-fold-mapped g [] rows shelves sorted in_order each-sound = refl
-fold-mapped g (entry ∷ entries) rows shelves sorted in_order each-sound =
-    let new = row_of entry in
-    ap (λ m. fold (with_entry g) m entries) (insert-mapped g new.0 new.1 rows shelves sorted in_order each-sound)
-    ∙ fold-mapped g entries (put_row rows new) shelves (sorted-put partition_total new.0 new.1 rows sorted) in_order each-sound
+fold-mapped : (g : List ℕ) (moment : Option ℕ) (entries : List Entry) (rows : List KeptRow) (shelves : List KeptShelf) → T (is_sorted partition_cmp rows) → T (is_sorted name_cmp shelves) → EachSound shelves
+    → fold (with_entry g moment) (mapped g rows shelves) entries ≡ mapped g (fold put_row rows (rows_of moment entries)) shelves
+fold-mapped g moment [] rows shelves sorted in_order each-sound = refl
+fold-mapped g moment (entry ∷ entries) rows shelves sorted in_order each-sound =
+    let new = row_of moment entry in
+    ap (λ m. fold (with_entry g moment) m entries) (insert-mapped g new.0 new.1 rows shelves sorted in_order each-sound)
+    ∙ fold-mapped g moment entries (put_row rows new) shelves (sorted-put partition_total new.0 new.1 rows sorted) in_order each-sound
 
 -- replacing a shelf by itself changes nothing
 mapped-same : (g : List ℕ) (shelves : List KeptShelf) → T (is_sorted name_cmp shelves) → EachSound shelves → map_of (stock shelves) ≡ mapped g (rows_at g shelves) shelves
@@ -124,14 +124,14 @@ mapped-same g shelves in_order each =
 
 -- the effect of a commit on the map
 pub shelves-commit : (commit : Committed) (len : ℕ) (before after : List KeptShelf) (now : Offsets) → AreShelves len before
-    → after ≡ with_more commit.group (rows_of commit.entries) before → map_of (stock before) ≡ now
-    → map_of (stock after) ≡ fold (with_entry commit.group) now commit.entries
+    → after ≡ with_more commit.group (rows_of commit.moment commit.entries) before → map_of (stock before) ≡ now
+    → map_of (stock after) ≡ fold (with_entry commit.group commit.moment) now commit.entries
 shelves-commit commit len before after now are put_is is =
     let in_order = tested are.by_group in
     let each-sound = sound before are.each in
     ap (λ l. map_of (stock l)) put_is
-    ∙ sym (fold-mapped commit.group commit.entries (rows_at commit.group before) before (sorted-at commit.group before each-sound) in_order each-sound)
-    ∙ ap (λ m. fold (with_entry commit.group) m commit.entries) (sym (mapped-same commit.group before in_order each-sound) ∙ is)
+    ∙ sym (fold-mapped commit.group commit.moment commit.entries (rows_at commit.group before) before (sorted-at commit.group before each-sound) in_order each-sound)
+    ∙ ap (λ m. fold (with_entry commit.group commit.moment) m commit.entries) (sym (mapped-same commit.group before in_order each-sound) ∙ is)
 
 -- ---- the number of offsets
 

@@ -15,7 +15,7 @@ use Rattle.std.proofs.Math.Bool.{or-false, or_self}
 use Rattle.cg_record.specs.declared.entry.Entry.{Entry}
 use Rattle.cg_record.specs.declared.topic_partition.TopicPartition.{TopicPartition}
 use Rattle.cg_record.specs.Partitions.{partition_cmp}
-use Rattle.cg_fold.specs.Key.{KeptOffset, KeptRow, OffsetKey, in_group, kept_of, key_cmp, key_of, name_cmp, without_group_id}
+use Rattle.cg_fold.specs.Key.{KeptOffset, KeptRow, OffsetKey, in_group, key_cmp, key_of, name_cmp, without_group_id}
 use Rattle.cg_fold.specs.Record.{KeptRecord}
 use Rattle.cg_fold.specs.Shelf.{KeptShelf, EachShelf, AreShelves, stock, rows_on, rows_at}
 use Rattle.cg_fold.specs.Durable.{State, has_offset}
@@ -221,7 +221,7 @@ pub known_on : (g : List ℕ) (len : ℕ) (shelves : List KeptShelf) (now : Offs
     → (entries : List Entry) → list_all (has_row (rows_at g shelves)) entries ≡ list_all (has_offset g now) entries
 known_on g len shelves now are is [] = refl
 known_on g len shelves now are is (entry ∷ entries) =
-    let key = (kept_of g entry).0 in
+    let key = key_of g entry.key in
     let one : has_row (rows_at g shelves) entry ≡ has_offset g now entry =
     ap is_some (ap (find partition_cmp entry.key) (shelves-group g len shelves now are is) ∙ find-offsets_in key now) in
     ap (λ b. b && list_all (has_row (rows_at g shelves)) entries) one ∙ ap (λ b. has_offset g now entry && b) (known_on g len shelves now are is entries)

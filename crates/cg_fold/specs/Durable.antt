@@ -1,17 +1,17 @@
 -- The durable state, and the effect of each command on it.
-use Rattle.std.specs.Prelude.{◌≡◌, ℕ, ◌+◌, ◌^◌, ◌<◌, Bool, true, not, ◌||◌, List, length, Option, Some, None, is_some, bytes_eq, refl}
+use Rattle.std.specs.Prelude.{◌≡◌, ℕ, ◌+◌, ◌^◌, ◌<◌, Bool, true, false, not, ◌||◌, List, length, Option, Some, None, is_some, bytes_eq, refl}
 use Rattle.std.specs.List.{fold, list_all}
 use Rattle.std.specs.FinMap as map
 use Rattle.std.specs.Coded.{Coded, code_by, coded×, coded_list, coded_ℕ}
 use Rattle.cg_record.specs.declared.command.Command.{Command}
-use Rattle.cg_record.specs.declared.command.Command.TheVariants.{Assigned, Emptied, Replaced, Committed, Deleted}
+use Rattle.cg_record.specs.declared.command.Command.TheVariants.{Assigned, Emptied, Replaced, Committed, Deleted, Expired, Dropped}
 use Rattle.cg_record.specs.declared.committed.Committed as commits
 use Rattle.cg_record.specs.declared.entry.Entry.{Entry}
 use Rattle.cg_record.specs.declared.member.Member.{Member}
 use Rattle.cg_record.specs.declared.topic_partition.TopicPartition.{TopicPartition}
 use Rattle.cg_fold.specs.declared.stored_offset.StoredOffset.{StoredOffset}
 use Rattle.cg_fold.specs.declared.record.GroupRecord.{GroupRecord}
-use Rattle.cg_fold.specs.Key.{OffsetKey, is_among, key_cmp, name_cmp, kept_of, offsets_code}
+use Rattle.cg_fold.specs.Key.{OffsetKey, is_among, key_cmp, key_of, name_cmp, kept_of, offsets_code}
 use Rattle.cg_fold.specs.Record.{assigned_record, emptied_record, replaced_record, record_code}
 use Rattle.cg_fold.specs.Grouped.{is_another}
 
@@ -37,13 +37,13 @@ abbrev pub with_member : State → List ℕ → Member → Option GroupRecord �
 with_member state group new None = state
 with_member state group new (Some held) = with_record state group (replaced_record new held)
 
--- the offsets with that of one entry, for the group that commits it
-abbrev pub with_entry : List ℕ → map.FinMap key_cmp StoredOffset → Entry → map.FinMap key_cmp StoredOffset
-with_entry group offsets entry = map.insert offsets (kept_of group entry).0 (kept_of group entry).1
+-- the offsets with that of one entry, for the group that commits it at this moment
+abbrev pub with_entry : List ℕ → Option ℕ → map.FinMap key_cmp StoredOffset → Entry → map.FinMap key_cmp StoredOffset
+with_entry group moment offsets entry = map.insert offsets (kept_of group moment entry).0 (kept_of group moment entry).1
 
 -- the partition of the entry has an offset, for this group
 abbrev pub has_offset : List ℕ → map.FinMap key_cmp StoredOffset → Entry → Bool
-has_offset group offsets entry = is_some (map.get offsets (kept_of group entry).0)
+has_offset group offsets entry = is_some (map.get offsets (key_of group entry.key))
 
 -- a commit all of whose partitions have an offset; the count of offsets, in 64 bits, could take its entries
 pub record Renews (offsets : map.FinMap key_cmp StoredOffset) (commit : commits.Committed) : Type 0 where
@@ -71,8 +71,20 @@ unfoldable pub effect : State → Command → State
 effect state (Assigned assigned) = with_record state assigned.group (assigned_record assigned)
 effect state (Emptied emptied) = with_record state emptied.group (emptied_record emptied)
 effect state (Replaced replaced) = with_member state replaced.group replaced.member (map.get state.records replaced.group)
-effect state (Committed commit) = record state { offsets = fold (with_entry commit.group) state.offsets commit.entries }
+effect state (Committed commit) = record state { offsets = fold (with_entry commit.group commit.moment) state.offsets commit.entries }
 effect state (Deleted deleted) = without_group state deleted.group
+effect state (Expired expired) = without_offsets state expired.group expired.partitions
+effect state (Dropped dropped) = without_offsets state dropped.group dropped.partitions
+
+-- the command removes records or offsets, and sets none
+abbrev pub takes_away : Command → Bool
+takes_away (Assigned assigned) = false
+takes_away (Emptied emptied) = false
+takes_away (Replaced replaced) = false
+takes_away (Committed commit) = false
+takes_away (Deleted deleted) = true
+takes_away (Expired expired) = true
+takes_away (Dropped dropped) = true
 
 -- the effect of commands, in order
 abbrev pub after : State → List Command → State

@@ -1,11 +1,11 @@
 -- Committed offsets and their order.
-use Rattle.std.specs.Prelude.{◌≡◌, ℕ, ◌<◌, Bool, not, List, length, map as each, filter, slice_index_or, refl}
+use Rattle.std.specs.Prelude.{◌≡◌, ℕ, ◌<◌, Bool, not, List, length, map as each, filter, slice_index_or, Option, refl}
 use Rattle.std.specs.List.{list_any}
 use Rattle.std.specs.declared.cmp.Ordering.{Ordering}
 use Rattle.std.specs.declared.cmp.Ordering.TheVariants.{Equal}
 use Rattle.std.specs.Ordering.{nat_cmp, is_lt, on, then_cmp}
 use Rattle.std.specs.Cmp.Lexicographic.{slice_cmp}
-use Rattle.std.specs.Coded.{Coded, code_by, coded×, coded_list, coded_ℕ}
+use Rattle.std.specs.Coded.{Coded, code_by, coded×, coded_list, coded_option, coded_ℕ}
 use Rattle.std.specs.FinMap as map
 use Rattle.std.specs.FinMap.{put}
 use Rattle.cg_record.specs.declared.entry.Entry.{Entry}
@@ -70,17 +70,17 @@ IsOwn rows at key = (at < length rows) × ((d : KeptRow) → partition_cmp (slic
 abbrev pub IsOther : List KeptRow → ℕ → TopicPartition → Type 0
 IsOther rows at key = (d : KeptRow) → at < length rows → partition_cmp (slice_index_or rows at d).0 key ≡ Equal → ⊥
 
--- the partition and the offset of one entry
-abbrev pub row_of : Entry → KeptRow
-row_of entry = (entry.key, record { offset = entry.offset; metadata = entry.metadata })
+-- the partition and the offset of one entry, committed at this moment
+abbrev pub row_of : Option ℕ → Entry → KeptRow
+row_of moment entry = (entry.key, record { offset = entry.offset; metadata = entry.metadata; moment = moment })
 
--- the partitions and offsets of entries
-abbrev pub rows_of : List Entry → List KeptRow
-rows_of entries = each row_of entries
+-- the partitions and offsets of entries, committed at this moment
+abbrev pub rows_of : Option ℕ → List Entry → List KeptRow
+rows_of moment entries = each (row_of moment) entries
 
--- the key and the offset of one entry, for the group that commits it
-abbrev pub kept_of : List ℕ → Entry → KeptOffset
-kept_of group entry = in_group group (row_of entry)
+-- the key and the offset of one entry, for the group that commits it at this moment
+abbrev pub kept_of : List ℕ → Option ℕ → Entry → KeptOffset
+kept_of group moment entry = in_group group (row_of moment entry)
 
 -- the sorted rows with a new one, in the place of the one with its partition
 abbrev pub put_row : List KeptRow → KeptRow → List KeptRow
@@ -96,7 +96,7 @@ abbrev pub key_code : Coded OffsetKey
 key_code = code_by (List ℕ × TopicPartition) (coded× (coded_list coded_ℕ) partition_code) (λ k. (k.group, k.partition)) (λ p. key_of p.0 p.1) (λ _. refl)
 
 abbrev pub stored_code : Coded StoredOffset
-stored_code = code_by (ℕ × List ℕ) (coded× coded_ℕ (coded_list coded_ℕ)) (λ s. (s.offset, s.metadata)) (λ p. record { offset = p.0; metadata = p.1 }) (λ _. refl)
+stored_code = code_by (ℕ × (List ℕ × Option ℕ)) (coded× coded_ℕ (coded× (coded_list coded_ℕ) (coded_option coded_ℕ))) (λ s. (s.offset, (s.metadata, s.moment))) (λ p. record { offset = p.0; metadata = p.1.0; moment = p.1.1 }) (λ _. refl)
 
 -- a map of offsets has the code of its entries
 abbrev pub offsets_code : Coded (map.FinMap key_cmp StoredOffset)

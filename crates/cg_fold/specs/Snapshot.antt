@@ -1,16 +1,19 @@
 -- The commands that build a state from the empty one.
-use Rattle.std.specs.Prelude.{◌≡◌, ℕ, zero, suc, ◌+◌, ◌<◌, ◌≤◌, min, Bool, List, [], ◌∷◌, ◌++◌, length, map as each, take, drop, filter, flat_map, Option, Some, None, IsTrue, bytes_eq}
-use Rattle.std.specs.Option.{option_to_list}
+use Rattle.std.specs.Prelude.{◌≡◌, ℕ, zero, suc, ◌+◌, ◌-◌, ◌<◌, ◌≤◌, nat_eq, nat_le, Bool, true, ◌&&◌, if◌then◌else◌, List, [], ◌∷◌, ◌++◌, length, map as each, take, drop, filter, flat_map, Option, Some, None, IsTrue, bytes_eq}
+use Rattle.std.specs.List.{list_all}
+use Rattle.std.specs.Option.{option_eq, option_to_list}
 use Rattle.std.specs.declared.cmp.Ordering.{Ordering}
 use Rattle.std.specs.declared.cmp.Ordering.TheVariants.{Less, Greater}
 use Rattle.std.specs.FinMap as map
 use Rattle.std.specs.FinMap.{find, is_sorted}
 use Rattle.cg_record.specs.declared.command.Command.{Command}
 use Rattle.cg_record.specs.declared.command.Command.TheVariants.{Assigned, Emptied, Committed}
-use Rattle.cg_record.specs.declared.entries.TheConstants.{ENTRIES_MAX}
+use Rattle.cg_record.specs.declared.entries.TheConstants.{COMMIT_METADATA_BYTES_MAX, ENTRIES_MAX}
 use Rattle.cg_record.specs.declared.entry.Entry.{Entry}
-use Rattle.cg_record.specs.Rosters.{RosterParts}
+use Rattle.cg_record.specs.Keys.{metadata_bytes}
 use Rattle.cg_fold.specs.declared.record.GroupRecord.{GroupRecord}
+use Rattle.cg_fold.specs.declared.record.RecordedMembers.{RecordedMembers}
+use Rattle.cg_fold.specs.declared.record.RecordedMembers.TheVariants.{Empty, Roster}
 use Rattle.cg_fold.specs.declared.stored_offset.StoredOffset.{StoredOffset}
 use Rattle.cg_fold.specs.Key.{KeptRow, OffsetKey, key_cmp, name_cmp, without_group_id}
 use Rattle.cg_fold.specs.Record.{KeptRecord}
@@ -69,42 +72,70 @@ pub record PopsFirst {X Y : Type 0} (left : List (List ℕ × X)) (right : List 
   pub of_right : RemovesFirst right right_rest group other
 
 -- the command that sets a record
-abbrev pub record_command : List ℕ → ℕ → List ℕ → Option RosterParts → Command
-record_command group generation kind None = Emptied (record { group = group; generation = generation; kind = kind })
-record_command group generation kind (Some roster) = Assigned (record { group = group; generation = generation; kind = kind; roster = roster })
+abbrev pub record_command : List ℕ → ℕ → List ℕ → RecordedMembers → Command
+record_command group generation kind (Empty moment) = Emptied (record { group = group; generation = generation; kind = kind; moment = moment })
+record_command group generation kind (Roster roster) = Assigned (record { group = group; generation = generation; kind = kind; roster = roster })
 
 abbrev pub record_commands : List ℕ → Option GroupRecord → List Command
 record_commands group None = []
-record_commands group (Some held) = record_command group held.generation held.kind held.roster ∷ []
+record_commands group (Some held) = record_command group held.generation held.kind held.members ∷ []
 
 -- the entry of a commit that sets an offset
 abbrev pub entry_of : KeptRow → Entry
 entry_of row = record { key = row.0; offset = row.1.offset; metadata = row.1.metadata }
 
--- the commit that sets these offsets
-abbrev pub commit_command : List ℕ → List KeptRow → Command
-commit_command group rows = Committed (record { group = group; entries = each entry_of rows })
+-- the commit that sets these offsets, at this moment
+abbrev pub commit_command : List ℕ → Option ℕ → List KeptRow → Command
+commit_command group moment rows = Committed (record { group = group; moment = moment; entries = each entry_of rows })
 
--- a length of the next run of these offsets: at least one, at most `ENTRIES_MAX`, and no more than there are
+-- the offset was committed at this moment, or both are unknown
+abbrev pub has_moment : Option ℕ → KeptRow → Bool
+has_moment moment row = option_eq nat_eq row.1.moment moment
+
+-- the moment of the first of these offsets
+abbrev pub first_moment : List KeptRow → Option ℕ
+first_moment [] = None
+first_moment (row ∷ rows) = row.1.moment
+
+-- a length of the next run of these offsets: at least one, no more than there are, all with one moment
 pub record IsRun (rows : List KeptRow) (len : ℕ) : Type 0 where
   pub some : 0 < len
-  pub few : len ≤ ENTRIES_MAX
   pub within : len ≤ length rows
+  pub one_moment : list_all (has_moment (first_moment rows)) (take len rows) ≡ true
 
 -- a rule for the runs into which a snapshot cuts offsets: the length of the next one
 abbrev pub CutsRuns : (List KeptRow → ℕ) → Type 0
 CutsRuns run = (rows : List KeptRow) → 0 < length rows → IsRun rows (run rows)
+
+-- a run that one commit can have
+pub record FitsCommit (rows : List KeptRow) (len : ℕ) : Type 0 where
+  pub run : IsRun rows len
+  pub few : len ≤ ENTRIES_MAX
+  pub metadata : metadata_bytes (each entry_of (take len rows)) ≤ COMMIT_METADATA_BYTES_MAX
+
+-- the longest run that one commit can have
+pub record IsLongestRun (rows : List KeptRow) (len : ℕ) : Type 0 where
+  pub fits : FitsCommit rows len
+  pub longest : (other : ℕ) → FitsCommit rows other → other ≤ len
 
 -- the commits of these offsets, one for each run; there are at most `most` offsets
 unfoldable pub commits_by : (List KeptRow → ℕ) → ℕ → List ℕ → List KeptRow → List Command
 commits_by run zero group rows = []
 commits_by run (suc most) group [] = []
 commits_by run (suc most) group (row ∷ rows) =
-    commit_command group (take (run (row ∷ rows)) (row ∷ rows)) ∷ commits_by run most group (drop (run (row ∷ rows)) (row ∷ rows))
+    commit_command group row.1.moment (take (run (row ∷ rows)) (row ∷ rows)) ∷ commits_by run most group (drop (run (row ∷ rows)) (row ∷ rows))
 
--- the rule of this coordinator: as many offsets as one commit may have
+-- the number of offsets at the front that have this moment: at most `most`, with at most `room` bytes of metadata together
+unfoldable pub run_len : Option ℕ → ℕ → ℕ → List KeptRow → ℕ
+run_len moment zero room rows = 0
+run_len moment (suc most) room [] = 0
+run_len moment (suc most) room (row ∷ rows) =
+    if has_moment moment row && nat_le (length row.1.metadata) room then suc (run_len moment most (room - length row.1.metadata) rows) else 0
+
+-- the rule of this coordinator: the first offset, and as many after it as one commit may have
 unfoldable pub first_len : List KeptRow → ℕ
-first_len rows = min (length rows) ENTRIES_MAX
+first_len [] = 0
+first_len (row ∷ rows) = suc (run_len row.1.moment (ENTRIES_MAX - 1) (COMMIT_METADATA_BYTES_MAX - length row.1.metadata) rows)
 
 abbrev pub commits_of : ℕ → List ℕ → List KeptRow → List Command
 commits_of = commits_by first_len

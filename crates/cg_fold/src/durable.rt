@@ -1,11 +1,10 @@
 //! The durable state.
-ghost use Rattle.std.specs.Prelude.{◌≡◌, ◌++◌, IfOk, IsOk, OnOk, OnErr};
+ghost use Rattle.std.specs.Prelude.{◌≡◌, ◌++◌, true, IfOk, IsOk, OnOk, OnErr};
 ghost use Rattle.std.specs.Option.{option_copied};
 ghost use Rattle.std.specs.FinMap as finmap;
 ghost use Rattle.cg_record.specs.declared.committed.Committed.{Committed};
-ghost use Rattle.cg_record.specs.declared.deleted.Deleted.{Deleted};
 ghost use Rattle.cg_fold.specs.Key.{key_of};
-ghost use Rattle.cg_fold.specs.Durable.{Renews, counts_of, effect, empty, with_record, without_offsets};
+ghost use Rattle.cg_fold.specs.Durable.{Renews, counts_of, effect, empty, takes_away, with_record, without_offsets};
 ghost use Rattle.cg_fold.specs.Snapshot.{Ascending, AreListed, group_commands, groups_in, in_order, listed, snapshot_of};
 
 use crate::offsets::Offsets;
@@ -16,7 +15,8 @@ use crate::stored_offset::StoredOffset;
 use crate::{either, grouped, snapshots};
 use cg_names::GroupId;
 use cg_record::{
-    Assigned, Command, Committed, Deleted, Emptied, Metadata, Replaced, TopicPartition,
+    Assigned, Command, Committed, Deleted, Dropped, Emptied, Expired, Metadata, Replaced,
+    TopicPartition,
 };
 use std::alloc::{AllocError, Global};
 use std::collections::BTreeMap;
@@ -60,11 +60,12 @@ impl Durable {
         }
     }
 
-    /// Applies a command. A deletion needs no allocation. If an allocation fails, nothing changes.
+    /// Applies a command. `Deleted` costs what `Offsets::forget` costs, and a look-up of the record; `Expired` and `Dropped`
+    /// cost what `Offsets::forget_partitions` costs. These three need no allocation. If an allocation fails, nothing changes.
     pub fn apply(&mut self, command: &Command) -> Result<(), AllocError>
         ensures ok { OnOk result (self.new ≡ effect self.old command.now) }
         ensures err { OnErr result (self.new ≡ self.old) }
-        ensures deleted { (deleted : Deleted) → command.now ≡ Command.Deleted deleted → IsOk result }
+        ensures taken { takes_away command.now ≡ true → IsOk result }
     {
         match command {
             Command::Assigned(assigned) => self.assign(assigned),
@@ -73,6 +74,14 @@ impl Durable {
             Command::Committed(commit) => self.commit(commit),
             Command::Deleted(deleted) => {
                 self.delete(deleted);
+                Ok(())
+            }
+            Command::Expired(expired) => {
+                self.expire(expired);
+                Ok(())
+            }
+            Command::Dropped(dropped) => {
+                self.drop_offsets(dropped);
                 Ok(())
             }
         }
@@ -84,7 +93,7 @@ impl Durable {
     pub fn apply_owned(&mut self, command: Command) -> Result<(), AllocError>
         ensures ok { OnOk result (self.new ≡ effect self.old command) }
         ensures err { OnErr result (self.new ≡ self.old) }
-        ensures deleted { (deleted : Deleted) → command ≡ Command.Deleted deleted → IsOk result }
+        ensures taken { takes_away command ≡ true → IsOk result }
         ensures known { (commit : Committed) → command ≡ Command.Committed commit → Renews self.old.offsets commit → IsOk result }
     {
         let mut room = Vec::new(self.alloc);
@@ -101,7 +110,7 @@ impl Durable {
     ) -> Result<(), AllocError>
         ensures ok { OnOk result (self.new ≡ effect self.old command) }
         ensures err { OnErr result (self.new ≡ self.old) }
-        ensures deleted { (deleted : Deleted) → command ≡ Command.Deleted deleted → IsOk result }
+        ensures taken { takes_away command ≡ true → IsOk result }
         ensures known { (commit : Committed) → command ≡ Command.Committed commit → Renews self.old.offsets commit → IsOk result }
     {
         match command {
@@ -156,6 +165,20 @@ impl Durable {
     {
         let _record = grouped::take_away(&mut self.records, &deleted.group);
         self.offsets.forget(&deleted.group);
+    }
+
+    #[tactic(auto, unfolding(crate::specs::Durable::effect))]
+    fn expire(&mut self, expired: &Expired)
+        ensures { self.new ≡ effect self.old (Command.Expired expired.now) }
+    {
+        self.forget_partitions(&expired.group, expired.partitions.as_slice());
+    }
+
+    #[tactic(auto, unfolding(crate::specs::Durable::effect))]
+    fn drop_offsets(&mut self, dropped: &Dropped)
+        ensures { self.new ≡ effect self.old (Command.Dropped dropped.now) }
+    {
+        self.forget_partitions(&dropped.group, dropped.partitions.as_slice());
     }
 
     // Removes the offsets of these partitions of a group, and leaves its record.

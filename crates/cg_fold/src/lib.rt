@@ -23,6 +23,7 @@ mod taking;
 pub use durable::Durable;
 pub use law::{any_runs_make_the_state_anew, snapshots_make_the_state_anew};
 pub use offsets::Offsets;
-pub use record::GroupRecord;
+pub use record::{GroupRecord, RecordedMembers};
+pub use rows::Row;
 pub use snapshot::Snapshot;
 pub use stored_offset::StoredOffset;

@@ -10,28 +10,38 @@ ghost use Rattle.cg_fold.specs.Renewed.{has_row};
 use crate::renewals::{Renewal, renew_in};
 use crate::rows::{Row, is_at, place, stored_at};
 use crate::stored_offset::StoredOffset;
+use cg_names::Moment;
 use cg_record::{Entry, Metadata};
 use std::alloc::{AllocError, Global};
 use std::collections::VecDeque;
 
-fn row_from(entry: Entry) -> Row
-    ensures { result ≡ row_of entry }
+fn row_from(moment: &Option<Moment>, entry: Entry) -> Row
+    ensures { result ≡ row_of moment.now entry }
 {
     let Entry {
         key,
         offset,
         metadata,
     } = entry;
-    (key, StoredOffset { offset, metadata })
+    let stored = StoredOffset {
+        offset,
+        metadata,
+        moment: *moment,
+    };
+    (key, stored)
 }
 
-/// Builds the rows of these entries, in order, without a copy.
-pub fn rows_from(alloc: Global, entries: Vec<Entry>) -> Result<VecDeque<Row>, AllocError>
-    ensures { IfOk result (λ rows. rows.items ≡ rows_of entries.items) }
+/// Builds the rows of these entries, committed at this moment, in order, without a copy.
+pub fn rows_from(
+    alloc: Global,
+    moment: &Option<Moment>,
+    entries: Vec<Entry>,
+) -> Result<VecDeque<Row>, AllocError>
+    ensures { IfOk result (λ rows. rows.items ≡ rows_of moment.now entries.items) }
 {
     let mut rows = VecDeque::with_capacity(alloc, entries.len())?;
     for entry in entries {
-        rows.push_back(row_from(entry))?;
+        rows.push_back(row_from(moment, entry))?;
     }
     Ok(rows)
 }
@@ -84,10 +94,16 @@ fn own_place(rows: &[Row], near: usize, entry: &Entry) -> usize
 }
 
 // Sets the offset of an entry whose partition has a row, which may be the one at `near`. Returns the index after it.
-fn move_entry(rows: &mut Vec<Row>, room: &mut Vec<Metadata>, near: usize, entry: Entry) -> usize
+fn move_entry(
+    rows: &mut Vec<Row>,
+    room: &mut Vec<Metadata>,
+    near: usize,
+    moment: &Option<Moment>,
+    entry: Entry,
+) -> usize
     requires sorted { IsTrue (is_sorted partition_cmp rows.old.items) }
     requires has { has_row rows.old.items entry ≡ true }
-    ensures rows { rows.new.items ≡ put_row rows.old.items (row_of entry) }
+    ensures rows { rows.new.items ≡ put_row rows.old.items (row_of moment.now entry) }
     ensures sorted { IsTrue (is_sorted partition_cmp rows.new.items) }
     ensures len { length rows.new.items ≡ length rows.old.items }
     ensures keeps { (e : Entry) → has_row rows.new.items e ≡ has_row rows.old.items e }
@@ -96,22 +112,28 @@ fn move_entry(rows: &mut Vec<Row>, room: &mut Vec<Metadata>, near: usize, entry:
     let stored = StoredOffset {
         offset: entry.offset,
         metadata: entry.metadata,
+        moment: *moment,
     };
     renew_in(rows, room, Renewal { at, stored });
     at + 1
 }
 
-/// Sets the offsets of these entries, in order. The partition of each has a row. Keeps the metadata that the rows had in
-/// `room`, as far as that has the capacity. No allocation; the costs are those of `have_rows`.
-pub fn move_entries(rows: &mut Vec<Row>, room: &mut Vec<Metadata>, entries: Vec<Entry>)
+/// Sets the offsets of these entries, committed at this moment, in order. The partition of each has a row. Keeps the
+/// metadata that the rows had in `room`, as far as that has the capacity. No allocation; the costs are those of `have_rows`.
+pub fn move_entries(
+    rows: &mut Vec<Row>,
+    room: &mut Vec<Metadata>,
+    moment: &Option<Moment>,
+    entries: Vec<Entry>,
+)
     requires sorted { IsTrue (is_sorted partition_cmp rows.old.items) }
     requires have { list_all (has_row rows.old.items) entries.items ≡ true }
-    ensures rows { rows.new.items ≡ fold put_row rows.old.items (rows_of entries.items) }
+    ensures rows { rows.new.items ≡ fold put_row rows.old.items (rows_of moment.now entries.items) }
     ensures sorted { IsTrue (is_sorted partition_cmp rows.new.items) }
     ensures len { length rows.new.items ≡ length rows.old.items }
 {
     let mut near = 0;
     for entry in entries {
-        near = move_entry(rows, room, near, entry);
+        near = move_entry(rows, room, near, moment, entry);
     }
 }

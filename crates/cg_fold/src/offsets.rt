@@ -68,7 +68,7 @@ impl Offsets {
     }
 
     /// Returns the offsets of a group, by topic and partition. Costs one look-up, no allocation.
-    pub(crate) fn of_group(&self, group: &GroupId) -> &[Row]
+    pub fn of_group(&self, group: &GroupId) -> &[Row]
         ensures value { result.now ≡ offsets_in self.now group.now }
         ensures sorted { IsTrue (is_sorted partition_cmp result.now) }
     {
@@ -96,7 +96,7 @@ impl Offsets {
     /// their partitions is new, copies the topics too, and for a new group its id. If an allocation fails, nothing changes;
     /// more than `u64::MAX` offsets, which fit no memory, count as a failed allocation.
     pub fn commit(&mut self, commit: &Committed) -> Result<(), AllocError>
-        ensures ok { OnOk result (self.new ≡ fold (with_entry commit.now.group) self.old commit.now.entries) }
+        ensures ok { OnOk result (self.new ≡ fold (with_entry commit.now.group commit.now.moment) self.old commit.now.entries) }
         ensures err { OnErr result (self.new ≡ self.old) }
     {
         if commit.entries.len() as u64 > u64::MAX - self.len {
@@ -110,7 +110,7 @@ impl Offsets {
     /// Does what `commit` does with a commit that the caller gives away: its topics and metadata are moved, and nothing is
     /// allocated if its partitions have an offset already.
     pub fn take_commit(&mut self, commit: Committed) -> Result<(), AllocError>
-        ensures ok { OnOk result (self.new ≡ fold (with_entry commit.group) self.old commit.entries) }
+        ensures ok { OnOk result (self.new ≡ fold (with_entry commit.group commit.moment) self.old commit.entries) }
         ensures err { OnErr result (self.new ≡ self.old) }
         ensures known { Renews self.old commit → IsOk result }
     {
@@ -126,7 +126,7 @@ impl Offsets {
         room: &mut Vec<Metadata>,
         commit: Committed,
     ) -> Result<(), AllocError>
-        ensures ok { OnOk result (self.new ≡ fold (with_entry commit.group) self.old commit.entries) }
+        ensures ok { OnOk result (self.new ≡ fold (with_entry commit.group commit.moment) self.old commit.entries) }
         ensures err { OnErr result (self.new ≡ self.old) }
         ensures known { Renews self.old commit → IsOk result }
     {

@@ -2,17 +2,26 @@
 ghost use Rattle.std.specs.Prelude.{◌≡◌, IfOk};
 ghost use Rattle.cg_fold.specs.Record.{assigned_record, emptied_record, replaced_record};
 
-use cg_names::{MemberId, ProtocolName};
+use cg_names::{MemberId, Moment, ProtocolName};
 use cg_record::{Assigned, CompletedGeneration, Emptied, Member, Roster};
 use std::alloc::AllocError;
 
-/// The record of a group: its last completed generation, its type, and its members, if it has any.
+/// The members in the record of a group.
+#[derive(Debug, Drop)]
+pub enum RecordedMembers {
+    /// No members. The last one left at this moment, which may be unknown.
+    Empty(Option<Moment>),
+    /// The members of the last completed generation.
+    Roster(Roster),
+}
+
+/// The record of a group: its last completed generation, its type, and its members.
 #[derive(Debug, Drop)]
 pub struct GroupRecord {
     pub generation: CompletedGeneration,
     /// Protocol type of the group.
     pub kind: ProtocolName,
-    pub roster: Option<Roster>,
+    pub members: RecordedMembers,
 }
 
 impl GroupRecord {
@@ -25,7 +34,7 @@ impl GroupRecord {
         Ok(GroupRecord {
             generation: assigned.generation,
             kind,
-            roster: Some(roster),
+            members: RecordedMembers::Roster(roster),
         })
     }
 
@@ -37,7 +46,7 @@ impl GroupRecord {
         Ok(GroupRecord {
             generation: emptied.generation,
             kind,
-            roster: None,
+            members: RecordedMembers::Empty(emptied.moment),
         })
     }
 
@@ -46,9 +55,9 @@ impl GroupRecord {
         requires { id ≡ new.id }
         ensures { self.new ≡ replaced_record new self.old }
     {
-        match &mut self.roster {
-            None => {}
-            Some(roster) => roster.replace(new, id),
+        match &mut self.members {
+            RecordedMembers::Empty(_) => {}
+            RecordedMembers::Roster(roster) => roster.replace(new, id),
         }
     }
 }

@@ -8,6 +8,7 @@ ghost use Rattle.cg_fold.specs.Renewed.{AreBelow, AreRenewals, IsRenewal, has_ro
 
 use crate::rows::{self, Row};
 use crate::stored_offset::StoredOffset;
+use cg_names::Moment;
 use cg_record::{Entry, Metadata};
 use std::alloc::{AllocError, Global};
 use std::collections::VecDeque;
@@ -20,12 +21,17 @@ pub struct Renewal {
     pub stored: StoredOffset,
 }
 
-/// Returns the new value for the row of this entry's partition, if there is such a row. Copies the metadata.
-pub fn renewal_of(rows: &[Row], entry: &Entry) -> Result<Option<Renewal>, AllocError>
+/// Returns the new value for the row of this entry's partition, if there is such a row: committed at this moment. Copies the
+/// metadata.
+pub fn renewal_of(
+    rows: &[Row],
+    moment: &Option<Moment>,
+    entry: &Entry,
+) -> Result<Option<Renewal>, AllocError>
     requires { IsTrue (is_sorted partition_cmp rows.now) }
     ensures { IfOk result (λ found. MatchOption found
         (find partition_cmp entry.now.key rows.now ≡ None)
-        (λ renewal. IsRenewal rows.now (row_of entry.now) renewal)) }
+        (λ renewal. IsRenewal rows.now (row_of moment.now entry.now) renewal)) }
 {
     let at = rows::place(rows, &entry.key);
     if !rows::is_at(rows, at, &entry.key) {
@@ -34,6 +40,7 @@ pub fn renewal_of(rows: &[Row], entry: &Entry) -> Result<Option<Renewal>, AllocE
     let stored = StoredOffset {
         offset: entry.offset,
         metadata: entry.metadata.clone()?,
+        moment: *moment,
     };
     Ok(Some(Renewal { at, stored }))
 }
@@ -63,20 +70,22 @@ pub fn renew_in(rows: &mut Vec<Row>, room: &mut Vec<Metadata>, renewal: Renewal)
     keep_spent(room, spent);
 }
 
-/// Returns the new values for the rows of these entries, if all of these rows exist. Copies the metadata of each.
+/// Returns the new values for the rows of these entries, committed at this moment, if all of these rows exist. Copies the
+/// metadata of each.
 pub fn renewals_of(
     alloc: Global,
     rows: &[Row],
+    moment: &Option<Moment>,
     entries: &[Entry],
 ) -> Result<Option<VecDeque<Renewal>>, AllocError>
     requires { IsTrue (is_sorted partition_cmp rows.now) }
     ensures { IfOk result (λ found. MatchOption found
         (list_all (has_row rows.now) entries.now ≡ false)
-        (λ renewals. AreRenewals rows.now (rows_of entries.now) renewals.items)) }
+        (λ renewals. AreRenewals rows.now (rows_of moment.now entries.now) renewals.items)) }
 {
     let mut renewals = VecDeque::with_capacity(alloc, entries.len())?;
     for entry in entries {
-        match renewal_of(rows, entry)? {
+        match renewal_of(rows, moment, entry)? {
             Some(renewal) => renewals.push_back(renewal)?,
             None => return Ok(None),
         }

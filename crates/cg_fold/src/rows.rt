@@ -11,6 +11,7 @@ ghost use Rattle.cg_fold.specs.Renewed.{has_row};
 
 use crate::stored_offset::StoredOffset;
 use crate::{moves, renewals};
+use cg_names::Moment;
 use cg_record::{Entries, Entry, Keyed, Metadata, TopicPartition};
 use std::alloc::{AllocError, Global};
 use std::cmp::Ordering;
@@ -69,44 +70,51 @@ impl Rows {
         rows
     }
 
-    /// Sets the offsets of these entries, in order. Returns the number of new rows. If an allocation fails, nothing changes.
-    pub fn put_entries(&mut self, alloc: Global, entries: &Entries) -> Result<u64, AllocError>
-        ensures ok { OnOk result (self.new ≡ fold put_row self.old (rows_of entries.now)) }
+    /// Sets the offsets of these entries, committed at this moment, in order. Returns the number of new rows. If an allocation
+    /// fails, nothing changes.
+    pub fn put_entries(
+        &mut self,
+        alloc: Global,
+        moment: &Option<Moment>,
+        entries: &Entries,
+    ) -> Result<u64, AllocError>
+        ensures ok { OnOk result (self.new ≡ fold put_row self.old (rows_of moment.now entries.now)) }
         ensures grown { IfOk result (λ grown. length self.new ≡ length self.old + grown) }
         ensures err { OnErr result (self.new ≡ self.old) }
     {
         match entries.as_slice() {
             [entry] => {
-                let grown = self.put_entry(entry)?;
+                let grown = self.put_entry(moment, entry)?;
                 Ok(grown)
             }
             entries => {
-                let grown = self.put_several(alloc, entries)?;
+                let grown = self.put_several(alloc, moment, entries)?;
                 Ok(grown)
             }
         }
     }
 
-    /// Sets the offsets of these entries, in order, and moves their topics and metadata. Keeps the metadata of replaced
-    /// offsets in `room`, as far as that has the capacity. Returns the number of new rows. Needs no memory if each of the
-    /// partitions has a row. If an allocation fails, nothing changes.
+    /// Sets the offsets of these entries, committed at this moment, in order, and moves their topics and metadata. Keeps the
+    /// metadata of replaced offsets in `room`, as far as that has the capacity. Returns the number of new rows. Needs no
+    /// memory if each of the partitions has a row. If an allocation fails, nothing changes.
     pub fn take_entries(
         &mut self,
         alloc: Global,
         room: &mut Vec<Metadata>,
+        moment: &Option<Moment>,
         entries: Entries,
     ) -> Result<u64, AllocError>
-        ensures ok { OnOk result (self.new ≡ fold put_row self.old (rows_of entries)) }
+        ensures ok { OnOk result (self.new ≡ fold put_row self.old (rows_of moment.now entries)) }
         ensures grown { IfOk result (λ grown. length self.new ≡ length self.old + grown) }
         ensures err { OnErr result (self.new ≡ self.old) }
         ensures known { list_all (has_row self.old) entries ≡ true → IsOk result }
     {
         let entries = entries.into_vec();
         if !moves::have_rows(&self.rows, &entries) {
-            let grown = self.put_all(moves::rows_from(alloc, entries)?)?;
+            let grown = self.put_all(moves::rows_from(alloc, moment, entries)?)?;
             return Ok(grown);
         }
-        moves::move_entries(&mut self.rows, room, entries);
+        moves::move_entries(&mut self.rows, room, moment, entries);
         Ok(0)
     }
 
@@ -121,36 +129,41 @@ impl Rows {
     }
 
     // Sets the offsets of several entries, in place if all of them have a row. Returns the number of new rows.
-    fn put_several(&mut self, alloc: Global, entries: &[Entry]) -> Result<u64, AllocError>
-        ensures ok { OnOk result (self.new ≡ fold put_row self.old (rows_of entries.now)) }
+    fn put_several(
+        &mut self,
+        alloc: Global,
+        moment: &Option<Moment>,
+        entries: &[Entry],
+    ) -> Result<u64, AllocError>
+        ensures ok { OnOk result (self.new ≡ fold put_row self.old (rows_of moment.now entries.now)) }
         ensures grown { IfOk result (λ grown. length self.new ≡ length self.old + grown) }
         ensures err { OnErr result (self.new ≡ self.old) }
     {
-        match renewals::renewals_of(alloc, &self.rows, entries)? {
+        match renewals::renewals_of(alloc, &self.rows, moment, entries)? {
             Some(renewals) => {
                 renewals::renew_all(&mut self.rows, renewals);
                 Ok(0)
             }
             None => {
-                let grown = self.put_all(rows_of(alloc, entries)?)?;
+                let grown = self.put_all(rows_of(alloc, moment, entries)?)?;
                 Ok(grown)
             }
         }
     }
 
     // Sets the offset of one entry, in place if it has a row. Returns the number of new rows.
-    fn put_entry(&mut self, entry: &Entry) -> Result<u64, AllocError>
-        ensures ok { OnOk result (self.new ≡ put_row self.old (row_of entry.now)) }
+    fn put_entry(&mut self, moment: &Option<Moment>, entry: &Entry) -> Result<u64, AllocError>
+        ensures ok { OnOk result (self.new ≡ put_row self.old (row_of moment.now entry.now)) }
         ensures grown { IfOk result (λ grown. length self.new ≡ length self.old + grown) }
         ensures err { OnErr result (self.new ≡ self.old) }
     {
-        match renewals::renewal_of(&self.rows, entry)? {
+        match renewals::renewal_of(&self.rows, moment, entry)? {
             Some(renewal) => {
                 renewals::renew(&mut self.rows, renewal);
                 Ok(0)
             }
             None => {
-                let row = row_of(entry)?;
+                let row = row_of(moment, entry)?;
                 self.rows.reserve(1)?;
                 put_row(&mut self.rows, row);
                 Ok(1)
@@ -232,24 +245,29 @@ fn keep_beside(rows: &mut Vec<Row>, partitions: &[TopicPartition])
     rows.retain(|row| !is_among(&row.0, partitions));
 }
 
-fn row_of(entry: &Entry) -> Result<Row, AllocError>
-    ensures { IfOk result (λ row. row ≡ row_of entry.now) }
+fn row_of(moment: &Option<Moment>, entry: &Entry) -> Result<Row, AllocError>
+    ensures { IfOk result (λ row. row ≡ row_of moment.now entry.now) }
 {
     let key = entry.key.clone()?;
     let stored = StoredOffset {
         offset: entry.offset,
         metadata: entry.metadata.clone()?,
+        moment: *moment,
     };
     Ok((key, stored))
 }
 
 // Copies entries into rows.
-fn rows_of(alloc: Global, entries: &[Entry]) -> Result<VecDeque<Row>, AllocError>
-    ensures { IfOk result (λ rows. rows.items ≡ rows_of entries.now) }
+fn rows_of(
+    alloc: Global,
+    moment: &Option<Moment>,
+    entries: &[Entry],
+) -> Result<VecDeque<Row>, AllocError>
+    ensures { IfOk result (λ rows. rows.items ≡ rows_of moment.now entries.now) }
 {
     let mut rows = VecDeque::with_capacity(alloc, entries.len())?;
     for entry in entries {
-        rows.push_back(row_of(entry)?)?;
+        rows.push_back(row_of(moment, entry)?)?;
     }
     Ok(rows)
 }

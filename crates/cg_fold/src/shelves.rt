@@ -10,7 +10,7 @@ ghost use Rattle.cg_fold.specs.Shelf.{rows_at, with_fewer, with_more};
 
 use crate::grouped::{self, ByGroup};
 use crate::rows::{Row, Rows};
-use cg_names::GroupId;
+use cg_names::{GroupId, Moment};
 use cg_record::{Committed, Entries, Metadata, TopicPartition};
 use std::alloc::{AllocError, Global};
 
@@ -28,12 +28,12 @@ pub fn rows_at<'a>(shelves: &'a Shelves, group: &GroupId) -> &'a [Row]
     }
 }
 
-// Builds a shelf with the offsets of these entries.
-fn shelf_of(alloc: Global, entries: &Entries) -> Result<Rows, AllocError>
-    ensures { IfOk result (λ rows. rows ≡ fold put_row [] (rows_of entries.now)) }
+// Builds a shelf with the offsets of these entries, committed at this moment.
+fn shelf_of(alloc: Global, moment: &Option<Moment>, entries: &Entries) -> Result<Rows, AllocError>
+    ensures { IfOk result (λ rows. rows ≡ fold put_row [] (rows_of moment.now entries.now)) }
 {
     let mut rows = Rows::new(alloc);
-    rows.put_entries(alloc, entries)?;
+    rows.put_entries(alloc, moment, entries)?;
     Ok(rows)
 }
 
@@ -41,27 +41,32 @@ fn shelf_of(alloc: Global, entries: &Entries) -> Result<Rows, AllocError>
 /// offsets. If an allocation fails, nothing changes.
 pub fn add(shelves: &mut Shelves, alloc: Global, commit: &Committed) -> Result<u64, AllocError>
     requires { IsTrue (is_sorted name_cmp shelves.old.entries) }
-    ensures ok { OnOk result (shelves.new.entries ≡ with_more commit.now.group (rows_of commit.now.entries) shelves.old.entries) }
+    ensures ok { OnOk result (shelves.new.entries ≡ with_more commit.now.group (rows_of commit.now.moment commit.now.entries) shelves.old.entries) }
     ensures grown { IfOk result (λ grown. length (rows_at commit.now.group shelves.new.entries) ≡ length (rows_at commit.now.group shelves.old.entries) + grown) }
     ensures err { OnErr result (shelves.new.entries ≡ shelves.old.entries) }
 {
     if let Some(rows) = shelves.get_mut(&commit.group) {
-        let grown = rows.put_entries(alloc, &commit.entries)?;
+        let grown = rows.put_entries(alloc, &commit.moment, &commit.entries)?;
         return Ok(grown);
     }
     let group = commit.group.clone()?;
-    let rows = shelf_of(alloc, &commit.entries)?;
+    let rows = shelf_of(alloc, &commit.moment, &commit.entries)?;
     let grown = rows.as_slice().len() as u64;
     grouped::put(shelves, group, rows)?;
     Ok(grown)
 }
 
-// Builds a shelf with the offsets of these entries, whose topics and metadata are moved.
-fn shelf_from(alloc: Global, room: &mut Vec<Metadata>, entries: Entries) -> Result<Rows, AllocError>
-    ensures { IfOk result (λ rows. rows ≡ fold put_row [] (rows_of entries)) }
+// Builds a shelf with the offsets of these entries, committed at this moment. Their topics and metadata are moved.
+fn shelf_from(
+    alloc: Global,
+    room: &mut Vec<Metadata>,
+    moment: &Option<Moment>,
+    entries: Entries,
+) -> Result<Rows, AllocError>
+    ensures { IfOk result (λ rows. rows ≡ fold put_row [] (rows_of moment.now entries)) }
 {
     let mut rows = Rows::new(alloc);
-    rows.take_entries(alloc, room, entries)?;
+    rows.take_entries(alloc, room, moment, entries)?;
     Ok(rows)
 }
 
@@ -75,17 +80,21 @@ pub fn take(
     commit: Committed,
 ) -> Result<u64, AllocError>
     requires { IsTrue (is_sorted name_cmp shelves.old.entries) }
-    ensures ok { OnOk result (shelves.new.entries ≡ with_more commit.group (rows_of commit.entries) shelves.old.entries) }
+    ensures ok { OnOk result (shelves.new.entries ≡ with_more commit.group (rows_of commit.moment commit.entries) shelves.old.entries) }
     ensures grown { IfOk result (λ grown. length (rows_at commit.group shelves.new.entries) ≡ length (rows_at commit.group shelves.old.entries) + grown) }
     ensures err { OnErr result (shelves.new.entries ≡ shelves.old.entries) }
     ensures known { 0 < length commit.entries → list_all (has_row (rows_at commit.group shelves.old.entries)) commit.entries ≡ true → IsOk result }
 {
-    let Committed { group, entries } = commit;
+    let Committed {
+        group,
+        moment,
+        entries,
+    } = commit;
     if let Some(rows) = shelves.get_mut(&group) {
-        let grown = rows.take_entries(alloc, room, entries)?;
+        let grown = rows.take_entries(alloc, room, &moment, entries)?;
         return Ok(grown);
     }
-    let rows = shelf_from(alloc, room, entries)?;
+    let rows = shelf_from(alloc, room, &moment, entries)?;
     let grown = rows.as_slice().len() as u64;
     grouped::put(shelves, group, rows)?;
     Ok(grown)

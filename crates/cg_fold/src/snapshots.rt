@@ -2,30 +2,32 @@
 ghost use Rattle.std.specs.Prelude.{◌≡◌, ◌<◌, ◌≤◌, ◌++◌, IsTrue, length, drop, take, map, IfOk, OnOk};
 ghost use Rattle.std.specs.FinMap.{is_sorted};
 ghost use Rattle.std.specs.Option.{option_copied};
-ghost use Rattle.cg_record.specs.declared.entries.TheConstants.{ENTRIES_MAX};
+ghost use Rattle.cg_record.specs.declared.entries.TheConstants.{COMMIT_METADATA_BYTES_MAX, ENTRIES_MAX};
+ghost use Rattle.cg_record.specs.Keys.{metadata_bytes};
 ghost use Rattle.cg_record.specs.Partitions.{partition_cmp};
-ghost use Rattle.cg_fold.specs.Snapshot.{IsRun, commit_command, commits_of, entry_of, first_len, record_command, record_commands};
+ghost use Rattle.cg_fold.specs.Snapshot.{IsLongestRun, commit_command, commits_of, entry_of, first_len, record_command, record_commands};
 
-use crate::record::GroupRecord;
+use crate::record::{GroupRecord, RecordedMembers};
 use crate::rows::Row;
-use crate::runs::first_len;
-use cg_names::GroupId;
+use crate::runs::{first_len, first_moment};
+use cg_names::{GroupId, Moment};
 use cg_record::{Assigned, Command, Committed, Emptied, Entries, Entry};
 use std::alloc::{AllocError, Global};
 
 // Returns the command that sets the record of a group.
 fn record_command(group: &GroupId, held: &GroupRecord) -> Result<Command, AllocError>
-    ensures { IfOk result (λ command. command ≡ record_command group.now held.now.generation held.now.kind held.now.roster) }
+    ensures { IfOk result (λ command. command ≡ record_command group.now held.now.generation held.now.kind held.now.members) }
 {
     let group = group.clone()?;
     let kind = held.kind.clone()?;
-    match &held.roster {
-        None => Ok(Command::Emptied(Emptied {
+    match &held.members {
+        RecordedMembers::Empty(moment) => Ok(Command::Emptied(Emptied {
             group,
             generation: held.generation,
             kind,
+            moment: *moment,
         })),
-        Some(roster) => {
+        RecordedMembers::Roster(roster) => {
             let roster = roster.clone()?;
             Ok(Command::Assigned(Assigned {
                 group,
@@ -76,17 +78,24 @@ fn entries_of(alloc: Global, rows: &[Row]) -> Result<Vec<Entry>, AllocError>
     Ok(entries)
 }
 
-// Returns the commit of these offsets.
-fn commit_of(alloc: Global, group: &GroupId, rows: &[Row]) -> Result<Command, AllocError>
+// Returns the commit of these offsets at this moment.
+fn commit_of(
+    alloc: Global,
+    group: &GroupId,
+    moment: Option<Moment>,
+    rows: &[Row],
+) -> Result<Command, AllocError>
     requires some { 0 < length rows.now }
     requires few { length rows.now ≤ ENTRIES_MAX }
+    requires metadata { metadata_bytes (map entry_of rows.now) ≤ COMMIT_METADATA_BYTES_MAX }
     requires sorted { IsTrue (is_sorted partition_cmp rows.now) }
-    ensures { IfOk result (λ command. command ≡ commit_command group.now rows.now) }
+    ensures { IfOk result (λ command. command ≡ commit_command group.now moment rows.now) }
 {
     let group = group.clone()?;
     let entries = entries_of(alloc, rows)?;
     Ok(Command::Committed(Committed {
         group,
+        moment,
         entries: Entries::from_lawful(entries),
     }))
 }
@@ -96,12 +105,12 @@ fn first_entries(rows: &[Row]) -> (&[Row], &[Row])
     requires { 0 < length rows.now }
     ensures first { result.0.now ≡ take (first_len rows.now) rows.now }
     ensures others { result.1.now ≡ drop (first_len rows.now) rows.now }
-    ensures run { IsRun rows.now (first_len rows.now) }
+    ensures longest { IsLongestRun rows.now (first_len rows.now) }
 {
     rows.split_at(first_len(rows))
 }
 
-/// Appends the commits of a group's offsets, one for each run.
+/// Appends the commits of a group's offsets, one for each run. Linear in the offsets.
 pub fn push_commits(
     alloc: Global,
     commands: &mut Vec<Command>,
@@ -114,7 +123,7 @@ pub fn push_commits(
     let mut rest = rows;
     while !rest.is_empty() {
         let (first, others) = first_entries(rest);
-        commands.push(commit_of(alloc, group, first)?)?;
+        commands.push(commit_of(alloc, group, first_moment(rest), first)?)?;
         rest = others;
     }
     Ok(())

@@ -4,14 +4,13 @@ ghost use Rattle.std.specs.FinMap.{is_sorted};
 ghost use Rattle.std.specs.Vec.Iter.{into_iter_items};
 ghost use Rattle.cg_record.specs.Partitions.{partition_cmp};
 ghost use Rattle.cg_fold.specs.Shelf.{rows_on};
-ghost use Rattle.cg_fold.specs.Snapshot.{IsRun, commit_command, commits_of, entry_of, first_len, record_command, record_commands};
+ghost use Rattle.cg_fold.specs.Snapshot.{IsLongestRun, commit_command, commits_of, entry_of, first_len, first_moment, record_command, record_commands};
 
 use crate::first_group::FirstGroup;
-use crate::record::GroupRecord;
+use crate::record::{GroupRecord, RecordedMembers};
 use crate::rows::{Row, Rows};
-use crate::runs::first_len;
-use crate::stored_offset::StoredOffset;
-use cg_names::GroupId;
+use crate::runs::{first_len, first_moment};
+use cg_names::{GroupId, Moment};
 use cg_record::{Assigned, Command, Committed, Emptied, Entries, Entry};
 use std::alloc::{AllocError, Global};
 use std::collections::VecDeque;
@@ -19,21 +18,22 @@ use std::vec::IntoIter;
 
 // Returns the command that sets the record of a group.
 fn record_from(group: &GroupId, held: GroupRecord) -> Result<Command, AllocError>
-    ensures { IfOk result (λ command. command ≡ record_command group.now held.generation held.kind held.roster) }
+    ensures { IfOk result (λ command. command ≡ record_command group.now held.generation held.kind held.members) }
 {
     let group = group.clone()?;
     let GroupRecord {
         generation,
         kind,
-        roster,
+        members,
     } = held;
-    match roster {
-        None => Ok(Command::Emptied(Emptied {
+    match members {
+        RecordedMembers::Empty(moment) => Ok(Command::Emptied(Emptied {
             group,
             generation,
             kind,
+            moment,
         })),
-        Some(roster) => Ok(Command::Assigned(Assigned {
+        RecordedMembers::Roster(roster) => Ok(Command::Assigned(Assigned {
             group,
             generation,
             kind,
@@ -63,22 +63,23 @@ fn entry_from(row: Row) -> Entry
     ensures { result ≡ entry_of row }
 {
     let (key, stored) = row;
-    let StoredOffset { offset, metadata } = stored;
     Entry {
         key,
-        offset,
-        metadata,
+        offset: stored.offset,
+        metadata: stored.metadata,
     }
 }
 
-// Returns how many of these rows the next commit has.
-fn next_len(rows: &mut VecDeque<Row>) -> usize
+// Returns the moment of the next commit, and how many of these rows it has.
+fn next_run(rows: &mut VecDeque<Row>) -> (Option<Moment>, usize)
     requires { 0 < length rows.old.items }
-    ensures len { result ≡ first_len rows.old.items }
+    ensures moment { result.0 ≡ first_moment rows.old.items }
+    ensures len { result.1 ≡ first_len rows.old.items }
     ensures rows { rows.new.items ≡ rows.old.items }
-    ensures run { IsRun rows.old.items (first_len rows.old.items) }
+    ensures longest { IsLongestRun rows.old.items (first_len rows.old.items) }
 {
-    first_len(rows.make_contiguous())
+    let rows = rows.make_contiguous();
+    (first_moment(rows), first_len(rows))
 }
 
 // Removes this many rows, and returns their entries.
@@ -109,19 +110,20 @@ fn take_commit(
 ) -> Result<Command, AllocError>
     requires some { 0 < length rows.old.items }
     requires sorted { IsTrue (is_sorted partition_cmp rows.old.items) }
-    ensures command { IfOk result (λ command. command ≡ commit_command group.now (take (first_len rows.old.items) rows.old.items)) }
+    ensures command { IfOk result (λ command. command ≡ commit_command group.now (first_moment rows.old.items) (take (first_len rows.old.items) rows.old.items)) }
     ensures others { OnOk result (rows.new.items ≡ drop (first_len rows.old.items) rows.old.items) }
 {
     let group = group.clone()?;
-    let len = next_len(rows);
+    let (moment, len) = next_run(rows);
     let entries = take_entries(alloc, rows, len)?;
     Ok(Command::Committed(Committed {
         group,
+        moment,
         entries: Entries::from_lawful(entries),
     }))
 }
 
-// Appends the commits of a group's offsets, one for each run.
+// Appends the commits of a group's offsets, one for each run. Linear in the offsets.
 fn take_commits(
     alloc: Global,
     commands: &mut Vec<Command>,

@@ -6,13 +6,14 @@ use Rattle.std.specs.Option.{option_to_list, option_map, option_and_then}
 use Rattle.std.proofs.lemmas.Bool.Decides.{nat_tests}
 use Rattle.cg_names.specs.Generations.{next_generation}
 use Rattle.cg_names.specs.declared.generation.TheConstants.{GENERATION_MAX}
-use Rattle.cg_record.specs.Rosters.{RosterParts}
 use Rattle.std.proofs.lemmas.Bool.{and_parts, and_from, or_parts, or_left, or_right, not-false, false≢true}
 use Rattle.std.proofs.lemmas.List.Folds.{list_all-append, list_all-map}
 use Rattle.cg_member.specs.declared.calls.Calls.TheVariants.{Joins, Syncs}
 use Rattle.cg_record.specs.declared.command.Command.TheVariants as command
 use Rattle.cg_request.specs.declared.event.Event.{Event}
 use Rattle.cg_fold.specs.declared.record.GroupRecord.{GroupRecord}
+use Rattle.cg_fold.specs.declared.record.RecordedMembers.{RecordedMembers}
+use Rattle.cg_fold.specs.declared.record.RecordedMembers.TheVariants as recorded
 use Rattle.cg_member.specs.declared.group.Group.{Group}
 use Rattle.cg_member.specs.declared.group.Phase.{Phase}
 use Rattle.cg_member.specs.declared.group.Phase.TheVariants.{Empty, Preparing, Completing, Stable}
@@ -172,13 +173,13 @@ suits_consistent r g some e =
 
 -- records
 
-kind_recorded : (g : Group) (r : GroupRecord) (roster : Option RosterParts) → IsRecordedAs r roster g → is_some g.kind ≡ true
-kind_recorded g r (Some roster) h = ap is_some (sym h.kind)
-kind_recorded g r None h = ap is_some (sym h.kind)
+kind_recorded : (g : Group) (r : GroupRecord) (roster : RecordedMembers) → IsRecordedAs r roster g → is_some g.kind ≡ true
+kind_recorded g r (recorded.Roster roster) h = ap is_some (sym h.kind)
+kind_recorded g r (recorded.Empty moment) h = ap is_some (sym h.kind)
 
 kind_told : (g : Group) (o : Option GroupRecord) → is_empty g.members ≡ false → TellsOf g o → is_some g.kind ≡ true
 kind_told g None filled h = absurd (false≢true (sym filled ∙ ap is_empty h.members))
-kind_told g (Some r) filled h = kind_recorded g r r.roster h
+kind_told g (Some r) filled h = kind_recorded g r r.members h
 
 pub kind_holds : (p : Phase) (g : Group) (o : Option GroupRecord) → is_empty g.members ≡ false → Holds p g o → is_some g.kind ≡ true
 kind_holds Stable g o filled h = kind_told g o filled h
@@ -190,13 +191,13 @@ nil_from_map : {A : Type 0} (f : Member → A) (ms ns : List Member) → map f m
 nil_from_map f [] ns e h = refl
 nil_from_map f (m ∷ ms) ns e h = let bad : f m ∷ map f ms ≡ [] = e ∙ ap (map f) h in cc
 
-recorded-members : (g : Group) (ms : List Member) (r : GroupRecord) (roster : Option RosterParts) → map (kept_member g.protocol) ms ≡ map (kept_member g.protocol) g.members → IsRecordedAs r roster g → IsRecordedAs r roster (record g { members = ms })
-recorded-members g ms r (Some roster) e h = record { phase = h.phase; generation = h.generation; kind = h.kind; protocol = h.protocol; leader = h.leader; members = h.members ∙ sym e }
-recorded-members g ms r None e h = record { phase = h.phase; generation = h.generation; kind = h.kind; protocol = h.protocol; leader = h.leader; members = nil_from_map (kept_member g.protocol) ms g.members e h.members }
+recorded-members : (g : Group) (ms : List Member) (r : GroupRecord) (roster : RecordedMembers) → map (kept_member g.protocol) ms ≡ map (kept_member g.protocol) g.members → IsRecordedAs r roster g → IsRecordedAs r roster (record g { members = ms })
+recorded-members g ms r (recorded.Roster roster) e h = record { phase = h.phase; generation = h.generation; kind = h.kind; protocol = h.protocol; leader = h.leader; members = h.members ∙ sym e }
+recorded-members g ms r (recorded.Empty moment) e h = record { phase = h.phase; generation = h.generation; kind = h.kind; protocol = h.protocol; leader = h.leader; members = nil_from_map (kept_member g.protocol) ms g.members e h.members; emptied = h.emptied }
 
 told-members : (g : Group) (ms : List Member) (o : Option GroupRecord) → map (kept_member g.protocol) ms ≡ map (kept_member g.protocol) g.members → TellsOf g o → TellsOf (record g { members = ms }) o
 told-members g ms None e h = record { phase = h.phase; generation = h.generation; kind = h.kind; protocol = h.protocol; leader = h.leader; members = nil_from_map (kept_member g.protocol) ms g.members e h.members }
-told-members g ms (Some r) e h = recorded-members g ms r r.roster e h
+told-members g ms (Some r) e h = recorded-members g ms r r.members e h
 
 holds-members : (p : Phase) (g : Group) (ms : List Member) (o : Option GroupRecord) → map (kept_member g.protocol) ms ≡ map (kept_member g.protocol) g.members → Holds p g o → Holds p (record g { members = ms }) o
 holds-members Stable g ms o e h = told-members g ms o e h
@@ -215,13 +216,13 @@ whole-members events offsets g ms o protocols kept named quiet h = record {
   typed = h.typed;
 }
 
-empty_recorded : (g : Group) (r : GroupRecord) (roster : Option RosterParts) → g.phase ≡ Empty → IsRecordedAs r roster g → g.members ≡ []
-empty_recorded g r (Some roster) p h = let bad : Stable ≡ Empty = sym h.phase ∙ p in cc
-empty_recorded g r None p h = h.members
+empty_recorded : (g : Group) (r : GroupRecord) (roster : RecordedMembers) → g.phase ≡ Empty → IsRecordedAs r roster g → g.members ≡ []
+empty_recorded g r (recorded.Roster roster) p h = let bad : Stable ≡ Empty = sym h.phase ∙ p in cc
+empty_recorded g r (recorded.Empty moment) p h = h.members
 
 empty_told : (g : Group) (o : Option GroupRecord) → g.phase ≡ Empty → TellsOf g o → g.members ≡ []
 empty_told g None p h = h.members
-empty_told g (Some r) p h = empty_recorded g r r.roster p h
+empty_told g (Some r) p h = empty_recorded g r r.members p h
 
 -- a group in Empty has no members
 pub empty_members : (events : List (Event × ℕ)) (offsets : OffsetMap) (g : Group) (o : Option GroupRecord) → Whole events offsets g o → g.phase ≡ Empty → g.members ≡ []
@@ -239,17 +240,17 @@ whole_joining events offsets g o j = let P : Phase → Type 0 = λ x. Holds x g 
   typed = has_kind g.kind j.kind;
 }
 
-emptied_tells : (g : Group) (kept : Kept) (id : List ℕ) → g.id ≡ id → g.phase ≡ Empty → g.protocol ≡ None → g.leader ≡ None → g.members ≡ [] → is_some g.kind ≡ true → IsCompleted g → TellsOf g (kept_after kept (emptied_command g) id)
+emptied_tells : (now : ℕ) (g : Group) (kept : Kept) (id : List ℕ) → g.id ≡ id → g.phase ≡ Empty → g.emptied ≡ Some now → g.protocol ≡ None → g.leader ≡ None → g.members ≡ [] → is_some g.kind ≡ true → IsCompleted g → TellsOf g (kept_after kept (emptied_command now g) id)
 unfolding emptied_command
-emptied_tells g kept id named phase protocol leader members kind completed =
-    let P : Option ℕ → Type 0 = λ n. TellsOf g (kept_after kept (option_to_list (option_and_then (λ generation. option_map (λ kind. command.Emptied (record { group = g.id; generation = generation; kind = kind })) g.kind) n)) id) in
+emptied_tells now g kept id named phase moment protocol leader members kind completed =
+    let P : Option ℕ → Type 0 = λ n. TellsOf g (kept_after kept (option_to_list (option_and_then (λ generation. option_map (λ kind. command.Emptied (record { group = g.id; generation = generation; kind = kind; moment = Some now })) g.kind) n)) id) in
     subst P (sym completed) (go g.kind refl kind)
   where
-    go : (k : Option (List ℕ)) → k ≡ g.kind → is_some k ≡ true → TellsOf g (kept_after kept (option_to_list (option_map (λ kind. command.Emptied (record { group = g.id; generation = g.generation; kind = kind })) k)) id)
+    go : (k : Option (List ℕ)) → k ≡ g.kind → is_some k ≡ true → TellsOf g (kept_after kept (option_to_list (option_map (λ kind. command.Emptied (record { group = g.id; generation = g.generation; kind = kind; moment = Some now })) k)) id)
     go None e h = absurd (false≢true h)
     go (Some k) e h =
         let P : Option GroupRecord → Type 0 = λ o. TellsOf g o in
-        subst P (sym (kept_after-one kept (command.Emptied (record { group = g.id; generation = g.generation; kind = k })) id named)) (record { phase = phase; generation = refl; kind = e; protocol = protocol; leader = leader; members = members })
+        subst P (sym (kept_after-one kept (command.Emptied (record { group = g.id; generation = g.generation; kind = k; moment = Some now })) id named)) (record { phase = phase; generation = refl; kind = e; protocol = protocol; leader = leader; members = members; emptied = moment })
 
 pub assigned_tells : (g : Group) (kept : Kept) (id : List ℕ) → g.id ≡ id → g.phase ≡ Stable → is_some g.kind ≡ true → is_some g.protocol ≡ true → is_some g.leader ≡ true → IsCompleted g → TellsOf g (kept_after kept (assigned_command g) id)
 unfolding assigned_command
@@ -283,14 +284,14 @@ module _ (events : List (Event × ℕ)) (offsets : OffsetMap) (kept : Kept) (id 
   abbrev pub After : Turn → Type 0
   After t = Whole events offsets t.group (kept_after kept t.commands id)
 
-  after-emptied : (t : Turn) → t.group.id ≡ id → is_empty t.group.members ≡ true → Joining t.group → After (emptied t)
+  after-emptied : (now : ℕ) (t : Turn) → t.group.id ≡ id → is_empty t.group.members ≡ true → Joining t.group → After (emptied now t)
   unfolding emptied
-  after-emptied t named empty j =
-      let g : Group = (emptied t).group in
+  after-emptied now t named empty j =
+      let g : Group = (emptied now t).group in
       let P : Kept → Type 0 = λ k. TellsOf g (k id) in
       record {
         common = j.common;
-        holds = subst P (sym (kept_after-append kept t.commands (emptied_command g))) (emptied_tells g (kept_after kept t.commands) id named refl refl refl (empty_is t.group.members empty) j.kind (next_is_completed t.group.generation));
+        holds = subst P (sym (kept_after-append kept t.commands (emptied_command now g))) (emptied_tells now g (kept_after kept t.commands) id named refl refl refl refl (empty_is t.group.members empty) j.kind (next_is_completed t.group.generation));
         named = all-named events g.id g.generation t.group.members j.quiet;
         quiet = λ e. absurd (false≢true e);
         typed = has_kind g.kind j.kind;
@@ -309,8 +310,8 @@ module _ (events : List (Event × ℕ)) (offsets : OffsetMap) (kept : Kept) (id 
   pub after-completed : (now : ℕ) (t : Turn) → t.group.id ≡ id → Joining t.group → After (completed now t)
   unfolding completed
   after-completed now t named j =
-      (elim (is_empty t.group.members) as (λ b. is_empty t.group.members ≡ b → After (if b then emptied t else told_to_joins now (record t { group = next_round t.group }))) [
-        | true ↦ λ e. after-emptied t named e j
+      (elim (is_empty t.group.members) as (λ b. is_empty t.group.members ≡ b → After (if b then emptied now t else told_to_joins now (record t { group = next_round t.group }))) [
+        | true ↦ λ e. after-emptied now t named e j
         | false ↦ λ e. after-round now t e j
       ]) refl
 

@@ -15,6 +15,8 @@ use Rattle.cg_record.specs.declared.command.Command.TheVariants as command
 use Rattle.cg_request.specs.declared.event.Event.{Event}
 use Rattle.cg_request.specs.declared.event.Event.TheVariants as event
 use Rattle.cg_fold.specs.declared.record.GroupRecord.{GroupRecord}
+use Rattle.cg_fold.specs.declared.record.RecordedMembers.{RecordedMembers}
+use Rattle.cg_fold.specs.declared.record.RecordedMembers.TheVariants as recorded
 use Rattle.cg_member.specs.declared.group.Group.{Group}
 use Rattle.cg_member.specs.declared.group.Phase.{Phase}
 use Rattle.cg_member.specs.declared.group.Phase.TheVariants.{Empty, Preparing, Completing, Stable}
@@ -28,7 +30,9 @@ use Rattle.cg_held.proofs.Kept.{kept-after, kept_after}
 use Rattle.cg_group.specs.Laws.{AgreesIn, AreCompleted, AreRequests, IsFounded, IsFresh, IsRebalancing, IsRecordedAs, MachineAndCommandsAgree, TellsOf, after_all, commands_of, is_request, state_after}
 use Rattle.cg_group.proofs.Asked.{has_named, is_same_ticket, is_sync_of}
 use Rattle.cg_member.specs.Leaving.{gone_in}
-use Rattle.cg_group.specs.Machine.{beat, commit, concluded, deleted, deleting, join, leave, met, step, sync}
+use Rattle.cg_record.specs.declared.topic_partition.TopicPartition.{TopicPartition}
+use Rattle.cg_group.proofs.AgreeingTick.{whole-drop, whole-tick, whole_under}
+use Rattle.cg_group.specs.Machine.{beat, commit, concluded, deleted, dropped, memberless, join, leave, met, step, sync}
 use Rattle.cg_held.specs.Held.{Machine, everywhere, find_group}
 use Rattle.cg_member.specs.declared.turn.Turn.{Turn}
 use Rattle.cg_member.specs.Offsets.{OffsetMap, offsets_after}
@@ -82,16 +86,6 @@ whole_more events e offsets g o h = record {
   named = each-over (λ m. is_named_wait events g.id g.generation m.id m.waits ≡ true) (λ m. is_named_wait (events ++ e ∷ []) g.id g.generation m.id m.waits ≡ true) (λ m k. named_more events e g.id g.generation m.id m.waits k) g.members h.named;
   quiet = h.quiet;
   typed = h.typed;
-}
-
--- the group under other offsets, of which it has one if it had one before
-whole_under : (events : List (Event × ℕ)) (old new : OffsetMap) (g : Group) (o : Option GroupRecord) → (HasOffset old g.id → HasOffset new g.id) → Whole events old g o → Whole events new g o
-whole_under events old new g o over h = record {
-  common = h.common;
-  holds = h.holds;
-  named = h.named;
-  quiet = h.quiet;
-  typed = λ e. over (h.typed e);
 }
 
 pub machine_more : (events : List (Event × ℕ)) (e : Event × ℕ) (s : Machine) (kept : Kept) → WholeMachine events s kept → WholeMachine (events ++ e ∷ []) s kept
@@ -154,7 +148,7 @@ fine-under : (P Q : Turn → Type 0) (o : Result Turn Code) → Fine P o → Fin
 fine-under P Q (Ok t) p h = h p
 fine-under P Q (Err code) p h = tt
 
--- a commit that is taken leaves an offset of its group
+-- a commit that is taken leaves an offset of its group; a drop and a tick take offsets away
 abbrev StoresIn : OffsetMap → Machine → Event → Type 0
 StoresIn offsets s (event.Commit ticket r) = Fine (λ t. HasOffset offsets t.group.id) (commit s.last r ticket s.groups)
 StoresIn offsets s (event.Join ticket r fresh) = Unit {0}
@@ -163,10 +157,11 @@ StoresIn offsets s (event.Beat ticket r) = Unit {0}
 StoresIn offsets s (event.Leave ticket r) = Unit {0}
 StoresIn offsets s (event.Fetch ticket r) = Unit {0}
 StoresIn offsets s (event.Delete ticket id) = Unit {0}
+StoresIn offsets s (event.Drop ticket r) = ⊥
 StoresIn offsets s (event.Describe ticket id) = Unit {0}
 StoresIn offsets s (event.List ticket) = Unit {0}
 StoresIn offsets s (event.Gone session) = Unit {0}
-StoresIn offsets s event.Tick = Unit {0}
+StoresIn offsets s event.Tick = ⊥
 
 module _ (events : List (Event × ℕ)) (offsets : OffsetMap) (kept : Kept) where
   whole-met : (s : Machine) (e : Event) → is_request e ≡ true → WasMet events e → StoresIn offsets s e → Invariant (Whole events offsets) s.groups kept → Invariant (Whole events offsets) (met s e).after.groups (kept_after kept (met s e).effects.commands)
@@ -217,13 +212,13 @@ module _ (events : List (Event × ℕ)) (offsets : OffsetMap) (kept : Kept) wher
       (λ id g who e _ _. fits_framed (Whole events offsets) kept g.id _ (framed-committed s.last r.entries ticket who g)
       (after-committed events offsets kept s.last r.entries ticket who g (each-found (λ k. Whole events offsets k (kept k.id)) id s.groups g e v.each))))) v
   whole-met s (event.Fetch ticket r) asked seen stored v = let P : Kept → Type 0 = λ k. Invariant (Whole events offsets) s.groups k in subst P (sym (kept_after-none kept)) v
-  whole-met s (event.Delete ticket id) asked seen stored v = invariant-deleted (Whole events offsets) s kept ticket (deleting id s.groups) v
+  whole-met s (event.Delete ticket id) asked seen stored v = invariant-deleted (Whole events offsets) s kept ticket (memberless id s.groups) v
+  whole-met s (event.Drop ticket r) asked seen stored v = absurd stored
   whole-met s (event.Describe ticket id) asked seen stored v = let P : Kept → Type 0 = λ k. Invariant (Whole events offsets) s.groups k in subst P (sym (kept_after-none kept)) v
   whole-met s (event.List ticket) asked seen stored v = let P : Kept → Type 0 = λ k. Invariant (Whole events offsets) s.groups k in subst P (sym (kept_after-none kept)) v
   whole-met s (event.Gone session) asked seen stored v =
       invariant-everywhere (Whole events offsets) (gone_in s.last session) (framed-gone_in s.last session) (λ g k h. after-gone_in events offsets k s.last session g h) s kept v
-  whole-met s event.Tick asked seen stored v =
-      invariant-everywhere (Whole events offsets) (ticked s.last) (framed-ticked s.last) (λ g k h. after-ticked events offsets k s.last g h) s kept v
+  whole-met s event.Tick asked seen stored v = absurd stored
 
 whole-deleted : (events : List (Event × ℕ)) (kept : Kept) (s : Machine) (ticket : Ticket) (o : Result (List ℕ) Code) → WholeMachine events s kept
     → Invariant (Whole events (offsets_after s.offsets (deleted s ticket o).effects.commands)) (deleted s ticket o).after.groups (kept_after kept (deleted s ticket o).effects.commands)
@@ -241,6 +236,12 @@ whole-deleted events kept s ticket (Ok id) v =
           subst P (sym (kept-undeleted (Whole events s.offsets) kept id g.id d)) (whole_under events s.offsets new g (kept g.id) (has-deleted s.offsets id g.id d) h)) v.ascending v.each;
       held = w.held;
     }
+
+whole-dropped : (events : List (Event × ℕ)) (kept : Kept) (s : Machine) (ticket : Ticket) (partitions : List TopicPartition) (o : Result (List ℕ) Code) → WholeMachine events s kept
+    → Invariant (Whole events (offsets_after s.offsets (dropped s ticket partitions o).effects.commands)) (dropped s ticket partitions o).after.groups (kept_after kept (dropped s ticket partitions o).effects.commands)
+unfolding dropped
+whole-dropped events kept s ticket partitions (Err code) v = let P : Kept → Type 0 = λ k. Invariant (Whole events s.offsets) s.groups k in subst P (sym (kept_after-none kept)) v
+whole-dropped events kept s ticket partitions (Ok id) v = whole-drop events kept s id partitions v
 
 -- the machine under the offsets after the event
 whole-quiet : (events : List (Event × ℕ)) (s : Machine) (e : Event) (kept : Kept) → AreQuiet (met s e).effects.commands → Invariant (Whole events s.offsets) (met s e).after.groups (kept_after kept (met s e).effects.commands)
@@ -270,13 +271,13 @@ whole-moved events kept s (event.Commit ticket r) asked seen v =
       held = v.held;
     })
 whole-moved events kept s (event.Fetch ticket r) asked seen v = whole-met events s.offsets kept s (event.Fetch ticket r) asked seen tt v
-whole-moved events kept s (event.Delete ticket id) asked seen v = whole-deleted events kept s ticket (deleting id s.groups) v
+whole-moved events kept s (event.Delete ticket id) asked seen v = whole-deleted events kept s ticket (memberless id s.groups) v
+whole-moved events kept s (event.Drop ticket r) asked seen v = whole-dropped events kept s ticket r.partitions (memberless r.group s.groups) v
 whole-moved events kept s (event.Describe ticket id) asked seen v = whole-met events s.offsets kept s (event.Describe ticket id) asked seen tt v
 whole-moved events kept s (event.List ticket) asked seen v = whole-met events s.offsets kept s (event.List ticket) asked seen tt v
 whole-moved events kept s (event.Gone session) asked seen v =
     whole-quiet events s (event.Gone session) kept (quiet-all (gone_in s.last session) (quiet-gone_in s.last session) s.groups) (whole-met events s.offsets kept s (event.Gone session) asked seen tt v)
-whole-moved events kept s event.Tick asked seen v =
-    whole-quiet events s event.Tick kept (quiet-all (ticked s.last) (quiet-ticked s.last) s.groups) (whole-met events s.offsets kept s event.Tick asked seen tt v)
+whole-moved events kept s event.Tick asked seen v = whole-tick events kept s v
 
 whole-over_step : (events : List (Event × ℕ)) (kept : Kept) (s : Machine) (e : Event) (m : ℕ) → is_request e ≡ true → WholeMachine events s kept
     → Invariant (Whole (events ++ (e, m) ∷ []) (offsets_after s.offsets (step s e m).effects.commands)) (step s e m).after.groups (kept_after kept (step s e m).effects.commands)
@@ -330,23 +331,23 @@ unfolding revived_member
 quiet_revived q calm now protocol [] = tt
 quiet_revived q calm now protocol (m ∷ ms) = (calm m.id, quiet_revived q calm now protocol ms)
 
-recorded_revived : (now : ℕ) (id : List ℕ) (r : GroupRecord) (roster : Option RosterParts) → IsRecordedAs r roster (revived_with now id r roster)
+recorded_revived : (now : ℕ) (id : List ℕ) (r : GroupRecord) (roster : RecordedMembers) → IsRecordedAs r roster (revived_with now id r roster)
 unfolding revived_with
-recorded_revived now id r (Some roster) = record { phase = refl; generation = refl; kind = refl; protocol = refl; leader = refl; members = kept_back now roster.protocol roster.members }
-recorded_revived now id r None = record { phase = refl; generation = refl; kind = refl; protocol = refl; leader = refl; members = refl }
+recorded_revived now id r (recorded.Roster roster) = record { phase = refl; generation = refl; kind = refl; protocol = refl; leader = refl; members = kept_back now roster.protocol roster.members }
+recorded_revived now id r (recorded.Empty moment) = record { phase = refl; generation = refl; kind = refl; protocol = refl; leader = refl; members = refl; emptied = refl }
 
-whole_with : (now : ℕ) (offsets : OffsetMap) (id : List ℕ) (r : GroupRecord) (roster : Option RosterParts) → roster ≡ r.roster → Whole [] offsets (revived_with now id r roster) (Some r)
+whole_with : (now : ℕ) (offsets : OffsetMap) (id : List ℕ) (r : GroupRecord) (roster : RecordedMembers) → roster ≡ r.members → Whole [] offsets (revived_with now id r roster) (Some r)
 unfolding revived_with is_common
-whole_with now offsets id r (Some roster) e = let P : Option RosterParts → Type 0 = λ o. IsRecordedAs r o (revived_with now id r (Some roster)) in record {
+whole_with now offsets id r (recorded.Roster roster) e = let P : RecordedMembers → Type 0 = λ o. IsRecordedAs r o (revived_with now id r (recorded.Roster roster)) in record {
   common = (roster.protocol, common_revived now roster.protocol roster.members);
-  holds = subst P e (recorded_revived now id r (Some roster));
+  holds = subst P e (recorded_revived now id r (recorded.Roster roster));
   named = quiet_revived (is_named_wait [] id r.generation) (λ _. refl) now roster.protocol roster.members;
   quiet = λ e. absurd (false≢true e);
   typed = has_kind (Some r.kind) refl;
 }
-whole_with now offsets id r None e = let P : Option RosterParts → Type 0 = λ o. IsRecordedAs r o (revived_with now id r None) in record {
+whole_with now offsets id r (recorded.Empty moment) e = let P : RecordedMembers → Type 0 = λ o. IsRecordedAs r o (revived_with now id r (recorded.Empty moment)) in record {
   common = ([], refl);
-  holds = subst P e (recorded_revived now id r None);
+  holds = subst P e (recorded_revived now id r (recorded.Empty moment));
   named = tt;
   quiet = λ e. absurd (false≢true e);
   typed = has_kind (Some r.kind) refl;
@@ -354,7 +355,7 @@ whole_with now offsets id r None e = let P : Option RosterParts → Type 0 = λ 
 
 whole_from : (now : ℕ) (offsets : OffsetMap) (id : List ℕ) (o : Option GroupRecord) → (o ≡ None → HasOffset offsets id) → Whole [] offsets (revived_from now id o) o
 whole_from now offsets id None has = whole_new [] offsets id (has refl)
-whole_from now offsets id (Some r) has = whole_with now offsets id r r.roster refl
+whole_from now offsets id (Some r) has = whole_with now offsets id r r.members refl
 
 whole_revived : (now : ℕ) (state : State) (id : List ℕ) → (kept_in state id ≡ None → HasOffset state.offsets id) → Whole [] state.offsets (revived now state id) (kept_in state id)
 unfolding revived
@@ -398,13 +399,13 @@ founded_in offsets Preparing g o e typed h = inr (inl refl)
 founded_in offsets Completing g o e typed h = inr (inr refl)
 
 -- an Empty group of generation 0 has no record
-fresh_recorded : {A : Type 0} (g : Group) (r : GroupRecord) (roster : Option RosterParts) → 1 ≤ r.generation → g.phase ≡ Empty → g.generation ≡ 0 → IsRecordedAs r roster g → A
-fresh_recorded g r (Some roster) dated p z h = let bad : Stable ≡ Empty = sym h.phase ∙ p in cc
-fresh_recorded g r None dated p z h = let e : r.generation ≡ 0 = h.generation ∙ z in absurd (omega arith)
+fresh_recorded : {A : Type 0} (g : Group) (r : GroupRecord) (roster : RecordedMembers) → 1 ≤ r.generation → g.phase ≡ Empty → g.generation ≡ 0 → IsRecordedAs r roster g → A
+fresh_recorded g r (recorded.Roster roster) dated p z h = let bad : Stable ≡ Empty = sym h.phase ∙ p in cc
+fresh_recorded g r (recorded.Empty moment) dated p z h = let e : r.generation ≡ 0 = h.generation ∙ z in absurd (omega arith)
 
 fresh_told : (offsets : OffsetMap) (g : Group) (o : Option GroupRecord) → IfSome o (λ r. 1 ≤ r.generation) → (g.kind ≡ None → HasOffset offsets g.id) → g.phase ≡ Empty → g.generation ≡ 0 → TellsOf g o → (o ≡ None) × HasOffset offsets g.id
 fresh_told offsets g None dated typed p z h = (refl, typed h.kind)
-fresh_told offsets g (Some r) dated typed p z h = fresh_recorded g r r.roster dated p z h
+fresh_told offsets g (Some r) dated typed p z h = fresh_recorded g r r.members dated p z h
 
 fresh_in : (events : List (Event × ℕ)) (offsets : OffsetMap) (g : Group) (o : Option GroupRecord) → IfSome o (λ r. 1 ≤ r.generation) → Whole events offsets g o → g.phase ≡ Empty → g.generation ≡ 0 → (o ≡ None) × HasOffset offsets g.id
 fresh_in events offsets g o dated w p z = let P : Phase → Type 0 = λ x. Holds x g o in fresh_told offsets g o dated w.typed p z (subst P p w.holds)

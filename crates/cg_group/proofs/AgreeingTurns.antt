@@ -192,14 +192,14 @@ module _ (events : List (Event × ℕ)) (offsets : OffsetMap) (kept : Kept) wher
   unfolding beat_taken kept_after
   after-beat_taken now own ticket g h = after-hearing events offsets kept g.id now own g h
 
-  pub after-committed : (now : ℕ) (entries : List CommitEntry) (ticket : Ticket) (who : Option (List ℕ)) (g : Group) → Whole events offsets g (kept g.id) → After events offsets kept g.id (committed entries ticket (hearing_committer now who g))
+  pub after-committed : (now : ℕ) (entries : List CommitEntry) (ticket : Ticket) (who : Option (List ℕ)) (g : Group) → Whole events offsets g (kept g.id) → After events offsets kept g.id (committed now entries ticket (hearing_committer now who g))
   unfolding keeping_entries
   after-committed now entries ticket None g h =
       let P : Option GroupRecord → Type 0 = λ o. Whole events offsets g o in
-      subst P (sym (kept_after-one kept (command.Committed (record { group = g.id; entries = map kept_entry entries })) g.id refl)) h
+      subst P (sym (kept_after-one kept (command.Committed (record { group = g.id; moment = Some now; entries = map kept_entry entries })) g.id refl)) h
   after-committed now entries ticket (Some own) g h =
       let P : Option GroupRecord → Type 0 = λ o. Whole events offsets (hearing now own g) o in
-      subst P (sym (kept_after-one kept (command.Committed (record { group = (hearing now own g).id; entries = map kept_entry entries })) g.id (id-hearing now own g))) (after-hearing events offsets kept g.id now own g h)
+      subst P (sym (kept_after-one kept (command.Committed (record { group = (hearing now own g).id; moment = Some now; entries = map kept_entry entries })) g.id (id-hearing now own g))) (after-hearing events offsets kept g.id now own g h)
 
   pub after-leave_taken : (now : ℕ) (own : List ℕ) (ticket : Ticket) (m : Member) (g : Group) → is_empty g.members ≡ false → Whole events offsets g (kept g.id) → After events offsets kept g.id (leave_taken now own ticket m g)
   unfolding leave_taken left keeping

@@ -10,6 +10,8 @@ use Rattle.cg_record.specs.declared.member.Member.{Member as KeptMember}
 use Rattle.cg_record.specs.declared.replaced.Replaced.{Replaced}
 use Rattle.cg_record.specs.Rosters.{RosterParts}
 use Rattle.cg_fold.specs.declared.record.GroupRecord.{GroupRecord}
+use Rattle.cg_fold.specs.declared.record.RecordedMembers.{RecordedMembers}
+use Rattle.cg_fold.specs.declared.record.RecordedMembers.TheVariants as recorded
 use Rattle.cg_request.specs.declared.event.Event.{Event}
 use Rattle.cg_request.specs.declared.event.Event.TheVariants as event
 use Rattle.cg_request.specs.declared.request.SyncRequest.{SyncRequest}
@@ -36,6 +38,7 @@ is_sync_of group generation member t (event.Leave ticket r) = false
 is_sync_of group generation member t (event.Commit ticket r) = false
 is_sync_of group generation member t (event.Fetch ticket r) = false
 is_sync_of group generation member t (event.Delete ticket id) = false
+is_sync_of group generation member t (event.Drop ticket r) = false
 is_sync_of group generation member t (event.Describe ticket id) = false
 is_sync_of group generation member t (event.List ticket) = false
 is_sync_of group generation member t (event.Gone session) = false
@@ -46,14 +49,14 @@ abbrev pub has_named : List (Event × ℕ) → List ℕ → ℕ → List ℕ →
 has_named events group generation member t = list_any (λ e. is_sync_of group generation member t e.0) events
 
 -- these bytes are the assignment of the member in the roster
-abbrev pub is_in_roster : Option RosterParts → List ℕ → List ℕ → Bool
-is_in_roster None member bytes = false
-is_in_roster (Some roster) member bytes = list_any (λ m. is_same m.id member && is_same m.assignment bytes) roster.members
+abbrev pub is_in_roster : RecordedMembers → List ℕ → List ℕ → Bool
+is_in_roster (recorded.Empty moment) member bytes = false
+is_in_roster (recorded.Roster roster) member bytes = list_any (λ m. is_same m.id member && is_same m.assignment bytes) roster.members
 
 -- these bytes are the stored assignment of the member with this id
 abbrev pub is_kept_for : Option GroupRecord → List ℕ → List ℕ → Bool
 is_kept_for None member bytes = false
-is_kept_for (Some r) member bytes = is_in_roster r.roster member bytes
+is_kept_for (Some r) member bytes = is_in_roster r.members member bytes
 
 -- a SYNC reply is for a SYNC of a member of the group, which gave its generation, and has the member's stored
 -- assignment
@@ -88,6 +91,8 @@ is_passed_on groups (command.Assigned a) = true
 is_passed_on groups (command.Emptied e) = true
 is_passed_on groups (command.Committed c) = true
 is_passed_on groups (command.Deleted d) = true
+is_passed_on groups (command.Expired e) = true
+is_passed_on groups (command.Dropped d) = true
 
 -- an element that passes the test
 contained : {X : Type 0} (p : X → Bool) (xs : List X) → list_any p xs ≡ true → (x : X) × Contains xs x × (p x ≡ true)
@@ -137,6 +142,7 @@ asked_by group generation member t (event.Leave ticket r) h = absurd (false≢tr
 asked_by group generation member t (event.Commit ticket r) h = absurd (false≢true h)
 asked_by group generation member t (event.Fetch ticket r) h = absurd (false≢true h)
 asked_by group generation member t (event.Delete ticket id) h = absurd (false≢true h)
+asked_by group generation member t (event.Drop ticket r) h = absurd (false≢true h)
 asked_by group generation member t (event.Describe ticket id) h = absurd (false≢true h)
 asked_by group generation member t (event.List ticket) h = absurd (false≢true h)
 asked_by group generation member t (event.Gone session) h = absurd (false≢true h)
@@ -147,15 +153,15 @@ record StoredFor (o : Option GroupRecord) (id bytes : List ℕ) : Type 0 where
   entry : GroupRecord
   entry_is : o ≡ Some entry
   roster : RosterParts
-  roster_is : entry.roster ≡ Some roster
+  roster_is : entry.members ≡ recorded.Roster roster
   stored : KeptMember
   listed : Contains roster.members stored
   own : stored.id ≡ id
   assigned : stored.assignment ≡ bytes
 
-stored_in : (r : GroupRecord) (o : Option RosterParts) (id bytes : List ℕ) → r.roster ≡ o → is_in_roster o id bytes ≡ true → StoredFor (Some r) id bytes
-stored_in r None id bytes e h = absurd (false≢true h)
-stored_in r (Some roster) id bytes e h =
+stored_in : (r : GroupRecord) (o : RecordedMembers) (id bytes : List ℕ) → r.members ≡ o → is_in_roster o id bytes ≡ true → StoredFor (Some r) id bytes
+stored_in r (recorded.Empty moment) id bytes e h = absurd (false≢true h)
+stored_in r (recorded.Roster roster) id bytes e h =
     let k = contained (λ (m : KeptMember). is_same m.id id && is_same m.assignment bytes) roster.members h in
     let parts = and_parts (is_same k.0.id id) (is_same k.0.assignment bytes) k.2 in
     record {
@@ -171,7 +177,7 @@ stored_in r (Some roster) id bytes e h =
 
 stored_for : (o : Option GroupRecord) (id bytes : List ℕ) → is_kept_for o id bytes ≡ true → StoredFor o id bytes
 stored_for None id bytes h = absurd (false≢true h)
-stored_for (Some r) id bytes h = stored_in r r.roster id bytes refl h
+stored_for (Some r) id bytes h = stored_in r r.members id bytes refl h
 
 sent_as : (events : List (Event × ℕ)) (m : ℕ) (a b : Event) → a ≡ b → Contains events (a, m) → Contains events (b, m)
 sent_as events m a b e h = let P : Event → Type 0 = λ x. Contains events (x, m) in subst P e h

@@ -13,32 +13,32 @@ use Rattle.cg_group.proofs.OffsetsKept.{AreQuiet, quiet-offsets}
 use Rattle.cg_group.proofs.Quiet.{Quiet, quiet-all, quiet-concluded}
 use Rattle.cg_group.proofs.Requests.{Fine}
 
--- the outcome with these offsets
-abbrev beside : OffsetMap → Outcome → Outcome
-beside offsets o = record o { after = record o.after { offsets = offsets } }
+-- the outcome with these offsets and this moment of loading
+abbrev beside : ℕ → OffsetMap → Outcome → Outcome
+beside loaded offsets o = record o { after = record o.after { offsets = offsets; loaded = loaded } }
 
 abbrev commands_in : Outcome → List Command
 commands_in o = o.effects.commands
 
-concluded_with : (now : ℕ) (groups : List Group) (offsets : OffsetMap) (ticket : Ticket) (o : Result Turn Code) → concluded (standing now groups offsets) ticket o ≡ beside offsets (concluded (at_moment now groups) ticket o)
+concluded_with : (loaded now : ℕ) (groups : List Group) (offsets : OffsetMap) (ticket : Ticket) (o : Result Turn Code) → concluded (standing loaded now groups offsets) ticket o ≡ beside loaded offsets (concluded (at_moment now groups) ticket o)
 unfolding concluded
-concluded_with now groups offsets ticket (Ok t) = refl
-concluded_with now groups offsets ticket (Err code) = refl
+concluded_with loaded now groups offsets ticket (Ok t) = refl
+concluded_with loaded now groups offsets ticket (Err code) = refl
 
-deleted_with : (now : ℕ) (groups : List Group) (offsets : OffsetMap) (ticket : Ticket) (o : Result (List ℕ) Code) → deleted (standing now groups offsets) ticket o ≡ beside offsets (deleted (at_moment now groups) ticket o)
+deleted_with : (loaded now : ℕ) (groups : List Group) (offsets : OffsetMap) (ticket : Ticket) (o : Result (List ℕ) Code) → deleted (standing loaded now groups offsets) ticket o ≡ beside loaded offsets (deleted (at_moment now groups) ticket o)
 unfolding deleted
-deleted_with now groups offsets ticket (Ok id) = refl
-deleted_with now groups offsets ticket (Err code) = refl
+deleted_with loaded now groups offsets ticket (Ok id) = refl
+deleted_with loaded now groups offsets ticket (Err code) = refl
 
-pub concluded_beside : (now : ℕ) (groups after : List Group) (offsets : OffsetMap) (ticket : Ticket) (o : Result Turn Code) (e : Effects) → concluded (at_moment now groups) ticket o ≡ outcome (at_moment now after) e → concluded (standing now groups offsets) ticket o ≡ outcome (standing now after offsets) e
-concluded_beside now groups after offsets ticket o e h = concluded_with now groups offsets ticket o ∙ ap (beside offsets) h
+pub concluded_beside : (loaded now : ℕ) (groups after : List Group) (offsets : OffsetMap) (ticket : Ticket) (o : Result Turn Code) (e : Effects) → concluded (at_moment now groups) ticket o ≡ outcome (at_moment now after) e → concluded (standing loaded now groups offsets) ticket o ≡ outcome (standing loaded now after offsets) e
+concluded_beside loaded now groups after offsets ticket o e h = concluded_with loaded now groups offsets ticket o ∙ ap (beside loaded offsets) h
 
-pub deleted_beside : (now : ℕ) (groups after : List Group) (offsets : OffsetMap) (ticket : Ticket) (o : Result (List ℕ) Code) (e : Effects) → deleted (at_moment now groups) ticket o ≡ outcome (at_moment now after) e → deleted (standing now groups offsets) ticket o ≡ outcome (standing now after offsets) e
-deleted_beside now groups after offsets ticket o e h = deleted_with now groups offsets ticket o ∙ ap (beside offsets) h
+pub deleted_beside : (loaded now : ℕ) (groups after : List Group) (offsets : OffsetMap) (ticket : Ticket) (o : Result (List ℕ) Code) (e : Effects) → deleted (at_moment now groups) ticket o ≡ outcome (at_moment now after) e → deleted (standing loaded now groups offsets) ticket o ≡ outcome (standing loaded now after offsets) e
+deleted_beside loaded now groups after offsets ticket o e h = deleted_with loaded now groups offsets ticket o ∙ ap (beside loaded offsets) h
 
-pub everywhere_beside : (now : ℕ) (groups after : List Group) (offsets : OffsetMap) (turn : Group → Turn) (e : Effects) → everywhere turn (at_moment now groups) ≡ outcome (at_moment now after) e → everywhere turn (standing now groups offsets) ≡ outcome (standing now after offsets) e
+pub everywhere_beside : (loaded now : ℕ) (groups after : List Group) (offsets : OffsetMap) (turn : Group → Turn) (e : Effects) → everywhere turn (at_moment now groups) ≡ outcome (at_moment now after) e → everywhere turn (standing loaded now groups offsets) ≡ outcome (standing loaded now after offsets) e
 unfolding everywhere
-everywhere_beside now groups after offsets turn e h = ap (beside offsets) h
+everywhere_beside loaded now groups after offsets turn e h = ap (beside loaded offsets) h
 
 still : (offsets : OffsetMap) (made now : List Command) → AreQuiet made → made ≡ now → offsets ≡ offsets_after offsets now
 still offsets made now q same = let P : List Command → Type 0 = λ cs. AreQuiet cs in sym (quiet-offsets offsets now (subst P same q))

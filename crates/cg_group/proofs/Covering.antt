@@ -21,7 +21,10 @@ use Rattle.cg_member.specs.declared.turn.Turn.{Turn}
 use Rattle.cg_turn.specs.Committing.{keeping_entries}
 use Rattle.cg_group.specs.Laws.{after_all, commands_of}
 use Rattle.cg_member.specs.Leaving.{gone_in}
-use Rattle.cg_group.specs.Machine.{beat, commit, concluded, deleted, deleting, join, leave, met, step, sync}
+use Rattle.cg_record.specs.declared.topic_partition.TopicPartition.{TopicPartition}
+use Rattle.cg_held.specs.Expiring.{tick}
+use Rattle.cg_group.proofs.Lasting.{covered-drop, covered-tick}
+use Rattle.cg_group.specs.Machine.{beat, commit, concluded, deleted, dropped, memberless, join, leave, met, step, sync}
 use Rattle.cg_held.specs.Held.{Machine, everywhere, find_group, with_group}
 use Rattle.cg_member.specs.Membership.{is_same}
 use Rattle.cg_member.specs.Offsets.{OffsetMap, offsets_after}
@@ -49,15 +52,15 @@ over_or true b c k e = refl
 over_or false b c k e = k e
 
 -- the entries of a commit belong to its group
-added : (group : List ℕ) (entries : List Entry) (offsets : OffsetMap) (key : OffsetKey) → is_some (finmap.get (fold (with_entry group) offsets entries) key) ≡ true → (is_same group key.group || is_some (finmap.get offsets key)) ≡ true
-added group [] offsets key e = or_right (is_same group key.group) (is_some (finmap.get offsets key)) e
-added group (x ∷ xs) offsets key e =
-    let new = kept_of group x in
+added : (group : List ℕ) (moment : Option ℕ) (entries : List Entry) (offsets : OffsetMap) (key : OffsetKey) → is_some (finmap.get (fold (with_entry group moment) offsets entries) key) ≡ true → (is_same group key.group || is_some (finmap.get offsets key)) ≡ true
+added group moment [] offsets key e = or_right (is_same group key.group) (is_some (finmap.get offsets key)) e
+added group moment (x ∷ xs) offsets key e =
+    let new = kept_of group moment x in
     let got = get-insert key_total offsets new.0 new.1 key in
     let one : eq_by_cmp key_cmp key new.0 ≡ true → is_same group key.group ≡ true =
     λ t. ap (λ (k : OffsetKey). is_same group k.group) (key_same key new.0 (equal (key_cmp key new.0) t)) ∙ same_self group in
     let put : (is_same group key.group || is_some (cond (eq_by_cmp key_cmp key new.0) (Some new.1) (finmap.get offsets key))) ≡ true =
-    ap (λ o. is_same group key.group || is_some o) (sym got) ∙ added group xs (with_entry group offsets x) key e in
+    ap (λ o. is_same group key.group || is_some o) (sym got) ∙ added group moment xs (with_entry group moment offsets x) key e in
     (elim (eq_by_cmp key_cmp key new.0) as (λ b. (b ≡ true → is_same group key.group ≡ true) → (is_same group key.group || is_some (cond b (Some new.1) (finmap.get offsets key))) ≡ true → (is_same group key.group || is_some (finmap.get offsets key)) ≡ true) [
       | true ↦ λ own _. or_left (is_same group key.group) (is_some (finmap.get offsets key)) (own refl)
       | false ↦ λ _ h. h
@@ -66,9 +69,9 @@ added group (x ∷ xs) offsets key e =
 adds-quiet : (offsets : OffsetMap) (t : Turn) → Quiet t → Adds offsets t
 adds-quiet offsets t q key e = or_right (is_same t.group.id key.group) (is_some (finmap.get offsets key)) (ap (λ o. is_some (finmap.get o key)) (sym (quiet-offsets offsets t.commands q)) ∙ e)
 
-adds-keeping : (offsets : OffsetMap) (entries : List Entry) (ticket : Ticket) (g : Group) → Adds offsets (keeping_entries entries ticket g)
+adds-keeping : (offsets : OffsetMap) (now : ℕ) (entries : List Entry) (ticket : Ticket) (g : Group) → Adds offsets (keeping_entries now entries ticket g)
 unfolding keeping_entries effect
-adds-keeping offsets entries ticket g key e = added g.id entries offsets key e
+adds-keeping offsets now entries ticket g key e = added g.id (Some now) entries offsets key e
 
 covered-taken : (offsets : OffsetMap) (groups : List Group) (t : Turn) → Adds offsets t → Covered offsets groups → Covered (offsets_after offsets t.commands) (with_group t.group groups)
 covered-taken offsets groups t a v key e =
@@ -102,6 +105,11 @@ covered-deleted s ticket (Ok id) v key e =
     let parts = left_over (is_of_other id key) (finmap.get s.offsets key) (ap is_some (sym got) ∙ e) in
     found-without id key.group s.groups (nat_list_eq_equiv.symm id key.group ∙ not-true (is_same key.group id) parts.0) (v key parts.1)
 
+covered-dropped : (s : Machine) (ticket : Ticket) (partitions : List TopicPartition) (o : Result (List ℕ) Code) → Covered s.offsets s.groups → Covered (offsets_after s.offsets (dropped s ticket partitions o).effects.commands) (dropped s ticket partitions o).after.groups
+unfolding dropped
+covered-dropped s ticket partitions (Err code) v key e = v key e
+covered-dropped s ticket partitions (Ok id) v key e = covered-drop s.offsets s.groups id partitions v key e
+
 pub covered-met : (s : Machine) (e : Event) → Covered s.offsets s.groups → Covered (offsets_after s.offsets (met s e).effects.commands) (met s e).after.groups
 unfolding met
 covered-met s (event.Join ticket r fresh) v =
@@ -113,13 +121,14 @@ covered-met s (event.Beat ticket r) v =
 covered-met s (event.Leave ticket r) v =
     covered-concluded s ticket (leave s.last r ticket s.groups) (fine-over Quiet (Adds s.offsets) (adds-quiet s.offsets) (leave s.last r ticket s.groups) (quiet-leave s.last r ticket s.groups)) v
 covered-met s (event.Commit ticket r) v =
-    covered-concluded s ticket (commit s.last r ticket s.groups) (fine-commit (Adds s.offsets) s.last r ticket s.groups (λ id _. adds-keeping s.offsets _ ticket _) (λ id g who _ _. adds-keeping s.offsets _ ticket _)) v
+    covered-concluded s ticket (commit s.last r ticket s.groups) (fine-commit (Adds s.offsets) s.last r ticket s.groups (λ id _. adds-keeping s.offsets s.last _ ticket _) (λ id g who _ _. adds-keeping s.offsets s.last _ ticket _)) v
 covered-met s (event.Fetch ticket r) v = v
-covered-met s (event.Delete ticket id) v = covered-deleted s ticket (deleting id s.groups) v
+covered-met s (event.Delete ticket id) v = covered-deleted s ticket (memberless id s.groups) v
+covered-met s (event.Drop ticket r) v = covered-dropped s ticket r.partitions (memberless r.group s.groups) v
 covered-met s (event.Describe ticket id) v = v
 covered-met s (event.List ticket) v = v
 covered-met s (event.Gone session) v = covered-everywhere (gone_in s.last session) (framed-gone_in s.last session) (quiet-gone_in s.last session) s v
-covered-met s event.Tick v = covered-everywhere (ticked s.last) (framed-ticked s.last) (quiet-ticked s.last) s v
+covered-met s event.Tick v = covered-tick s v
 
 offsets-concluded : (s : Machine) (ticket : Ticket) (o : Result Turn Code) → (concluded s ticket o).after.offsets ≡ s.offsets
 unfolding concluded
@@ -131,16 +140,22 @@ unfolding deleted
 offsets-deleted s ticket (Ok id) = refl
 offsets-deleted s ticket (Err code) = refl
 
+offsets-dropped : (s : Machine) (ticket : Ticket) (partitions : List TopicPartition) (o : Result (List ℕ) Code) → (dropped s ticket partitions o).after.offsets ≡ s.offsets
+unfolding dropped
+offsets-dropped s ticket partitions (Ok id) = refl
+offsets-dropped s ticket partitions (Err code) = refl
+
 -- only the commands of an event change the offsets
 pub offsets-met : (s : Machine) (e : Event) → (met s e).after.offsets ≡ s.offsets
-unfolding met everywhere
+unfolding met everywhere tick
 offsets-met s (event.Join ticket r fresh) = offsets-concluded s ticket (join s.last r fresh ticket s.groups)
 offsets-met s (event.Sync ticket r) = offsets-concluded s ticket (sync s.last r ticket s.groups)
 offsets-met s (event.Beat ticket r) = offsets-concluded s ticket (beat s.last r ticket s.groups)
 offsets-met s (event.Leave ticket r) = offsets-concluded s ticket (leave s.last r ticket s.groups)
 offsets-met s (event.Commit ticket r) = offsets-concluded s ticket (commit s.last r ticket s.groups)
 offsets-met s (event.Fetch ticket r) = refl
-offsets-met s (event.Delete ticket id) = offsets-deleted s ticket (deleting id s.groups)
+offsets-met s (event.Delete ticket id) = offsets-deleted s ticket (memberless id s.groups)
+offsets-met s (event.Drop ticket r) = offsets-dropped s ticket r.partitions (memberless r.group s.groups)
 offsets-met s (event.Describe ticket id) = refl
 offsets-met s (event.List ticket) = refl
 offsets-met s (event.Gone session) = refl

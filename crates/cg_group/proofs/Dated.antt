@@ -26,7 +26,9 @@ use Rattle.cg_held.specs.Kept.{Each, Kept, kept_in}
 use Rattle.cg_held.proofs.Framed.{each-append}
 use Rattle.cg_held.proofs.Kept.{effect, group_of, kept-after, kept_after, left_by}
 use Rattle.cg_group.specs.Laws.{AreCompleted, commands_of}
-use Rattle.cg_group.specs.Machine.{beat, commit, concluded, deleted, deleting, join, leave, met, step, sync}
+use Rattle.cg_record.specs.declared.topic_partition.TopicPartition.{TopicPartition}
+use Rattle.cg_group.proofs.Sweeping.{each-drop, each-tick}
+use Rattle.cg_group.specs.Machine.{beat, commit, concluded, deleted, dropped, join, leave, memberless, met, step, sync, with_offset}
 use Rattle.cg_group.proofs.Making.{makes-all, makes-beat_taken, makes-gone_in, makes-join_known, makes-join_new, makes-leave_taken, makes-rejoined, makes-sync_taken, makes-ticked}
 use Rattle.cg_group.proofs.Requests.{Fine, fine-beat, fine-commit, fine-join, fine-leave, fine-sync}
 
@@ -37,6 +39,8 @@ HasDate (command.Emptied e) = 1 ≤ e.generation
 HasDate (command.Replaced r) = Unit {0}
 HasDate (command.Committed c) = Unit {0}
 HasDate (command.Deleted d) = Unit {0}
+HasDate (command.Expired e) = Unit {0}
+HasDate (command.Dropped d) = Unit {0}
 
 abbrev HaveDates : List Command → Type 0
 HaveDates commands = Each HasDate commands
@@ -44,9 +48,9 @@ HaveDates commands = Each HasDate commands
 abbrev Dated : Turn → Type 0
 Dated t = HaveDates t.commands
 
-dated-committed : (entries : List CommitEntry) (ticket : Ticket) (g : Group) → Dated (committed entries ticket g)
+dated-committed : (now : ℕ) (entries : List CommitEntry) (ticket : Ticket) (g : Group) → Dated (committed now entries ticket g)
 unfolding keeping_entries
-dated-committed entries ticket g = (tt, tt)
+dated-committed now entries ticket g = (tt, tt)
 
 dated-join_replacing : (now : ℕ) (r : JoinRequest) (id : List ℕ) (ticket : Ticket) (old : Member) (g : Group) → Dated (join_replacing now r id ticket old g)
 unfolding join_replacing replaced replaced_in_place
@@ -68,6 +72,11 @@ unfolding deleted
 dated-deleted s ticket (Ok id) = (tt, tt)
 dated-deleted s ticket (Err code) = tt
 
+dated-dropped : (s : Machine) (ticket : Ticket) (partitions : List TopicPartition) (o : Result (List ℕ) Code) → HaveDates (dropped s ticket partitions o).effects.commands
+unfolding dropped
+dated-dropped s ticket partitions (Ok id) = each-drop HasDate (λ _. tt) id (with_offset s.offsets id partitions)
+dated-dropped s ticket partitions (Err code) = tt
+
 dated-met : (s : Machine) (e : Event) → HaveDates (met s e).effects.commands
 unfolding met everywhere
 dated-met s (event.Join ticket r fresh) =
@@ -88,13 +97,14 @@ dated-met s (event.Leave ticket r) =
     (fine-leave Dated s.last r ticket s.groups (λ id g m _ _. makes-leave_taken HasDate (λ a h. h) (λ e h. h) s.last m.id ticket m g))
 dated-met s (event.Commit ticket r) =
     dated-concluded s ticket (commit s.last r ticket s.groups)
-    (fine-commit Dated s.last r ticket s.groups (λ id _. dated-committed r.entries ticket (new_group id)) (λ id g who _ _. dated-committed r.entries ticket (hearing_committer s.last who g)))
+    (fine-commit Dated s.last r ticket s.groups (λ id _. dated-committed s.last r.entries ticket (new_group id)) (λ id g who _ _. dated-committed s.last r.entries ticket (hearing_committer s.last who g)))
 dated-met s (event.Fetch ticket r) = tt
-dated-met s (event.Delete ticket id) = dated-deleted s ticket (deleting id s.groups)
+dated-met s (event.Delete ticket id) = dated-deleted s ticket (memberless id s.groups)
+dated-met s (event.Drop ticket r) = dated-dropped s ticket r.partitions (memberless r.group s.groups)
 dated-met s (event.Describe ticket id) = tt
 dated-met s (event.List ticket) = tt
 dated-met s (event.Gone session) = makes-all HasDate (λ a h. h) (λ e h. h) (gone_in s.last session) (makes-gone_in HasDate (λ a h. h) (λ e h. h) s.last session) s.groups
-dated-met s event.Tick = makes-all HasDate (λ a h. h) (λ e h. h) (ticked s.last) (makes-ticked HasDate (λ a h. h) (λ e h. h) s.last) s.groups
+dated-met s event.Tick = each-tick HasDate s (makes-ticked HasDate (λ a h. h) (λ e h. h) s.last) (λ _. tt) (λ _ _. tt)
 
 dated-step : (s : Machine) (e : Event) (m : ℕ) → HaveDates (step s e m).effects.commands
 unfolding step
@@ -117,6 +127,8 @@ numbered-left (command.Replaced r) None d h = h
 numbered-left (command.Replaced r) (Some x) d h = h
 numbered-left (command.Committed c) o d h = h
 numbered-left (command.Deleted x) o d h = tt
+numbered-left (command.Expired x) o d h = h
+numbered-left (command.Dropped x) o d h = h
 
 numbered-effect : (c : Command) (kept : Kept) (id : List ℕ) → HasDate c → IsNumbered (kept id) → IsNumbered (effect kept c id)
 numbered-effect c kept id d h =

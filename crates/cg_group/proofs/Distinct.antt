@@ -158,7 +158,7 @@ distinct-sync_taken now r id ticket m g Stable h = distinct-sync_current now id 
 distinct-sync_taken now r id ticket m g Empty h = distinct-sync_current now id ticket m g h
 distinct-sync_taken now r id ticket m g Preparing h = distinct-sync_current now id ticket m g h
 
-pub distinct-committed : (now : ℕ) (entries : List CommitEntry) (ticket : Ticket) (who : Option (List ℕ)) (g : Group) → Distinct g → Distinct (committed entries ticket (hearing_committer now who g)).group
+pub distinct-committed : (now : ℕ) (entries : List CommitEntry) (ticket : Ticket) (who : Option (List ℕ)) (g : Group) → Distinct g → Distinct (committed now entries ticket (hearing_committer now who g)).group
 unfolding keeping_entries
 distinct-committed now entries ticket None g h = h
 distinct-committed now entries ticket (Some id) g h = distinct-hearing now id g h

@@ -3,6 +3,9 @@ use Rattle.std.proofs.Common.{ℕ, List, [], ◌∷◌, map, refl, max, Option, 
 use Rattle.std.specs.Prelude.{IfSome}
 use Rattle.cg_record.specs.Rosters.{IsRoster, RosterParts}
 use Rattle.cg_fold.specs.declared.record.GroupRecord.{GroupRecord}
+use Rattle.cg_fold.specs.declared.record.RecordedMembers.{RecordedMembers}
+use Rattle.cg_fold.specs.declared.record.RecordedMembers.TheVariants as recorded
+use Rattle.cg_fold.specs.Record.{roster_in}
 use Rattle.cg_fold.specs.Durable.{State}
 use Rattle.cg_fold.specs.Snapshot.{groups_in, in_order}
 use Rattle.cg_request.specs.declared.event.Event.{Event}
@@ -15,7 +18,11 @@ use Rattle.cg_held.specs.Kept.{AreRecords, Each, IsRecord, kept_in}
 use Rattle.cg_request.specs.Names.{are_distinct}
 use Rattle.cg_group.specs.Laws.{MembersStayDistinct, after_all}
 use Rattle.cg_member.specs.Leaving.{gone_in}
-use Rattle.cg_group.specs.Machine.{beat, commit, concluded, deleted, deleting, join, leave, met, step, sync}
+use Rattle.cg_record.specs.declared.topic_partition.TopicPartition.{TopicPartition}
+use Rattle.cg_member.specs.Offsets.{offsets_after}
+use Rattle.cg_held.specs.Expiring.{lasting, tick, tick_effects}
+use Rattle.cg_group.proofs.Sweeping.{each-founded, each-lasting}
+use Rattle.cg_group.specs.Machine.{beat, commit, concluded, deleted, drop_command, dropped, join, leave, memberless, met, step, sync, with_offset}
 use Rattle.cg_held.specs.Held.{Machine, everywhere, groups_after}
 use Rattle.cg_held.specs.Reviving.{revive, revived, revived_from, revived_with}
 use Rattle.cg_member.specs.Ticking.{ticked}
@@ -52,8 +59,13 @@ unfolding deleted
 distinct-deleted s ticket (Ok id) h = each-without Distinct id s.groups h
 distinct-deleted s ticket (Err code) h = h
 
+distinct-dropped : (s : Machine) (ticket : Ticket) (partitions : List TopicPartition) (o : Result (List ℕ) Code) → AllDistinct s.groups → AllDistinct (dropped s ticket partitions o).after.groups
+unfolding dropped
+distinct-dropped s ticket partitions (Ok id) h = each-founded Distinct s.offsets (drop_command id (with_offset s.offsets id partitions)) id s.groups h
+distinct-dropped s ticket partitions (Err code) h = h
+
 distinct-met : (s : Machine) (e : Event) → AllDistinct s.groups → AllDistinct (met s e).after.groups
-unfolding met
+unfolding met tick
 distinct-met s (event.Join ticket r fresh) h =
     distinct-concluded s ticket (join s.last r fresh ticket s.groups)
     (fine-join After s.last r fresh ticket s.groups
@@ -76,11 +88,12 @@ distinct-met s (event.Commit ticket r) h =
     (λ id _. distinct-committed s.last r.entries ticket None (new_group id) (distinct-new_group id))
     (λ id g who e _. distinct-committed s.last r.entries ticket who g (each-found Distinct id s.groups g e h))) h
 distinct-met s (event.Fetch ticket r) h = h
-distinct-met s (event.Delete ticket id) h = distinct-deleted s ticket (deleting id s.groups) h
+distinct-met s (event.Delete ticket id) h = distinct-deleted s ticket (memberless id s.groups) h
+distinct-met s (event.Drop ticket r) h = distinct-dropped s ticket r.partitions (memberless r.group s.groups) h
 distinct-met s (event.Describe ticket id) h = h
 distinct-met s (event.List ticket) h = h
 distinct-met s (event.Gone session) h = distinct-everywhere (gone_in s.last session) (distinct-gone_in s.last session) s h
-distinct-met s event.Tick h = distinct-everywhere (ticked s.last) (distinct-ticked s.last) s h
+distinct-met s event.Tick h = distinct-groups_after (ticked s.last) (distinct-ticked s.last) (lasting s.loaded s.last s.offsets (offsets_after s.offsets (tick_effects s).commands) s.groups) (each-lasting Distinct s.loaded s.last s.offsets (offsets_after s.offsets (tick_effects s).commands) s.groups h)
 
 distinct-step : (s : Machine) (e : Event) (now : ℕ) → AllDistinct s.groups → AllDistinct (step s e now).after.groups
 unfolding step
@@ -91,14 +104,14 @@ unfolding after_all
 distinct-after_all [] s h = h
 distinct-after_all (e ∷ es) s h = distinct-after_all es (step s e.0 e.1).after (distinct-step s e.0 e.1 h)
 
-distinct_with : (now : ℕ) (id : List ℕ) (r : GroupRecord) (o : Option RosterParts) → IfSome o IsRoster → Distinct (revived_with now id r o)
+distinct_with : (now : ℕ) (id : List ℕ) (r : GroupRecord) (o : RecordedMembers) → IfSome (roster_in o) IsRoster → Distinct (revived_with now id r o)
 unfolding revived_with are_distinct
-distinct_with now id r (Some roster) h = distinct-revived_members now roster.protocol roster.members h.members.apart
-distinct_with now id r None h = (refl, refl)
+distinct_with now id r (recorded.Roster roster) h = distinct-revived_members now roster.protocol roster.members h.members.apart
+distinct_with now id r (recorded.Empty moment) h = (refl, refl)
 
 distinct_from : (now : ℕ) (id : List ℕ) (o : Option GroupRecord) → IfSome o IsRecord → Distinct (revived_from now id o)
 distinct_from now id None h = distinct-new_group id
-distinct_from now id (Some r) h = distinct_with now id r r.roster h
+distinct_from now id (Some r) h = distinct_with now id r r.members h
 
 distinct-revived : (now : ℕ) (state : State) (id : List ℕ) → AreRecords state → Distinct (revived now state id)
 unfolding revived

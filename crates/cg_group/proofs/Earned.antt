@@ -13,6 +13,8 @@ use Rattle.cg_record.specs.Rosters.{RosterParts}
 use Rattle.cg_request.specs.declared.event.Event.{Event}
 use Rattle.cg_request.specs.declared.event.Event.TheVariants as event
 use Rattle.cg_fold.specs.declared.record.GroupRecord.{GroupRecord}
+use Rattle.cg_fold.specs.declared.record.RecordedMembers.{RecordedMembers}
+use Rattle.cg_fold.specs.declared.record.RecordedMembers.TheVariants as recorded
 use Rattle.cg_fold.specs.Durable.{State, after}
 use Rattle.cg_member.specs.declared.group.Group.{Group}
 use Rattle.cg_member.specs.declared.group.Phase.{Phase}
@@ -38,7 +40,8 @@ use Rattle.cg_member.specs.Offsets.{OffsetMap}
 use Rattle.cg_member.specs.Leaving.{after_removal, gone_in, leave_taken, left}
 use Rattle.cg_request.specs.declared.commit_entry.CommitEntry.{CommitEntry}
 use Rattle.cg_turn.specs.Committing.{committed, hearing_committer, keeping_entries}
-use Rattle.cg_group.specs.Machine.{beat, commit, concluded, deleted, deleting, describe, join, leave, met, step, sync}
+use Rattle.cg_held.specs.Expiring.{tick}
+use Rattle.cg_group.specs.Machine.{beat, commit, concluded, deleted, describe, dropped, join, leave, memberless, met, step, sync}
 use Rattle.cg_held.specs.Held.{Machine, Outcome, everywhere, with_group}
 use Rattle.cg_member.specs.Membership.{find_member, has_id, heard, hearing, is_preparing, is_same, keeping, leads, with_member}
 use Rattle.cg_member.specs.Rebalance.{completed, joined_reply, next_round, tried, turn_of}
@@ -98,15 +101,15 @@ id-member own (x ∷ xs) m e =
     ]) refl e
 
 -- the record of a stable group has the assignment of each member
-kept_recorded : (g : Group) (r : GroupRecord) (roster : Option RosterParts) → g.phase ≡ Stable → IsRecordedAs r roster g → Each (λ m. is_in_roster roster m.id m.assignment ≡ true) g.members
-kept_recorded g r None p h = let bad : Empty ≡ Stable = sym h.phase ∙ p in cc
-kept_recorded g r (Some roster) p h =
+kept_recorded : (g : Group) (r : GroupRecord) (roster : RecordedMembers) → g.phase ≡ Stable → IsRecordedAs r roster g → Each (λ m. is_in_roster roster m.id m.assignment ≡ true) g.members
+kept_recorded g r (recorded.Empty moment) p h = let bad : Empty ≡ Stable = sym h.phase ∙ p in cc
+kept_recorded g r (recorded.Roster roster) p h =
     let P : List KeptMember → Type 0 = λ ks. Each (λ m. list_any (λ k. is_same k.id m.id && is_same k.assignment m.assignment) ks ≡ true) g.members in
     subst P (sym h.members) (each-in (kept_member g.protocol) (λ k m. is_same k.id m.id && is_same k.assignment m.assignment) (λ m. and_from (is_same m.id m.id) (is_same m.assignment m.assignment) (same_self m.id) (same_self m.assignment)) g.members)
 
 kept_told : (g : Group) (o : Option GroupRecord) → g.phase ≡ Stable → TellsOf g o → Each (λ m. is_kept_for o m.id m.assignment ≡ true) g.members
 kept_told g None p h = let bad : Empty ≡ Stable = sym h.phase ∙ p in cc
-kept_told g (Some r) p h = kept_recorded g r r.roster p h
+kept_told g (Some r) p h = kept_recorded g r r.members p h
 
 -- a reply to a member of the group, also if other calls got replies in between
 earned_among : (events : List (Event × ℕ)) (group : List ℕ) (generation : ℕ) (o : Option GroupRecord) (ms ns : List Member) (own : List ℕ) (t : Ticket) (bytes : List ℕ)
@@ -348,7 +351,7 @@ unfolding describe
 silent-describe None groups = tt
 silent-describe (Some id) groups = tt
 
-silent-committed : (now : ℕ) (entries : List CommitEntry) (ticket : Ticket) (who : Option (List ℕ)) (g : Group) → Told Silent (committed entries ticket (hearing_committer now who g))
+silent-committed : (now : ℕ) (entries : List CommitEntry) (ticket : Ticket) (who : Option (List ℕ)) (g : Group) → Told Silent (committed now entries ticket (hearing_committer now who g))
 unfolding keeping_entries
 silent-committed now entries ticket who g = (tt, tt)
 
@@ -357,8 +360,13 @@ unfolding deleted
 earned-deleted events kept s ticket (Ok id) = (refl, tt)
 earned-deleted events kept s ticket (Err code) = (refl, tt)
 
+earned-dropped : (events : List (Event × ℕ)) (kept : Kept) (s : Machine) (ticket : Ticket) (partitions : List TopicPartition) (o : Result (List ℕ) Code) → Earned events kept (dropped s ticket partitions o)
+unfolding dropped
+earned-dropped events kept s ticket partitions (Ok id) = (refl, tt)
+earned-dropped events kept s ticket partitions (Err code) = (refl, tt)
+
 earned-met : (before : List (Event × ℕ)) (moment : ℕ) (kept : Kept) (s : Machine) (e : Event) → WholeMachine (before ++ (e, moment) ∷ []) s kept → Earned (before ++ (e, moment) ∷ []) kept (met s e)
-unfolding met everywhere
+unfolding met everywhere tick
 earned-met before moment kept s (event.Sync ticket r) v =
     let events : List (Event × ℕ) = before ++ (event.Sync ticket r, moment) ∷ [] in
     earned-concluded events kept s ticket (sync s.last r ticket s.groups)
@@ -388,14 +396,15 @@ earned-met before moment kept s (event.Commit ticket r) v =
     (λ id _. silent-committed s.last r.entries ticket None (new_group id))
     (λ id g who _ _. silent-committed s.last r.entries ticket who g))
 earned-met before moment kept s (event.Fetch ticket r) v = (silent_earned (before ++ (event.Fetch ticket r, moment) ∷ []) s.groups (kept_after kept []) ticket (fetched s.offsets r.group r.partitions) (silent-fetched s.offsets r.group r.partitions), tt)
-earned-met before moment kept s (event.Delete ticket id) v = earned-deleted (before ++ (event.Delete ticket id, moment) ∷ []) kept s ticket (deleting id s.groups)
+earned-met before moment kept s (event.Delete ticket id) v = earned-deleted (before ++ (event.Delete ticket id, moment) ∷ []) kept s ticket (memberless id s.groups)
+earned-met before moment kept s (event.Drop ticket r) v = earned-dropped (before ++ (event.Drop ticket r, moment) ∷ []) kept s ticket r.partitions (memberless r.group s.groups)
 earned-met before moment kept s (event.Describe ticket id) v = (silent_earned (before ++ (event.Describe ticket id, moment) ∷ []) s.groups (kept_after kept []) ticket (describe id s.groups) (silent-describe id s.groups), tt)
 earned-met before moment kept s (event.List ticket) v = (refl, tt)
 earned-met before moment kept s (event.Gone session) v =
     let o : Outcome = everywhere (gone_in s.last session) s in
     silent_all (before ++ (event.Gone session, moment) ∷ []) o.after.groups (kept_after kept o.effects.commands) o.effects.replies (silent-groups (gone_in s.last session) (λ g. told-gone_in Silent (λ _. tt) s.last session g) s.groups)
 earned-met before moment kept s event.Tick v =
-    let o : Outcome = everywhere (ticked s.last) s in
+    let o : Outcome = tick s in
     silent_all (before ++ (event.Tick, moment) ∷ []) o.after.groups (kept_after kept o.effects.commands) o.effects.replies (silent-groups (ticked s.last) (λ g. silent-ticked s.last g) s.groups)
 
 -- each reply of one more event is earned

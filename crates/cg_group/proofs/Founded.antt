@@ -32,21 +32,21 @@ more_is_some : (b : Bool) (new : StoredOffset) (o : Option StoredOffset) → is_
 more_is_some true new o e = refl
 more_is_some false new o e = e
 
-has-entries : (group : List ℕ) (entries : List Entry) (offsets : OffsetMap) (id : List ℕ) → HasOffset offsets id → HasOffset (fold (with_entry group) offsets entries) id
-has-entries group [] offsets id h = h
-has-entries group (x ∷ xs) offsets id h =
-    let new = kept_of group x in
-    has-entries group xs (with_entry group offsets x) id (record {
+has-entries : (group : List ℕ) (moment : Option ℕ) (entries : List Entry) (offsets : OffsetMap) (id : List ℕ) → HasOffset offsets id → HasOffset (fold (with_entry group moment) offsets entries) id
+has-entries group moment [] offsets id h = h
+has-entries group moment (x ∷ xs) offsets id h =
+    let new = kept_of group moment x in
+    has-entries group moment xs (with_entry group moment offsets x) id (record {
       key = h.key;
       own = h.own;
       stored = ap is_some (get-insert key_total offsets new.0 new.1 h.key) ∙ more_is_some (eq_by_cmp key_cmp h.key new.0) new.1 (finmap.get offsets h.key) h.stored;
     })
 
-has-own_entries : (group : List ℕ) (entries : List Entry) (offsets : OffsetMap) → list_any (λ e. true) entries ≡ true → HasOffset (fold (with_entry group) offsets entries) group
-has-own_entries group [] offsets e = absurd (false≢true e)
-has-own_entries group (x ∷ xs) offsets e =
-    let new = kept_of group x in
-    has-entries group xs (with_entry group offsets x) group (record {
+has-own_entries : (group : List ℕ) (moment : Option ℕ) (entries : List Entry) (offsets : OffsetMap) → list_any (λ e. true) entries ≡ true → HasOffset (fold (with_entry group moment) offsets entries) group
+has-own_entries group moment [] offsets e = absurd (false≢true e)
+has-own_entries group moment (x ∷ xs) offsets e =
+    let new = kept_of group moment x in
+    has-entries group moment xs (with_entry group moment offsets x) group (record {
       key = new.0;
       own = refl;
       stored = ap is_some (get-insert key_total offsets new.0 new.1 new.0) ∙ ap (λ b. is_some (cond b (Some new.1) (finmap.get offsets new.0))) ((eq_by_cmp_equiv key_total).refl new.0);
@@ -61,13 +61,13 @@ pub record Stores (offsets : OffsetMap) (t : Turn) : Type 0 where
   pub others : (id : List ℕ) → HasOffset offsets id → HasOffset (offsets_after offsets t.commands) id
   pub own : HasOffset (offsets_after offsets t.commands) t.group.id
 
-stores-keeping : (offsets : OffsetMap) (entries : List Entry) (ticket : Ticket) (g : Group) → list_any (λ e. true) entries ≡ true → Stores offsets (keeping_entries entries ticket g)
+stores-keeping : (offsets : OffsetMap) (now : ℕ) (entries : List Entry) (ticket : Ticket) (g : Group) → list_any (λ e. true) entries ≡ true → Stores offsets (keeping_entries now entries ticket g)
 unfolding keeping_entries effect
-stores-keeping offsets entries ticket g some = record { others = λ id h. has-entries g.id entries offsets id h; own = has-own_entries g.id entries offsets some }
+stores-keeping offsets now entries ticket g some = record { others = λ id h. has-entries g.id (Some now) entries offsets id h; own = has-own_entries g.id (Some now) entries offsets some }
 
 pub stores-commit : (now : ℕ) (r : CommitRequest) (ticket : Ticket) (s : Machine) → list_any (λ e. true) r.entries ≡ true → Fine (Stores s.offsets) (commit now r ticket s.groups)
 stores-commit now r ticket s some =
-    fine-commit (Stores s.offsets) now r ticket s.groups (λ id _. stores-keeping s.offsets _ ticket _ (some_kept r.entries some)) (λ id g who _ _. stores-keeping s.offsets _ ticket _ (some_kept r.entries some))
+    fine-commit (Stores s.offsets) now r ticket s.groups (λ id _. stores-keeping s.offsets now _ ticket _ (some_kept r.entries some)) (λ id g who _ _. stores-keeping s.offsets now _ ticket _ (some_kept r.entries some))
 
 pub others-concluded : (s : Machine) (ticket : Ticket) (o : Result Turn Code) → Fine (Stores s.offsets) o → (id : List ℕ) → HasOffset s.offsets id → HasOffset (offsets_after s.offsets (concluded s ticket o).effects.commands) id
 unfolding concluded

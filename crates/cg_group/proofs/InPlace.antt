@@ -19,7 +19,7 @@ use Rattle.cg_turn.specs.Beating.{IsBeat, beat_held, beat_reply, beat_taken}
 use Rattle.cg_turn.specs.declared.syncing.SyncCase.{SyncCase}
 use Rattle.cg_turn.specs.declared.syncing.SyncCase.TheVariants.{Current}
 use Rattle.cg_request.specs.Commits.{is_too_large, kept_entry}
-use Rattle.cg_turn.specs.Committing.{commit_by, commit_effects, commit_held, committed, committer, hearing_committer, keeping_entries}
+use Rattle.cg_turn.specs.Committing.{commit_at, commit_by, commit_effects, commit_held, committed, committer, hearing_committer, keeping_entries}
 use Rattle.cg_group.specs.InPlace.{IsBeatIn, IsJoinIn, IsNamed, IsSync}
 use Rattle.cg_group.specs.Machine.{beat, commit, commit_in, concluded, join, join_in, named_group, reply_alone, sync}
 use Rattle.cg_held.specs.Held.{at_moment, find_group, outcome, with_group}
@@ -134,26 +134,26 @@ pub commit_refused : (now : ℕ) (r : CommitRequest) (ticket : Ticket) (groups :
 unfolding commit_held
 commit_refused now r ticket groups own g code at e =
     commit_here now r ticket groups own g at
-    ∙ ap (λ o. o >>= λ who. refused_if (is_too_large r.entries) OffsetMetadataTooLarge >>= λ _. Ok (committed r.entries ticket (hearing_committer now who g))) e
+    ∙ ap (λ o. o >>= λ who. refused_if (is_too_large r.entries) OffsetMetadataTooLarge >>= λ _. Ok (committed now r.entries ticket (hearing_committer now who g))) e
 
 pub commit_taken : (now : ℕ) (r : CommitRequest) (ticket : Ticket) (groups : List Group) (own : List ℕ) (g : Group) (who : Option (List ℕ)) → IsNamed r.group groups own g → committer r.generation r.instance r.member g ≡ Ok who → commit now r ticket groups ≡ commit_by now who r.entries ticket g
 unfolding commit_held
 commit_taken now r ticket groups own g who at e = commit_here now r ticket groups own g at ∙ ap (λ o. o >>= λ who. commit_by now who r.entries ticket g) e
 
 pub commit_too_large : (now : ℕ) (entries : List CommitEntry) (ticket : Ticket) (g : Group) (who : Option (List ℕ)) → is_too_large entries ≡ true → commit_by now who entries ticket g ≡ Err OffsetMetadataTooLarge
-commit_too_large now entries ticket g who large = ap (λ b. refused_if b OffsetMetadataTooLarge >>= λ _. Ok (committed entries ticket (hearing_committer now who g))) large
+commit_too_large now entries ticket g who large = ap (λ b. refused_if b OffsetMetadataTooLarge >>= λ _. Ok (committed now entries ticket (hearing_committer now who g))) large
 
 id-committer : (now : ℕ) (who : Option (List ℕ)) (g : Group) → (hearing_committer now who g).id ≡ g.id
 id-committer now None g = refl
 id-committer now (Some id) g = id-hearing now id g
 
 pub commit_in_place : (now : ℕ) (given : List CommitEntry) (ticket : Ticket) (groups after : List Group) (own : List ℕ) (g : Group) (who : Option (List ℕ)) (e : Effects) (entries : List Entry) → find_group own groups ≡ Some g → is_too_large given ≡ false → entries ≡ map kept_entry given
-    → after ≡ with_group (hearing_committer now who g) groups → e ≡ commit_effects entries ticket own → concluded (at_moment now groups) ticket (commit_by now who given ticket g) ≡ outcome (at_moment now after) e
+    → after ≡ with_group (hearing_committer now who g) groups → e ≡ commit_effects (commit_at now entries own) ticket → concluded (at_moment now groups) ticket (commit_by now who given ticket g) ≡ outcome (at_moment now after) e
 unfolding concluded keeping_entries
 commit_in_place now given ticket groups after own g who e entries found few kept put made =
     let h : Group = hearing_committer now who g in
-    ap (λ b. concluded (at_moment now groups) ticket (refused_if b OffsetMetadataTooLarge >>= λ _. Ok (committed given ticket h))) few
-    ∙ ap (λ gs. outcome (at_moment now gs) (commit_effects (map kept_entry given) ticket h.id)) (sym put)
-    ∙ ap (λ i. outcome (at_moment now after) (commit_effects (map kept_entry given) ticket i)) (id-committer now who g ∙ found_named own groups g found)
-    ∙ ap (λ es. outcome (at_moment now after) (commit_effects es ticket own)) (sym kept)
+    ap (λ b. concluded (at_moment now groups) ticket (refused_if b OffsetMetadataTooLarge >>= λ _. Ok (committed now given ticket h))) few
+    ∙ ap (λ gs. outcome (at_moment now gs) (commit_effects (commit_at now (map kept_entry given) h.id) ticket)) (sym put)
+    ∙ ap (λ i. outcome (at_moment now after) (commit_effects (commit_at now (map kept_entry given) i) ticket)) (id-committer now who g ∙ found_named own groups g found)
+    ∙ ap (λ es. outcome (at_moment now after) (commit_effects (commit_at now es own) ticket)) (sym kept)
     ∙ ap (outcome (at_moment now after)) (sym made)

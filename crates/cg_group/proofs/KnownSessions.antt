@@ -12,6 +12,7 @@ use Rattle.cg_member.specs.declared.group.Phase.TheVariants.{Empty, Preparing, C
 use Rattle.cg_member.specs.declared.member.Member.{Member}
 use Rattle.cg_member.specs.declared.member.Waits.{Waits}
 use Rattle.cg_member.specs.declared.member.Waits.TheVariants.{Nothing, Join, Sync}
+use Rattle.cg_request.specs.declared.request.DropRequest.{DropRequest}
 use Rattle.cg_request.specs.declared.request.JoinRequest.{JoinRequest}
 use Rattle.cg_request.specs.declared.request.SyncEntry.{SyncEntry}
 use Rattle.cg_request.specs.declared.request.SyncRequest.{SyncRequest}
@@ -26,14 +27,19 @@ use Rattle.cg_request.specs.declared.commit_entry.CommitEntry.{CommitEntry}
 use Rattle.cg_turn.specs.Committing.{committed, hearing_committer, keeping_entries}
 use Rattle.cg_member.specs.declared.effects.Effects.{Effects}
 use Rattle.cg_group.specs.InPlace.{ParksKnown, StepKnown}
-use Rattle.cg_group.specs.Machine.{beat, commit, concluded, deleted, deleting, join, leave, met, sync}
-use Rattle.cg_held.specs.Held.{Machine, Outcome, at_moment, everywhere, find_group, groups_after, outcome, with_group}
+use Rattle.cg_record.specs.declared.topic_partition.TopicPartition.{TopicPartition}
+use Rattle.cg_held.specs.Expiring.{lasting, tick, tick_effects}
+use Rattle.cg_group.proofs.Sweeping.{each-founded, each-lasting}
+use Rattle.cg_member.specs.Offsets.{OffsetMap, offsets_after}
+use Rattle.cg_group.specs.Machine.{beat, commit, concluded, deleted, drop_command, dropped, join, leave, memberless, met, sync, with_offset}
+use Rattle.cg_held.specs.Held.{at_moment, everywhere, find_group, groups_after, Machine, Outcome, outcome, standing, with_group}
 use Rattle.cg_member.specs.Membership.{has_id, heard, hearing, is_empty, is_preparing, keeping, leads}
 use Rattle.cg_member.specs.Replacing.{join_replacing, keeps_generation, replaced, replaced_in_place, replacing, seating, successor}
 use Rattle.cg_held.specs.Reviving.{revived, revived_from, revived_member, revived_with}
 use Rattle.cg_record.specs.declared.member.Member.{Member as KeptMember}
-use Rattle.cg_record.specs.Rosters.{RosterParts}
 use Rattle.cg_fold.specs.declared.record.GroupRecord.{GroupRecord}
+use Rattle.cg_fold.specs.declared.record.RecordedMembers.{RecordedMembers}
+use Rattle.cg_fold.specs.declared.record.RecordedMembers.TheVariants as recorded
 use Rattle.cg_fold.specs.Durable.{State}
 use Rattle.cg_member.specs.Rebalance.{completed, emptied, is_ready, next_round, prepared, told_to_joins, tried, turn_of}
 use Rattle.cg_held.specs.Sessions.{AreKnown, Known, Owns, is_known}
@@ -71,15 +77,15 @@ module _ (sessions : ℕ → Bool) where
   unfolding told_to_joins
   known-told_to_joins now t h = waits-after_answers allowed (λ id. refl) Joins now t.group.members h
 
-  known-emptied : (t : Turn) → K t → K (emptied t)
+  known-emptied : (now : ℕ) (t : Turn) → K t → K (emptied now t)
   unfolding emptied
-  known-emptied t h = h
+  known-emptied now t h = h
 
   known-completed : (now : ℕ) (t : Turn) → K t → K (completed now t)
   unfolding completed
   known-completed now t h =
-      elim (is_empty t.group.members) as (λ b. K (if b then emptied t else told_to_joins now (record t { group = next_round t.group }))) [
-        | true ↦ known-emptied t h
+      elim (is_empty t.group.members) as (λ b. K (if b then emptied now t else told_to_joins now (record t { group = next_round t.group }))) [
+        | true ↦ known-emptied now t h
         | false ↦ known-told_to_joins now (record t { group = next_round t.group }) (known-next_round t.group h)
       ]
 
@@ -238,7 +244,7 @@ module _ (sessions : ℕ → Bool) where
   unfolding ticked
   known-ticked now g h = known-at_deadline now (expired now (turn_of g)) (known-expired now (turn_of g) h)
 
-  known-committed : (now : ℕ) (entries : List CommitEntry) (ticket : Ticket) (who : Option (List ℕ)) (g : Group) → Known sessions g → K (committed entries ticket (hearing_committer now who g))
+  known-committed : (now : ℕ) (entries : List CommitEntry) (ticket : Ticket) (who : Option (List ℕ)) (g : Group) → Known sessions g → K (committed now entries ticket (hearing_committer now who g))
   unfolding keeping_entries
   known-committed now entries ticket None g h = h
   known-committed now entries ticket (Some id) g h = known-hearing now id g h
@@ -278,8 +284,13 @@ module _ (homes : ℕ → List ℕ → Bool) where
   known-deleted s ticket (Ok id) h = each-without Home id s.groups h
   known-deleted s ticket (Err code) h = h
 
+  known-dropped : (s : Machine) (ticket : Ticket) (partitions : List TopicPartition) (o : Result (List ℕ) Code) → AreKnown homes s.groups → AreKnown homes (dropped s ticket partitions o).after.groups
+  unfolding dropped
+  known-dropped s ticket partitions (Ok id) h = each-founded Home s.offsets (drop_command id (with_offset s.offsets id partitions)) id s.groups h
+  known-dropped s ticket partitions (Err code) h = h
+
   known-met : (s : Machine) (e : Event) → Owns homes e → AreKnown homes s.groups → AreKnown homes (met s e).after.groups
-  unfolding met
+  unfolding met tick
   known-met s (event.Join ticket r fresh) own h =
       known-concluded s ticket (join s.last r fresh ticket s.groups)
       (fine-join Stays s.last r fresh ticket s.groups
@@ -306,14 +317,17 @@ module _ (homes : ℕ → List ℕ → Bool) where
   known-met s (event.Commit ticket r) own h =
       known-concluded s ticket (commit s.last r ticket s.groups)
       (fine-commit Stays s.last r ticket s.groups
-      (λ id _. let g : Group = new_group id in stays g.id (committed r.entries ticket g) (framed-committed s.last r.entries ticket None g) (known-committed (at g.id) s.last r.entries ticket None g (known-new_group (at g.id) id)))
-      (λ id g who e _. stays g.id (committed r.entries ticket (hearing_committer s.last who g)) (framed-committed s.last r.entries ticket who g) (known-committed (at g.id) s.last r.entries ticket who g (each-found Home id s.groups g e h)))) h
+      (λ id _. let g : Group = new_group id in stays g.id (committed s.last r.entries ticket g) (framed-committed s.last r.entries ticket None g) (known-committed (at g.id) s.last r.entries ticket None g (known-new_group (at g.id) id)))
+      (λ id g who e _. stays g.id (committed s.last r.entries ticket (hearing_committer s.last who g)) (framed-committed s.last r.entries ticket who g) (known-committed (at g.id) s.last r.entries ticket who g (each-found Home id s.groups g e h)))) h
   known-met s (event.Fetch ticket r) own h = h
-  known-met s (event.Delete ticket id) own h = known-deleted s ticket (deleting id s.groups) h
+  known-met s (event.Delete ticket id) own h = known-deleted s ticket (memberless id s.groups) h
+  known-met s (event.Drop ticket r) own h = known-dropped s ticket r.partitions (memberless r.group s.groups) h
   known-met s (event.Describe ticket id) own h = h
   known-met s (event.List ticket) own h = h
   known-met s (event.Gone session) own h = known-everywhere (gone_in s.last session) (λ g k. stays g.id (gone_in s.last session g) (framed-gone_in s.last session g) (known-gone_in (at g.id) s.last session g k)) s h
-  known-met s event.Tick own h = known-everywhere (ticked s.last) (λ g k. stays g.id (ticked s.last g) (framed-ticked s.last g) (known-ticked (at g.id) s.last g k)) s h
+  known-met s event.Tick own h =
+      known-groups_after (ticked s.last) (λ g k. stays g.id (ticked s.last g) (framed-ticked s.last g) (known-ticked (at g.id) s.last g k)) (lasting s.loaded s.last s.offsets (offsets_after s.offsets (tick_effects s).commands) s.groups)
+      (each-lasting Home s.loaded s.last s.offsets (offsets_after s.offsets (tick_effects s).commands) s.groups h)
 
 -- a group in which a call is parked
 pub known-parked_join : (sessions : ℕ → Bool) (now : ℕ) (r : JoinRequest) (id : List ℕ) (ticket : Ticket) (g : Group) → sessions ticket.session ≡ true → Known sessions g → Known sessions (waiting now id (Join ticket) (turn_of (updating r id g))).group
@@ -367,6 +381,12 @@ pub known-after : (homes : ℕ → List ℕ → Bool) (now : ℕ) (groups after 
 known-after homes now groups after e made own is h =
     let P : List Group → Type 0 = λ gs. AreKnown homes gs in
     subst P (ap (λ (o : Outcome). o.after.groups) is) (known-met homes (at_moment now groups) e own h)
+
+pub known-dropped_after : (homes : ℕ → List ℕ → Bool) (now : ℕ) (groups after : List Group) (offsets : OffsetMap) (ticket : Ticket) (r : DropRequest) (made : Effects)
+    → dropped (standing 0 now groups offsets) ticket r.partitions (memberless r.group groups) ≡ outcome (standing 0 now after offsets) made → AreKnown homes groups → AreKnown homes after
+known-dropped_after homes now groups after offsets ticket r made is h =
+    let P : List Group → Type 0 = λ gs. AreKnown homes gs in
+    subst P (ap (λ (o : Outcome). o.after.groups) is) (known-dropped homes (standing 0 now groups offsets) ticket r.partitions (memberless r.group groups) h)
 
 ticked_home : (homes : ℕ → List ℕ → Bool) (now : ℕ) (g : Group) → Home homes g → Home homes (ticked now g).group
 ticked_home homes now g k = stays homes g.id (ticked now g) (framed-ticked now g) (known-ticked (at homes g.id) now g k)
@@ -422,14 +442,14 @@ module _ (sessions : ℕ → Bool) (now : ℕ) where
   known-revived_members protocol [] = tt
   known-revived_members protocol (m ∷ ms) = (refl, known-revived_members protocol ms)
 
-  known_with : (id : List ℕ) (r : GroupRecord) (o : Option RosterParts) → Known sessions (revived_with now id r o)
+  known_with : (id : List ℕ) (r : GroupRecord) (o : RecordedMembers) → Known sessions (revived_with now id r o)
   unfolding revived_with
-  known_with id r (Some roster) = known-revived_members roster.protocol roster.members
-  known_with id r None = tt
+  known_with id r (recorded.Roster roster) = known-revived_members roster.protocol roster.members
+  known_with id r (recorded.Empty moment) = tt
 
   known_from : (id : List ℕ) (o : Option GroupRecord) → Known sessions (revived_from now id o)
   known_from id None = known-new_group sessions id
-  known_from id (Some r) = known_with id r r.roster
+  known_from id (Some r) = known_with id r r.members
 
   known-revived_one : (state : State) (id : List ℕ) → Known sessions (revived now state id)
   unfolding revived

@@ -86,14 +86,14 @@ lawful_in : (now : ℕ) (r : CommitRequest) (ticket : Ticket) (groups : List Gro
 unfolding Lawful commit_held commit_unheld
 lawful_in now r ticket groups id None sound =
     let P : Turn → Type 0 = λ _. IsOfNobody r None ⊎ IsOfMember r None in
-    let kept : Unit {0} → Result Turn Code = λ _. Ok (committed r.entries ticket (new_group id)) in
+    let kept : Unit {0} → Result Turn Code = λ _. Ok (committed now r.entries ticket (new_group id)) in
     let few : Unit {0} → Result Turn Code = λ _. refused_if (nat_le GROUPS_MAX (length groups)) CoordinatorNotAvailable >>= kept in
     after_test P (not (is_negative r.generation)) IllegalGeneration (λ _. refused_if (is_too_large r.entries) OffsetMetadataTooLarge >>= few)
     (λ negative. after_test P (is_too_large r.entries) OffsetMetadataTooLarge few
     (λ _. after_test P (nat_le GROUPS_MAX (length groups)) CoordinatorNotAvailable kept (λ _. inl (record { negative = not-false (is_negative r.generation) negative; bare = refl }))))
 lawful_in now r ticket groups id (Some g) sound =
     let P : Turn → Type 0 = λ _. IsOfNobody r (Some g) ⊎ IsOfMember r (Some g) in
-    let kept : Option (List ℕ) → Unit {0} → Result Turn Code = λ who _. Ok (committed r.entries ticket (hearing_committer now who g)) in
+    let kept : Option (List ℕ) → Unit {0} → Result Turn Code = λ who _. Ok (committed now r.entries ticket (hearing_committer now who g)) in
     after_checked P (committer r.generation r.instance r.member g) (λ who. refused_if (is_too_large r.entries) OffsetMetadataTooLarge >>= kept who)
     (λ who from. after_test P (is_too_large r.entries) OffsetMetadataTooLarge (kept who) (λ _. of_somebody r g who (sound g refl) from))
 

@@ -34,3 +34,10 @@ pub mod Stepped
 pub mod JoinSteps
 pub mod Handing
 pub mod LeaveSteps
+pub mod Sweeping
+pub mod Sparing
+pub mod Lasting
+pub mod AgreeingTick
+pub mod LawfulExpiry
+pub mod Thinning
+pub mod Dropping

@@ -56,24 +56,24 @@ module _ (P : Command → Type 0) (assigned_is : (a : Assigned) → 1 ≤ a.gene
   unfolding told_to_joins
   makes-told_to_joins now t h = h
 
-  makes-one_emptied : (g : Group) → Each P (emptied_command g)
+  makes-one_emptied : (now : ℕ) (g : Group) → Each P (emptied_command now g)
   unfolding emptied_command
-  makes-one_emptied g = go (completed_generation g.generation) g.kind (completed_from g.generation)
+  makes-one_emptied now g = go (completed_generation g.generation) g.kind (completed_from g.generation)
     where
-      go : (n : Option ℕ) (k : Option (List ℕ)) → ((x : ℕ) → n ≡ Some x → 1 ≤ x) → Each P (option_to_list (option_and_then (λ generation. option_map (λ kind. command.Emptied (record { group = g.id; generation = generation; kind = kind })) k) n))
+      go : (n : Option ℕ) (k : Option (List ℕ)) → ((x : ℕ) → n ≡ Some x → 1 ≤ x) → Each P (option_to_list (option_and_then (λ generation. option_map (λ kind. command.Emptied (record { group = g.id; generation = generation; kind = kind; moment = Some now })) k) n))
       go None k dated = tt
       go (Some n) None dated = tt
-      go (Some n) (Some k) dated = (emptied_is (record { group = g.id; generation = n; kind = k }) (dated n refl), tt)
+      go (Some n) (Some k) dated = (emptied_is (record { group = g.id; generation = n; kind = k; moment = Some now }) (dated n refl), tt)
 
-  makes-emptied : (t : Turn) → Makes t → Makes (emptied t)
+  makes-emptied : (now : ℕ) (t : Turn) → Makes t → Makes (emptied now t)
   unfolding emptied
-  makes-emptied t h = each-append P t.commands (emptied_command (emptied t).group) h (makes-one_emptied (emptied t).group)
+  makes-emptied now t h = each-append P t.commands (emptied_command now (emptied now t).group) h (makes-one_emptied now (emptied now t).group)
 
   makes-completed : (now : ℕ) (t : Turn) → Makes t → Makes (completed now t)
   unfolding completed
   makes-completed now t h =
-      elim (is_empty t.group.members) as (λ b. Makes (if b then emptied t else told_to_joins now (record t { group = next_round t.group }))) [
-        | true ↦ makes-emptied t h
+      elim (is_empty t.group.members) as (λ b. Makes (if b then emptied now t else told_to_joins now (record t { group = next_round t.group }))) [
+        | true ↦ makes-emptied now t h
         | false ↦ makes-told_to_joins now (record t { group = next_round t.group }) h
       ]
 

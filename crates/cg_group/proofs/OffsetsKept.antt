@@ -4,10 +4,10 @@ use Rattle.std.specs.List.{fold}
 use Rattle.std.specs.FinMap as finmap
 use Rattle.std.proofs.lemmas.Bool.{false≢true}
 use Rattle.cg_record.specs.declared.command.Command.{Command}
-use Rattle.cg_record.specs.declared.command.Command.TheVariants.{Assigned, Emptied, Replaced, Committed, Deleted}
+use Rattle.cg_record.specs.declared.command.Command.TheVariants.{Assigned, Emptied, Replaced, Committed, Deleted, Dropped, Expired}
 use Rattle.cg_record.specs.declared.member.Member.{Member as KeptMember}
 use Rattle.cg_fold.specs.declared.record.GroupRecord.{GroupRecord}
-use Rattle.cg_fold.specs.Durable.{State, after, effect, is_of_other, with_entry, with_member}
+use Rattle.cg_fold.specs.Durable.{State, after, effect, is_beside, is_of_other, with_entry, with_member}
 use Rattle.cg_held.specs.Kept.{Each}
 use Rattle.cg_member.specs.Offsets.{OffsetMap, offsets_after}
 
@@ -18,6 +18,8 @@ is_quiet (Emptied e) = true
 is_quiet (Replaced r) = true
 is_quiet (Committed c) = false
 is_quiet (Deleted d) = false
+is_quiet (Expired e) = false
+is_quiet (Dropped d) = false
 
 abbrev pub IsQuiet : Command → Type 0
 IsQuiet c = is_quiet c ≡ true
@@ -36,6 +38,8 @@ quiet-effect state (Emptied e) q = refl
 quiet-effect state (Replaced r) q = offsets-with_member state r.group r.member (finmap.get state.records r.group)
 quiet-effect state (Committed c) q = absurd (false≢true q)
 quiet-effect state (Deleted d) q = absurd (false≢true q)
+quiet-effect state (Expired e) q = absurd (false≢true q)
+quiet-effect state (Dropped d) q = absurd (false≢true q)
 
 -- the effect on the offsets does not depend on the records
 offsets-effect : (s t : State) (c : Command) → s.offsets ≡ t.offsets → (effect s c).offsets ≡ (effect t c).offsets
@@ -43,7 +47,9 @@ unfolding effect
 offsets-effect s t (Assigned a) e = e
 offsets-effect s t (Emptied x) e = e
 offsets-effect s t (Replaced r) e = offsets-with_member s r.group r.member (finmap.get s.records r.group) ∙ e ∙ sym (offsets-with_member t r.group r.member (finmap.get t.records r.group))
-offsets-effect s t (Committed c) e = ap (λ m. fold (with_entry c.group) m c.entries) e
+offsets-effect s t (Committed c) e = ap (λ m. fold (with_entry c.group c.moment) m c.entries) e
+offsets-effect s t (Expired x) e = ap (λ m. finmap.retain_keys m (is_beside x.group x.partitions)) e
+offsets-effect s t (Dropped x) e = ap (λ m. finmap.retain_keys m (is_beside x.group x.partitions)) e
 offsets-effect s t (Deleted d) e = ap (λ m. finmap.retain_keys m (is_of_other d.group)) e
 
 pub offsets-after : (cs : List Command) (s t : State) → s.offsets ≡ t.offsets → (after s cs).offsets ≡ (after t cs).offsets

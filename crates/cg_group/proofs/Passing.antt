@@ -24,7 +24,10 @@ use Rattle.cg_held.specs.Kept.{Each, Kept, kept_in}
 use Rattle.cg_group.specs.Laws.{AreRequests, AssignmentsAreEarned, IsEarnedAssignment, IsPassedOn, after_all, state_after}
 use Rattle.cg_group.proofs.Asked.{earned_is, is_earned, is_passed_on, passed_is, passes_assignment}
 use Rattle.cg_member.specs.Leaving.{gone_in}
-use Rattle.cg_group.specs.Machine.{beat, commit, concluded, deleted, deleting, join, leave, met, step, sync}
+use Rattle.cg_record.specs.declared.topic_partition.TopicPartition.{TopicPartition}
+use Rattle.cg_held.specs.Expiring.{tick}
+use Rattle.cg_group.proofs.Sweeping.{each-drop, each-tick}
+use Rattle.cg_group.specs.Machine.{beat, commit, concluded, deleted, dropped, join, leave, memberless, met, step, sync, with_offset}
 use Rattle.cg_held.specs.Held.{Machine, Outcome, everywhere, find_group}
 use Rattle.cg_member.specs.Membership.{find_instance, has_instance, is_same}
 use Rattle.cg_member.specs.Replacing.{join_replacing, keeps_generation, replaced, replaced_command, replaced_in_place, successor}
@@ -47,6 +50,8 @@ is_plain (command.Emptied e) = true
 is_plain (command.Replaced r) = false
 is_plain (command.Committed c) = true
 is_plain (command.Deleted d) = true
+is_plain (command.Expired e) = true
+is_plain (command.Dropped d) = true
 
 abbrev IsPlain : Command → Type 0
 IsPlain c = is_plain c ≡ true
@@ -57,9 +62,9 @@ ArePlain commands = Each IsPlain commands
 abbrev Plain : Turn → Type 0
 Plain t = ArePlain t.commands
 
-plain-committed : (entries : List CommitEntry) (ticket : Ticket) (g : Group) → Plain (committed entries ticket g)
+plain-committed : (now : ℕ) (entries : List CommitEntry) (ticket : Ticket) (g : Group) → Plain (committed now entries ticket g)
 unfolding keeping_entries
-plain-committed entries ticket g = (refl, tt)
+plain-committed now entries ticket g = (refl, tt)
 
 -- the machine
 
@@ -69,6 +74,8 @@ plain_passed groups (command.Emptied e) h = refl
 plain_passed groups (command.Replaced r) h = cc
 plain_passed groups (command.Committed c) h = refl
 plain_passed groups (command.Deleted d) h = refl
+plain_passed groups (command.Expired e) h = refl
+plain_passed groups (command.Dropped d) h = refl
 
 module _ (groups : List Group) where
   abbrev ArePassed : List Command → Type 0
@@ -122,6 +129,11 @@ unfolding deleted
 passed-deleted s ticket (Ok id) = (refl, tt)
 passed-deleted s ticket (Err code) = tt
 
+passed-dropped : (s : Machine) (ticket : Ticket) (partitions : List TopicPartition) (o : Result (List ℕ) Code) → ArePassed s.groups (dropped s ticket partitions o).effects.commands
+unfolding dropped
+passed-dropped s ticket partitions (Ok id) = each-drop (λ c. is_passed_on s.groups c ≡ true) (λ _. refl) id (with_offset s.offsets id partitions)
+passed-dropped s ticket partitions (Err code) = tt
+
 passed-met : (s : Machine) (e : Event) → ArePassed s.groups (met s e).effects.commands
 unfolding met everywhere
 passed-met s (event.Join ticket r fresh) =
@@ -143,14 +155,15 @@ passed-met s (event.Leave ticket r) =
 passed-met s (event.Commit ticket r) =
     passed-concluded s ticket (commit s.last r ticket s.groups)
     (fine-commit (Passed s.groups) s.last r ticket s.groups
-    (λ id _. all_passed s.groups _ (plain-committed r.entries ticket (new_group id)))
-    (λ id g who _ _. all_passed s.groups _ (plain-committed r.entries ticket (hearing_committer s.last who g))))
+    (λ id _. all_passed s.groups _ (plain-committed s.last r.entries ticket (new_group id)))
+    (λ id g who _ _. all_passed s.groups _ (plain-committed s.last r.entries ticket (hearing_committer s.last who g))))
 passed-met s (event.Fetch ticket r) = tt
-passed-met s (event.Delete ticket id) = passed-deleted s ticket (deleting id s.groups)
+passed-met s (event.Delete ticket id) = passed-deleted s ticket (memberless id s.groups)
+passed-met s (event.Drop ticket r) = passed-dropped s ticket r.partitions (memberless r.group s.groups)
 passed-met s (event.Describe ticket id) = tt
 passed-met s (event.List ticket) = tt
 passed-met s (event.Gone session) = passed_all s.groups (gone_in s.last session) (makes-gone_in IsPlain (λ _ _. refl) (λ _ _. refl) s.last session) s.groups
-passed-met s event.Tick = passed_all s.groups (ticked s.last) (makes-ticked IsPlain (λ _ _. refl) (λ _ _. refl) s.last) s.groups
+passed-met s event.Tick = all_passed s.groups (tick s).effects.commands (each-tick IsPlain s (makes-ticked IsPlain (λ _ _. refl) (λ _ _. refl) s.last) (λ _. refl) (λ _ _. refl))
 
 passed-step : (s : Machine) (e : Event) (m : ℕ) → ArePassed s.groups (step s e m).effects.commands
 unfolding step

@@ -194,25 +194,25 @@ module _ (P : Turn → Type 0) where
       (λ i g named e. fine-leave_held now r ticket g (λ m from. k i g m e (leaver_is_there r.instance r.member g.members m from)))
 
   fine-commit_in : (now : ℕ) (r : CommitRequest) (ticket : Ticket) (groups : List Group) (id : List ℕ) (o : Option Group)
-      → (o ≡ None → P (committed r.entries ticket (new_group id)))
-      → ((g : Group) (who : Option (List ℕ)) → o ≡ Some g → committer r.generation r.instance r.member g ≡ Ok who → P (committed r.entries ticket (hearing_committer now who g)))
+      → (o ≡ None → P (committed now r.entries ticket (new_group id)))
+      → ((g : Group) (who : Option (List ℕ)) → o ≡ Some g → committer r.generation r.instance r.member g ≡ Ok who → P (committed now r.entries ticket (hearing_committer now who g)))
       → Fine P (commit_in now r ticket groups id o)
   unfolding commit_held commit_unheld
   fine-commit_in now r ticket groups id None made taken =
-      let kept : Unit {0} → Result Turn Code = λ _. Ok (committed r.entries ticket (new_group id)) in
+      let kept : Unit {0} → Result Turn Code = λ _. Ok (committed now r.entries ticket (new_group id)) in
       let few : Unit {0} → Result Turn Code = λ _. refused_if (nat_le GROUPS_MAX (length groups)) CoordinatorNotAvailable >>= kept in
       after_test P (not (is_negative r.generation)) IllegalGeneration (λ _. refused_if (is_too_large r.entries) OffsetMetadataTooLarge >>= few)
       (λ _. after_test P (is_too_large r.entries) OffsetMetadataTooLarge few
       (λ _. after_test P (nat_le GROUPS_MAX (length groups)) CoordinatorNotAvailable kept (λ _. made refl)))
   fine-commit_in now r ticket groups id (Some g) made taken =
-      let kept : Option (List ℕ) → Unit {0} → Result Turn Code = λ who _. Ok (committed r.entries ticket (hearing_committer now who g)) in
+      let kept : Option (List ℕ) → Unit {0} → Result Turn Code = λ who _. Ok (committed now r.entries ticket (hearing_committer now who g)) in
       after_checked P (committer r.generation r.instance r.member g) (λ who. refused_if (is_too_large r.entries) OffsetMetadataTooLarge >>= kept who)
       (λ who from. after_test P (is_too_large r.entries) OffsetMetadataTooLarge (kept who) (λ _. taken g who refl from))
 
   -- COMMIT: the group is new, or the commit is from a member or a non-member of a loaded group
   pub fine-commit : (now : ℕ) (r : CommitRequest) (ticket : Ticket) (groups : List Group)
-      → ((id : List ℕ) → find_group id groups ≡ None → P (committed r.entries ticket (new_group id)))
-      → ((id : List ℕ) (g : Group) (who : Option (List ℕ)) → find_group id groups ≡ Some g → committer r.generation r.instance r.member g ≡ Ok who → P (committed r.entries ticket (hearing_committer now who g)))
+      → ((id : List ℕ) → find_group id groups ≡ None → P (committed now r.entries ticket (new_group id)))
+      → ((id : List ℕ) (g : Group) (who : Option (List ℕ)) → find_group id groups ≡ Some g → committer r.generation r.instance r.member g ≡ Ok who → P (committed now r.entries ticket (hearing_committer now who g)))
       → Fine P (commit now r ticket groups)
   unfolding commit
   fine-commit now r ticket groups made taken =

@@ -30,7 +30,8 @@ use Rattle.cg_member.specs.Offsets.{OffsetMap}
 use Rattle.cg_member.specs.Leaving.{after_removal, gone_in, leave_taken, left}
 use Rattle.cg_request.specs.declared.commit_entry.CommitEntry.{CommitEntry}
 use Rattle.cg_turn.specs.Committing.{committed, hearing_committer, keeping_entries}
-use Rattle.cg_group.specs.Machine.{at_event, beat, commit, concluded, deleted, deleting, describe, join, leave, met, step, sync}
+use Rattle.cg_held.specs.Expiring.{tick}
+use Rattle.cg_group.specs.Machine.{at_event, beat, commit, concluded, deleted, describe, dropped, join, leave, memberless, met, step, sync}
 use Rattle.cg_held.specs.Held.{Machine, everywhere}
 use Rattle.cg_member.specs.Membership.{hearing, is_empty, is_preparing, keeping, leads}
 use Rattle.cg_member.specs.Rebalance.{completed, emptied, is_ready, joined_reply, next_round, told_to_joins, tried, turn_of}
@@ -91,9 +92,9 @@ round-completed now t h =
 abbrev Joins : Turn → Bool
 Joins t = is_preparing t.group.phase
 
-joins-emptied : (t : Turn) → Joins (emptied t) ≡ false
+joins-emptied : (now : ℕ) (t : Turn) → Joins (emptied now t) ≡ false
 unfolding emptied
-joins-emptied t = refl
+joins-emptied now t = refl
 
 joins-round : (now : ℕ) (t : Turn) → Joins (told_to_joins now (record t { group = next_round t.group })) ≡ false
 unfolding told_to_joins next_round
@@ -102,7 +103,7 @@ joins-round now t = refl
 joins-completed : (now : ℕ) (t : Turn) → Joins (completed now t) ≡ false
 unfolding completed
 joins-completed now t =
-    elim (is_empty t.group.members) as (λ b. Joins (if b then emptied t else told_to_joins now (record t { group = next_round t.group })) ≡ false) [ true ↦ joins-emptied t | false ↦ joins-round now t ]
+    elim (is_empty t.group.members) as (λ b. Joins (if b then emptied now t else told_to_joins now (record t { group = next_round t.group })) ≡ false) [ true ↦ joins-emptied now t | false ↦ joins-round now t ]
 
 bare-tried : (now : ℕ) (t : Turn) → Told Bare t → Joins (tried now t) ≡ true → Told Bare (tried now t)
 unfolding tried
@@ -231,7 +232,7 @@ unfolding describe
 round-describe None groups = tt
 round-describe (Some id) groups = tt
 
-round-committed : (now : ℕ) (entries : List CommitEntry) (ticket : Ticket) (who : Option (List ℕ)) (g : Group) → InRound (committed entries ticket (hearing_committer now who g))
+round-committed : (now : ℕ) (entries : List CommitEntry) (ticket : Ticket) (who : Option (List ℕ)) (g : Group) → InRound (committed now entries ticket (hearing_committer now who g))
 unfolding keeping_entries
 round-committed now entries ticket who g = no_round ((ticket, reply.Done) ∷ []) (tt, tt)
 
@@ -239,6 +240,11 @@ round-deleted : (s : Machine) (ticket : Ticket) (o : Result (List ℕ) Code) →
 unfolding deleted
 round-deleted s ticket (Ok id) = no_round ((ticket, reply.Done) ∷ []) (tt, tt)
 round-deleted s ticket (Err code) = no_round ((ticket, reply.Refused code) ∷ []) (tt, tt)
+
+round-dropped : (s : Machine) (ticket : Ticket) (partitions : List TopicPartition) (o : Result (List ℕ) Code) → IsOneRound (dropped s ticket partitions o).effects.replies
+unfolding dropped
+round-dropped s ticket partitions (Ok id) = no_round ((ticket, reply.Done) ∷ []) (tt, tt)
+round-dropped s ticket partitions (Err code) = no_round ((ticket, reply.Refused code) ∷ []) (tt, tt)
 
 whole-one : (replies : List (Ticket × Reply)) → replies ≡ flat_map (λ rs. rs) (replies ∷ [])
 whole-one replies = sym (append-nil replies)
@@ -248,7 +254,7 @@ round-groups turn k [] = tt
 round-groups turn k (g ∷ gs) = (k g, round-groups turn k gs)
 
 in_rounds : (s : Machine) (e : Event) → IsInRounds s e
-unfolding replies_by_group met everywhere
+unfolding replies_by_group met everywhere tick
 in_rounds s (event.Join ticket r fresh) = record {
   whole = whole-one _;
   rounds = (
@@ -294,7 +300,8 @@ in_rounds s (event.Commit ticket r) = record {
   );
 }
 in_rounds s (event.Fetch ticket r) = record { whole = refl; rounds = (no_round ((ticket, fetched s.offsets r.group r.partitions) ∷ []) (round-fetched s.offsets r.group r.partitions, tt), tt) }
-in_rounds s (event.Delete ticket id) = record { whole = whole-one _; rounds = (round-deleted s ticket (deleting id s.groups), tt) }
+in_rounds s (event.Delete ticket id) = record { whole = whole-one _; rounds = (round-deleted s ticket (memberless id s.groups), tt) }
+in_rounds s (event.Drop ticket r) = record { whole = whole-one _; rounds = (round-dropped s ticket r.partitions (memberless r.group s.groups), tt) }
 in_rounds s (event.Describe ticket id) = record { whole = refl; rounds = (no_round ((ticket, describe id s.groups) ∷ []) (round-describe id s.groups, tt), tt) }
 in_rounds s (event.List ticket) = record { whole = refl; rounds = (no_round _ (tt, tt), tt) }
 in_rounds s (event.Gone session) = record {

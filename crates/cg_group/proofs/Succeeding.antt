@@ -8,7 +8,9 @@ use Rattle.std.proofs.lemmas.Cmp.{nat_list_eq_equiv}
 use Rattle.cg_record.specs.declared.member.Member.{Member as KeptMember}
 use Rattle.cg_record.specs.Rosters.{RosterParts, has_id_of_other, is_one_instance, leader_after, leads_and_goes as record_goes, may_replace, replaced_in, roster_of, seated as record_seated, takes_place_of}
 use Rattle.cg_fold.specs.declared.record.GroupRecord.{GroupRecord}
-use Rattle.cg_fold.specs.Record.{replaced_record}
+use Rattle.cg_fold.specs.declared.record.RecordedMembers.{RecordedMembers}
+use Rattle.cg_fold.specs.declared.record.RecordedMembers.TheVariants as recorded
+use Rattle.cg_fold.specs.Record.{replaced_members, replaced_record}
 use Rattle.cg_member.specs.declared.group.Group.{Group}
 use Rattle.cg_member.specs.declared.group.Phase.TheVariants.{Empty, Stable}
 use Rattle.cg_member.specs.declared.member.Member.{Member}
@@ -97,14 +99,14 @@ assigned-replacing new g r roster may h =
       members = ap (map (record_seated k)) h.members ∙ kept_seating g.protocol new g.members;
     }
 
-recorded-replacing : (new : Member) (g : Group) (r : GroupRecord) (roster : Option RosterParts) → g.phase ≡ Stable → may_replace (kept_member g.protocol new) (map (kept_member g.protocol) g.members) ≡ true → IsRecordedAs r roster g → IsRecordedAs (replaced_record (kept_member g.protocol new) r) (option_map (replaced_in (kept_member g.protocol new)) roster) (replacing new g)
-recorded-replacing new g r None p may h = let bad : Empty ≡ Stable = sym h.phase ∙ p in cc
-recorded-replacing new g r (Some roster) p may h = assigned-replacing new g r roster may h
+recorded-replacing : (new : Member) (g : Group) (r : GroupRecord) (roster : RecordedMembers) → g.phase ≡ Stable → may_replace (kept_member g.protocol new) (map (kept_member g.protocol) g.members) ≡ true → IsRecordedAs r roster g → IsRecordedAs (replaced_record (kept_member g.protocol new) r) (replaced_members (kept_member g.protocol new) roster) (replacing new g)
+recorded-replacing new g r (recorded.Empty moment) p may h = let bad : Empty ≡ Stable = sym h.phase ∙ p in cc
+recorded-replacing new g r (recorded.Roster roster) p may h = assigned-replacing new g r roster may h
 
 -- the record of a stable group agrees with it after the command has replaced the member
 pub told-replacing : (new : Member) (g : Group) (o : Option GroupRecord) → g.phase ≡ Stable → may_replace (kept_member g.protocol new) (map (kept_member g.protocol) g.members) ≡ true → TellsOf g o → TellsOf (replacing new g) (option_map (replaced_record (kept_member g.protocol new)) o)
 told-replacing new g None p may h = let bad : Empty ≡ Stable = sym h.phase ∙ p in cc
-told-replacing new g (Some r) p may h = recorded-replacing new g r r.roster p may h
+told-replacing new g (Some r) p may h = recorded-replacing new g r r.members p may h
 
 -- the replacement is allowed: one member has the instance, and no other has the id
 pub successor_may : (now : ℕ) (r : JoinRequest) (id : List ℕ) (old : Member) (g : Group) → is_some (find_member id g.members) ≡ false → find_instance r.instance g.members ≡ Some old → may_replace (kept_member g.protocol (successor now r id old)) (map (kept_member g.protocol) g.members) ≡ true

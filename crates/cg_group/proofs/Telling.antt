@@ -75,15 +75,15 @@ module _ (P : Reply → Type 0) (refused : (code : Code) → P (reply.Refused co
   unfolding told_to_joins
   told-told_to_joins now t k h = each-append (λ r. P r.1) t.replies _ h (told-alike Joins (joined_reply t.group) k t.group.members)
 
-  told-emptied : (t : Turn) → Told P t → Told P (emptied t)
+  told-emptied : (now : ℕ) (t : Turn) → Told P t → Told P (emptied now t)
   unfolding emptied
-  told-emptied t h = h
+  told-emptied now t h = h
 
   pub told-completed : (now : ℕ) (t : Turn) → ((m : Member) → P (joined_reply (next_round t.group) m)) → Told P t → Told P (completed now t)
   unfolding completed
   told-completed now t k h =
-      elim (is_empty t.group.members) as (λ b. Told P (if b then emptied t else told_to_joins now (record t { group = next_round t.group }))) [
-        | true ↦ told-emptied t h
+      elim (is_empty t.group.members) as (λ b. Told P (if b then emptied now t else told_to_joins now (record t { group = next_round t.group }))) [
+        | true ↦ told-emptied now t h
         | false ↦ told-told_to_joins now (record t { group = next_round t.group }) k h
       ]
 

@@ -1,5 +1,5 @@
 -- Laws of the machine, for every list of events after recovery from any durable state.
-use Rattle.std.specs.Prelude.{◌≡◌, ◌⊎◌, ◌≤◌, ℕ, Bool, true, pos, List, [], ◌∷◌, ◌++◌, map, Option, Some, None, Ok, Contains, IfSome, is_some}
+use Rattle.std.specs.Prelude.{◌≡◌, ◌⊎◌, ◌≤◌, ℕ, max, Bool, true, pos, List, [], ◌∷◌, ◌++◌, map, Option, Some, None, Ok, Contains, IfSome, is_some}
 use Rattle.std.specs.List.{list_any, flat_map}
 use Rattle.std.specs.Ordering.{int_eq}
 use Rattle.std.specs.FinMap as finmap
@@ -10,8 +10,13 @@ use Rattle.cg_record.specs.declared.member.Member.{Member as KeptMember}
 use Rattle.cg_record.specs.declared.replaced.Replaced.{Replaced}
 use Rattle.cg_record.specs.Rosters.{RosterParts}
 use Rattle.cg_fold.specs.declared.record.GroupRecord.{GroupRecord}
+use Rattle.cg_fold.specs.declared.record.RecordedMembers.{RecordedMembers}
+use Rattle.cg_fold.specs.declared.record.RecordedMembers.TheVariants as recorded
 use Rattle.cg_fold.specs.Durable.{State, after}
-use Rattle.cg_fold.specs.Key.{OffsetKey}
+use Rattle.cg_fold.specs.Key.{OffsetKey, key_of}
+use Rattle.cg_fold.specs.declared.stored_offset.StoredOffset.{StoredOffset}
+use Rattle.cg_record.specs.declared.topic_partition.TopicPartition.{TopicPartition}
+use Rattle.cg_held.specs.Expiring.{is_stale}
 use Rattle.cg_request.specs.declared.event.Event.{Event}
 use Rattle.cg_request.specs.declared.event.Event.TheVariants as event
 use Rattle.cg_member.specs.declared.group.Group.{Group}
@@ -55,6 +60,7 @@ is_request (event.Beat ticket r) = true
 is_request (event.Leave ticket r) = true
 is_request (event.Fetch ticket r) = true
 is_request (event.Delete ticket id) = true
+is_request (event.Drop ticket r) = true
 is_request (event.Describe ticket id) = true
 is_request (event.List ticket) = true
 is_request (event.Gone session) = true
@@ -83,6 +89,7 @@ replies_by_group s (event.Leave ticket r) = (met s (event.Leave ticket r)).effec
 replies_by_group s (event.Commit ticket r) = (met s (event.Commit ticket r)).effects.replies ∷ []
 replies_by_group s (event.Fetch ticket r) = (met s (event.Fetch ticket r)).effects.replies ∷ []
 replies_by_group s (event.Delete ticket id) = (met s (event.Delete ticket id)).effects.replies ∷ []
+replies_by_group s (event.Drop ticket r) = (met s (event.Drop ticket r)).effects.replies ∷ []
 replies_by_group s (event.Describe ticket id) = (met s (event.Describe ticket id)).effects.replies ∷ []
 replies_by_group s (event.List ticket) = (met s (event.List ticket)).effects.replies ∷ []
 
@@ -129,14 +136,15 @@ pub record IsAssignedAs (r : GroupRecord) (roster : RosterParts) (g : Group) : T
   pub leader : Some roster.leader ≡ g.leader
   pub members : roster.members ≡ map (kept_member g.protocol) g.members
 
--- the record of a group without members: it has no protocol and no leader either
-pub record IsEmptiedAs (r : GroupRecord) (g : Group) : Type 0 where
+-- the record of a group without members, with the moment at which it was emptied: it has no protocol and no leader either
+pub record IsEmptiedAs (r : GroupRecord) (moment : Option ℕ) (g : Group) : Type 0 where
   pub phase : g.phase ≡ Empty
   pub generation : r.generation ≡ g.generation
   pub kind : Some r.kind ≡ g.kind
   pub protocol : g.protocol ≡ None
   pub leader : g.leader ≡ None
   pub members : g.members ≡ []
+  pub emptied : g.emptied ≡ moment
 
 -- a group of which only offsets are stored: it has nothing of a rebalance
 pub record IsUnrecorded (g : Group) : Type 0 where
@@ -147,15 +155,15 @@ pub record IsUnrecorded (g : Group) : Type 0 where
   pub leader : g.leader ≡ None
   pub members : g.members ≡ []
 
--- the record has everything of the group, by its roster
-abbrev pub IsRecordedAs : GroupRecord → Option RosterParts → Group → Type 0
-IsRecordedAs r (Some roster) g = IsAssignedAs r roster g
-IsRecordedAs r None g = IsEmptiedAs r g
+-- the record has everything of the group, by its members
+abbrev pub IsRecordedAs : GroupRecord → RecordedMembers → Group → Type 0
+IsRecordedAs r (recorded.Roster roster) g = IsAssignedAs r roster g
+IsRecordedAs r (recorded.Empty moment) g = IsEmptiedAs r moment g
 
 -- the record has everything of the group, or the group needs none
 abbrev pub TellsOf : Group → Option GroupRecord → Type 0
 TellsOf g None = IsUnrecorded g
-TellsOf g (Some r) = IsRecordedAs r r.roster g
+TellsOf g (Some r) = IsRecordedAs r r.members g
 
 -- a stable or empty group equals its record; a group with a rebalance under way may differ
 abbrev pub AgreesIn : Phase → Group → Option GroupRecord → Type 0
@@ -226,7 +234,7 @@ pub record IsEarnedAssignment (events : List (Event × ℕ)) (groups : List Grou
   pub entry : GroupRecord
   pub entry_is : kept group.id ≡ Some entry
   pub roster : RosterParts
-  pub roster_is : entry.roster ≡ Some roster
+  pub roster_is : entry.members ≡ recorded.Roster roster
   pub stored : KeptMember
   pub listed : Contains roster.members stored
   pub own : stored.id ≡ member.id
@@ -299,3 +307,36 @@ CommitsAreLawful events =
     (state : State) (now : ℕ) (ticket : Ticket) (r : CommitRequest) (m : ℕ)
     → let s : Machine = after_all events (revive state now) in
     IsRefused ticket s (step s (event.Commit ticket r) m) ⊎ IsLawfulCommit r s.groups
+
+-- A tick makes Expired for an offset, and Deleted for a group, only where the retention time is over.
+
+-- the offset of this partition is stale
+pub record IsStaleOffset (state : State) (loaded now : ℕ) (group : List ℕ) (partition : TopicPartition) : Type 0 where
+  pub stored : StoredOffset
+  pub found : finmap.get state.offsets (key_of group partition) ≡ Some stored
+  pub stale : is_stale loaded now stored.moment ≡ true
+
+-- the record of the group has no members, and is stale
+pub record IsStaleRecord (state : State) (loaded now : ℕ) (group : List ℕ) : Type 0 where
+  pub entry : GroupRecord
+  pub found : kept_in state group ≡ Some entry
+  pub moment : Option ℕ
+  pub empty : entry.members ≡ recorded.Empty moment
+  pub stale : is_stale loaded now moment ≡ true
+
+-- an offset expires only where its group has no record
+abbrev pub IsDueIn : State → ℕ → ℕ → Command → Type 0
+IsDueIn state loaded now (command.Expired e) = (kept_in state e.group ≡ None) × Each (IsStaleOffset state loaded now e.group) e.partitions
+IsDueIn state loaded now (command.Deleted d) = IsStaleRecord state loaded now d.group
+IsDueIn state loaded now (command.Dropped d) = Unit {0}
+IsDueIn state loaded now (command.Assigned a) = Unit {0}
+IsDueIn state loaded now (command.Emptied e) = Unit {0}
+IsDueIn state loaded now (command.Replaced r) = Unit {0}
+IsDueIn state loaded now (command.Committed c) = Unit {0}
+
+-- for a tick after the events of a list
+abbrev pub ExpiryIsLawful : List (Event × ℕ) → Type 0
+ExpiryIsLawful events =
+    (state : State) (now m : ℕ)
+    → let s : Machine = after_all events (revive state now) in
+    Each (IsDueIn (state_after state now events) now (max s.last m)) (step s event.Tick m).effects.commands

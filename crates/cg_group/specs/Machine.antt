@@ -1,13 +1,17 @@
 -- The machine: the effect of an event on the loaded groups and the offsets. The moment of an event is its own or the
 -- last one, whichever is later.
-use Rattle.std.specs.Prelude.{◌≡◌, ◌≤◌, ◌+◌, ◌-◌, ◌^◌, not, ℕ, min, max, fold, List, [], ◌∷◌, map, length, Option, Some, None, Result, Ok, Err, true, is_ok, is_some, option_map, ok_or}
+use Rattle.std.specs.Prelude.{◌≡◌, ◌≤◌, ◌+◌, ◌-◌, ◌^◌, not, ◌&&◌, ◌||◌, if◌then◌else◌, ℕ, Bool, min, max, fold, filter, List, [], ◌∷◌, map, length, Option, Some, None, Result, Ok, Err, true, is_ok, is_some, option_map, ok_or}
 use Rattle.std.specs.List.{list_any}
 use Rattle.cg_names.specs.declared.code.Code.{Code}
 use Rattle.cg_names.specs.declared.code.Code.TheVariants.{GroupIdNotFound, InvalidGroupId, InvalidSessionTimeout, NonEmptyGroup, UnknownMemberId}
+use Rattle.std.specs.FinMap as finmap
+use Rattle.cg_record.specs.declared.command.Command.{Command}
 use Rattle.cg_record.specs.declared.command.Command.TheVariants as command
+use Rattle.cg_record.specs.declared.topic_partition.TopicPartition.{TopicPartition}
+use Rattle.cg_fold.specs.Key.{key_of}
 use Rattle.cg_member.specs.declared.effects.Effects.{Effects}
 use Rattle.cg_request.specs.declared.event.Event.{Event}
-use Rattle.cg_request.specs.declared.event.Event.TheVariants.{Join, Sync, Beat, Leave, Commit, Fetch, Delete, Describe, Gone, Tick}
+use Rattle.cg_request.specs.declared.event.Event.TheVariants.{Join, Sync, Beat, Leave, Commit, Fetch, Delete, Drop, Describe, Gone, Tick}
 use Rattle.cg_request.specs.declared.event.Event.TheVariants as event
 use Rattle.cg_member.specs.declared.group.Group.{Group}
 use Rattle.cg_member.specs.declared.reply.Reply.{Reply}
@@ -24,15 +28,15 @@ use Rattle.cg_turn.specs.Beating.{beat_held}
 use Rattle.cg_turn.specs.Committing.{commit_held, commit_unheld}
 use Rattle.cg_turn.specs.Touching.{gone_touches, tick_touches}
 use Rattle.cg_held.specs.Describing.{description, listing}
+use Rattle.cg_held.specs.Expiring.{expires, is_bare, is_nil, tick}
 use Rattle.cg_member.specs.Fetching.{fetched}
 use Rattle.cg_held.specs.Held.{Machine, Outcome, find_group, with_group, without_group, everywhere}
 use Rattle.cg_member.specs.Joining.{is_session_refused}
 use Rattle.cg_member.specs.Leaving.{gone_in, leave_held}
 use Rattle.cg_member.specs.Membership.{is_empty}
-use Rattle.cg_member.specs.Offsets.{offsets_after}
+use Rattle.cg_member.specs.Offsets.{OffsetMap, offsets_after}
 use Rattle.cg_member.specs.Refusing.{◌>>=◌, refused_if}
 use Rattle.cg_member.specs.Syncing.{sync_held}
-use Rattle.cg_member.specs.Ticking.{ticked}
 
 -- one reply, and no command
 abbrev pub reply_alone : Ticket → Reply → Effects
@@ -87,7 +91,7 @@ leave now r ticket groups = do
 
 -- COMMIT, by whether its group is loaded
 abbrev pub commit_in : ℕ → CommitRequest → Ticket → List Group → List ℕ → Option Group → Result Turn Code
-commit_in now r ticket groups id None = commit_unheld r.generation r.entries ticket (length groups) id
+commit_in now r ticket groups id None = commit_unheld now r.generation r.entries ticket (length groups) id
 commit_in now r ticket groups id (Some g) = commit_held now r.generation r.instance r.member r.entries ticket g
 
 -- COMMIT
@@ -96,9 +100,9 @@ commit now r ticket groups = do
   id ← ok_or r.group InvalidGroupId
   commit_in now r ticket groups id (find_group id groups)
 
--- DELETE: the group is loaded, and has no members
-unfoldable pub deleting : Option (List ℕ) → List Group → Result (List ℕ) Code
-deleting id groups = do
+-- DELETE and DROP: the group is loaded, and has no members
+unfoldable pub memberless : Option (List ℕ) → List Group → Result (List ℕ) Code
+memberless id groups = do
   i ← ok_or id InvalidGroupId
   g ← ok_or (find_group i groups) GroupIdNotFound
   _ ← refused_if (not (is_empty g.members)) NonEmptyGroup
@@ -107,6 +111,39 @@ deleting id groups = do
 -- the command that deletes a group, and its reply
 abbrev pub deleted_alone : Ticket → List ℕ → Effects
 deleted_alone ticket id = record { commands = command.Deleted (record { group = id }) ∷ []; replies = (ticket, reply.Done) ∷ [] }
+
+-- the command of a DROP (KIP-496), where there is an offset to drop
+abbrev pub drop_command : List ℕ → List TopicPartition → List Command
+drop_command group [] = []
+drop_command group (p ∷ ps) = command.Dropped (record { group = group; partitions = p ∷ ps }) ∷ []
+
+-- those of the partitions that have an offset in the group, in their order
+abbrev pub with_offset : OffsetMap → List ℕ → List TopicPartition → List TopicPartition
+with_offset offsets group partitions = filter (λ p. is_some (finmap.get offsets (key_of group p))) partitions
+
+-- the group has no type, and so no record
+abbrev pub is_unrecorded : Option Group → Bool
+is_unrecorded None = true
+is_unrecorded (Some g) = not (is_some g.kind)
+
+-- nothing of the group is left: it has no record and no offset
+abbrev pub is_unfounded : OffsetMap → List Group → List ℕ → Bool
+is_unfounded offsets groups id = is_bare offsets id && is_unrecorded (find_group id groups)
+
+-- the groups after these commands on one of them, which goes if they leave nothing of it
+abbrev pub founded_after : OffsetMap → List Command → List ℕ → List Group → List Group
+founded_after offsets commands id groups =
+    if not (is_nil commands) && is_unfounded (offsets_after offsets commands) groups id then without_group id groups else groups
+
+-- the effect of a DROP: OK, and the command if any of the partitions has an offset
+unfoldable pub dropped : Machine → Ticket → List TopicPartition → Result (List ℕ) Code → Outcome
+dropped s ticket partitions (Err code) = replying s ticket (reply.Refused code)
+dropped s ticket partitions (Ok id) =
+    let commands : List Command = drop_command id (with_offset s.offsets id partitions) in
+    record {
+      after = record s { groups = founded_after s.offsets commands id s.groups };
+      effects = record { commands = commands; replies = (ticket, reply.Done) ∷ [] };
+    }
 
 -- the effect of a DELETE
 unfoldable pub deleted : Machine → Ticket → Result (List ℕ) Code → Outcome
@@ -129,11 +166,12 @@ met s (Beat ticket r) = concluded s ticket (beat s.last r ticket s.groups)
 met s (Leave ticket r) = concluded s ticket (leave s.last r ticket s.groups)
 met s (Commit ticket r) = concluded s ticket (commit s.last r ticket s.groups)
 met s (Fetch ticket r) = replying s ticket (fetched s.offsets r.group r.partitions)
-met s (Delete ticket id) = deleted s ticket (deleting id s.groups)
+met s (Delete ticket id) = deleted s ticket (memberless id s.groups)
+met s (Drop ticket r) = dropped s ticket r.partitions (memberless r.group s.groups)
 met s (Describe ticket id) = replying s ticket (describe id s.groups)
 met s (event.List ticket) = replying s ticket (reply.Groups (map listing s.groups))
 met s (Gone session) = everywhere (gone_in s.last session) s
-met s Tick = everywhere (ticked s.last) s
+met s Tick = tick s
 
 -- the event may need memory: a request only if it is not refused, and a BEAT never; a DESCRIBE and a LIST only if there is a
 -- group to show, the end of a session only if a call of it is parked, and a tick only if it changes a group
@@ -144,11 +182,12 @@ MayNeedMemory s (Beat ticket r) = ⊥
 MayNeedMemory s (Leave ticket r) = is_ok (leave s.last r ticket s.groups) ≡ true
 MayNeedMemory s (Commit ticket r) = is_ok (commit s.last r ticket s.groups) ≡ true
 MayNeedMemory s (Fetch ticket r) = is_some r.group ≡ true
-MayNeedMemory s (Delete ticket id) = is_ok (deleting id s.groups) ≡ true
+MayNeedMemory s (Delete ticket id) = is_ok (memberless id s.groups) ≡ true
+MayNeedMemory s (Drop ticket r) = is_ok (memberless r.group s.groups) ≡ true
 MayNeedMemory s (Describe ticket id) = is_ok (named_group id s.groups) ≡ true
 MayNeedMemory s (event.List ticket) = 1 ≤ length s.groups
 MayNeedMemory s (Gone session) = list_any (gone_touches session) s.groups ≡ true
-MayNeedMemory s Tick = list_any (tick_touches s.last) s.groups ≡ true
+MayNeedMemory s Tick = list_any (λ g. tick_touches s.last g || expires s.loaded s.last s.offsets g) s.groups ≡ true
 
 -- the commands change the offsets
 abbrev pub with_offsets : Outcome → Outcome

@@ -12,6 +12,7 @@ ghost use Rattle.cg_held.specs.Reviving.{revive};
 
 use crate::meeting::met;
 use cg_fold::{Durable, Offsets};
+use cg_held::expiring::Clock;
 use cg_held::held::Held;
 use cg_held::reviving::revived_all;
 use cg_held::sessions::Homes;
@@ -25,13 +26,15 @@ use std::collections::BTreeMap;
 use std::collections::btree_map::Values;
 use std::marker::Model;
 
-/// The state of the group machine: the loaded groups, the committed offsets, and the moment of the last event.
+/// The state of the group machine: the loaded groups, the committed offsets, the moment of the last event, and that of loading.
 /// Contracts see the groups by the bytes of their ids.
 #[derive(Drop)]
 pub struct Groups {
     held: Held,
     offsets: Offsets,
     last: Moment,
+    /// The moment of loading; an unknown moment counts as this one.
+    loaded: Moment,
     /// Session index: the groups in which the calls of each session may be parked.
     homes: Homes,
     // The index has every parked call, and no more.
@@ -48,7 +51,7 @@ impl Model for Groups {
 
     ghost coded = { Prim.hlevel (codes, offsets_code) };
 
-    ghost view = { λ g. record { groups = g.held; offsets = g.offsets; last = g.last } };
+    ghost view = { λ g. record { groups = g.held; offsets = g.offsets; last = g.last; loaded = g.loaded } };
 }
 
 impl Groups {
@@ -68,6 +71,7 @@ impl Groups {
                 held,
                 offsets: durable.into_offsets(),
                 last: now,
+                loaded: now,
                 homes: BTreeMap::new(alloc),
             }),
             Err(wanting) => Err((wanting, durable)),
@@ -125,7 +129,10 @@ impl Groups {
     {
         let now = self.last.max(now);
         let effects = met(
-            now,
+            &Clock {
+                loaded: self.loaded,
+                moment: now,
+            },
             &mut self.held,
             &mut self.offsets,
             &mut self.homes,

@@ -18,11 +18,10 @@ use cg_member::few::Few;
 use cg_member::group::Group;
 use cg_member::reply::Reply;
 use cg_names::{Code, GroupId, MemberId, Moment};
-use cg_record::Committed;
 use cg_request::commits::{Commits, into_entries};
 use cg_request::request::BeatRequest;
 use cg_request::ticket::Ticket;
-use cg_turn::committing::kept;
+use cg_turn::committing::{commit_at, kept};
 use cg_turn::context::RequestContext;
 use std::alloc::{AllocError, Global};
 
@@ -114,7 +113,7 @@ pub fn commit_in(
         let refused = Reply::Refused(Code::OffsetMetadataTooLarge);
         return Ok(reply_alone(context.alloc, context.ticket, refused));
     };
-    let committed = Committed { group: id, entries };
+    let committed = commit_at(context.now, entries, id);
     offsets.commit(&committed)?;
     hear_committer(context.now, held, &committed.group, who);
     Ok(kept(context.alloc, committed, context.ticket))

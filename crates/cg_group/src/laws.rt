@@ -3,7 +3,7 @@
 //! requests give, the events are an argument.
 ghost use Rattle.std.specs.Prelude.{◌≡◌, true};
 ghost use Rattle.std.specs.List.{list_any};
-ghost use Rattle.cg_group.specs.Laws.{AreRequests, MembersStayDistinct, RoundsAreOne, CommitsAreLawful, AssignmentsAreEarned, MachineAndCommandsAgree, is_request};
+ghost use Rattle.cg_group.specs.Laws.{AreRequests, ExpiryIsLawful, MembersStayDistinct, RoundsAreOne, CommitsAreLawful, AssignmentsAreEarned, MachineAndCommandsAgree, is_request};
 
 use cg_names::Moment;
 use cg_request::commits::Commits;
@@ -43,6 +43,7 @@ fn is_request(event: &Event)
         | Event::Leave(..)
         | Event::Fetch(..)
         | Event::Delete(..)
+        | Event::Drop(..)
         | Event::Describe(..)
         | Event::List(_)
         | Event::Gone(_)
@@ -75,6 +76,14 @@ pub fn commits_are_lawful(events: &[(Event, Moment)])
 /// commands store for it. A replacement has the assignment of the replaced member (KIP-345).
 pub fn assignments_are_earned(events: &[(Event, Moment)])
     ensures { AssignmentsAreEarned events.now }
+{
+    events_are_requests(events);
+}
+
+/// States that a tick deletes a group only where its record has no members and its retention time is over, and that it makes an
+/// offset expire only where that of the offset is over and the group has no record (KIP-211).
+pub fn expiry_is_lawful(events: &[(Event, Moment)])
+    ensures { ExpiryIsLawful events.now }
 {
     events_are_requests(events);
 }

@@ -21,8 +21,8 @@ mod ways;
 
 pub use groups::Groups;
 pub use laws::{
-    assignments_are_earned, commits_are_lawful, events_are_requests, machine_and_commands_agree,
-    members_stay_distinct, rounds_are_one,
+    assignments_are_earned, commits_are_lawful, events_are_requests, expiry_is_lawful,
+    machine_and_commands_agree, members_stay_distinct, rounds_are_one,
 };
 
 // The types of events, replies and groups, for the callers of `step`.
@@ -44,7 +44,8 @@ pub use cg_request::listed::Listed;
 pub use cg_request::protocol::{PROTOCOLS_MAX, Protocol};
 pub use cg_request::protocols::Protocols;
 pub use cg_request::request::{
-    BeatRequest, CommitRequest, FetchRequest, JoinRequest, LeaveRequest, SyncEntry, SyncRequest,
+    BeatRequest, CommitRequest, DropRequest, FetchRequest, JoinRequest, LeaveRequest, SyncEntry,
+    SyncRequest,
 };
 pub use cg_request::sync_entries::SyncEntries;
 pub use cg_request::ticket::Ticket;

@@ -1,13 +1,14 @@
 //! The processing of each event on the loaded groups.
-ghost use Rattle.std.specs.Prelude.{◌≡◌, ℕ, false, Ok, Err, None, true, is_ok, length, IfOk, OnErr, MatchResult};
+ghost use Rattle.std.specs.Prelude.{◌≡◌, ◌≤◌, ℕ, false, Ok, Err, None, true, is_ok, length, IfOk, OnErr, MatchResult};
 ghost use Rattle.std.specs.List.{list_any};
+ghost use Rattle.cg_record.specs.Partitions.{ArePartitions};
 ghost use Rattle.cg_member.specs.Leaving.{gone_in};
 ghost use Rattle.cg_turn.specs.Committing.{commit_unheld, keeping_entries};
 ghost use Rattle.cg_turn.specs.Touching.{gone_touches};
 ghost use Rattle.cg_member.specs.Joining.{new_group};
 ghost use Rattle.cg_member.specs.Offsets.{offsets_after};
 ghost use Rattle.cg_held.specs.Sessions.{AreKnown, IsTight, StayParked, is_home, is_parked};
-ghost use Rattle.cg_group.specs.Machine.{MayNeedMemory, concluded, commit, deleting, deleted, deleted_alone, describe, met, named_group};
+ghost use Rattle.cg_group.specs.Machine.{MayNeedMemory, concluded, commit, deleted, deleted_alone, describe, dropped, is_unfounded, memberless, met, named_group, with_offset};
 ghost use Rattle.cg_held.specs.Held.{at_moment, everywhere, find_group, outcome, standing};
 
 use crate::in_place::{commit_in, meet_beat, reply_alone};
@@ -17,6 +18,7 @@ use crate::syncing::meet_sync;
 use crate::ticking::meet_tick;
 use cg_fold::Offsets;
 use cg_held::describing::{description, listings};
+use cg_held::expiring::Clock;
 use cg_held::held::Held;
 use cg_held::homes::end_session;
 use cg_held::sessions::{Homes, forget};
@@ -26,12 +28,12 @@ use cg_member::fetching::fetched;
 use cg_member::few::Few;
 use cg_member::reply::Reply;
 use cg_names::{Code, GroupId, Moment};
-use cg_record::{Command, Committed, Deleted, Entries};
+use cg_record::{Command, Deleted, Dropped, Entries, Partitions, TopicPartition};
 use cg_request::commits::{Commits, into_entries};
 use cg_request::event::Event;
-use cg_request::request::CommitRequest;
+use cg_request::request::{CommitRequest, DropRequest};
 use cg_request::ticket::Ticket;
-use cg_turn::committing::{committer, kept, new_group_commit_refusal};
+use cg_turn::committing::{commit_at, committer, kept, new_group_commit_refusal};
 use cg_turn::context::RequestContext;
 use cg_turn::joining::new_group;
 use std::alloc::{AllocError, Global};
@@ -65,14 +67,14 @@ fn commit_new(
 ) -> Result<Effects, AllocError>
     requires { find_group id held.old ≡ None }
     ensures ok { IfOk result
-        (λ e. concluded (at_moment context.now held.old) context.ticket (Ok (keeping_entries entries context.ticket (new_group id))) ≡ outcome (at_moment context.now held.new) e) }
+        (λ e. concluded (at_moment context.now held.old) context.ticket (Ok (keeping_entries context.now entries context.ticket (new_group id))) ≡ outcome (at_moment context.now held.new) e) }
     ensures parked { StayParked held.old held.new }
     ensures offsets { IfOk result (λ e. offsets.new ≡ offsets_after offsets.old e.commands) }
     ensures err { OnErr result ((held.new ≡ held.old) × (offsets.new ≡ offsets.old)) }
 {
     let own = id.clone()?;
     held.put(new_group(context.alloc, own))?;
-    let committed = Committed { group: id, entries };
+    let committed = commit_at(context.now, entries, id);
     match offsets.commit(&committed) {
         Ok(()) => Ok(kept(context.alloc, committed, context.ticket)),
         Err(wanting) => {
@@ -93,11 +95,11 @@ fn commit_apart(
 ) -> Result<Effects, AllocError>
     requires { find_group id held.old ≡ None }
     ensures ok { IfOk result
-        (λ e. concluded (at_moment context.now held.old) context.ticket (commit_unheld generation entries context.ticket (length held.old) id) ≡ outcome (at_moment context.now held.new) e) }
+        (λ e. concluded (at_moment context.now held.old) context.ticket (commit_unheld context.now generation entries context.ticket (length held.old) id) ≡ outcome (at_moment context.now held.new) e) }
     ensures parked { StayParked held.old held.new }
     ensures offsets { IfOk result (λ e. offsets.new ≡ offsets_after offsets.old e.commands) }
     ensures err { OnErr result ((held.new ≡ held.old) × (offsets.new ≡ offsets.old)) }
-    ensures taken { OnErr result (is_ok (commit_unheld generation entries context.ticket (length held.old) id) ≡ true) }
+    ensures taken { OnErr result (is_ok (commit_unheld context.now generation entries context.ticket (length held.old) id) ≡ true) }
 {
     if let Some(code) = new_group_commit_refusal(generation, &entries, held.len()) {
         return Ok(reply_alone(context.alloc, context.ticket, Reply::Refused(code)));
@@ -163,11 +165,11 @@ fn meet_commit(
 }
 
 // Returns the group that a DELETE removes. Reports 69 if it is not loaded, and 68 if it has members.
-#[tactic(auto, unfolding(crate::specs::Machine::deleting))]
-fn deleting<'a>(id: &'a Option<GroupId>, groups: &Held) -> Result<&'a GroupId, Code>
+#[tactic(auto, unfolding(crate::specs::Machine::memberless))]
+fn memberless<'a>(id: &'a Option<GroupId>, groups: &Held) -> Result<&'a GroupId, Code>
     ensures deleted { MatchResult result
-        (λ own. deleting id.now groups.now ≡ Ok own.now)
-        (λ code. deleting id.now groups.now ≡ Err code) }
+        (λ own. memberless id.now groups.now ≡ Ok own.now)
+        (λ code. memberless id.now groups.now ≡ Err code) }
     ensures idle { IfOk result (λ own. (q : ℕ) → is_parked q (find_group own.now groups.now) ≡ false) }
 {
     let Some(own) = id else {
@@ -202,20 +204,104 @@ fn meet_delete(
     id: &Option<GroupId>,
 ) -> Result<Effects, AllocError>
     ensures ok { IfOk result
-        (λ e. deleted (at_moment now held.old) ticket (deleting id.now held.old) ≡ outcome (at_moment now held.new) e) }
+        (λ e. deleted (at_moment now held.old) ticket (memberless id.now held.old) ≡ outcome (at_moment now held.new) e) }
     ensures parked { StayParked held.old held.new }
     ensures offsets { IfOk result (λ e. offsets.new ≡ offsets_after offsets.old e.commands) }
     ensures err { OnErr result ((held.new ≡ held.old) × (offsets.new ≡ offsets.old)) }
-    ensures taken { OnErr result (is_ok (deleting id.now held.old) ≡ true) }
+    ensures taken { OnErr result (is_ok (memberless id.now held.old) ≡ true) }
 {
     let alloc = held.allocator();
-    match deleting(id, held) {
+    match memberless(id, held) {
         Err(code) => Ok(reply_alone(alloc, ticket, Reply::Refused(code))),
         Ok(own) => {
             let group = own.clone()?;
             let effects = deleted_alone(alloc, ticket, group);
             held.remove(own);
             offsets.forget(own);
+            Ok(effects)
+        }
+    }
+}
+
+// Returns those of the partitions that have an offset in the group, in their order.
+fn with_offset(offsets: &Offsets, group: &GroupId, partitions: Partitions) -> Vec<TopicPartition>
+    ensures value { result.items ≡ with_offset offsets.now group.now partitions }
+    ensures lawful { 1 ≤ length result.items → ArePartitions result.items }
+{
+    let _lawful = partitions.as_slice();
+    let mut partitions = partitions.into_vec();
+    partitions.retain(|partition| offsets.get(group, partition).is_some());
+    partitions
+}
+
+// Returns whether the group is loaded without a record, and no offset of it is left.
+fn is_unfounded(held: &Held, offsets: &Offsets, group: &GroupId) -> bool
+    ensures { result ≡ is_unfounded offsets.now held.now group.now }
+{
+    offsets.of_group(group).is_empty()
+        && match held.find(group) {
+            None => true,
+            Some(group) => group.kind.is_none(),
+        }
+}
+
+// Removes the offsets of these partitions from a group without members, and the group if nothing of it is left. Nothing is
+// done if none of the partitions has an offset.
+#[tactic(auto, unfolding(crate::specs::Machine::dropped, cg_fold::specs::Durable::effect))]
+fn drop_offsets(
+    context: RequestContext,
+    held: &mut Held,
+    offsets: &mut Offsets,
+    own: &GroupId,
+    partitions: Partitions,
+) -> Result<Effects, AllocError>
+    requires idle { (q : ℕ) → is_parked q (find_group own.now held.old) ≡ false }
+    ensures ok { IfOk result (λ e. (loaded : ℕ) → dropped (standing loaded context.now held.old offsets.old) context.ticket partitions (Ok own.now)
+        ≡ outcome (standing loaded context.now held.new offsets.old) e) }
+    ensures parked { StayParked held.old held.new }
+    ensures offsets { IfOk result (λ e. offsets.new ≡ offsets_after offsets.old e.commands) }
+    ensures err { OnErr result ((held.new ≡ held.old) × (offsets.new ≡ offsets.old)) }
+{
+    let RequestContext { alloc, ticket, .. } = context;
+    let partitions = with_offset(offsets, own, partitions);
+    if partitions.is_empty() {
+        return Ok(reply_alone(alloc, ticket, Reply::Done));
+    }
+    let group = own.clone()?;
+    offsets.forget_partitions(own, partitions.as_slice());
+    if is_unfounded(held, offsets, own) {
+        held.remove(own);
+    }
+    let partitions = Partitions::from_lawful(partitions);
+    Ok(Effects {
+        commands: Few::one(alloc, Command::Dropped(Dropped { group, partitions })),
+        replies: Few::one(alloc, (ticket, Reply::Done)),
+    })
+}
+
+// Processes a DROP.
+#[tactic(auto, unfolding(crate::specs::Machine::dropped))]
+fn meet_drop(
+    now: Moment,
+    held: &mut Held,
+    offsets: &mut Offsets,
+    ticket: Ticket,
+    r: DropRequest,
+) -> Result<Effects, AllocError>
+    ensures ok { IfOk result
+        (λ e. (loaded : ℕ) → dropped (standing loaded now held.old offsets.old) ticket r.partitions (memberless r.group held.old) ≡ outcome (standing loaded now held.new offsets.old) e) }
+    ensures parked { StayParked held.old held.new }
+    ensures offsets { IfOk result (λ e. offsets.new ≡ offsets_after offsets.old e.commands) }
+    ensures err { OnErr result ((held.new ≡ held.old) × (offsets.new ≡ offsets.old)) }
+    ensures taken { OnErr result (is_ok (memberless r.group held.old) ≡ true) }
+{
+    let alloc = held.allocator();
+    let DropRequest { group, partitions } = r;
+    match memberless(&group, held) {
+        Err(code) => Ok(reply_alone(alloc, ticket, Reply::Refused(code))),
+        Ok(own) => {
+            let context = RequestContext { alloc, now, ticket };
+            let effects = drop_offsets(context, held, offsets, own, partitions)?;
             Ok(effects)
         }
     }
@@ -247,7 +333,7 @@ fn meet_gone(
 /// calls may be parked.
 #[tactic(auto, unfolding(crate::specs::Machine::met, crate::specs::Machine::MayNeedMemory))]
 pub fn met(
-    now: Moment,
+    clock: &Clock,
     held: &mut Held,
     offsets: &mut Offsets,
     homes: &mut Homes,
@@ -257,12 +343,13 @@ pub fn met(
     requires tight { IsTight homes.old held.old }
     ensures known { AreKnown (is_home homes.new) held.new }
     ensures tight { IsTight homes.new held.new }
-    ensures ok { IfOk result (λ e. met (standing now held.old offsets.old) event ≡ outcome (standing now held.new offsets.old) e) }
+    ensures ok { IfOk result (λ e. met (standing clock.now.loaded clock.now.moment held.old offsets.old) event ≡ outcome (standing clock.now.loaded clock.now.moment held.new offsets.old) e) }
     ensures offsets { IfOk result (λ e. offsets.new ≡ offsets_after offsets.old e.commands) }
     ensures err { OnErr result ((held.new ≡ held.old) × (offsets.new ≡ offsets.old)) }
-    ensures memory { OnErr result (MayNeedMemory (standing now held.old offsets.old) event) }
+    ensures memory { OnErr result (MayNeedMemory (standing clock.now.loaded clock.now.moment held.old offsets.old) event) }
 {
     let alloc = held.allocator();
+    let now = clock.moment;
     match event {
         Event::Join(ticket, r, fresh) => {
             let effects = meet_join(now, held, homes, ticket, r, fresh)?;
@@ -289,6 +376,10 @@ pub fn met(
             let effects = meet_delete(now, held, offsets, ticket, &id)?;
             Ok(effects)
         }
+        Event::Drop(ticket, r) => {
+            let effects = meet_drop(now, held, offsets, ticket, r)?;
+            Ok(effects)
+        }
         Event::Describe(ticket, id) => {
             let reply = describe(alloc, &id, held)?;
             Ok(reply_alone(alloc, ticket, reply))
@@ -302,7 +393,7 @@ pub fn met(
             Ok(effects)
         }
         Event::Tick => {
-            let effects = meet_tick(now, held, homes)?;
+            let effects = meet_tick(clock, held, offsets, homes)?;
             Ok(effects)
         }
     }

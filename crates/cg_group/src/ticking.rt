@@ -1,21 +1,26 @@
 //! Ticks: what a tick comes to is worked out for each group that it changes, and then the groups are changed in place.
-ghost use Rattle.std.specs.Prelude.{◌≡◌, Some, true, IfOk, OnErr};
+ghost use Rattle.std.specs.Prelude.{◌≡◌, ◌||◌, Some, true, IfOk, IsTrue, OnErr};
 ghost use Rattle.std.specs.List.{list_any};
 ghost use Rattle.cg_held.specs.DueGroups.{AreDue, IsDue};
-ghost use Rattle.cg_held.specs.Held.{InOrder, at_moment, everywhere, find_group, groups_after, outcome, with_group};
+ghost use Rattle.cg_held.specs.Expiring.{are_takings, expires, tick, without_bare};
+ghost use Rattle.cg_held.specs.Held.{InOrder, at_moment, everywhere, find_group, groups_after, outcome, standing, with_group};
+ghost use Rattle.cg_member.specs.Offsets.{offsets_after};
 ghost use Rattle.cg_held.specs.Sessions.{AreKnown, IsTight, is_home};
 ghost use Rattle.cg_member.specs.declared.group.Group.{Group};
 ghost use Rattle.cg_member.specs.Ticking.{ticked};
 ghost use Rattle.cg_turn.specs.Touching.{tick_touches};
 
+use cg_fold::Offsets;
 use cg_held::changing::Changing;
-use cg_held::due::{Due, plan_due};
+use cg_held::due::{Due, Sweep, plan_due, plan_sweep};
+use cg_held::expiring::{Clock, expires};
 use cg_held::held::Held;
 use cg_held::sessions::Homes;
 use cg_held::settling::settle;
 use cg_member::effects::Effects;
 use cg_member::group::Group;
-use cg_names::Moment;
+use cg_names::{GroupId, Moment};
+use cg_record::Command;
 use cg_turn::ticking::{TickPlan, carry_out_tick};
 use std::alloc::AllocError;
 
@@ -67,11 +72,69 @@ fn carry_out_all(held: &mut Held, homes: &mut Homes, now: Moment, dues: Vec<Due>
     }
 }
 
-/// Processes a tick, in place. Visits only the groups that are due. What the tick comes to is worked out in all of them before
-/// the first one changes; nothing is allocated after that. Then costs for each changed group four look-ups, the change, two
-/// passes over the members, and a few look-ups for each call that was or is parked there.
+// Removes from the offsets what these commands of a tick take away. No allocation.
+fn take_away(offsets: &mut Offsets, commands: &[Command])
+    requires { IsTrue (are_takings commands.now) }
+    ensures { offsets.new ≡ offsets_after offsets.old commands.now }
+{
+    for command in commands {
+        match command {
+            Command::Expired(expired) => {
+                offsets.forget_partitions(&expired.group, expired.partitions.as_slice());
+            }
+            Command::Dropped(dropped) => {
+                offsets.forget_partitions(&dropped.group, dropped.partitions.as_slice());
+            }
+            Command::Deleted(deleted) => offsets.forget(&deleted.group),
+            _ => {}
+        }
+    }
+}
+
+// Removes those of these groups that have no offset any more. No allocation.
+fn remove_bare(held: &mut Held, offsets: &Offsets, ids: &[GroupId])
+    ensures { held.new ≡ without_bare offsets.now ids.now held.old }
+{
+    for id in ids {
+        if offsets.of_group(id).is_empty() {
+            held.remove(id);
+        }
+    }
+}
+
+// Processes a tick at which something expires. Nothing changes before all of it is worked out.
+fn sweep(
+    clock: &Clock,
+    held: &mut Held,
+    offsets: &mut Offsets,
+    homes: &mut Homes,
+) -> Result<Effects, AllocError>
+    requires in_order { InOrder held.old }
+    requires known { AreKnown (is_home homes.old) held.old }
+    requires tight { IsTight homes.old held.old }
+    ensures known { AreKnown (is_home homes.new) held.new }
+    ensures tight { IsTight homes.new held.new }
+    ensures ok { IfOk result
+        (λ e. tick (standing clock.now.loaded clock.now.moment held.old offsets.old) ≡ outcome (standing clock.now.loaded clock.now.moment held.new offsets.old) e) }
+    ensures offsets { IfOk result (λ e. offsets.new ≡ offsets_after offsets.old e.commands) }
+    ensures err { OnErr result ((held.new ≡ held.old) × (offsets.new ≡ offsets.old)) }
+{
+    let Sweep {
+        dues,
+        thinned,
+        effects,
+    } = plan_sweep(held, clock, offsets)?;
+    carry_out_all(held, homes, clock.moment, dues);
+    take_away(offsets, effects.commands.as_slice());
+    remove_bare(held, offsets, thinned.as_slice());
+    Ok(effects)
+}
+
+// Carries out the timeouts of a tick, in place. Visits only the groups that are due. What the tick comes to is worked out in
+// all of them before the first one changes; nothing is allocated after that. Then costs for each changed group four look-ups, the change, two
+// passes over the members, and a few look-ups for each call that was or is parked there.
 #[tactic(auto, unfolding(cg_held::specs::Held::everywhere))]
-pub fn meet_tick(now: Moment, held: &mut Held, homes: &mut Homes) -> Result<Effects, AllocError>
+fn time_out(now: Moment, held: &mut Held, homes: &mut Homes) -> Result<Effects, AllocError>
     requires known { AreKnown (is_home homes.old) held.old }
     requires tight { IsTight homes.old held.old }
     ensures known { AreKnown (is_home homes.new) held.new }
@@ -84,5 +147,45 @@ pub fn meet_tick(now: Moment, held: &mut Held, homes: &mut Homes) -> Result<Effe
     let ids = held.due(now)?;
     let (dues, effects) = plan_due(held, now, ids)?;
     carry_out_all(held, homes, now, dues);
+    Ok(effects)
+}
+
+// Returns whether something expires in one of the groups. No allocation.
+fn some_expire(clock: &Clock, held: &Held, offsets: &Offsets) -> bool
+    ensures in_order { InOrder held.now }
+    ensures some { result ≡ list_any (expires clock.now.loaded clock.now.moment offsets.now) held.now }
+{
+    for group in held.iter() {
+        if expires(clock, offsets, group) {
+            return true;
+        }
+    }
+    false
+}
+
+/// Processes a tick, in place. If nothing expires, it visits only the groups that are due, after a look at each Empty group and
+/// the offsets of those that have no record; otherwise it visits all groups.
+#[tactic(auto, unfolding(cg_held::specs::Expiring::tick))]
+pub fn meet_tick(
+    clock: &Clock,
+    held: &mut Held,
+    offsets: &mut Offsets,
+    homes: &mut Homes,
+) -> Result<Effects, AllocError>
+    requires known { AreKnown (is_home homes.old) held.old }
+    requires tight { IsTight homes.old held.old }
+    ensures known { AreKnown (is_home homes.new) held.new }
+    ensures tight { IsTight homes.new held.new }
+    ensures ok { IfOk result
+        (λ e. tick (standing clock.now.loaded clock.now.moment held.old offsets.old) ≡ outcome (standing clock.now.loaded clock.now.moment held.new offsets.old) e) }
+    ensures offsets { IfOk result (λ e. offsets.new ≡ offsets_after offsets.old e.commands) }
+    ensures err { OnErr result ((held.new ≡ held.old) × (offsets.new ≡ offsets.old)) }
+    ensures changed { OnErr result (list_any (λ g. tick_touches clock.now.moment g || expires clock.now.loaded clock.now.moment offsets.old g) held.old ≡ true) }
+{
+    if some_expire(clock, held, offsets) {
+        let effects = sweep(clock, held, offsets, homes)?;
+        return Ok(effects);
+    }
+    let effects = time_out(clock.moment, held, homes)?;
     Ok(effects)
 }

@@ -59,28 +59,28 @@ framed-next_round : (id : List ℕ) (t : Turn) → Framed id t → Framed id (re
 unfolding next_round
 framed-next_round id t h = h
 
-one-emptied : (g : Group) → OfGroup g.id (emptied_command g)
+one-emptied : (now : ℕ) (g : Group) → OfGroup g.id (emptied_command now g)
 unfolding emptied_command
-one-emptied g =
+one-emptied now g =
     go (completed_generation g.generation) g.kind
   where
-    go : (n : Option ℕ) (k : Option (List ℕ)) → OfGroup g.id (option_to_list (option_and_then (λ generation. option_map (λ kind. command.Emptied (record { group = g.id; generation = generation; kind = kind })) k) n))
+    go : (n : Option ℕ) (k : Option (List ℕ)) → OfGroup g.id (option_to_list (option_and_then (λ generation. option_map (λ kind. command.Emptied (record { group = g.id; generation = generation; kind = kind; moment = Some now })) k) n))
     go None k = tt
     go (Some n) None = tt
     go (Some n) (Some k) = (refl, tt)
 
-framed-emptied : (id : List ℕ) (t : Turn) → Framed id t → Framed id (emptied t)
+framed-emptied : (now : ℕ) (id : List ℕ) (t : Turn) → Framed id t → Framed id (emptied now t)
 unfolding emptied
-framed-emptied id t h =
-    let own : OfGroup (emptied t).group.id (emptied_command (emptied t).group) = one-emptied (emptied t).group in
-    let P : List ℕ → Type 0 = λ i. OfGroup i (emptied_command (emptied t).group) in
-    (h.0, each-append (λ c. group_of c ≡ id) t.commands (emptied_command (emptied t).group) h.1 (subst P h.0 own))
+framed-emptied now id t h =
+    let own : OfGroup (emptied now t).group.id (emptied_command now (emptied now t).group) = one-emptied now (emptied now t).group in
+    let P : List ℕ → Type 0 = λ i. OfGroup i (emptied_command now (emptied now t).group) in
+    (h.0, each-append (λ c. group_of c ≡ id) t.commands (emptied_command now (emptied now t).group) h.1 (subst P h.0 own))
 
 pub framed-completed : (id : List ℕ) (now : ℕ) (t : Turn) → Framed id t → Framed id (completed now t)
 unfolding completed
 framed-completed id now t h =
-    elim (is_empty t.group.members) as (λ b. Framed id (if b then emptied t else told_to_joins now (record t { group = next_round t.group }))) [
-      | true ↦ framed-emptied id t h
+    elim (is_empty t.group.members) as (λ b. Framed id (if b then emptied now t else told_to_joins now (record t { group = next_round t.group }))) [
+      | true ↦ framed-emptied now id t h
       | false ↦ framed-told_to_joins id now (record t { group = next_round t.group }) (framed-next_round id t h)
     ]
 
@@ -187,7 +187,7 @@ framed-sync_taken now r id ticket m g Stable = framed-sync_current now id ticket
 framed-sync_taken now r id ticket m g Empty = framed-sync_current now id ticket m g
 framed-sync_taken now r id ticket m g Preparing = framed-sync_current now id ticket m g
 
-pub framed-committed : (now : ℕ) (entries : List CommitEntry) (ticket : Ticket) (who : Option (List ℕ)) (g : Group) → Framed g.id (committed entries ticket (hearing_committer now who g))
+pub framed-committed : (now : ℕ) (entries : List CommitEntry) (ticket : Ticket) (who : Option (List ℕ)) (g : Group) → Framed g.id (committed now entries ticket (hearing_committer now who g))
 unfolding keeping_entries hearing
 framed-committed now entries ticket None g = (refl, (refl, tt))
 framed-committed now entries ticket (Some id) g = (refl, (refl, tt))

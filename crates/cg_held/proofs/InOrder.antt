@@ -57,7 +57,7 @@ none_found id (x ∷ xs) e =
     ]) refl e
 
 -- a group that is found comes after those before it
-ids_each : (x : List ℕ) (gs : List Group) → ComesBefore x (group_ids gs) → Each (λ g. slice_cmp nat_cmp x g.id ≡ Less) gs
+pub ids_each : (x : List ℕ) (gs : List Group) → ComesBefore x (group_ids gs) → Each (λ g. slice_cmp nat_cmp x g.id ≡ Less) gs
 ids_each x [] h = tt
 ids_each x (g ∷ gs) h = (h.0, ids_each x gs h.1)
 

@@ -9,7 +9,7 @@ use Rattle.std.proofs.lemmas.Cmp.{nat_list_cmp_total, nat_list_eq_equiv}
 use Rattle.std.proofs.lemmas.Map.Text.{is_eq-slice_cmp}
 use Rattle.std.proofs.lemmas.Slice.Eq.{bytes_eq-Decides}
 use Rattle.cg_record.specs.declared.command.Command.{Command}
-use Rattle.cg_record.specs.declared.command.Command.TheVariants.{Assigned, Emptied, Replaced, Committed, Deleted}
+use Rattle.cg_record.specs.declared.command.Command.TheVariants.{Assigned, Emptied, Replaced, Committed, Deleted, Dropped, Expired}
 use Rattle.cg_record.specs.declared.member.Member.{Member as KeptMember}
 use Rattle.cg_fold.specs.declared.record.GroupRecord.{GroupRecord}
 use Rattle.cg_fold.specs.Durable.{State, after, effect as state_effect, with_member as with_new_member, with_record}
@@ -26,6 +26,8 @@ group_of (Emptied e) = e.group
 group_of (Replaced r) = r.group
 group_of (Committed c) = c.group
 group_of (Deleted d) = d.group
+group_of (Expired e) = e.group
+group_of (Dropped d) = d.group
 
 -- the record that a command leaves
 abbrev pub left_by : Command → Option GroupRecord → Option GroupRecord
@@ -34,6 +36,8 @@ left_by (Emptied e) held = Some (emptied_record e)
 left_by (Replaced r) held = option_map (replaced_record r.member) held
 left_by (Committed c) held = held
 left_by (Deleted d) held = None
+left_by (Expired e) held = held
+left_by (Dropped d) held = held
 
 abbrev pub effect : Kept → Command → Kept
 effect kept c id = if is_same (group_of c) id then left_by c (kept id) else kept id
@@ -77,6 +81,8 @@ kept-effect_at state (Assigned a) id = kept-with_record state a.group (assigned_
 kept-effect_at state (Emptied e) id = kept-with_record state e.group (emptied_record e) id
 kept-effect_at state (Replaced r) id = kept-replaced state r.group r.member (kept_in state r.group) refl id
 kept-effect_at state (Committed c) id = elim (is_same c.group id) as (λ b. kept_in state id ≡ cond b (kept_in state id) (kept_in state id)) [ true ↦ refl | false ↦ refl ]
+kept-effect_at state (Expired e) id = elim (is_same e.group id) as (λ b. kept_in state id ≡ cond b (kept_in state id) (kept_in state id)) [ true ↦ refl | false ↦ refl ]
+kept-effect_at state (Dropped d) id = elim (is_same d.group id) as (λ b. kept_in state id ≡ cond b (kept_in state id) (kept_in state id)) [ true ↦ refl | false ↦ refl ]
 kept-effect_at state (Deleted d) id =
     get-retain_keys state.records (is_another d.group) id (λ x e. ap (is_another d.group) (sym (one_name id x e)))
     ∙ turned (is_same id d.group) (kept_in state id) ∙ ap (λ b. cond b None (kept_in state id)) (nat_list_eq_equiv.symm id d.group)

@@ -17,3 +17,5 @@ pub mod Successive
 pub mod Quiet
 pub mod Timed
 pub mod Beaten
+pub mod Stale
+pub mod SweptGroups

@@ -15,6 +15,8 @@ use Rattle.std.proofs.lemmas.List.{map-append, take_more}
 use Rattle.std.proofs.lemmas.List.Folds.{list_any-append}
 use Rattle.std.proofs.lemmas.Map.Text.{is_eq-slice_cmp}
 use Rattle.cg_fold.specs.declared.record.GroupRecord.{GroupRecord}
+use Rattle.cg_fold.specs.declared.record.RecordedMembers.{RecordedMembers}
+use Rattle.cg_fold.specs.declared.record.RecordedMembers.TheVariants as recorded
 use Rattle.cg_fold.specs.Durable.{State}
 use Rattle.cg_record.specs.Partitions.{partition_cmp}
 use Rattle.cg_fold.specs.Key.{OffsetKey, key_cmp, name_cmp}
@@ -50,15 +52,15 @@ ascending_keys (e ∷ es) h =
 ascending-in_order : (names : List (List ℕ)) → Ascending (in_order names)
 ascending-in_order names = ascending_keys (entries (from_entries {R = name_cmp} (each marked names))) (entries_sorted (from_entries {R = name_cmp} (each marked names)))
 
-id_with : (now : ℕ) (id : List ℕ) (r : GroupRecord) (o : Option RosterParts) → (revived_with now id r o).id ≡ id
+id_with : (now : ℕ) (id : List ℕ) (r : GroupRecord) (o : RecordedMembers) → (revived_with now id r o).id ≡ id
 unfolding revived_with
-id_with now id r (Some roster) = refl
-id_with now id r None = refl
+id_with now id r (recorded.Roster roster) = refl
+id_with now id r (recorded.Empty moment) = refl
 
 id_from : (now : ℕ) (id : List ℕ) (o : Option GroupRecord) → (revived_from now id o).id ≡ id
 unfolding new_group
 id_from now id None = refl
-id_from now id (Some r) = id_with now id r r.roster
+id_from now id (Some r) = id_with now id r r.members
 
 pub id_revived : (now : ℕ) (state : State) (id : List ℕ) → (revived now state id).id ≡ id
 unfolding revived

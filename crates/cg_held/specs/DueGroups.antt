@@ -1,5 +1,6 @@
 -- What a tick comes to in the groups that it changes.
-use Rattle.std.specs.Prelude.{◌≡◌, ℕ, false, List, Some, map}
+use Rattle.std.specs.Prelude.{◌≡◌, ℕ, Bool, false, if◌then◌else◌, List, [], ◌∷◌, Some, map}
+use Rattle.std.specs.List.{flat_map}
 use Rattle.cg_member.specs.declared.effects.Effects.{Effects}
 use Rattle.cg_member.specs.declared.group.Group.{Group}
 use Rattle.cg_member.specs.Rebalance.{turn_of}
@@ -35,3 +36,11 @@ pub record HavePlanned (now : ℕ) (groups : List Group) (ids : List (List ℕ))
   pub others : Each (λ (g : Group). among ids (ticked now) g ≡ among (due_ids dues) (ticked now) g) groups
   pub commands : effects.commands ≡ (effects_of (among ids (ticked now)) groups).commands
   pub replies : effects.replies ≡ (effects_of (among ids (ticked now)) groups).replies
+
+-- the id of a group that passes a test
+abbrev pub id_if : Bool → Group → List (List ℕ)
+id_if passes g = if passes then g.id ∷ [] else []
+
+-- the ids of the groups that pass a test
+abbrev pub ids_of : (Group → Bool) → List Group → List (List ℕ)
+ids_of passes groups = flat_map (λ g. id_if (passes g) g) groups

@@ -11,24 +11,25 @@ use Rattle.cg_held.specs.Kept.{Ascending, Each}
 use Rattle.cg_member.specs.Membership.{is_same}
 use Rattle.cg_member.specs.Offsets.{OffsetMap}
 
--- the loaded groups by the bytes of their ids, the committed offsets, and the last moment
+-- the loaded groups by the bytes of their ids, the committed offsets, the last moment, and that of loading
 pub record Machine : Type 0 where
   pub groups : List Group
   pub offsets : OffsetMap
   pub last : ℕ
+  pub loaded : ℕ
 
 -- the state after an event, and the effects of the event
 pub record Outcome : Type 0 where
   pub after : Machine
   pub effects : Effects
 
--- a state with these groups, offsets and moment
-abbrev pub standing : ℕ → List Group → OffsetMap → Machine
-standing now groups offsets = record { groups = groups; offsets = offsets; last = now }
+-- a state with these groups, offsets and moments
+abbrev pub standing : ℕ → ℕ → List Group → OffsetMap → Machine
+standing loaded now groups offsets = record { groups = groups; offsets = offsets; last = now; loaded = loaded }
 
--- the same, where the offsets do not matter
+-- the same, where neither the offsets nor the moment of loading matter
 abbrev pub at_moment : ℕ → List Group → Machine
-at_moment now groups = standing now groups finmap.empty
+at_moment now groups = standing 0 now groups finmap.empty
 
 -- a result: the state after the event, and the effects
 abbrev pub outcome : Machine → Effects → Outcome

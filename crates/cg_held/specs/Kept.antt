@@ -7,6 +7,7 @@ use Rattle.std.specs.declared.cmp.Ordering.TheVariants.{Less}
 use Rattle.cg_fold.specs.declared.record.GroupRecord.{GroupRecord}
 use Rattle.cg_fold.specs.Durable.{State}
 use Rattle.cg_fold.specs.Key.{OffsetKey}
+use Rattle.cg_fold.specs.Record.{roster_in}
 use Rattle.cg_member.specs.Offsets.{OffsetMap}
 use Rattle.cg_record.specs.Rosters.{IsRoster}
 
@@ -43,7 +44,7 @@ pub record HasOffset (offsets : OffsetMap) (group : List ℕ) : Type 0 where
 
 -- a record as commands make it: its members are lawful, and one of them leads
 abbrev pub IsRecord : GroupRecord → Type 0
-IsRecord r = IfSome r.roster IsRoster
+IsRecord r = IfSome (roster_in r.members) IsRoster
 
 -- each record of the state is such a record
 abbrev pub AreRecords : State → Type 0

@@ -3,6 +3,7 @@ pub mod Kept
 pub mod Sessions
 pub mod Held
 pub mod Timed
+pub mod Expiring
 pub mod Changes
 pub mod DueGroups
 pub mod Reviving

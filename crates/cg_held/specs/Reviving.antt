@@ -5,7 +5,8 @@ use Rattle.cg_fold.specs.declared.record.GroupRecord.{GroupRecord}
 use Rattle.cg_fold.specs.Durable.{State}
 use Rattle.cg_fold.specs.Snapshot.{groups_in, in_order}
 use Rattle.cg_record.specs.declared.member.Member.{Member as KeptMember}
-use Rattle.cg_record.specs.Rosters.{RosterParts}
+use Rattle.cg_fold.specs.declared.record.RecordedMembers.{RecordedMembers}
+use Rattle.cg_fold.specs.declared.record.RecordedMembers.TheVariants as recorded
 use Rattle.cg_member.specs.declared.group.Group.{Group}
 use Rattle.cg_member.specs.declared.group.Phase.TheVariants.{Empty, Stable}
 use Rattle.cg_member.specs.declared.member.Member.{Member}
@@ -28,8 +29,8 @@ revived_member now protocol m = record {
 }
 
 -- a record with members makes a stable group, one without members an empty group
-unfoldable pub revived_with : ℕ → List ℕ → GroupRecord → Option RosterParts → Group
-revived_with now id r (Some roster) = record {
+unfoldable pub revived_with : ℕ → List ℕ → GroupRecord → RecordedMembers → Group
+revived_with now id r (recorded.Roster roster) = record {
   id = id;
   phase = Stable;
   generation = r.generation;
@@ -38,8 +39,9 @@ revived_with now id r (Some roster) = record {
   leader = Some roster.leader;
   members = map (revived_member now roster.protocol) roster.members;
   started = 0;
+  emptied = None;
 }
-revived_with now id r None = record {
+revived_with now id r (recorded.Empty moment) = record {
   id = id;
   phase = Empty;
   generation = r.generation;
@@ -48,12 +50,13 @@ revived_with now id r None = record {
   leader = None;
   members = [];
   started = 0;
+  emptied = moment;
 }
 
 -- offsets without a record make an empty group of generation 0 without a type
 abbrev pub revived_from : ℕ → List ℕ → Option GroupRecord → Group
 revived_from now id None = new_group id
-revived_from now id (Some r) = revived_with now id r r.roster
+revived_from now id (Some r) = revived_with now id r r.members
 
 -- the group with this id
 unfoldable pub revived : ℕ → State → List ℕ → Group
@@ -61,4 +64,4 @@ revived now state id = revived_from now id (finmap.get state.records id)
 
 -- the state of the machine after recovery
 unfoldable pub revive : State → ℕ → Machine
-revive state now = record { groups = map (revived now state) (in_order (groups_in state)); offsets = state.offsets; last = now }
+revive state now = record { groups = map (revived now state) (in_order (groups_in state)); offsets = state.offsets; last = now; loaded = now }

@@ -45,6 +45,7 @@ Owns homes (event.Leave ticket r) = Unit {0}
 Owns homes (event.Commit ticket r) = Unit {0}
 Owns homes (event.Fetch ticket r) = Unit {0}
 Owns homes (event.Delete ticket id) = Unit {0}
+Owns homes (event.Drop ticket r) = Unit {0}
 Owns homes (event.Describe ticket id) = Unit {0}
 Owns homes (event.List ticket) = Unit {0}
 Owns homes (event.Gone session) = Unit {0}

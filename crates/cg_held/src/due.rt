@@ -3,15 +3,20 @@
 ghost use Rattle.std.specs.Prelude.{◌≡◌, ℕ, List, ◌∷◌, [], ◌++◌, Some, true, false, IfOk, OnErr, OnOk};
 ghost use Rattle.std.specs.List.{list_any};
 ghost use Rattle.cg_held.specs.Changes.{is_one_of};
-ghost use Rattle.cg_held.specs.DueGroups.{AreDue, HavePlanned};
+ghost use Rattle.cg_held.specs.DueGroups.{AreDue, HavePlanned, IsDue, due_ids, id_if, ids_of};
+ghost use Rattle.cg_held.specs.Expiring.{expires, swept};
 ghost use Rattle.cg_held.specs.Held.{InOrder, effects_of, find_group};
 ghost use Rattle.cg_held.specs.Kept.{Ascending, ComeBefore, Each};
-ghost use Rattle.cg_member.specs.Rebalance.{turn_of};
+ghost use Rattle.cg_held.specs.Sessions.{parked_calls};
+ghost use Rattle.cg_member.specs.Rebalance.{turn_of, turned};
 ghost use Rattle.cg_member.specs.Ticking.{ticked};
+ghost use Rattle.cg_turn.specs.Ticks.{carried};
 ghost use Rattle.cg_turn.specs.Touching.{tick_touches};
 
 use crate::calling::parked_calls;
+use crate::expiring::{Clock, expires, push_expiring};
 use crate::held::Held;
+use cg_fold::Offsets;
 use cg_member::effects::Effects;
 use cg_member::group::Group;
 use cg_names::{GroupId, Moment};
@@ -28,6 +33,23 @@ pub struct Due {
     pub calls: Vec<Ticket>,
 }
 
+// Returns what the tick comes to in this group, and the effects.
+fn plan_group(
+    groups: &Held,
+    now: Moment,
+    id: GroupId,
+    group: &Group,
+) -> Result<(Due, Effects), AllocError>
+    requires found { find_group id groups.now ≡ Some group.now }
+    ensures id { IfOk result (λ p. p.0.id ≡ id) }
+    ensures planned { IfOk result (λ p. ticked now group.now ≡ turned (carried now p.0.plan group.now) p.1) }
+    ensures parked { IfOk result (λ p. p.0.calls.items ≡ parked_calls group.now.members) }
+{
+    let (plan, effects) = plan_tick(groups.allocator(), now, group)?;
+    let calls = parked_calls(groups, &id)?;
+    Ok((Due { id, plan, calls }, effects))
+}
+
 // Appends the plan of this group, which the tick may change, and the effects.
 fn plan_touched(
     groups: &Held,
@@ -42,12 +64,11 @@ fn plan_touched(
     ensures { OnOk result ((ids : List (List ℕ)) → ComeBefore ids id → HavePlanned now groups.now ids dues.old.items effects.old
         → HavePlanned now groups.now (ids ++ id ∷ []) dues.new.items effects.new) }
 {
-    let (plan, made) = plan_tick(groups.allocator(), now, group)?;
-    let calls = parked_calls(groups, &id)?;
+    let (due, made) = plan_group(groups, now, id, group)?;
     let Effects { commands, replies } = made;
     effects.commands.append(commands)?;
     effects.replies.append(replies)?;
-    dues.push(Due { id, plan, calls })?;
+    dues.push(due)?;
     Ok(())
 }
 
@@ -100,4 +121,64 @@ pub fn plan_due(
         plan_named(held, now, id, &mut dues, &mut effects)?;
     }
     Ok((dues, effects))
+}
+
+/// What a tick comes to at which something expires: the groups that its timeouts change, the ids of the groups in which something
+/// expires, and the effects.
+#[derive(Drop)]
+pub struct Sweep {
+    pub dues: Vec<Due>,
+    pub thinned: Vec<GroupId>,
+    pub effects: Effects,
+}
+
+// Appends what the timeouts of the tick come to in this group, and what it then takes from it as stale.
+fn sweep_group(
+    groups: &Held,
+    clock: &Clock,
+    offsets: &Offsets,
+    group: &Group,
+    sweep: &mut Sweep,
+) -> Result<(), AllocError>
+    requires in_order { InOrder groups.now }
+    requires found { find_group group.now.id groups.now ≡ Some group.now }
+    ensures dues { OnOk result (due_ids sweep.new.dues.items ≡ due_ids sweep.old.dues.items ++ id_if (tick_touches clock.now.moment group.now) group.now) }
+    ensures planned { OnOk result (Each (IsDue clock.now.moment groups.now) sweep.old.dues.items → Each (IsDue clock.now.moment groups.now) sweep.new.dues.items) }
+    ensures thinned { OnOk result (sweep.new.thinned.items ≡ sweep.old.thinned.items ++ id_if (expires clock.now.loaded clock.now.moment offsets.now group.now) group.now) }
+    ensures commands { OnOk result (sweep.new.effects.commands ≡ sweep.old.effects.commands ++ (swept clock.now.loaded clock.now.moment offsets.now group.now).commands) }
+    ensures replies { OnOk result (sweep.new.effects.replies ≡ sweep.old.effects.replies ++ (ticked clock.now.moment group.now).replies) }
+{
+    if tick_touches(clock.moment, group) {
+        let id = group.id.clone()?;
+        let (due, made) = plan_group(groups, clock.moment, id, group)?;
+        let Effects { commands, replies } = made;
+        sweep.effects.commands.append(commands)?;
+        sweep.effects.replies.append(replies)?;
+        sweep.dues.push(due)?;
+    }
+    if expires(clock, offsets, group) {
+        sweep.thinned.push(group.id.clone()?)?;
+        let commands = &mut sweep.effects.commands;
+        push_expiring(groups.allocator(), clock, offsets, group, commands)?;
+    }
+    Ok(())
+}
+
+/// Returns what a tick comes to in all groups, where something expires. No group changes. Costs a pass over the groups, their
+/// members, and the offsets of groups that have no record; allocates for what changes alone.
+pub fn plan_sweep(groups: &Held, clock: &Clock, offsets: &Offsets) -> Result<Sweep, AllocError>
+    ensures due { IfOk result (λ s. AreDue clock.now.moment groups.now s.dues.items) }
+    ensures thinned { IfOk result (λ s. s.thinned.items ≡ ids_of (expires clock.now.loaded clock.now.moment offsets.now) groups.now) }
+    ensures effects { IfOk result (λ s. s.effects ≡ effects_of (swept clock.now.loaded clock.now.moment offsets.now) groups.now) }
+{
+    let alloc = groups.allocator();
+    let mut sweep = Sweep {
+        dues: Vec::new(alloc),
+        thinned: Vec::new(alloc),
+        effects: Effects::new(alloc),
+    };
+    for group in groups.iter() {
+        sweep_group(groups, clock, offsets, group, &mut sweep)?;
+    }
+    Ok(sweep)
 }

@@ -7,6 +7,7 @@ pub mod calling;
 pub mod changing;
 pub mod describing;
 pub mod due;
+pub mod expiring;
 pub mod held;
 pub mod homes;
 pub mod loaded;

@@ -4,7 +4,7 @@ ghost use Rattle.cg_fold.specs.Snapshot.{groups_in, in_order};
 ghost use Rattle.cg_held.specs.Reviving.{revived_member, revived_with, revived};
 
 use crate::held::Held;
-use cg_fold::{Durable, GroupRecord};
+use cg_fold::{Durable, GroupRecord, RecordedMembers};
 use cg_member::group::{Group, Phase};
 use cg_member::member::{Member, Waits};
 use cg_member::members::Members;
@@ -88,7 +88,7 @@ fn revived_stable(
     held: &GroupRecord,
     roster: &Roster,
 ) -> Result<Group, AllocError>
-    ensures { IfOk result (λ g. g ≡ revived_with now id held.now (Some roster.now)) }
+    ensures { IfOk result (λ g. g ≡ revived_with now id held.now (RecordedMembers.Roster roster.now)) }
 {
     let members = revived_members(alloc, now, roster)?;
     let kind = held.kind.clone()?;
@@ -103,6 +103,7 @@ fn revived_stable(
         leader: Some(leader),
         members,
         started: Moment::from_millis(0),
+        emptied: None,
     })
 }
 
@@ -113,8 +114,9 @@ fn revived_empty(
     now: Moment,
     id: GroupId,
     held: &GroupRecord,
+    moment: Option<Moment>,
 ) -> Result<Group, AllocError>
-    ensures { IfOk result (λ g. g ≡ revived_with now id held.now None) }
+    ensures { IfOk result (λ g. g ≡ revived_with now id held.now (RecordedMembers.Empty moment)) }
 {
     let kind = held.kind.clone()?;
     Ok(Group {
@@ -126,6 +128,7 @@ fn revived_empty(
         leader: None,
         members: Members::new(alloc),
         started: Moment::from_millis(0),
+        emptied: moment,
     })
 }
 
@@ -136,11 +139,11 @@ fn revived_held(
     id: GroupId,
     held: &GroupRecord,
 ) -> Result<Group, AllocError>
-    ensures { IfOk result (λ g. g ≡ revived_with now id held.now held.now.roster) }
+    ensures { IfOk result (λ g. g ≡ revived_with now id held.now held.now.members) }
 {
-    match &held.roster {
-        None => revived_empty(alloc, now, id, held),
-        Some(roster) => revived_stable(alloc, now, id, held, roster),
+    match &held.members {
+        RecordedMembers::Empty(moment) => revived_empty(alloc, now, id, held, *moment),
+        RecordedMembers::Roster(roster) => revived_stable(alloc, now, id, held, roster),
     }
 }
 

@@ -1,13 +1,16 @@
 -- The line of a lawful request is parsed as that request.
 use Rattle.std.proofs.Common.{◌≡◌, ℕ, ℤ, ◌^◌, ◌<◌, ◌≤◌, Bool, true, cond, List, [], ◌∷◌, length, map, refl, ap, ◌∙◌, arith, Option, Some, None}
 use Rattle.std.specs.Prelude.{codes}
+use Rattle.std.specs.List.{AllByRecursion}
 use Rattle.std.specs.Option.{option_map}
 use Rattle.std.specs.Fmt.{decimal, signed_decimal}
 use Rattle.std.proofs.lemmas.List.{length-map}
 use Rattle.std.proofs.lemmas.Bool.{and_from}
 use Rattle.cg_names.specs.declared.name.TheConstants.{NAME_BYTES_MAX, MEMBER_ID_BYTES_MAX}
 use Rattle.cg_record.specs.declared.millis.TheConstants.{REBALANCE_MS_MAX}
+use Rattle.cg_record.specs.declared.topic_partition.TopicPartition.{TopicPartition}
 use Rattle.cg_record.specs.Lawful.{IsKey}
+use Rattle.cg_record.specs.Partitions.{ArePartitions}
 use Rattle.cg_request.specs.declared.asking.Request.{Request}
 use Rattle.cg_request.specs.declared.asking.Request.TheVariants as request
 use Rattle.cg_request.specs.declared.request.JoinRequest.{JoinRequest}
@@ -16,10 +19,11 @@ use Rattle.cg_request.specs.declared.request.BeatRequest.{BeatRequest}
 use Rattle.cg_request.specs.declared.request.LeaveRequest.{LeaveRequest}
 use Rattle.cg_request.specs.declared.request.CommitRequest.{CommitRequest}
 use Rattle.cg_request.specs.declared.request.FetchRequest.{FetchRequest}
+use Rattle.cg_request.specs.declared.request.DropRequest.{DropRequest}
 use Rattle.cg_line.specs.declared.parsing.TheConstants.{SESSION_LINE_MS_MAX}
 use Rattle.cg_line.specs.declared.parsing.splitting.TheConstants.{WORDS_MAX}
-use Rattle.cg_line.specs.Parsing.{are_terms, beat_of, commit_in, commit_of, fetch_of, group_call_of, group_of, is_call, is_caller, join_of, leave_of, member_call_of, partition_in, protocol_in, request_of, sync_entry_in, sync_of}
-use Rattle.cg_line.specs.Requests.{IsBeat, IsCommit, IsCommitEntry, IsFetch, IsGeneration, IsJoin, IsLeave, IsOptional, IsProtocol, IsRequest, IsSync, IsSyncEntry, Spells, commit_word, partition_word, protocol_word, request_line, request_words, sync_entry_word}
+use Rattle.cg_line.specs.Parsing.{are_terms, beat_of, commit_in, commit_of, drop_of, fetch_of, group_and_partitions_of, group_call_of, group_of, is_call, is_caller, join_of, leave_of, member_call_of, partition_in, protocol_in, request_of, sync_entry_in, sync_of}
+use Rattle.cg_line.specs.Requests.{IsBeat, IsCommit, IsCommitEntry, IsDrop, IsFetch, IsGeneration, IsJoin, IsLeave, IsOptional, IsProtocol, IsRequest, IsSync, IsSyncEntry, Spells, commit_word, partition_word, protocol_word, request_line, request_words, sync_entry_word}
 use Rattle.cg_line.specs.Splitting.{words_of}
 use Rattle.cg_line.specs.Words.{name_word, spaced}
 use Rattle.cg_line.proofs.Decimals.{is_number-decimal, value_of-decimal}
@@ -32,6 +36,9 @@ use Rattle.cg_line.proofs.Placed.{are_commits-words, are_partitions-words, commi
 
 picked : {A : Type 0} (b : Bool) (x r : A) → b ≡ true → x ≡ r → cond b (Some x) None ≡ Some r
 picked b x r is same = rw (is, same) refl
+
+pair_from : {A B : Type 0} (p : A × B) (a : A) (b : B) → p.0 ≡ a → p.1 ≡ b → p ≡ (a, b)
+pair_from (x, y) a b e1 e2 = rw (e1, e2) refl
 
 call_complete : (g m i : Option (List ℕ)) (n : ℤ) → IsOptional NAME_BYTES_MAX g → IsGeneration n → IsOptional MEMBER_ID_BYTES_MAX m → IsOptional NAME_BYTES_MAX i
     → is_call (name_word g) (signed_decimal n) (name_word m) (name_word i) ≡ true
@@ -87,16 +94,20 @@ leave_complete r is =
     picked _ _ r (and_from _ _ (and_from _ _ (is_optional-name_word NAME_BYTES_MAX r.group is.group) (is_optional-name_word MEMBER_ID_BYTES_MAX r.member is.member)) (is_optional-name_word NAME_BYTES_MAX r.instance is.instance))
     (made_leave r _ (optional_in-name_word NAME_BYTES_MAX r.group is.group) (optional_in-name_word MEMBER_ID_BYTES_MAX r.member is.member) (optional_in-name_word NAME_BYTES_MAX r.instance is.instance))
 
-made_fetch : (r s : FetchRequest) → s.group ≡ r.group → s.partitions ≡ r.partitions → s ≡ r
-made_fetch r s e1 e2 =
-    let whole : record { group = s.group; partitions = s.partitions } ≡ r = rw (e1, e2) refl in
-    whole
+partitions_complete : (group : Option (List ℕ)) (partitions : List TopicPartition) → IsOptional NAME_BYTES_MAX group → ArePartitions partitions → AllByRecursion IsKey partitions
+    → group_and_partitions_of (name_word group ∷ map partition_word partitions) ≡ Some (group, partitions)
+unfolding group_and_partitions_of
+partitions_complete group partitions is_group are each =
+    picked _ _ (group, partitions) (and_from _ _ (is_optional-name_word NAME_BYTES_MAX group is_group) (are_partitions-words partitions are each))
+    (pair_from _ group partitions (optional_in-name_word NAME_BYTES_MAX group is_group) (read_all IsKey partition_in partition_word partition_in-word partitions each))
 
 fetch_complete : (r : FetchRequest) → IsFetch r → fetch_of (name_word r.group ∷ map partition_word r.partitions) ≡ Some r
 unfolding fetch_of
-fetch_complete r is =
-    picked _ _ r (and_from _ _ (is_optional-name_word NAME_BYTES_MAX r.group is.group) (are_partitions-words r.partitions is.partitions is.each))
-    (made_fetch r _ (optional_in-name_word NAME_BYTES_MAX r.group is.group) (read_all IsKey partition_in partition_word partition_in-word r.partitions is.each))
+fetch_complete r is = rw (partitions_complete r.group r.partitions is.group is.partitions is.each) refl
+
+drop_complete : (r : DropRequest) → IsDrop r → drop_of (name_word r.group ∷ map partition_word r.partitions) ≡ Some r
+unfolding drop_of
+drop_complete r is = rw (partitions_complete r.group r.partitions is.group is.partitions is.each) refl
 
 group_complete : (o : Option (List ℕ)) → IsOptional NAME_BYTES_MAX o → group_of (name_word o ∷ []) ≡ Some o
 unfolding group_of
@@ -141,6 +152,7 @@ words_complete (request.Commit r) is = ap (option_map request.Commit) (commit_co
 words_complete (request.Fetch r) is = ap (option_map request.Fetch) (fetch_complete r is)
 words_complete (request.Describe group) is = ap (option_map request.Describe) (group_complete group is)
 words_complete (request.Delete group) is = ap (option_map request.Delete) (group_complete group is)
+words_complete (request.Drop r) is = ap (option_map request.Drop) (drop_complete r is)
 words_complete request.List is = refl
 
 -- no word has a space, so the words of the line are those of the request
@@ -216,6 +228,8 @@ line_words (request.Fetch r) is = words_of-spaced (codes "FETCH") _
     (refl, (name_word_free NAME_BYTES_MAX r.group is.group, free_all IsKey partition_word partition_free r.partitions is.each))
 line_words (request.Describe group) is = words_of-spaced (codes "DESCRIBE") _ (refl, (name_word_free NAME_BYTES_MAX group is, tt))
 line_words (request.Delete group) is = words_of-spaced (codes "DELETE") _ (refl, (name_word_free NAME_BYTES_MAX group is, tt))
+line_words (request.Drop r) is = words_of-spaced (codes "DROP") _
+    (refl, (name_word_free NAME_BYTES_MAX r.group is.group, free_all IsKey partition_word partition_free r.partitions is.each))
 line_words request.List is = words_of-spaced (codes "LIST") [] (refl, tt)
 
 -- a request has at most WORDS_MAX words
@@ -229,6 +243,7 @@ few_words (request.Commit r) is = let few = is.entries.few in let len = length-m
 few_words (request.Fetch r) is = let few = is.partitions.few in let len = length-map r.partitions partition_word in omega (arith, few, len)
 few_words (request.Describe group) is = omega arith
 few_words (request.Delete group) is = omega arith
+few_words (request.Drop r) is = let few = is.partitions.few in let len = length-map r.partitions partition_word in omega (arith, few, len)
 few_words request.List is = omega arith
 
 words_of_line : (line : List ℕ) (r : Request) → Spells line r → words_of line ≡ request_words r

@@ -15,6 +15,7 @@ pub mod Known
 pub mod Lists
 pub mod Optionals
 pub mod Placed
+pub mod Places
 pub mod Sound
 pub mod Spaced
 pub mod Streams

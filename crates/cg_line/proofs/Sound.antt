@@ -1,13 +1,16 @@
 -- What is parsed as a request is the spelling of that request.
-use Rattle.std.proofs.Common.{◌≡◌, ℕ, true, false, cond, List, [], ◌∷◌, refl, ap, sym, subst, ◌∙◌, arith, Option, Some, None}
+use Rattle.std.proofs.Common.{◌≡◌, ℕ, true, false, cond, List, [], ◌∷◌, map, refl, ap, sym, subst, ◌∙◌, arith, Option, Some, None}
 use Rattle.std.specs.Prelude.{◌&&◌, codes}
+use Rattle.std.specs.List.{AllByRecursion}
 use Rattle.std.specs.Option.{option_map}
 use Rattle.std.specs.Str.{bytes_eq}
 use Rattle.std.specs.Fmt.{signed_decimal}
 use Rattle.std.proofs.lemmas.Slice.Eq.{bytes_eq-Decides}
 use Rattle.cg_names.specs.declared.name.TheConstants.{NAME_BYTES_MAX, MEMBER_ID_BYTES_MAX}
 use Rattle.cg_record.specs.declared.millis.TheConstants.{REBALANCE_MS_MAX}
+use Rattle.cg_record.specs.declared.topic_partition.TopicPartition.{TopicPartition}
 use Rattle.cg_record.specs.Lawful.{IsKey}
+use Rattle.cg_record.specs.Partitions.{ArePartitions}
 use Rattle.cg_request.specs.declared.asking.Request.{Request}
 use Rattle.cg_request.specs.declared.asking.Request.TheVariants as request
 use Rattle.cg_request.specs.declared.request.JoinRequest.{JoinRequest}
@@ -16,11 +19,12 @@ use Rattle.cg_request.specs.declared.request.BeatRequest.{BeatRequest}
 use Rattle.cg_request.specs.declared.request.LeaveRequest.{LeaveRequest}
 use Rattle.cg_request.specs.declared.request.CommitRequest.{CommitRequest}
 use Rattle.cg_request.specs.declared.request.FetchRequest.{FetchRequest}
+use Rattle.cg_request.specs.declared.request.DropRequest.{DropRequest}
 use Rattle.cg_line.specs.declared.parsing.TheConstants.{SESSION_LINE_MS_MAX}
 use Rattle.cg_line.specs.Fields.{is_name, is_optional, optional_in}
 use Rattle.cg_line.specs.Numbers.{generation_in, is_generation, is_number}
-use Rattle.cg_line.specs.Parsing.{are_commits, are_partitions, are_protocols, are_sync_entries, are_terms, beat_of, commit_in, commit_of, fetch_of, group_call_of, group_of, is_call, is_caller, is_commit, is_member_call, is_partition, is_protocol, is_sync_entry, join_of, leave_of, member_call_of, nothing_of, partition_in, protocol_in, request_of, sync_entry_in, sync_of}
-use Rattle.cg_line.specs.Requests.{IsBeat, IsCommit, IsCommitEntry, IsFetch, IsJoin, IsLeave, IsOptional, IsProtocol, IsRequest, IsSync, IsSyncEntry, Spells, beat_words, commit_word, commit_words, fetch_words, join_words, leave_words, partition_word, protocol_word, request_line, request_words, sync_entry_word, sync_words}
+use Rattle.cg_line.specs.Parsing.{are_commits, are_partitions, are_protocols, are_sync_entries, are_terms, beat_of, commit_in, commit_of, drop_of, fetch_of, group_and_partitions_of, group_call_of, group_of, is_call, is_caller, is_commit, is_member_call, is_partition, is_protocol, is_sync_entry, join_of, leave_of, member_call_of, nothing_of, partition_in, protocol_in, request_of, sync_entry_in, sync_of}
+use Rattle.cg_line.specs.Requests.{IsBeat, IsCommit, IsCommitEntry, IsDrop, IsFetch, IsJoin, IsLeave, IsOptional, IsProtocol, IsRequest, IsSync, IsSyncEntry, Spells, beat_words, commit_word, commit_words, drop_words, fetch_words, join_words, leave_words, partition_word, protocol_word, request_line, request_words, sync_entry_word, sync_words}
 use Rattle.cg_line.specs.Splitting.{words_of}
 use Rattle.cg_line.specs.Words.{name_word, spaced}
 use Rattle.cg_line.proofs.Decimals.{decimal-value_of, value_of-le}
@@ -153,22 +157,44 @@ leave_sound (g ∷ m ∷ []) r e = absurd (cc)
 leave_sound (g ∷ []) r e = absurd (cc)
 leave_sound [] r e = absurd (cc)
 
-fetch_sound : (ws : List (List ℕ)) (r : FetchRequest) → fetch_of ws ≡ Some r → IsFetch r × (codes "FETCH" ∷ ws ≡ fetch_words r)
-unfolding fetch_of
-fetch_sound (g ∷ ps) r e =
-    let P : FetchRequest → Type 0 = λ r. IsFetch r × (codes "FETCH" ∷ g ∷ ps ≡ fetch_words r) in
-    let picked = chosen (is_optional NAME_BYTES_MAX g && are_partitions ps) _ r e in
+-- the value that was mapped
+mapped_some : {A B : Type 0} (make : A → B) (o : Option A) (r : B) → option_map make o ≡ Some r → (x : A) × (o ≡ Some x) × (make x ≡ r)
+mapped_some make None r e = absurd (cc)
+mapped_some make (Some x) r e = (x, refl, cc)
+
+-- a group and its partitions
+abbrev AreNamed : Option (List ℕ) × List TopicPartition → Type 0
+AreNamed (group, partitions) = IsOptional NAME_BYTES_MAX group × ArePartitions partitions × AllByRecursion IsKey partitions
+
+partitions_sound : (k : List ℕ) (ws : List (List ℕ)) (named : Option (List ℕ) × List TopicPartition) → group_and_partitions_of ws ≡ Some named
+    → AreNamed named × (k ∷ ws ≡ k ∷ name_word named.0 ∷ map partition_word named.1)
+unfolding group_and_partitions_of
+partitions_sound k (g ∷ ps) named e =
+    let P : Option (List ℕ) × List TopicPartition → Type 0 = λ named. AreNamed named × (k ∷ g ∷ ps ≡ k ∷ name_word named.0 ∷ map partition_word named.1) in
+    let picked = chosen (is_optional NAME_BYTES_MAX g && are_partitions ps) _ named e in
     let parts = both_of (is_optional NAME_BYTES_MAX g) (are_partitions ps) picked.0 in
     let each = (partition_words_parts ps parts.1).each in
     subst P picked.1 (
-      record {
-        group = optional_lawful NAME_BYTES_MAX g parts.0;
-        partitions = partitions_lawful ps parts.1;
-        each = lawful_all IsKey is_partition partition_in partition_lawful ps each;
-      },
-      words_1 (codes "FETCH") g _ ps _ (sym (optional_spelled NAME_BYTES_MAX g parts.0)) (sym (spelled_all is_partition partition_in partition_word partition_spelled ps each)),
+      (optional_lawful NAME_BYTES_MAX g parts.0, partitions_lawful ps parts.1, lawful_all IsKey is_partition partition_in partition_lawful ps each),
+      words_1 k g _ ps _ (sym (optional_spelled NAME_BYTES_MAX g parts.0)) (sym (spelled_all is_partition partition_in partition_word partition_spelled ps each)),
     )
-fetch_sound [] r e = absurd (cc)
+partitions_sound k [] named e = absurd (cc)
+
+fetch_sound : (ws : List (List ℕ)) (r : FetchRequest) → fetch_of ws ≡ Some r → IsFetch r × (codes "FETCH" ∷ ws ≡ fetch_words r)
+unfolding fetch_of
+fetch_sound ws r e =
+    let P : FetchRequest → Type 0 = λ r. IsFetch r × (codes "FETCH" ∷ ws ≡ fetch_words r) in
+    let found = mapped_some _ (group_and_partitions_of ws) r e in
+    let sound = partitions_sound (codes "FETCH") ws found.0 found.1 in
+    subst P found.2 (record { group = sound.0.0; partitions = sound.0.1; each = sound.0.2 }, sound.1)
+
+drop_sound : (ws : List (List ℕ)) (r : DropRequest) → drop_of ws ≡ Some r → IsDrop r × (codes "DROP" ∷ ws ≡ drop_words r)
+unfolding drop_of
+drop_sound ws r e =
+    let P : DropRequest → Type 0 = λ r. IsDrop r × (codes "DROP" ∷ ws ≡ drop_words r) in
+    let found = mapped_some _ (group_and_partitions_of ws) r e in
+    let sound = partitions_sound (codes "DROP") ws found.0 found.1 in
+    subst P found.2 (record { group = sound.0.0; partitions = sound.0.1; each = sound.0.2 }, sound.1)
 
 group_sound : (k : List ℕ) (ws : List (List ℕ)) (o : Option (List ℕ)) → group_of ws ≡ Some o → IsOptional NAME_BYTES_MAX o × (k ∷ ws ≡ k ∷ name_word o ∷ [])
 unfolding group_of
@@ -240,11 +266,6 @@ join_sound [] j e = absurd (cc)
 abbrev IsSound : List ℕ → List (List ℕ) → Request → Type 0
 IsSound kind ws r = IsRequest r × (kind ∷ ws ≡ request_words r)
 
--- the value inside a variant
-mapped_some : {A : Type 0} (make : A → Request) (o : Option A) (r : Request) → option_map make o ≡ Some r → (x : A) × (o ≡ Some x) × (make x ≡ r)
-mapped_some make None r e = absurd (cc)
-mapped_some make (Some x) r e = (x, refl, cc)
-
 -- one kind: if its words are sound, so is its request
 kind_sound : {A : Type 0} (make : A → Request) (name kind : List ℕ) (ws : List (List ℕ)) (o : Option A) (r : Request)
     → ((x : A) → o ≡ Some x → IsSound name ws (make x)) → bytes_eq kind name ≡ true → option_map make o ≡ Some r → IsSound kind ws r
@@ -282,17 +303,20 @@ list_sound kind [] r is e =
 group_call_sound : (kind : List ℕ) (ws : List (List ℕ)) (r : Request) → group_call_of kind ws ≡ Some r → IsSound kind ws r
 unfolding group_call_of request_words
 group_call_sound kind ws r =
-    elim (bytes_eq kind (codes "COMMIT")) as (λ t. bytes_eq kind (codes "COMMIT") ≡ t → cond t (option_map request.Commit (commit_of ws)) (cond (bytes_eq kind (codes "FETCH")) (option_map request.Fetch (fetch_of ws)) (cond (bytes_eq kind (codes "DESCRIBE")) (option_map request.Describe (group_of ws)) (cond (bytes_eq kind (codes "DELETE")) (option_map request.Delete (group_of ws)) (cond (bytes_eq kind (codes "LIST")) (nothing_of ws) None)))) ≡ Some r → IsSound kind ws r) [
+    elim (bytes_eq kind (codes "COMMIT")) as (λ t. bytes_eq kind (codes "COMMIT") ≡ t → cond t (option_map request.Commit (commit_of ws)) (cond (bytes_eq kind (codes "FETCH")) (option_map request.Fetch (fetch_of ws)) (cond (bytes_eq kind (codes "DESCRIBE")) (option_map request.Describe (group_of ws)) (cond (bytes_eq kind (codes "DELETE")) (option_map request.Delete (group_of ws)) (cond (bytes_eq kind (codes "DROP")) (option_map request.Drop (drop_of ws)) (cond (bytes_eq kind (codes "LIST")) (nothing_of ws) None))))) ≡ Some r → IsSound kind ws r) [
       | true ↦ λ is. kind_sound request.Commit (codes "COMMIT") kind ws (commit_of ws) r (commit_sound ws) is
-      | false ↦ λ _. elim (bytes_eq kind (codes "FETCH")) as (λ t. bytes_eq kind (codes "FETCH") ≡ t → cond t (option_map request.Fetch (fetch_of ws)) (cond (bytes_eq kind (codes "DESCRIBE")) (option_map request.Describe (group_of ws)) (cond (bytes_eq kind (codes "DELETE")) (option_map request.Delete (group_of ws)) (cond (bytes_eq kind (codes "LIST")) (nothing_of ws) None))) ≡ Some r → IsSound kind ws r) [
+      | false ↦ λ _. elim (bytes_eq kind (codes "FETCH")) as (λ t. bytes_eq kind (codes "FETCH") ≡ t → cond t (option_map request.Fetch (fetch_of ws)) (cond (bytes_eq kind (codes "DESCRIBE")) (option_map request.Describe (group_of ws)) (cond (bytes_eq kind (codes "DELETE")) (option_map request.Delete (group_of ws)) (cond (bytes_eq kind (codes "DROP")) (option_map request.Drop (drop_of ws)) (cond (bytes_eq kind (codes "LIST")) (nothing_of ws) None)))) ≡ Some r → IsSound kind ws r) [
         | true ↦ λ is. kind_sound request.Fetch (codes "FETCH") kind ws (fetch_of ws) r (fetch_sound ws) is
-        | false ↦ λ _. elim (bytes_eq kind (codes "DESCRIBE")) as (λ t. bytes_eq kind (codes "DESCRIBE") ≡ t → cond t (option_map request.Describe (group_of ws)) (cond (bytes_eq kind (codes "DELETE")) (option_map request.Delete (group_of ws)) (cond (bytes_eq kind (codes "LIST")) (nothing_of ws) None)) ≡ Some r → IsSound kind ws r) [
+        | false ↦ λ _. elim (bytes_eq kind (codes "DESCRIBE")) as (λ t. bytes_eq kind (codes "DESCRIBE") ≡ t → cond t (option_map request.Describe (group_of ws)) (cond (bytes_eq kind (codes "DELETE")) (option_map request.Delete (group_of ws)) (cond (bytes_eq kind (codes "DROP")) (option_map request.Drop (drop_of ws)) (cond (bytes_eq kind (codes "LIST")) (nothing_of ws) None))) ≡ Some r → IsSound kind ws r) [
           | true ↦ λ is. kind_sound request.Describe (codes "DESCRIBE") kind ws (group_of ws) r (group_sound (codes "DESCRIBE") ws) is
-          | false ↦ λ _. elim (bytes_eq kind (codes "DELETE")) as (λ t. bytes_eq kind (codes "DELETE") ≡ t → cond t (option_map request.Delete (group_of ws)) (cond (bytes_eq kind (codes "LIST")) (nothing_of ws) None) ≡ Some r → IsSound kind ws r) [
+          | false ↦ λ _. elim (bytes_eq kind (codes "DELETE")) as (λ t. bytes_eq kind (codes "DELETE") ≡ t → cond t (option_map request.Delete (group_of ws)) (cond (bytes_eq kind (codes "DROP")) (option_map request.Drop (drop_of ws)) (cond (bytes_eq kind (codes "LIST")) (nothing_of ws) None)) ≡ Some r → IsSound kind ws r) [
             | true ↦ λ is. kind_sound request.Delete (codes "DELETE") kind ws (group_of ws) r (group_sound (codes "DELETE") ws) is
-            | false ↦ λ _. elim (bytes_eq kind (codes "LIST")) as (λ t. bytes_eq kind (codes "LIST") ≡ t → cond t (nothing_of ws) None ≡ Some r → IsSound kind ws r) [
-              | true ↦ λ is e. list_sound kind ws r is e
-              | false ↦ λ _ e. absurd (cc)
+            | false ↦ λ _. elim (bytes_eq kind (codes "DROP")) as (λ t. bytes_eq kind (codes "DROP") ≡ t → cond t (option_map request.Drop (drop_of ws)) (cond (bytes_eq kind (codes "LIST")) (nothing_of ws) None) ≡ Some r → IsSound kind ws r) [
+              | true ↦ λ is. kind_sound request.Drop (codes "DROP") kind ws (drop_of ws) r (drop_sound ws) is
+              | false ↦ λ _. elim (bytes_eq kind (codes "LIST")) as (λ t. bytes_eq kind (codes "LIST") ≡ t → cond t (nothing_of ws) None ≡ Some r → IsSound kind ws r) [
+                | true ↦ λ is e. list_sound kind ws r is e
+                | false ↦ λ _ e. absurd (cc)
+              ] refl
             ] refl
           ] refl
         ] refl

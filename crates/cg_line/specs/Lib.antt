@@ -3,6 +3,7 @@ pub mod Fields
 pub mod Lines
 pub mod Numbers
 pub mod Parsing
+pub mod Places
 pub mod Replies
 pub mod Requests
 pub mod Running

@@ -24,6 +24,7 @@ use Rattle.cg_request.specs.declared.request.BeatRequest.{BeatRequest}
 use Rattle.cg_request.specs.declared.request.LeaveRequest.{LeaveRequest}
 use Rattle.cg_request.specs.declared.request.CommitRequest.{CommitRequest}
 use Rattle.cg_request.specs.declared.request.FetchRequest.{FetchRequest}
+use Rattle.cg_request.specs.declared.request.DropRequest.{DropRequest}
 use Rattle.cg_request.specs.Names.{are_distinct}
 use Rattle.cg_line.specs.declared.line_fault.LineFault.{LineFault}
 use Rattle.cg_line.specs.declared.line_fault.LineFault.TheVariants.{Memory, Malformed, TooLong}
@@ -190,12 +191,16 @@ commit_of (g ∷ n ∷ m ∷ i ∷ es) =
     else None
 commit_of _ = None
 
+-- a group and its partitions: the words of FETCH and DROP
+unfoldable pub group_and_partitions_of : List (List ℕ) → Option (Option (List ℕ) × List TopicPartition)
+group_and_partitions_of (g ∷ ps) = if is_optional NAME_BYTES_MAX g && are_partitions ps then Some (optional_in g, map partition_in ps) else None
+group_and_partitions_of _ = None
+
 unfoldable pub fetch_of : List (List ℕ) → Option FetchRequest
-fetch_of (g ∷ ps) =
-    if is_optional NAME_BYTES_MAX g && are_partitions ps
-    then Some (record { group = optional_in g; partitions = map partition_in ps })
-    else None
-fetch_of _ = None
+fetch_of words = option_map (λ (group, partitions). record { group = group; partitions = partitions }) (group_and_partitions_of words)
+
+unfoldable pub drop_of : List (List ℕ) → Option DropRequest
+drop_of words = option_map (λ (group, partitions). record { group = group; partitions = partitions }) (group_and_partitions_of words)
 
 -- a single group
 unfoldable pub group_of : List (List ℕ) → Option (Option (List ℕ))
@@ -223,6 +228,7 @@ group_call_of kind words =
     else if bytes_eq kind (codes "FETCH") then option_map request.Fetch (fetch_of words)
     else if bytes_eq kind (codes "DESCRIBE") then option_map request.Describe (group_of words)
     else if bytes_eq kind (codes "DELETE") then option_map request.Delete (group_of words)
+    else if bytes_eq kind (codes "DROP") then option_map request.Drop (drop_of words)
     else if bytes_eq kind (codes "LIST") then nothing_of words
     else None
 

@@ -22,6 +22,7 @@ use Rattle.cg_request.specs.declared.request.BeatRequest.{BeatRequest}
 use Rattle.cg_request.specs.declared.request.LeaveRequest.{LeaveRequest}
 use Rattle.cg_request.specs.declared.request.CommitRequest.{CommitRequest}
 use Rattle.cg_request.specs.declared.request.FetchRequest.{FetchRequest}
+use Rattle.cg_request.specs.declared.request.DropRequest.{DropRequest}
 use Rattle.cg_request.specs.Commits.{AreCommits}
 use Rattle.cg_request.specs.Handing.{AreSyncEntries}
 use Rattle.cg_request.specs.Offers.{AreProtocols}
@@ -66,6 +67,9 @@ commit_words r = codes "COMMIT" ∷ name_word r.group ∷ signed_decimal r.gener
 abbrev pub fetch_words : FetchRequest → List (List ℕ)
 fetch_words r = codes "FETCH" ∷ name_word r.group ∷ map partition_word r.partitions
 
+abbrev pub drop_words : DropRequest → List (List ℕ)
+drop_words r = codes "DROP" ∷ name_word r.group ∷ map partition_word r.partitions
+
 -- the words of a request
 unfoldable pub request_words : Request → List (List ℕ)
 request_words (request.Join r) = join_words r
@@ -76,6 +80,7 @@ request_words (request.Commit r) = commit_words r
 request_words (request.Fetch r) = fetch_words r
 request_words (request.Describe group) = codes "DESCRIBE" ∷ name_word group ∷ []
 request_words (request.Delete group) = codes "DELETE" ∷ name_word group ∷ []
+request_words (request.Drop r) = drop_words r
 request_words request.List = codes "LIST" ∷ []
 
 -- the line of a request, without its line feed
@@ -150,6 +155,11 @@ pub record IsFetch (r : FetchRequest) : Type 0 where
   pub partitions : ArePartitions r.partitions
   pub each : AllByRecursion IsKey r.partitions
 
+pub record IsDrop (r : DropRequest) : Type 0 where
+  pub group : IsOptional NAME_BYTES_MAX r.group
+  pub partitions : ArePartitions r.partitions
+  pub each : AllByRecursion IsKey r.partitions
+
 -- a request whose parts are in their grammars, ranges and limits
 abbrev pub IsRequest : Request → Type 0
 IsRequest (request.Join r) = IsJoin r
@@ -160,6 +170,7 @@ IsRequest (request.Commit r) = IsCommit r
 IsRequest (request.Fetch r) = IsFetch r
 IsRequest (request.Describe group) = IsOptional NAME_BYTES_MAX group
 IsRequest (request.Delete group) = IsOptional NAME_BYTES_MAX group
+IsRequest (request.Drop r) = IsDrop r
 IsRequest request.List = Unit {0}
 
 -- the text is the line of a lawful request

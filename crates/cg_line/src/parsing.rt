@@ -1,8 +1,9 @@
 //! Parsing a request line.
-ghost use Rattle.std.specs.Prelude.{◌≡◌, ◌↔◌, ◌<◌, ◌≤◌, ◌⊎◌, map, length, Ok, Err, IfOk};
+ghost use Rattle.std.specs.Prelude.{◌≡◌, ◌↔◌, ◌<◌, ◌≤◌, ◌⊎◌, map, length, Ok, Err, IfOk, MatchOption};
 ghost use Rattle.cg_request.specs.declared.asking.Request.{Request};
 ghost use Rattle.cg_line.specs.Parsing.{Reads, group_call_of, is_member_call, member_call_of, request_of};
 ghost use Rattle.cg_line.specs.Requests.{Spells};
+ghost use Rattle.cg_line.specs.Splitting.{words_of};
 
 mod bytes;
 mod calls;
@@ -19,6 +20,7 @@ mod splitting;
 mod sync_entries;
 
 use crate::line_fault::LineFault::{self, Malformed, TooLong};
+use crate::parsing::splitting::{FEW_WORDS, WORDS_MAX, words};
 use crate::words::LINE_BYTES_MAX;
 pub use bytes::{bytes_in, is_opaque};
 use cg_group::Request;
@@ -56,7 +58,7 @@ fn member_call(alloc: Global, kind: &[u8], words: &[&[u8]]) -> Result<Request, L
     Err(Malformed)
 }
 
-// Parses COMMIT, FETCH, DESCRIBE, DELETE and LIST. `words` are those after the first, `kind`.
+// Parses COMMIT, FETCH, DESCRIBE, DELETE, DROP and LIST. `words` are those after the first, `kind`.
 #[tactic(auto, unfolding(crate::specs::Parsing::group_call_of))]
 fn group_call(alloc: Global, kind: &[u8], words: &[&[u8]]) -> Result<Request, LineFault>
     ensures { Reads result (group_call_of kind.now (map (λ w. w.now) words.now)) }
@@ -72,6 +74,9 @@ fn group_call(alloc: Global, kind: &[u8], words: &[&[u8]]) -> Result<Request, Li
     }
     if kind == b"DELETE".as_slice() {
         return Ok(Request::Delete(groups::group(alloc, words)?));
+    }
+    if kind == b"DROP".as_slice() {
+        return Ok(Request::Drop(groups::drop_offsets(alloc, words)?));
     }
     if kind == b"LIST".as_slice() {
         return groups::list(words);
@@ -93,8 +98,19 @@ fn request(alloc: Global, words: &[&[u8]]) -> Result<Request, LineFault>
     }
 }
 
+// Parses a line of at most `WORDS_MAX` words. Returns `None` if it has more.
+fn request_of_line(alloc: Global, line: &[u8]) -> Option<Result<Request, LineFault>>
+    ensures { MatchOption result (WORDS_MAX < length (words_of line.now)) (λ read. Reads read (request_of (words_of line.now))) }
+{
+    if let Some(few) = words::<FEW_WORDS>(line) {
+        return Some(request(alloc, few.as_slice()));
+    }
+    let words = words::<WORDS_MAX>(line)?;
+    Some(request(alloc, words.as_slice()))
+}
+
 /// Parses a line without its line feed. All checks come before the first allocation, so a malformed line is reported as
-/// such even if memory is short. Linear in the line, plus a comparison of each pair of its at most 64 entries.
+/// such even if memory is short. Linear in the line, plus a comparison of each pair of its at most `ENTRIES_MAX` entries.
 /// Allocates what the request holds.
 pub fn parse(alloc: Global, line: &[u8]) -> Result<Request, LineFault>
     ensures ok { IfOk result (λ request. Spells line.now request) }
@@ -106,8 +122,8 @@ pub fn parse(alloc: Global, line: &[u8]) -> Result<Request, LineFault>
     if line.len() > LINE_BYTES_MAX {
         return Err(TooLong);
     }
-    let Some(words) = splitting::words(line) else {
+    let Some(read) = request_of_line(alloc, line) else {
         return Err(Malformed);
     };
-    request(alloc, words.as_slice())
+    read
 }

@@ -64,9 +64,9 @@ module _ {A : Type 0} (f : Member → A) (lasts : IsLasting f) where
   unfolding told_to_syncs
   keep-told_to_syncs now t = keep-after_answers Syncs now t.group.members
 
-  pub keep-emptied : (t : Turn) → map f (emptied t).group.members ≡ map f t.group.members
+  pub keep-emptied : (now : ℕ) (t : Turn) → map f (emptied now t).group.members ≡ map f t.group.members
   unfolding emptied
-  keep-emptied t = refl
+  keep-emptied now t = refl
 
   pub keep-next_round : (g : Group) → map f (next_round g).members ≡ map f g.members
   unfolding next_round
@@ -75,8 +75,8 @@ module _ {A : Type 0} (f : Member → A) (lasts : IsLasting f) where
   pub keep-completed : (now : ℕ) (t : Turn) → map f (completed now t).group.members ≡ map f t.group.members
   unfolding completed
   keep-completed now t =
-      elim (is_empty t.group.members) as (λ b. map f (if b then emptied t else told_to_joins now (record t { group = next_round t.group })).group.members ≡ map f t.group.members) [
-        | true ↦ keep-emptied t
+      elim (is_empty t.group.members) as (λ b. map f (if b then emptied now t else told_to_joins now (record t { group = next_round t.group })).group.members ≡ map f t.group.members) [
+        | true ↦ keep-emptied now t
         | false ↦ keep-told_to_joins now (record t { group = next_round t.group }) ∙ keep-next_round t.group
       ]
 

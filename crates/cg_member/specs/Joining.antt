@@ -30,7 +30,7 @@ drawn name fresh = name ++ 45 ∷ hyphenated_text lower fresh
 
 -- a new group, without members
 unfoldable pub new_group : List ℕ → Group
-new_group id = record { id = id; phase = Empty; generation = 0; kind = None; protocol = None; leader = None; members = []; started = 0 }
+new_group id = record { id = id; phase = Empty; generation = 0; kind = None; protocol = None; leader = None; members = []; started = 0; emptied = None }
 
 -- a new member with this id, assignment and parked call
 unfoldable pub new_member : ℕ → JoinRequest → List ℕ → List ℕ → Waits → Member

@@ -81,16 +81,22 @@ next_round g = record g {
 abbrev pub completed_generation : ℕ → Option ℕ
 completed_generation generation = if nat_le 1 generation then Some generation else None
 
--- the command that a generation has no members; a group that never had a member has no type, and makes no such command
-unfoldable pub emptied_command : Group → List Command
-emptied_command g =
-    option_to_list (option_and_then (λ generation. option_map (λ kind. command.Emptied (record { group = g.id; generation = generation; kind = kind })) g.kind) (completed_generation g.generation))
+-- the command that a generation has no members from this moment on; a group that never had a member has no type, and makes no
+-- such command
+unfoldable pub emptied_command : ℕ → Group → List Command
+emptied_command now g =
+    option_to_list (option_and_then (λ generation. option_map (λ kind. command.Emptied (record {
+      group = g.id;
+      generation = generation;
+      kind = kind;
+      moment = Some now;
+    })) g.kind) (completed_generation g.generation))
 
--- complete, without members
-unfoldable pub emptied : Turn → Turn
-emptied t =
-    let g : Group = record t.group { phase = Empty; generation = next_generation t.group.generation; protocol = None; leader = None } in
-    record { group = g; replies = t.replies; commands = t.commands ++ emptied_command g }
+-- complete, without members: the group is emptied now
+unfoldable pub emptied : ℕ → Turn → Turn
+emptied now t =
+    let g : Group = record t.group { phase = Empty; generation = next_generation t.group.generation; protocol = None; leader = None; emptied = Some now } in
+    record { group = g; replies = t.replies; commands = t.commands ++ emptied_command now g }
 
 -- every parked JOIN gets its reply
 unfoldable pub told_to_joins : ℕ → Turn → Turn
@@ -102,7 +108,7 @@ told_to_joins now t = record {
 
 -- complete: the rebalance ends with the next generation
 unfoldable pub completed : ℕ → Turn → Turn
-completed now t = if is_empty t.group.members then emptied t else told_to_joins now (record t { group = next_round t.group })
+completed now t = if is_empty t.group.members then emptied now t else told_to_joins now (record t { group = next_round t.group })
 
 -- a rebalance is under way, and every member has a parked JOIN (or no member is left)
 unfoldable pub is_ready : Group → Bool

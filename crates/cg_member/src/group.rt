@@ -29,4 +29,6 @@ pub struct Group {
     pub members: Members,
     /// Start of the rebalance under way, in the phase `Preparing`; it decides the deadline.
     pub started: Moment,
+    /// In a group in the phase `Empty` that has a record: the moment at which it was emptied, or `None` if that is unknown.
+    pub emptied: Option<Moment>,
 }

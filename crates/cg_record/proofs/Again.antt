@@ -1,8 +1,10 @@
 -- A second decoding of the same bytes gives the same values.
-use Rattle.std.proofs.Common.{◌≡◌, ℕ, zero, suc, ◌+◌, ◌-◌, ◌<◌, ◌≤◌, Bool, true, false, List, [], ◌∷◌, ◌++◌, length, Option, Ok, Err, refl, sym, ap, ◌∙◌, append_assoc, arith}
+use Rattle.std.proofs.Common.{◌≡◌, ℕ, zero, suc, ◌+◌, ◌-◌, ◌<◌, ◌≤◌, Bool, true, false, cond, leb, List, [], ◌∷◌, ◌++◌, length, Option, Ok, Err, refl, sym, ap, subst, ◌∙◌, append_assoc, arith}
 use Rattle.std.specs.Prelude.{◌||◌, IsOk}
 use Rattle.std.specs.List.{list_any}
 use Rattle.std.proofs.lemmas.List.{append-nil}
+use Rattle.std.proofs.lemmas.List.Sums.{sum_by_push}
+use Rattle.std.proofs.lemmas.Bool.{leb-true, le-leb}
 use Rattle.std.proofs.lemmas.List.Folds.{list_any-append}
 use Rattle.cg_record.specs.declared.format.Version.{Version}
 use Rattle.cg_record.specs.declared.fault.RecordFault.{RecordFault}
@@ -11,12 +13,18 @@ use Rattle.cg_record.specs.declared.entry.Entry.{Entry}
 use Rattle.cg_record.specs.declared.topic_partition.TopicPartition.{TopicPartition}
 use Rattle.cg_record.specs.declared.member.Member.{Member}
 use Rattle.cg_names.specs.declared.name.TheConstants.{NAME_BYTES_MAX, MEMBER_ID_BYTES_MAX}
-use Rattle.cg_record.specs.Keys.{is_of}
+use Rattle.cg_record.specs.declared.entries.TheConstants.{COMMIT_METADATA_BYTES_MAX}
+use Rattle.cg_record.specs.declared.metadata.TheConstants.{METADATA_BYTES_MAX}
+use Rattle.cg_record.specs.declared.offset.TheConstants.{OFFSET_MAX}
+use Rattle.cg_record.specs.declared.fault.RecordFault.TheVariants.{BadLength, Repeated}
+use Rattle.cg_record.specs.Keys.{is_of, metadata_bytes, metadata_room}
+use Rattle.cg_record.specs.Partitions.{are_one}
 use Rattle.cg_record.specs.Rosters.{has_id, has_instance}
 use Rattle.cg_record.specs.Members.{Profile, member_of, profile_at, member_at}
-use Rattle.cg_record.specs.Fields.{Read, name_at, optional_name_at, many_at}
-use Rattle.cg_record.specs.Reading.{Skips, key_at, kept_at, entry_at, command_at, commands_to_end}
-use Rattle.cg_record.proofs.Laws.{bind_ok, ok_is}
+use Rattle.cg_record.specs.Fields.{Read, ◌>>=◌, only, at_most, four_at, eight_at, bytes_at, name_at, optional_name_at, text_at, many_at}
+use Rattle.cg_record.specs.Reading.{Skips, is_new, key_at, kept_at, entry_at, is_new_partition, partition_at, command_at, commands_to_end}
+use Rattle.cg_record.proofs.Laws.{bind_ok, ok_is, test_ok}
+use Rattle.cg_record.proofs.CommitLaws.{entry_of, room_small}
 use Rattle.cg_record.proofs.Steps.{many_step, many_on, many_end, IsLeft, left_step, commands_start, commands_on, commands_end}
 
 -- values that are decoded after others are appended to them
@@ -82,10 +90,122 @@ many_snoc {X} at (suc n) front bytes all rest x after reads next =
 -- ---- checks of values
 
 -- an entry, from its parts
-pub entry_reads : (front : List Entry) (bytes : List ℕ) (key : TopicPartition) (rest : List ℕ) (offset : ℕ) (metadata after : List ℕ) → key_at bytes ≡ Ok (key, rest) → list_any (is_of key) front ≡ false → kept_at rest ≡ Ok ((offset, metadata), after)
+pub entry_reads : (front : List Entry) (bytes : List ℕ) (key : TopicPartition) (rest : List ℕ) (room offset : ℕ) (metadata after : List ℕ) → key_at bytes ≡ Ok (key, rest) → list_any (is_of key) front ≡ false → room ≡ metadata_room front → kept_at room rest ≡ Ok ((offset, metadata), after)
     → entry_at front bytes ≡ Ok (record { key = key; offset = offset; metadata = metadata }, after)
 unfolding entry_at
-entry_reads front bytes key rest offset metadata after read new kept = rw (read, new, kept) refl
+entry_reads front bytes key rest room offset metadata after read new is kept =
+    let same : kept_at (metadata_room front) rest ≡ Ok ((offset, metadata), after) = ap (λ (n : ℕ). kept_at n rest) (sym is) ∙ kept in
+    rw (read, new, same) refl
+
+-- a length that passes one limit passes a greater one
+longer_passes : (n max more : ℕ) → leb n max ≡ true → max ≤ more → leb n more ≡ true
+longer_passes n max more passes le = le-leb n more (omega (arith, leb-true n max passes, le))
+
+kept_longer : (max more : ℕ) (bytes : List ℕ) (x : (ℕ × List ℕ) × List ℕ) → max ≤ more → kept_at max bytes ≡ Ok x → kept_at more bytes ≡ Ok x
+unfolding kept_at text_at
+kept_longer max more bytes x le e =
+    let o = bind_ok (only (at_most OFFSET_MAX) BadLength (eight_at bytes)) (λ offset. only (at_most max) BadLength (four_at offset.1) >>= (λ size. bytes_at size.0 size.1) >>= λ metadata. Ok ((offset.0, metadata.0), metadata.1)) x e in
+    let m = bind_ok (only (at_most max) BadLength (four_at o.0.1) >>= λ size. bytes_at size.0 size.1) (λ metadata. Ok ((o.0.0, metadata.0), metadata.1)) x o.2 in
+    let s = bind_ok (only (at_most max) BadLength (four_at o.0.1)) (λ size. bytes_at size.0 size.1) m.0 m.1 in
+    let f = bind_ok (four_at o.0.1) (λ size. cond (leb size.0 max) (Ok size) (Err BadLength)) s.0 s.1 in
+    let t = test_ok (leb f.0.0 max) BadLength f.0 s.0 f.2 in
+    let longer : leb f.0.0 more ≡ true = longer_passes f.0.0 max more t.0 le in
+    let size_is : f.0 ≡ s.0 = t.1 in
+    let read : bytes_at f.0.0 f.0.1 ≡ Ok m.0 = ap (λ (y : ℕ × List ℕ). bytes_at y.0 y.1) size_is ∙ s.2 in
+    rw (o.1, f.1, longer, read) m.2
+
+-- what a second decoding needs of an entry: the limit of its metadata may be the greatest
+pub entry_again : (front : List Entry) (bytes : List ℕ) (e : Entry) (after : List ℕ) → entry_at front bytes ≡ Ok (e, after)
+    → (rest : List ℕ) × (key_at bytes ≡ Ok (e.key, rest)) × (kept_at METADATA_BYTES_MAX rest ≡ Ok ((e.offset, e.metadata), after))
+unfolding entry_at
+entry_again front bytes e after h =
+    let k = bind_ok (only (is_new front) Repeated (key_at bytes)) (λ key. kept_at (metadata_room front) key.1 >>= λ kept. Ok (entry_of key.0 kept.0, kept.1)) (e, after) h in
+    let r = bind_ok (key_at bytes) (λ x. cond (is_new front x.0) (Ok x) (Err Repeated)) k.0 k.1 in
+    let t = test_ok (is_new front r.0.0) Repeated r.0 k.0 r.2 in
+    let p = bind_ok (kept_at (metadata_room front) k.0.1) (λ kept. Ok (entry_of k.0.0 kept.0, kept.1)) (e, after) k.2 in
+    let same : (entry_of k.0.0 p.0.0, p.0.1) ≡ (e, after) = ok_is (entry_of k.0.0 p.0.0, p.0.1) (e, after) p.2 in
+    let kept = kept_longer (metadata_room front) METADATA_BYTES_MAX k.0.1 p.0 (room_small (COMMIT_METADATA_BYTES_MAX - metadata_bytes front)) p.1 in
+    let key : key_at bytes ≡ Ok k.0 = r.1 ∙ ap (λ (y : TopicPartition × List ℕ). Ok y) t.1 in
+    subst (λ (y : Entry × List ℕ). (rest : List ℕ) × (key_at bytes ≡ Ok (y.0.key, rest)) × (kept_at METADATA_BYTES_MAX rest ≡ Ok ((y.0.offset, y.0.metadata), y.1))) same
+    (k.0.1, key, kept)
+
+-- a second decoding finds what the first found
+pub again_found : (front : List Entry) (bytes : List ℕ) (e : Entry) (after : List ℕ) (key : TopicPartition) (rest : List ℕ) (offset : ℕ) (metadata end : List ℕ)
+    → entry_at front bytes ≡ Ok (e, after) → key_at bytes ≡ Ok (key, rest) → kept_at METADATA_BYTES_MAX rest ≡ Ok ((offset, metadata), end) → (key ≡ e.key) × (length metadata ≡ length e.metadata) × (end ≡ after)
+again_found front bytes e after key rest offset metadata end h k m =
+    let a = entry_again front bytes e after h in
+    let key_is : (key, rest) ≡ (e.key, a.0) = ok_is (key, rest) (e.key, a.0) (sym k ∙ a.1) in
+    let rest_is : rest ≡ a.0 = ap (λ (y : TopicPartition × List ℕ). y.1) key_is in
+    let kept_is : ((offset, metadata), end) ≡ ((e.offset, e.metadata), after) = ok_is ((offset, metadata), end) ((e.offset, e.metadata), after) (sym m ∙ ap (kept_at METADATA_BYTES_MAX) rest_is ∙ a.2) in
+    (ap (λ (y : TopicPartition × List ℕ). y.0) key_is, ap (λ (y : (ℕ × List ℕ) × List ℕ). length y.0.1) kept_is, ap (λ (y : (ℕ × List ℕ) × List ℕ). y.1) kept_is)
+
+-- and does not fail
+pub again_kept : (front : List Entry) (bytes : List ℕ) (e : Entry) (after : List ℕ) (key : TopicPartition) (rest : List ℕ) (fault : RecordFault)
+    → entry_at front bytes ≡ Ok (e, after) → key_at bytes ≡ Ok (key, rest) → kept_at METADATA_BYTES_MAX rest ≡ Err fault → ⊥
+again_kept front bytes e after key rest fault h k m =
+    let a = entry_again front bytes e after h in
+    let key_is : (key, rest) ≡ (e.key, a.0) = ok_is (key, rest) (e.key, a.0) (sym k ∙ a.1) in
+    let rest_is : rest ≡ a.0 = ap (λ (y : TopicPartition × List ℕ). y.1) key_is in
+    let no = sym m ∙ ap (kept_at METADATA_BYTES_MAX) rest_is ∙ a.2 in
+    absurd cc
+
+-- a partition, from its decoding
+pub partition_reads : (front : List TopicPartition) (bytes : List ℕ) (key : TopicPartition) (rest : List ℕ) → key_at bytes ≡ Ok (key, rest) → list_any (λ other. are_one other key) front ≡ false → partition_at front bytes ≡ Ok (key, rest)
+unfolding partition_at
+partition_reads front bytes key rest read new = rw (read, new) refl
+
+pub partition_again : (front : List TopicPartition) (bytes : List ℕ) (p : TopicPartition) (after : List ℕ) → partition_at front bytes ≡ Ok (p, after) → key_at bytes ≡ Ok (p, after)
+unfolding partition_at
+partition_again front bytes p after h =
+    let r = bind_ok (key_at bytes) (λ x. cond (is_new_partition front x.0) (Ok x) (Err Repeated)) (p, after) h in
+    let t = test_ok (is_new_partition front r.0.0) Repeated r.0 (p, after) r.2 in
+    r.1 ∙ ap (λ (y : TopicPartition × List ℕ). Ok y) t.1
+
+-- a decoding does not both fail and succeed
+pub not_both : (bytes : List ℕ) (fault : RecordFault) (p : TopicPartition) (after : List ℕ) → key_at bytes ≡ Err fault → key_at bytes ≡ Ok (p, after) → ⊥
+not_both bytes fault p after failed read =
+    let no = sym failed ∙ read in
+    absurd cc
+
+-- a partition that comes twice
+pub partition_repeats : (front : List TopicPartition) (bytes : List ℕ) (key : TopicPartition) (rest : List ℕ) → key_at bytes ≡ Ok (key, rest) → list_any (λ other. are_one other key) front ≡ true → partition_at front bytes ≡ Err Repeated
+unfolding partition_at
+partition_repeats front bytes key rest read old = rw (read, old) refl
+
+-- both decodings give the same partition
+pub same_partition : (bytes : List ℕ) (a : TopicPartition) (after : List ℕ) (b : TopicPartition) (end : List ℕ) → key_at bytes ≡ Ok (a, after) → key_at bytes ≡ Ok (b, end) → (a ≡ b) × (after ≡ end)
+same_partition bytes a after b end one other =
+    let same : (a, after) ≡ (b, end) = ok_is (a, after) (b, end) (sym one ∙ other) in
+    (ap (λ (y : TopicPartition × List ℕ). y.0) same, ap (λ (y : TopicPartition × List ℕ). y.1) same)
+
+-- ---- the metadata of a commit
+
+-- the bytes that are left of the limit after the entries decoded so far
+pub record IsSummed (count i : ℕ) (whole : List Entry) (end rest : List ℕ) (room : ℕ) : Type 0 where
+  pub front : List Entry
+  pub reads : many_at entry_at (count - i) front rest ≡ Ok (whole, end)
+  pub room_is : room ≡ COMMIT_METADATA_BYTES_MAX - metadata_bytes front
+
+pub summed_start : (count : ℕ) (whole : List Entry) (end start : List ℕ) → many_at entry_at count [] start ≡ Ok (whole, end) → IsSummed count 0 whole end start COMMIT_METADATA_BYTES_MAX
+summed_start count whole end start h =
+    let all : count - 0 ≡ count = omega arith in
+    record { front = []; reads = ap (λ (n : ℕ). many_at entry_at n [] start) all ∙ h; room_is = omega arith }
+
+pub summed_next : (count i : ℕ) (whole : List Entry) (end rest : List ℕ) (room : ℕ) (s : IsSummed count i whole end rest room) → i < count
+    → (x : Entry × List ℕ) × (entry_at s.front rest ≡ Ok x) × (many_at entry_at (count - (i + 1)) (s.front ++ x.0 ∷ []) x.1 ≡ Ok (whole, end))
+summed_next count i whole end rest room s lt =
+    bind_ok (entry_at s.front rest) (λ next. many_at entry_at (count - (i + 1)) (s.front ++ next.0 ∷ []) next.1) (whole, end) (sym (many_step entry_at count i s.front rest lt) ∙ s.reads)
+
+pub summed_on : (count i : ℕ) (whole : List Entry) (end rest : List ℕ) (room : ℕ) (s : IsSummed count i whole end rest room) (x : Entry) (after : List ℕ) (size more : ℕ)
+    → many_at entry_at (count - (i + 1)) (s.front ++ x ∷ []) after ≡ Ok (whole, end) → size ≡ length x.metadata → more ≡ room - size → IsSummed count (i + 1) whole end after more
+summed_on count i whole end rest room s x after size more reads size_is more_is =
+    record { front = s.front ++ x ∷ []; reads = reads; room_is = omega (arith, s.room_is, size_is, more_is, sum_by_push (λ (e : Entry). length e.metadata) s.front x) }
+
+pub summed_end : (count i : ℕ) (whole : List Entry) (end rest : List ℕ) (room : ℕ) → IsSummed count i whole end rest room → count ≤ i → room ≡ COMMIT_METADATA_BYTES_MAX - metadata_bytes whole
+summed_end count i whole end rest room s le =
+    let done = many_end entry_at count i s.front rest (Ok (whole, end)) le s.reads in
+    let same : whole ≡ s.front = ap (λ (y : List Entry × List ℕ). y.0) (ok_is (whole, end) (s.front, rest) done) in
+    rw same s.room_is
 
 -- a member, from its parts
 pub member_reads : (front : List Member) (bytes id rest : List ℕ) (instance : Option (List ℕ)) (more : List ℕ) (profile : Profile) (after : List ℕ)

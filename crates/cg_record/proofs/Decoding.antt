@@ -23,7 +23,7 @@ same_then (Err fault) f g same = refl
 is_decoded : (version : Version) (bytes : List ℕ) (x : Command) (rest : List ℕ) → IsBytes bytes → command_at version bytes ≡ Ok (x, rest) → IsCommand x × IsBytes rest × (length rest < length bytes)
 is_decoded version bytes x rest fits e =
     let t = (reads_command version).takes bytes x rest fits e in
-    (t.2, t.0.rest_fits, omega (arith, bytes_not_empty version x, ap length t.0.parts, length-append (command_bytes version x) rest))
+    (t.2.0, t.0.rest_fits, omega (arith, bytes_not_empty version x, ap length t.0.parts, length-append (command_bytes version x) rest))
 
 -- the bytes have no more commands than they are, whatever the bound above that
 same_left : (version : Version) (m n : ℕ) (bytes : List ℕ) → IsBytes bytes → length bytes ≤ m → length bytes ≤ n → commands_to_end version m bytes ≡ commands_to_end version n bytes

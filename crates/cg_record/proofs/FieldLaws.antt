@@ -1,18 +1,18 @@
 -- The law of each field: its decoder accepts exactly its encoding.
 use Rattle.std.proofs.Common.{◌≡◌, ℕ, ◌^◌, ◌<◌, ◌≤◌, Bool, true, false, cond, ltb, leb, List, [], ◌∷◌, ◌++◌, length, take, drop, Option, Some, None, Ok, Err, refl, sym, ap, subst, arith}
 use Rattle.std.specs.Prelude.{is_none}
-use Rattle.std.specs.Int.{Width, w32, w64, byte_len, from_be_bytes, to_be_bytes}
+use Rattle.std.specs.Int.{Width, w16, w32, w64, byte_len, from_be_bytes, to_be_bytes}
 use Rattle.std.proofs.lemmas.Bool.{ltb-false, le-ltb, leb-true, le-leb, and_parts}
 use Rattle.std.proofs.lemmas.List.{take_at, drop_at, take-append-drop, length-append, length-take, get_or-take, get_or_past}
 use Rattle.std.proofs.lemmas.Bool.{cases_lt}
 use Rattle.std.proofs.Common.{inl, inr}
-use Rattle.std.proofs.lemmas.Nat.{be_bytes_4, be_bytes_8, from_be_bytes-to_be_bytes_4, from_be_bytes-to_be_bytes_8}
+use Rattle.std.proofs.lemmas.Nat.{be_bytes_2, from_be_bytes-to_be_bytes_2, be_bytes_4, be_bytes_8, from_be_bytes-to_be_bytes_4, from_be_bytes-to_be_bytes_8}
 use Rattle.cg_names.specs.Grammar.{IsName, fault_of}
 use Rattle.cg_names.proofs.Names.{length_from_name}
 use Rattle.cg_record.specs.declared.fault.RecordFault.{RecordFault}
 use Rattle.cg_record.specs.declared.fault.RecordFault.TheVariants.{Short, BadName, BadLength}
-use Rattle.cg_record.specs.Texts.{number, four, eight, name_text, bytes_text}
-use Rattle.cg_record.specs.Fields.{at_most, is_from_to, is_name, byte_at, bytes_at, number_at, four_at, eight_at, name_at, text_at}
+use Rattle.cg_record.specs.Texts.{number, two, four, eight, name_text, bytes_text}
+use Rattle.cg_record.specs.Fields.{at_most, is_from_to, is_name, byte_at, bytes_at, number_at, two_at, four_at, eight_at, name_at, text_at}
 use Rattle.cg_record.proofs.Laws.{IsBytes, ok_is, Takes, Takes-one, Reads, Anything, reads_only, reads_then, reads_as, reads_known}
 
 -- a length check that passed
@@ -74,6 +74,14 @@ record IsWide (w : Width) (limit : ℕ) : Type 0 where
   pub again : (n : ℕ) → n < limit → from_be_bytes w (to_be_bytes w n) ≡ n
   pub below : (bytes : List ℕ) → IsBytes bytes → from_be_bytes w bytes < limit
 
+wide_two : IsWide w16 (2 ^ 16)
+wide_two = record {
+  len = λ n. refl;
+  back = λ bytes len fits. be_bytes_2 bytes _ len fits refl;
+  again = λ n lt. from_be_bytes-to_be_bytes_2 n lt;
+  below = λ bytes fits. omega (arith, fits 0, fits 1);
+}
+
 wide_four : IsWide w32 (2 ^ 32)
 wide_four = record {
   len = λ n. refl;
@@ -110,6 +118,9 @@ number_again w limit wide n rest lt =
     let len = wide.len n in
     let long : ltb (length (to_be_bytes w n ++ rest)) (byte_len w) ≡ false = le-ltb _ _ (omega (arith, length-append (to_be_bytes w n) rest)) in
     rw (long, take_at (to_be_bytes w n) rest (byte_len w) len, drop_at (to_be_bytes w n) rest (byte_len w) len, wide.again n lt) refl
+
+pub reads_two : Reads two_at two (IsBelow (2 ^ 16))
+reads_two = record { takes = number_takes w16 (2 ^ 16) wide_two; again = λ n rest known is. number_again w16 (2 ^ 16) wide_two n rest is }
 
 pub reads_four : Reads four_at four (IsBelow (2 ^ 32))
 reads_four = record { takes = number_takes w32 (2 ^ 32) wide_four; again = λ n rest known is. number_again w32 (2 ^ 32) wide_four n rest is }

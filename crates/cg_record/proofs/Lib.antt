@@ -3,7 +3,10 @@ pub mod Kept
 pub mod Laws
 pub mod FieldLaws
 pub mod ManyLaws
+pub mod MomentLaws
+pub mod CountLaws
 pub mod CommitLaws
+pub mod RemovalLaws
 pub mod MemberLaws
 pub mod RosterLaws
 pub mod GroupLaws
@@ -12,5 +15,6 @@ pub mod Steps
 pub mod Again
 pub mod Decoding
 pub mod Told
+pub mod Cuts
 pub mod TextLens
 pub mod Replacing

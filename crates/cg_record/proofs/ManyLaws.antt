@@ -83,6 +83,16 @@ module _ {X : Type 0} (at : List X → List ℕ → Read X) (text : X → List �
         ap (λ k. many_at at k [] (flat_map text xs ++ rest)) (sym is.count) ∙ many_again xs [] rest is.each is.distinct;
   }
 
+  -- with their number before them
+  pub reads_numbered : {at_count : List ℕ → Read ℕ} {count_text : ℕ → List ℕ} {IsCount : ℕ → Type 0} → Reads at_count count_text IsCount
+      → Reads (λ bytes. at_count bytes >>= λ count. many_at at count.0 [] count.1) (λ xs. count_text (length xs) ++ flat_map text xs) (λ xs. IsCount (length xs) × (Apart xs × AllByRecursion Is xs))
+  reads_numbered counted =
+      reads_then length counted (λ count is_count.
+      reads_known {Known = λ xs. Anything xs × (length xs ≡ count)} {Other = λ xs. Apart xs × AllByRecursion Is xs}
+      (reads_many count)
+      (λ xs is. ((tt, is.count), (is.distinct, is.each)))
+      (λ xs known is. record { count = known.1; distinct = is.0; each = is.1 }))
+
   -- with one byte of count before them
   pub reads_counted : (max : ℕ) → max < 256 → Reads (λ bytes. only (is_from_to 1 max) BadLength (byte_at bytes) >>= λ count. many_at at count.0 [] count.1) (λ xs. length xs ∷ flat_map text xs) (AreCounted Is Apart max)
   reads_counted max below =

@@ -26,7 +26,7 @@ use Rattle.cg_record.proofs.FieldLaws.{reads_byte, reads_bytes, none_is, reads_f
 regrouped : (a b c d e : List ℕ) → a ++ (b ++ (c ++ (d ++ (e ++ [])))) ≡ (((a ++ b) ++ c) ++ d) ++ e
 regrouped a b c d e = simp (append-nil, append_assoc)
 
-abbrev profile_from : List ℕ → ℕ → ℕ → List ℕ → List ℕ → Profile
+abbrev pub profile_from : List ℕ → ℕ → ℕ → List ℕ → List ℕ → Profile
 profile_from client session rebalance subscription assignment =
     record { client = client; session = session; rebalance = rebalance; subscription = subscription; assignment = assignment }
 
@@ -154,7 +154,7 @@ reads_required max below = record { takes = required_takes max below; again = λ
 grouped : (a b c d : List ℕ) → a ++ (b ++ (c ++ (d ++ []))) ≡ a ++ ((b ++ c) ++ d)
 grouped a b c d = simp (append-nil, append_assoc)
 
-abbrev replaced_of : List ℕ → Member → Replaced
+abbrev pub replaced_of : List ℕ → Member → Replaced
 replaced_of group member = record { group = group; member = member }
 
 pub reads_replaced : Reads replaced_at replaced_text IsReplaced

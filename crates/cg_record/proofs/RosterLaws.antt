@@ -64,7 +64,7 @@ reads_roster =
     (λ r known is. record { protocol = is.0; leader = is.1.0; together = record { members = is.1.1.0.0; led = is.1.1.1 }; each = is.1.1.0.1 })
     (λ r known is. (is.protocol, (is.leader, ((is.together.members, is.each), is.together.led))))
 
-abbrev assigned_of : List ℕ → ℕ → List ℕ → RosterParts → Assigned
+abbrev pub assigned_of : List ℕ → ℕ → List ℕ → RosterParts → Assigned
 assigned_of group generation kind roster = record { group = group; generation = generation; kind = kind; roster = roster }
 
 regrouped : (a b c d : List ℕ) → a ++ (b ++ (c ++ (d ++ []))) ≡ ((a ++ b) ++ c) ++ d

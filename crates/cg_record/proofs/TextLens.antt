@@ -1,8 +1,9 @@
 -- The lengths of encodings, and of lists of encodings that grow.
-use Rattle.std.proofs.Common.{◌≡◌, ℕ, ◌+◌, ◌∷◌, ◌++◌, length, refl, arith}
+use Rattle.std.proofs.Common.{◌≡◌, ℕ, ◌+◌, List, ◌∷◌, ◌++◌, length, Some, None, refl, arith}
 use Rattle.std.specs.List.{flat_map}
 use Rattle.std.proofs.lemmas.List.{length-append}
 use Rattle.cg_record.specs.declared.entry.Entry.{Entry}
+use Rattle.cg_record.specs.declared.topic_partition.TopicPartition.{TopicPartition}
 use Rattle.cg_record.specs.declared.emptied.Emptied.{Emptied}
 use Rattle.cg_record.specs.declared.committed.Committed.{Committed}
 use Rattle.cg_record.specs.declared.assigned.Assigned.{Assigned}
@@ -11,8 +12,10 @@ use Rattle.cg_record.specs.declared.replaced.Replaced.{Replaced}
 use Rattle.cg_record.specs.Rosters.{RosterParts}
 use Rattle.cg_record.specs.Members.{Profile, profile_of, profile_text, member_text}
 use Rattle.cg_record.specs.Versions.{newest}
-use Rattle.cg_record.specs.Texts.{number, four, eight, name_text, optional_text, bytes_text}
-use Rattle.cg_record.specs.Spelling.{entry_text, key_text, roster_text, assigned_text, emptied_text, replaced_text, committed_text}
+use Rattle.cg_record.specs.Moments.{moment_text}
+use Rattle.cg_record.specs.Counts.{count_text}
+use Rattle.cg_record.specs.Texts.{number, two, four, eight, name_text, optional_text, bytes_text}
+use Rattle.cg_record.specs.Spelling.{entry_text, key_text, removal_text, roster_text, assigned_text, emptied_text, replaced_text, committed_text}
 
 four_len : (n : ℕ) → length (four n) ≡ 4
 unfolding number
@@ -22,23 +25,57 @@ eight_len : (n : ℕ) → length (eight n) ≡ 8
 unfolding number
 eight_len n = refl
 
-pub entry_len : (e : Entry) → length (entry_text e) ≡ length e.key.topic + length e.metadata + 17
+two_len : (n : ℕ) → length (two n) ≡ 2
+unfolding number
+two_len n = refl
+
+count_len : (n : ℕ) → length (count_text newest n) ≡ 2
+unfolding count_text
+count_len n = two_len n
+
+pub unknown_len : length (moment_text newest None) ≡ 1
+unfolding moment_text
+unknown_len = refl
+
+pub known_len : (m : ℕ) → length (moment_text newest (Some m)) ≡ 9
+unfolding moment_text
+known_len m = omega (arith, eight_len m)
+
+pub key_len : (k : TopicPartition) → length (key_text k) ≡ length k.topic + 5
+key_len k = omega (arith, length-append (name_text k.topic) (four k.partition), four_len k.partition)
+
+pub entry_len : (e : Entry) → length (entry_text e) ≡ length (key_text e.key) + length e.metadata + 12
 unfolding entry_text
 entry_len e =
     omega (
       arith,
       length-append (key_text e.key ++ eight e.offset) (bytes_text e.metadata),
       length-append (key_text e.key) (eight e.offset),
-      length-append (name_text e.key.topic) (four e.key.partition),
       length-append (four (length e.metadata)) e.metadata,
-      four_len e.key.partition,
       eight_len e.offset,
       four_len (length e.metadata),
     )
 
-pub committed_len : (c : Committed) → length (committed_text newest c) ≡ length c.group + length (flat_map entry_text c.entries) + 2
+pub committed_len : (c : Committed) → length (committed_text newest c) ≡ length c.group + length (moment_text newest c.moment) + length (flat_map entry_text c.entries) + 3
 unfolding committed_text
-committed_len c = omega (arith, length-append (name_text c.group) (length c.entries ∷ flat_map entry_text c.entries))
+committed_len c =
+    omega (
+      arith,
+      length-append (name_text c.group ++ moment_text newest c.moment) (count_text newest (length c.entries) ++ flat_map entry_text c.entries),
+      length-append (name_text c.group) (moment_text newest c.moment),
+      length-append (count_text newest (length c.entries)) (flat_map entry_text c.entries),
+      count_len (length c.entries),
+    )
+
+pub removal_len : (group : List ℕ) (partitions : List TopicPartition) → length (removal_text newest group partitions) ≡ length group + length (flat_map key_text partitions) + 3
+unfolding removal_text
+removal_len group partitions =
+    omega (
+      arith,
+      length-append (name_text group) (count_text newest (length partitions) ++ flat_map key_text partitions),
+      length-append (count_text newest (length partitions)) (flat_map key_text partitions),
+      count_len (length partitions),
+    )
 
 profile_len : (p : Profile) → length (profile_text p) ≡ length p.client + length p.subscription + length p.assignment + 17
 unfolding profile_text
@@ -91,6 +128,13 @@ pub replaced_len : (r : Replaced) → length (replaced_text r) ≡ length r.grou
 unfolding replaced_text
 replaced_len r = omega (arith, length-append (name_text r.group) (member_text r.member))
 
-pub emptied_len : (e : Emptied) → length (emptied_text newest e) ≡ length e.group + length e.kind + 6
+pub emptied_len : (e : Emptied) → length (emptied_text newest e) ≡ length e.group + length e.kind + length (moment_text newest e.moment) + 6
 unfolding emptied_text
-emptied_len e = omega (arith, length-append (name_text e.group ++ four e.generation) (name_text e.kind), length-append (name_text e.group) (four e.generation), four_len e.generation)
+emptied_len e =
+    omega (
+      arith,
+      length-append (name_text e.group ++ four e.generation ++ name_text e.kind) (moment_text newest e.moment),
+      length-append (name_text e.group ++ four e.generation) (name_text e.kind),
+      length-append (name_text e.group) (four e.generation),
+      four_len e.generation,
+    )

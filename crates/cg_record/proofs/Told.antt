@@ -1,26 +1,29 @@
 -- Decoding reports faults of the bytes, and never a failed allocation.
 use Rattle.std.proofs.Common.{◌≡◌, ℕ, zero, suc, Bool, true, false, cond, eqb, ltb, List, [], ◌∷◌, ◌++◌, length, take, drop, None, Result, Ok, Err, refl, subst}
-use Rattle.std.specs.Int.{Width, w32, byte_len, from_be_bytes}
+use Rattle.std.specs.Int.{Width, w16, w32, byte_len, from_be_bytes}
 use Rattle.cg_names.specs.declared.name.TheConstants.{NAME_BYTES_MAX, MEMBER_ID_BYTES_MAX}
 use Rattle.cg_names.specs.declared.generation.TheConstants.{GENERATION_MAX}
 use Rattle.cg_record.specs.declared.partition.TheConstants.{PARTITION_MAX}
 use Rattle.cg_record.specs.declared.offset.TheConstants.{OFFSET_MAX}
-use Rattle.cg_record.specs.declared.metadata.TheConstants.{METADATA_BYTES_MAX}
-use Rattle.cg_record.specs.declared.entries.TheConstants.{ENTRIES_MAX}
-use Rattle.cg_record.specs.declared.format.TheConstants.{VERSION_ONE, ASSIGNED_KIND, EMPTIED_KIND, REPLACED_KIND, COMMITTED_KIND, DELETED_KIND}
+use Rattle.std.specs.Prelude.{◌&&◌}
+use Rattle.cg_record.specs.declared.format.TheConstants.{VERSION_ONE, VERSION_TWO, VERSION_THREE, ASSIGNED_KIND, EMPTIED_KIND, REPLACED_KIND, COMMITTED_KIND, DELETED_KIND, EXPIRED_KIND, DROPPED_KIND}
 use Rattle.cg_record.specs.declared.format.Version.{Version}
-use Rattle.cg_record.specs.declared.format.Version.TheVariants.{One}
 use Rattle.cg_record.specs.declared.fault.RecordFault.{RecordFault}
-use Rattle.cg_record.specs.declared.fault.RecordFault.TheVariants.{Memory, Short, BadKind, BadName, BadLength, Repeated}
+use Rattle.cg_record.specs.declared.fault.RecordFault.TheVariants.{Memory, Short, BadName, BadLength, Repeated}
 use Rattle.cg_record.specs.declared.entry.Entry.{Entry}
+use Rattle.cg_record.specs.declared.topic_partition.TopicPartition.{TopicPartition}
 use Rattle.cg_record.specs.declared.member.Member.{Member}
+use Rattle.cg_record.specs.Keys.{metadata_room}
+use Rattle.cg_record.specs.Moments.{stamp_at, moment_at}
+use Rattle.cg_record.specs.Counts.{number_of_count_at, count_at}
+use Rattle.cg_record.specs.Versions.{has_moments, has_expired, has_dropped, has_long_counts, count_max}
 use Rattle.cg_record.specs.declared.roster.TheConstants.{MEMBERS_MAX}
 use Rattle.cg_record.specs.declared.millis.TheConstants.{SESSION_MS_MIN, SESSION_MS_MAX, REBALANCE_MS_MAX}
 use Rattle.cg_record.specs.declared.opaque.TheConstants.{SUBSCRIPTION_BYTES_MAX, ASSIGNMENT_BYTES_MAX}
 use Rattle.cg_record.specs.Rosters.{is_led_by}
 use Rattle.cg_record.specs.Members.{profile_at, is_new_id, is_new_instance, member_at}
 use Rattle.cg_record.specs.Fields.{Read, ◌>>=◌, only, at_most, is_from_to, is_name, byte_at, bytes_at, number_at, name_at, named_at, optional_name_at, text_at, many_at}
-use Rattle.cg_record.specs.Reading.{key_at, kept_at, is_new, entry_at, committed_at, listed_at, roster_at, assigned_at, emptied_at, replaced_at, deleted_at, body_at, command_at, commands_to_end, version_of, commands_of, Fails, Tells}
+use Rattle.cg_record.specs.Reading.{key_at, kept_at, is_new, entry_at, listed_entries_at, committed_at, is_new_partition, partition_at, listed_partitions_at, removal_at, listed_at, roster_at, assigned_at, emptied_at, replaced_at, deleted_at, body_at, command_at, commands_to_end, version_of, commands_of, Fails, Tells}
 
 -- a fault of the bytes
 abbrev pub IsTold : RecordFault → Type 0
@@ -93,17 +96,17 @@ told_key bytes =
     told_then _ _ (told_name NAME_BYTES_MAX bytes) (λ topic.
     told_then _ _ (told_only (at_most PARTITION_MAX) BadLength _ tt (told_number _ topic.1)) (λ partition. tt))
 
-told_kept : (bytes : List ℕ) → Told (kept_at bytes)
+told_kept : (max : ℕ) (bytes : List ℕ) → Told (kept_at max bytes)
 unfolding kept_at
-told_kept bytes =
+told_kept max bytes =
     told_then _ _ (told_only (at_most OFFSET_MAX) BadLength _ tt (told_number _ bytes)) (λ offset.
-    told_then _ _ (told_text METADATA_BYTES_MAX offset.1) (λ metadata. tt))
+    told_then _ _ (told_text max offset.1) (λ metadata. tt))
 
 told_entry : (front : List Entry) (bytes : List ℕ) → Told (entry_at front bytes)
 unfolding entry_at
 told_entry front bytes =
     told_then _ _ (told_only (is_new front) Repeated _ tt (told_key bytes)) (λ key.
-    told_then _ _ (told_kept key.1) (λ kept. tt))
+    told_then _ _ (told_kept (metadata_room front) key.1) (λ kept. tt))
 
 told_many : {X : Type 0} (at : List X → List ℕ → Read X) → ((front : List X) (bytes : List ℕ) → Told (at front bytes)) → (n : ℕ) (front : List X) (bytes : List ℕ) → Told (many_at at n front bytes)
 unfolding many_at
@@ -111,12 +114,45 @@ told_many at told zero front bytes = tt
 told_many at told (suc n) front bytes =
     told_then _ _ (told front bytes) (λ next. told_many at told n (front ++ next.0 ∷ []) next.1)
 
+told_moment : (version : Version) (bytes : List ℕ) → Told (moment_at version bytes)
+unfolding moment_at stamp_at
+told_moment version bytes =
+    told_if (has_moments version) _ _
+    (told_then _ _ (told_only (at_most 1) BadLength _ tt (told_byte bytes)) (λ known.
+    told_if (eqb known.0 0) (Ok (None, known.1)) _ tt (told_then _ _ (told_number _ known.1) (λ millis. tt))))
+    tt
+
+told_count : (version : Version) (bytes : List ℕ) → Told (count_at version bytes)
+unfolding count_at number_of_count_at
+told_count version bytes =
+    told_only (is_from_to 1 (count_max version)) BadLength _ tt (told_if (has_long_counts version) _ _ (told_number w16 bytes) (told_byte bytes))
+
+told_listed_entries : (version : Version) (bytes : List ℕ) → Told (listed_entries_at version bytes)
+unfolding listed_entries_at
+told_listed_entries version bytes = told_then _ _ (told_count version bytes) (λ count. told_many entry_at told_entry count.0 [] count.1)
+
 told_committed : (version : Version) (bytes : List ℕ) → Told (committed_at version bytes)
 unfolding committed_at
 told_committed version bytes =
     told_then _ _ (told_name NAME_BYTES_MAX bytes) (λ group.
-    told_then _ _ (told_only (is_from_to 1 ENTRIES_MAX) BadLength _ tt (told_byte group.1)) (λ count.
-    told_then _ _ (told_many entry_at told_entry count.0 [] count.1) (λ entries. tt)))
+    told_then _ _ (told_moment version group.1) (λ moment.
+    told_then _ _ (told_listed_entries version moment.1) (λ entries. tt)))
+
+-- ---- a removal
+
+told_partition : (front : List TopicPartition) (bytes : List ℕ) → Told (partition_at front bytes)
+unfolding partition_at
+told_partition front bytes = told_only (is_new_partition front) Repeated _ tt (told_key bytes)
+
+told_listed_partitions : (version : Version) (bytes : List ℕ) → Told (listed_partitions_at version bytes)
+unfolding listed_partitions_at
+told_listed_partitions version bytes = told_then _ _ (told_count version bytes) (λ count. told_many partition_at told_partition count.0 [] count.1)
+
+told_removal : (version : Version) (bytes : List ℕ) → Told (removal_at version bytes)
+unfolding removal_at
+told_removal version bytes =
+    told_then _ _ (told_name NAME_BYTES_MAX bytes) (λ group.
+    told_then _ _ (told_listed_partitions version group.1) (λ partitions. tt))
 
 -- ---- members
 
@@ -166,7 +202,8 @@ unfolding emptied_at
 told_emptied version bytes =
     told_then _ _ (told_name NAME_BYTES_MAX bytes) (λ group.
     told_then _ _ (told_generation group.1) (λ generation.
-    told_then _ _ (told_name NAME_BYTES_MAX generation.1) (λ kind. tt)))
+    told_then _ _ (told_name NAME_BYTES_MAX generation.1) (λ kind.
+    told_then _ _ (told_moment version kind.1) (λ moment. tt))))
 
 told_replaced : (bytes : List ℕ) → Told (replaced_at bytes)
 unfolding replaced_at
@@ -190,7 +227,9 @@ told_body version kind bytes =
     (told_if (eqb kind REPLACED_KIND) _ _ (told_then _ _ (told_replaced bytes) (λ r. tt))
     (told_if (eqb kind COMMITTED_KIND) _ _ (told_then _ _ (told_committed version bytes) (λ c. tt))
     (told_if (eqb kind DELETED_KIND) _ _ (told_then _ _ (told_deleted bytes) (λ d. tt))
-    tt))))
+    (told_if (eqb kind EXPIRED_KIND && has_expired version) _ _ (told_then _ _ (told_removal version bytes) (λ r. tt))
+    (told_if (eqb kind DROPPED_KIND && has_dropped version) _ _ (told_then _ _ (told_removal version bytes) (λ r. tt))
+    tt))))))
 
 told_command : (version : Version) (bytes : List ℕ) → Told (command_at version bytes)
 unfolding command_at
@@ -206,7 +245,7 @@ told_to_end version (suc most) (b ∷ bytes) =
 
 told_version : (b : ℕ) → Told (version_of b)
 unfolding version_of
-told_version b = told_test (eqb b VERSION_ONE) One BadKind tt
+told_version b = told_if (eqb b VERSION_ONE) _ _ tt (told_if (eqb b VERSION_TWO) _ _ tt (told_if (eqb b VERSION_THREE) _ _ tt tt))
 
 pub told_commands : (bytes : List ℕ) → Told (commands_of bytes)
 unfolding commands_of

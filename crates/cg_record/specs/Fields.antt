@@ -1,6 +1,6 @@
 -- Decoding of fields from left to right, up to the first fault.
 use Rattle.std.specs.Prelude.{ℕ, zero, suc, Bool, ◌&&◌, ◌==◌, nat_lt, nat_le, List, [], ◌∷◌, ◌++◌, length, take, drop, Option, Some, None, Result, Ok, Err, is_none, if◌then◌else◌}
-use Rattle.std.specs.Int.{Width, w32, w64, byte_len, from_be_bytes}
+use Rattle.std.specs.Int.{Width, w16, w32, w64, byte_len, from_be_bytes}
 use Rattle.cg_names.specs.Grammar.{fault_of}
 use Rattle.cg_record.specs.declared.fault.RecordFault.{RecordFault}
 use Rattle.cg_record.specs.declared.fault.RecordFault.TheVariants.{Short, BadName, BadLength}
@@ -38,6 +38,9 @@ bytes_at n bytes = if nat_lt (length bytes) n then Err Short else Ok (take n byt
 -- a number of this width
 unfoldable pub number_at : Width → List ℕ → Read ℕ
 number_at w bytes = if nat_lt (length bytes) (byte_len w) then Err Short else Ok (from_be_bytes w (take (byte_len w) bytes), drop (byte_len w) bytes)
+
+abbrev pub two_at : List ℕ → Read ℕ
+two_at bytes = number_at w16 bytes
 
 abbrev pub four_at : List ℕ → Read ℕ
 four_at bytes = number_at w32 bytes

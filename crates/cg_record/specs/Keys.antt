@@ -1,7 +1,8 @@
 -- Which entries a commit can have.
-use Rattle.std.specs.Prelude.{Bool, List}
+use Rattle.std.specs.Prelude.{ℕ, ◌-◌, ◌≤◌, min, Bool, List, length, sum_by}
 use Rattle.std.specs.List.{IsDistinct}
-use Rattle.cg_record.specs.declared.entries.TheConstants.{ENTRIES_MAX}
+use Rattle.cg_record.specs.declared.entries.TheConstants.{ENTRIES_MAX, COMMIT_METADATA_BYTES_MAX}
+use Rattle.cg_record.specs.declared.metadata.TheConstants.{METADATA_BYTES_MAX}
 use Rattle.cg_record.specs.declared.entry.Entry.{Entry}
 use Rattle.cg_record.specs.declared.topic_partition.TopicPartition.{TopicPartition}
 use Rattle.cg_record.specs.Distinct.{AreDistinct}
@@ -19,6 +20,15 @@ have_one_key a b = is_of b.key a
 abbrev pub HasDistinctKeys : List Entry → Type 0
 HasDistinctKeys entries = IsDistinct have_one_key entries
 
+-- the bytes of metadata of all entries together
+abbrev pub metadata_bytes : List Entry → ℕ
+metadata_bytes entries = sum_by (λ e. length e.metadata) entries
+
+-- how many bytes of metadata the next entry may have, after those in front
+abbrev pub metadata_room : List Entry → ℕ
+metadata_room front = min METADATA_BYTES_MAX (COMMIT_METADATA_BYTES_MAX - metadata_bytes front)
+
 -- the entries of one commit
-abbrev pub AreEntries : List Entry → Type 0
-AreEntries entries = AreDistinct have_one_key 1 ENTRIES_MAX entries
+pub record AreEntries (entries : List Entry) : Type 0 where
+  pub distinct : AreDistinct have_one_key 1 ENTRIES_MAX entries
+  pub metadata : metadata_bytes entries ≤ COMMIT_METADATA_BYTES_MAX

@@ -17,6 +17,8 @@ use Rattle.cg_record.specs.declared.deleted.Deleted.{Deleted}
 use Rattle.cg_record.specs.declared.command.Command.{Command}
 use Rattle.cg_record.specs.declared.command.Command.TheVariants as kinds
 use Rattle.cg_record.specs.Keys.{AreEntries}
+use Rattle.cg_record.specs.Moments.{IsMoment}
+use Rattle.cg_record.specs.Partitions.{ArePartitions}
 use Rattle.cg_record.specs.Rosters.{RosterParts, IsRoster}
 use Rattle.cg_record.specs.Members.{IsMember}
 
@@ -38,6 +40,7 @@ pub record IsEntry (entry : Entry) : Type 0 where
 -- a commit of a group
 pub record IsCommitted (committed : Committed) : Type 0 where
   pub group : IsName NAME_BYTES_MAX committed.group
+  pub moment : IsMoment committed.moment
   pub entries : AreEntries committed.entries
   pub each : AllByRecursion IsEntry committed.entries
 
@@ -62,6 +65,7 @@ pub record IsEmptied (emptied : Emptied) : Type 0 where
   pub started : 1 ≤ emptied.generation
   pub generation : emptied.generation ≤ GENERATION_MAX
   pub kind : IsName NAME_BYTES_MAX emptied.kind
+  pub moment : IsMoment emptied.moment
 
 -- a member that replaces the one with its instance
 pub record IsReplaced (replaced : Replaced) : Type 0 where
@@ -73,6 +77,12 @@ pub record IsReplaced (replaced : Replaced) : Type 0 where
 pub record IsDeleted (deleted : Deleted) : Type 0 where
   pub group : IsName NAME_BYTES_MAX deleted.group
 
+-- partitions of a group whose offsets are removed
+pub record IsRemoval (id : List ℕ) (removed : List TopicPartition) : Type 0 where
+  pub group : IsName NAME_BYTES_MAX id
+  pub partitions : ArePartitions removed
+  pub each : AllByRecursion IsKey removed
+
 -- a change of the durable state
 abbrev pub IsCommand : Command → Type 0
 IsCommand (kinds.Assigned assigned) = IsAssigned assigned
@@ -80,6 +90,8 @@ IsCommand (kinds.Emptied emptied) = IsEmptied emptied
 IsCommand (kinds.Replaced replaced) = IsReplaced replaced
 IsCommand (kinds.Committed committed) = IsCommitted committed
 IsCommand (kinds.Deleted deleted) = IsDeleted deleted
+IsCommand (kinds.Expired expired) = IsRemoval expired.group expired.partitions
+IsCommand (kinds.Dropped dropped) = IsRemoval dropped.group dropped.partitions
 
 -- changes of the durable state, in their order
 abbrev pub AreCommands : List Command → Type 0

@@ -7,6 +7,10 @@ pub mod Rosters
 pub mod Members
 pub mod Lawful
 pub mod Versions
+pub mod Moments
+pub mod Counts
+pub mod Saying
 pub mod Spelling
 pub mod Reading
 pub mod Decoding
+pub mod Cutting

@@ -1,16 +1,14 @@
 -- Decoding of commands from left to right, up to the first fault.
-use Rattle.std.specs.Prelude.{◌≡◌, ℕ, zero, suc, Bool, not, ◌==◌, List, [], ◌∷◌, length, Some, Result, Ok, Err, IsOk, if◌then◌else◌}
+use Rattle.std.specs.Prelude.{◌≡◌, ℕ, zero, suc, Bool, not, ◌&&◌, ◌==◌, List, [], ◌∷◌, length, Some, Result, Ok, Err, IsOk, if◌then◌else◌}
 use Rattle.std.specs.List.{list_any}
 use Rattle.cg_names.specs.declared.name.TheConstants.{NAME_BYTES_MAX, MEMBER_ID_BYTES_MAX}
 use Rattle.cg_names.specs.declared.generation.TheConstants.{GENERATION_MAX}
 use Rattle.cg_record.specs.declared.partition.TheConstants.{PARTITION_MAX}
 use Rattle.cg_record.specs.declared.offset.TheConstants.{OFFSET_MAX}
-use Rattle.cg_record.specs.declared.metadata.TheConstants.{METADATA_BYTES_MAX}
-use Rattle.cg_record.specs.declared.entries.TheConstants.{ENTRIES_MAX}
 use Rattle.cg_record.specs.declared.roster.TheConstants.{MEMBERS_MAX}
-use Rattle.cg_record.specs.declared.format.TheConstants.{VERSION_ONE, ASSIGNED_KIND, EMPTIED_KIND, REPLACED_KIND, COMMITTED_KIND, DELETED_KIND}
+use Rattle.cg_record.specs.declared.format.TheConstants.{VERSION_ONE, VERSION_TWO, VERSION_THREE, ASSIGNED_KIND, EMPTIED_KIND, REPLACED_KIND, COMMITTED_KIND, DELETED_KIND, EXPIRED_KIND, DROPPED_KIND}
 use Rattle.cg_record.specs.declared.format.Version.{Version}
-use Rattle.cg_record.specs.declared.format.Version.TheVariants.{One}
+use Rattle.cg_record.specs.declared.format.Version.TheVariants.{One, Two, Three}
 use Rattle.cg_record.specs.declared.fault.RecordFault.{RecordFault}
 use Rattle.cg_record.specs.declared.fault.RecordFault.TheVariants.{Memory, BadKind, BadName, BadLength, Repeated}
 use Rattle.cg_record.specs.declared.entry.Entry.{Entry}
@@ -23,8 +21,11 @@ use Rattle.cg_record.specs.declared.replaced.Replaced.{Replaced}
 use Rattle.cg_record.specs.declared.deleted.Deleted.{Deleted}
 use Rattle.cg_record.specs.declared.command.Command.{Command}
 use Rattle.cg_record.specs.declared.command.Command.TheVariants as kinds
-use Rattle.cg_record.specs.Keys.{is_of}
-use Rattle.cg_record.specs.Partitions.{topic_partition}
+use Rattle.cg_record.specs.Keys.{is_of, metadata_room}
+use Rattle.cg_record.specs.Partitions.{are_one, topic_partition}
+use Rattle.cg_record.specs.Versions.{has_expired, has_dropped}
+use Rattle.cg_record.specs.Moments.{moment_at}
+use Rattle.cg_record.specs.Counts.{count_at}
 use Rattle.cg_record.specs.Rosters.{RosterParts, roster_of, is_led_by}
 use Rattle.cg_record.specs.Members.{member_of, profile_at, member_at}
 pub use Rattle.cg_record.specs.Fields.{Read, ◌>>=◌, only, made, at_most, is_from_to, byte_at, bytes_at, number_at, four_at, eight_at, is_name, name_at, optional_name_at, text_at, many_at}
@@ -38,11 +39,11 @@ key_at bytes = do
   partition ← only (at_most PARTITION_MAX) BadLength (four_at topic.1)
   Ok (topic_partition topic.0 partition.0, partition.1)
 
--- an offset and its metadata
-unfoldable pub kept_at : List ℕ → Read (ℕ × List ℕ)
-kept_at bytes = do
+-- an offset and its metadata, of at most `max` bytes
+unfoldable pub kept_at : ℕ → List ℕ → Read (ℕ × List ℕ)
+kept_at max bytes = do
   offset ← only (at_most OFFSET_MAX) BadLength (eight_at bytes)
-  metadata ← text_at METADATA_BYTES_MAX offset.1
+  metadata ← text_at max offset.1
   Ok ((offset.0, metadata.0), metadata.1)
 
 -- none of the entries is for this partition
@@ -53,25 +54,64 @@ is_new front key = not (list_any (is_of key) front)
 unfoldable pub entry_at : List Entry → List ℕ → Read Entry
 entry_at front bytes = do
   key ← only (is_new front) Repeated (key_at bytes)
-  kept ← kept_at key.1
+  kept ← kept_at (metadata_room front) key.1
   Ok (record { key = key.0; offset = kept.0.0; metadata = kept.0.1 }, kept.1)
 
 -- n more entries of a commit, after those in front
 abbrev pub entries_at : ℕ → List Entry → List ℕ → Read (List Entry)
-entries_at n front bytes = many_at (entry_at) n front bytes
+entries_at n front bytes = many_at entry_at n front bytes
+
+-- the number of entries, and the entries
+unfoldable pub listed_entries_at : Version → List ℕ → Read (List Entry)
+listed_entries_at version bytes = do
+  count ← count_at version bytes
+  entries_at count.0 [] count.1
 
 unfoldable pub committed_at : Version → List ℕ → Read Committed
 committed_at version bytes = do
   group ← name_at NAME_BYTES_MAX bytes
-  count ← only (is_from_to 1 ENTRIES_MAX) BadLength (byte_at group.1)
-  entries ← entries_at count.0 [] count.1
-  Ok (record { group = group.0; entries = entries.0 }, entries.1)
+  moment ← moment_at version group.1
+  entries ← listed_entries_at version moment.1
+  Ok (record { group = group.0; moment = moment.0; entries = entries.0 }, entries.1)
+
+-- ---- partitions
+
+-- the partition is none of these
+abbrev pub is_new_partition : List TopicPartition → TopicPartition → Bool
+is_new_partition front key = not (list_any (λ other. are_one other key) front)
+
+-- the next partition, after those in front
+unfoldable pub partition_at : List TopicPartition → List ℕ → Read TopicPartition
+partition_at front bytes = only (is_new_partition front) Repeated (key_at bytes)
+
+-- n more partitions, after those in front
+abbrev pub partitions_at : ℕ → List TopicPartition → List ℕ → Read (List TopicPartition)
+partitions_at n front bytes = many_at partition_at n front bytes
+
+-- the number of partitions, and the partitions
+unfoldable pub listed_partitions_at : Version → List ℕ → Read (List TopicPartition)
+listed_partitions_at version bytes = do
+  count ← count_at version bytes
+  partitions_at count.0 [] count.1
+
+-- a group and partitions whose offsets are removed
+unfoldable pub removal_at : Version → List ℕ → Read (List ℕ × List TopicPartition)
+removal_at version bytes = do
+  group ← name_at NAME_BYTES_MAX bytes
+  partitions ← listed_partitions_at version group.1
+  Ok ((group.0, partitions.0), partitions.1)
+
+abbrev pub expired_of : List ℕ × List TopicPartition → Command
+expired_of removal = kinds.Expired (record { group = removal.0; partitions = removal.1 })
+
+abbrev pub dropped_of : List ℕ × List TopicPartition → Command
+dropped_of removal = kinds.Dropped (record { group = removal.0; partitions = removal.1 })
 
 -- ---- groups
 
 -- n more members of a group, after those in front
 abbrev pub members_at : ℕ → List Member → List ℕ → Read (List Member)
-members_at n front bytes = many_at (member_at) n front bytes
+members_at n front bytes = many_at member_at n front bytes
 
 -- the number of members, and the members
 unfoldable pub listed_at : List ℕ → Read (List Member)
@@ -100,7 +140,8 @@ emptied_at version bytes = do
   group ← name_at NAME_BYTES_MAX bytes
   generation ← only (is_from_to 1 GENERATION_MAX) BadLength (four_at group.1)
   kind ← name_at NAME_BYTES_MAX generation.1
-  Ok (record { group = group.0; generation = generation.0; kind = kind.0 }, kind.1)
+  moment ← moment_at version kind.1
+  Ok (record { group = group.0; generation = generation.0; kind = kind.0; moment = moment.0 }, moment.1)
 
 -- the member of a `Replaced` has an instance
 unfoldable pub replaced_at : List ℕ → Read Replaced
@@ -126,7 +167,9 @@ body_at version kind bytes =
     else (if kind == REPLACED_KIND then made kinds.Replaced (replaced_at bytes)
     else (if kind == COMMITTED_KIND then made kinds.Committed (committed_at version bytes)
     else (if kind == DELETED_KIND then made kinds.Deleted (deleted_at bytes)
-    else Err BadKind))))
+    else (if kind == EXPIRED_KIND && has_expired version then made expired_of (removal_at version bytes)
+    else (if kind == DROPPED_KIND && has_dropped version then made dropped_of (removal_at version bytes)
+    else Err BadKind))))))
 
 unfoldable pub command_at : Version → List ℕ → Read Command
 command_at version bytes = do
@@ -144,7 +187,11 @@ commands_to_end version (suc most) (b ∷ bytes) = do
 
 -- the version of a first byte
 unfoldable pub version_of : ℕ → Result Version RecordFault
-version_of b = if b == VERSION_ONE then Ok One else Err BadKind
+version_of b =
+    if b == VERSION_ONE then Ok One
+    else (if b == VERSION_TWO then Ok Two
+    else (if b == VERSION_THREE then Ok Three
+    else Err BadKind))
 
 -- the commands of a payload, up to its end, or the first fault
 unfoldable pub commands_of : List ℕ → Result (List Command) RecordFault

@@ -1,10 +1,14 @@
 -- The encoding of each field. All numbers are big-endian.
 use Rattle.std.specs.Prelude.{ℕ, List, [], ◌∷◌, ◌++◌, length, Option, Some, None}
-use Rattle.std.specs.Int.{Width, w32, w64, to_be_bytes}
+use Rattle.std.specs.Int.{Width, w16, w32, w64, to_be_bytes}
 
 -- a number of this width
 unfoldable pub number : Width → ℕ → List ℕ
 number w n = to_be_bytes w n
+
+-- a number in two bytes
+abbrev pub two : ℕ → List ℕ
+two n = number w16 n
 
 -- a number in four bytes
 abbrev pub four : ℕ → List ℕ

@@ -1,26 +1,33 @@
 //! The decoder that builds commands, in one pass over the bytes.
 
-ghost use Rattle.std.specs.Prelude.{◌≡◌, ◌<◌, [], ◌∷◌, length, IfOk};
+ghost use Rattle.std.specs.Prelude.{◌≡◌, ◌<◌, ◌≤◌, [], ◌∷◌, length, IfOk};
 ghost use Rattle.cg_record.specs.Decoding.{after_front, left_in};
-ghost use Rattle.cg_record.specs.Keys.{HasDistinctKeys};
+ghost use Rattle.cg_record.specs.Keys.{HasDistinctKeys, metadata_bytes};
+ghost use Rattle.cg_record.specs.declared.entries.TheConstants.{COMMIT_METADATA_BYTES_MAX};
 ghost use Rattle.cg_record.specs.Lawful.{IsCommand, IsKey, IsKept};
 ghost use Rattle.cg_record.specs.Partitions.{topic_partition};
-ghost use Rattle.cg_record.specs.Reading.{Builds, entry_at, entries_at, committed_at, body_at, command_at, commands_to_end, commands_of};
+ghost use Rattle.cg_record.specs.Reading.{Builds, entry_at, entries_at, listed_entries_at, committed_at, body_at, command_at, commands_to_end, commands_of};
 
 use crate::command::Command;
-use crate::commit::{Kept, Key, count_at, is_taken, kept_at, key_at};
+use crate::commit::{Kept, Key, is_taken, kept_at, key_at};
 use crate::committed::Committed;
-use crate::entries::Entries;
+use crate::counts::count_at;
+use crate::dropped::Dropped;
+use crate::entries::{Entries, metadata_room};
 use crate::entry::Entry;
+use crate::expired::Expired;
 use crate::fault::RecordFault;
 use crate::fields::{byte_at, name_at};
 use crate::format::{
-    ASSIGNED_KIND, COMMITTED_KIND, DELETED_KIND, EMPTIED_KIND, REPLACED_KIND, Version,
+    ASSIGNED_KIND, COMMITTED_KIND, DELETED_KIND, DROPPED_KIND, EMPTIED_KIND, EXPIRED_KIND,
+    REPLACED_KIND, Version,
 };
 use crate::grouping::{assigned_at, deleted_at, emptied_at, replaced_at};
 use crate::metadata::Metadata;
+use crate::moments::{moment_at, moment_of};
 use crate::offset::Offset;
 use crate::partition::Partition;
+use crate::removal::removal_at;
 use crate::topic_partition::TopicPartition;
 use cg_names::{NAME_BYTES_MAX, Name, Topic};
 use std::alloc::{AllocError, Global};
@@ -61,7 +68,8 @@ fn entry_at<'a>(
     if is_taken(front, key.topic, key.partition) {
         return Err(RecordFault::Repeated);
     }
-    let (kept, rest) = kept_at(rest)?;
+    let room_left = metadata_room(front);
+    let (kept, rest) = kept_at(room_left, rest)?;
     let entry = entry_of(alloc, room, key, kept)?;
     Ok((entry, rest))
 }
@@ -71,12 +79,13 @@ fn entry_at<'a>(
 fn entries_at<'a>(
     alloc: Global,
     room: &mut Vec<Metadata>,
-    count: u8,
+    count: u16,
     bytes: &'a [u8],
 ) -> Result<(Vec<Entry>, &'a [u8]), RecordFault>
     ensures builds { Builds (λ x. (x.0.items, x.1.now)) result (entries_at count [] bytes.now) }
     ensures len { IfOk result (λ x. length x.0.items ≡ count) }
     ensures distinct { IfOk result (λ x. HasDistinctKeys x.0.items) }
+    ensures metadata { IfOk result (λ x. metadata_bytes x.0.items ≤ COMMIT_METADATA_BYTES_MAX) }
 {
     let mut entries = Vec::with_capacity(alloc, count as usize)?;
     let mut rest = bytes;
@@ -86,6 +95,21 @@ fn entries_at<'a>(
         rest = after;
     }
     Ok((entries, rest))
+}
+
+// Decodes the number of entries and the entries.
+#[tactic(auto, unfolding(crate::specs::Reading::listed_entries_at))]
+fn listed_entries_at<'a>(
+    alloc: Global,
+    room: &mut Vec<Metadata>,
+    version: Version,
+    bytes: &'a [u8],
+) -> Result<(Entries, &'a [u8]), RecordFault>
+    ensures { Builds (λ x. (x.0, x.1.now)) result (listed_entries_at version bytes.now) }
+{
+    let (count, rest) = count_at(version, bytes)?;
+    let (entries, rest) = entries_at(alloc, room, count, rest)?;
+    Ok((Entries::from_lawful(entries), rest))
 }
 
 #[tactic(auto, unfolding(crate::specs::Reading::committed_at))]
@@ -98,11 +122,17 @@ fn committed_at<'a>(
     ensures { Builds (λ x. (x.0, x.1.now)) result (committed_at version bytes.now) }
 {
     let (group, rest) = name_at::<NAME_BYTES_MAX>(bytes)?;
-    let (count, rest) = count_at(rest)?;
+    let (millis, rest) = moment_at(version, rest)?;
     let group = Name::from_lawful(alloc, group)?;
-    let (entries, rest) = entries_at(alloc, room, count, rest)?;
-    let entries = Entries::from_lawful(entries);
-    Ok((Committed { group, entries }, rest))
+    let (entries, rest) = listed_entries_at(alloc, room, version, rest)?;
+    Ok((
+        Committed {
+            group,
+            moment: moment_of(millis),
+            entries,
+        },
+        rest,
+    ))
 }
 
 #[tactic(auto, unfolding(crate::specs::Reading::body_at))]
@@ -130,6 +160,12 @@ fn body_at<'a>(
     } else if kind == DELETED_KIND {
         let (deleted, rest) = deleted_at(alloc, bytes)?;
         Ok((Command::Deleted(deleted), rest))
+    } else if kind == EXPIRED_KIND && version.has_expired() {
+        let ((group, partitions), rest) = removal_at(alloc, version, bytes)?;
+        Ok((Command::Expired(Expired { group, partitions }), rest))
+    } else if kind == DROPPED_KIND && version.has_dropped() {
+        let ((group, partitions), rest) = removal_at(alloc, version, bytes)?;
+        Ok((Command::Dropped(Dropped { group, partitions }), rest))
     } else {
         Err(RecordFault::BadKind)
     }

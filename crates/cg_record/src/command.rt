@@ -2,7 +2,9 @@
 use crate::assigned::Assigned;
 use crate::committed::Committed;
 use crate::deleted::Deleted;
+use crate::dropped::Dropped;
 use crate::emptied::Emptied;
+use crate::expired::Expired;
 use crate::replaced::Replaced;
 
 /// A change of the durable state.
@@ -13,4 +15,6 @@ pub enum Command {
     Replaced(Replaced),
     Committed(Committed),
     Deleted(Deleted),
+    Expired(Expired),
+    Dropped(Dropped),
 }

@@ -1,6 +1,6 @@
 //! The command `Emptied`.
 use crate::generation::CompletedGeneration;
-use cg_names::{GroupId, ProtocolName};
+use cg_names::{GroupId, Moment, ProtocolName};
 
 /// The group has no members in this generation.
 #[derive(Debug, Drop)]
@@ -9,4 +9,6 @@ pub struct Emptied {
     pub generation: CompletedGeneration,
     /// Protocol type of the group.
     pub kind: ProtocolName,
+    /// When its last member left; `None` if that is unknown.
+    pub moment: Option<Moment>,
 }

@@ -14,14 +14,15 @@ pub enum RecordFault {
     /// The bytes end inside a field.
     #[error("the bytes end inside a field")]
     Short,
-    /// The first byte is not a known version, or the first byte of a command is not a known kind.
+    /// The first byte is not a known version, or the first byte of a command is not a kind of this version.
     #[error("the version or the kind of a command is unknown")]
     BadKind,
     /// A name is empty, too long (reported before `Short`), or outside the grammar of names; the member of a `Replaced`
     /// has no instance; or, reported at the end of the command, the leader is not a member.
     #[error("a name is missing, too long or outside its grammar")]
     BadName,
-    /// A number, a count or a length is outside its range; a length is reported before `Short`.
+    /// A number, a count or a length is outside its range, or the metadata of a commit together pass their limit; a length
+    /// is reported before `Short`.
     #[error("a number or a length is out of its range")]
     BadLength,
     /// A partition, a member id or an instance appears twice in one command; reported before the bytes after it are

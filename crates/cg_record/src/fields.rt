@@ -2,7 +2,7 @@
 
 ghost use Rattle.std.specs.Prelude.{◌≡◌, ◌≤◌, length, IfOk, IfSome};
 ghost use Rattle.cg_names.specs.Grammar.{IsName};
-ghost use Rattle.cg_record.specs.Fields.{only, is_name, byte_at, bytes_at, four_at, eight_at, name_at, named_at, optional_name_at, text_at};
+ghost use Rattle.cg_record.specs.Fields.{only, is_name, byte_at, bytes_at, two_at, four_at, eight_at, name_at, named_at, optional_name_at, text_at};
 ghost use Rattle.cg_record.specs.Reading.{Gives};
 ghost use Rattle.std.specs.Option.{option_copied};
 
@@ -31,6 +31,19 @@ pub fn bytes_at(n: usize, bytes: &[u8]) -> Result<(&[u8], &[u8]), RecordFault>
         return Err(Short);
     }
     Ok(bytes.split_at(n))
+}
+
+/// Decodes a big-endian number of two bytes.
+#[tactic(auto, unfolding(crate::specs::Fields::number_at))]
+pub fn two_at(bytes: &[u8]) -> Result<(u16, &[u8]), RecordFault>
+    ensures { Gives (λ x. (x.0, x.1.now)) result (two_at bytes.now) }
+{
+    if bytes.len() < 2 {
+        return Err(Short);
+    }
+    let (front, rest) = bytes.split_at(2);
+    let number = u16::from_be_bytes([front[0], front[1]]);
+    Ok((number, rest))
 }
 
 /// Decodes a big-endian number of four bytes.

@@ -17,6 +17,7 @@ use crate::format::Version;
 use crate::generation::CompletedGeneration;
 use crate::group::{generation_at, members_count_at};
 use crate::member::Member;
+use crate::moments::{moment_at, moment_of};
 use crate::profile::profile_at;
 use crate::replaced::{Replaced, StaticMember};
 use crate::roster::{Roster, is_led_by};
@@ -144,6 +145,7 @@ pub fn emptied_at(
     let (group, rest) = name_at::<NAME_BYTES_MAX>(bytes)?;
     let (generation, rest) = generation_at(rest)?;
     let (kind, rest) = name_at::<NAME_BYTES_MAX>(rest)?;
+    let (millis, rest) = moment_at(version, rest)?;
     let generation = CompletedGeneration::new(generation).unwrap();
     let group = Name::from_lawful(alloc, group)?;
     let kind = Name::from_lawful(alloc, kind)?;
@@ -152,6 +154,7 @@ pub fn emptied_at(
             group,
             generation,
             kind,
+            moment: moment_of(millis),
         },
         rest,
     ))

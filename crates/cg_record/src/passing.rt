@@ -13,6 +13,7 @@ use crate::fault::RecordFault;
 use crate::fields::{name_at, optional_name_at};
 use crate::format::Version;
 use crate::group::{generation_at, members_count_at};
+use crate::moments::moment_at;
 use crate::profile::profile_at;
 use cg_names::{MEMBER_ID_BYTES_MAX, NAME_BYTES_MAX};
 
@@ -157,6 +158,7 @@ pub fn check_emptied(version: Version, bytes: &[u8]) -> Result<&[u8], RecordFaul
     let (_, rest) = name_at::<NAME_BYTES_MAX>(bytes)?;
     let (_, rest) = generation_at(rest)?;
     let (_, rest) = name_at::<NAME_BYTES_MAX>(rest)?;
+    let (_, rest) = moment_at(version, rest)?;
     Ok(rest)
 }
 

@@ -1,8 +1,11 @@
 //! The decoder of a payload.
-ghost use Rattle.std.specs.Prelude.{◌≡◌, List, Ok, IfOk, MatchResult};
+ghost use Rattle.std.specs.Prelude.{◌≡◌, ℕ, ◌<◌, List, length, take, Ok, IfOk, MatchResult};
 ghost use Rattle.cg_record.specs.declared.command.Command.{Command};
 ghost use Rattle.cg_record.specs.Lawful.{AreCommands};
-ghost use Rattle.cg_record.specs.Spelling.{IsPayload};
+ghost use Rattle.cg_record.specs.declared.format.Version.{Version};
+ghost use Rattle.cg_record.specs.Cutting.{IsCutShort};
+ghost use Rattle.cg_record.specs.Saying.{CanSayAll};
+ghost use Rattle.cg_record.specs.Spelling.{IsPayload, payload};
 ghost use Rattle.cg_record.specs.Reading.{Fails, Tells, commands_of};
 
 use crate::building::build;
@@ -34,12 +37,12 @@ fn read_or_tell(alloc: Global, bytes: &[u8]) -> Result<Vec<Command>, RecordFault
 }
 
 /// Decodes the commands of a payload, up to its end; a payload of the version byte alone has none. Time and memory are
-/// linear in the bytes, except that each entry of a commit and each member of a group is compared with those before it,
-/// 64 at most. If an allocation fails, a second pass without an allocation looks for a fault of the bytes.
+/// linear in the bytes, except that each entry, partition and member is compared with those before it in its command,
+/// `ENTRIES_MAX` at most. If an allocation fails, a second pass without an allocation looks for a fault of the bytes.
 pub fn read(alloc: Global, bytes: &[u8]) -> Result<Vec<Command>, RecordFault>
-    // The bytes are the encoding of the commands in some version.
+    // The bytes are the encoding of the commands in some version that can say them.
     ensures found { IfOk result (λ v. AreCommands v.items × IsPayload v.items bytes.now) }
-    // Every encoding is decoded, in each version, unless an allocation fails.
+    // Every such encoding is decoded, unless an allocation fails.
     ensures only { (commands : List Command) → AreCommands commands → IsPayload commands bytes.now →
         MatchResult result (λ v. v.items ≡ commands) (λ fault. fault ≡ RecordFault.Memory) }
     // The fault is the first from left to right; `Memory` only if the bytes have none.
@@ -49,3 +52,10 @@ pub fn read(alloc: Global, bytes: &[u8]) -> Result<Vec<Command>, RecordFault>
 {
     read_or_tell(alloc, bytes)
 }
+
+/// A payload that is cut off ends inside a field, or is the payload of its first commands.
+#[tactic(auto, using(crate::proofs::Cuts::cut_payload))]
+pub fn payload_is_cut_short()
+    ensures { (version : Version) (commands : List Command) (n : ℕ) → AreCommands commands → CanSayAll version commands → n < length (payload version commands) →
+        IsCutShort version commands (take n (payload version commands)) }
+{}

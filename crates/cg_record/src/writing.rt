@@ -1,10 +1,15 @@
 //! The encoder of commands, in the newest version.
-ghost use Rattle.std.specs.Prelude.{◌≡◌, ◌<◌, ◌≤◌, ◌+◌, ◌++◌, Ok, length, sum_by, IfOk, OnOk, OnErr};
+ghost use Rattle.std.specs.Prelude.{◌≡◌, ◌<◌, ◌≤◌, ◌+◌, ◌^◌, ◌∷◌, ◌++◌, Ok, length, sum_by, IfOk, OnOk, OnErr};
 ghost use Rattle.std.specs.Io.{StartsWith};
 ghost use Rattle.std.specs.List.{flat_map, AllByRecursion};
 ghost use Rattle.cg_names.specs.Grammar.{IsName};
-ghost use Rattle.cg_record.specs.Lawful.{IsEntry, IsKey, IsAssigned, IsEmptied, IsReplaced, IsDeleted, IsCommitted, IsCommand, AreCommands};
-ghost use Rattle.cg_record.specs.Spelling.{four, eight, name_text, bytes_text, entry_text, assigned_text, emptied_text, replaced_text, deleted_text, committed_text, command_text, key_text, spelling};
+ghost use Rattle.cg_record.specs.Lawful.{IsEntry, IsKey, IsRemoval, IsAssigned, IsEmptied, IsReplaced, IsDeleted, IsCommitted, IsCommand, AreCommands};
+ghost use Rattle.cg_record.specs.Spelling.{two, four, eight, name_text, bytes_text, entry_text, assigned_text, emptied_text, replaced_text, deleted_text, committed_text, command_text, key_text, removal_text, spelling};
+ghost use Rattle.cg_record.specs.Counts.{count_text};
+ghost use Rattle.cg_record.specs.Keys.{AreEntries};
+ghost use Rattle.cg_record.specs.Moments.{IsMoment, moment_text};
+ghost use Rattle.cg_record.specs.Partitions.{ArePartitions};
+ghost use Rattle.cg_record.specs.declared.entries.TheConstants.{ENTRIES_MAX};
 ghost use Rattle.cg_record.specs.Reading.{commands_of};
 ghost use Rattle.cg_record.specs.Versions.{newest};
 
@@ -13,17 +18,28 @@ use crate::command::Command;
 use crate::committed::Committed;
 use crate::deleted::Deleted;
 use crate::emptied::Emptied;
+use crate::entries::Entries;
 use crate::entry::Entry;
 use crate::format::{
-    ASSIGNED_KIND, COMMITTED_KIND, DELETED_KIND, EMPTIED_KIND, REPLACED_KIND, Version,
+    ASSIGNED_KIND, COMMITTED_KIND, DELETED_KIND, DROPPED_KIND, EMPTIED_KIND, EXPIRED_KIND,
+    REPLACED_KIND, Version,
 };
 use crate::metadata::{METADATA_BYTES_MAX, Metadata};
+use crate::partitions::Partitions;
 use crate::put_member::{put_member, put_roster};
 use crate::replaced::Replaced;
 use crate::sizes::size;
 use crate::topic_partition::TopicPartition;
-use cg_names::{NAME_BYTES_MAX, Name, ShortName};
+use cg_names::{GroupId, Moment, NAME_BYTES_MAX, Name, ShortName};
 use std::alloc::{AllocError, Global};
+
+#[tactic(auto, unfolding(crate::specs::Texts::number))]
+fn put_two(out: &mut Vec<u8>, n: u16) -> Result<(), AllocError>
+    ensures ok { OnOk result (out.new.items ≡ out.old.items ++ two n) }
+    ensures err { OnErr result (StartsWith out.new.items out.old.items) }
+{
+    out.extend_from_slice(&n.to_be_bytes())
+}
 
 /// Appends a big-endian number of four bytes.
 #[tactic(auto, unfolding(crate::specs::Texts::number))]
@@ -95,6 +111,44 @@ fn put_metadata(out: &mut Vec<u8>, metadata: &Metadata) -> Result<(), AllocError
     Ok(())
 }
 
+// Appends a known moment.
+#[tactic(auto, using(crate::proofs::Kept::front_kept))]
+fn put_known(out: &mut Vec<u8>, moment: Moment) -> Result<(), AllocError>
+    ensures ok { OnOk result (out.new.items ≡ out.old.items ++ (1 ∷ eight moment)) }
+    ensures err { OnErr result (StartsWith out.new.items out.old.items) }
+    ensures lawful { moment < 2 ^ 64 }
+{
+    let millis = moment.as_millis();
+    out.push(1)?;
+    put_eight(out, millis)?;
+    Ok(())
+}
+
+// Appends a moment, or that it is unknown.
+#[tactic(auto, unfolding(crate::specs::Moments::moment_text))]
+fn put_moment(out: &mut Vec<u8>, moment: Option<Moment>) -> Result<(), AllocError>
+    ensures ok { OnOk result (out.new.items ≡ out.old.items ++ moment_text newest moment) }
+    ensures err { OnErr result (StartsWith out.new.items out.old.items) }
+    ensures lawful { OnOk result (IsMoment moment) }
+{
+    match moment {
+        None => out.push(0)?,
+        Some(moment) => put_known(out, moment)?,
+    }
+    Ok(())
+}
+
+// Appends a number of entries or partitions.
+#[tactic(auto, unfolding(crate::specs::Counts::count_text))]
+fn put_count(out: &mut Vec<u8>, count: usize) -> Result<(), AllocError>
+    requires { count ≤ ENTRIES_MAX }
+    ensures ok { OnOk result (out.new.items ≡ out.old.items ++ count_text newest count) }
+    ensures err { OnErr result (StartsWith out.new.items out.old.items) }
+{
+    put_two(out, count as u16)?;
+    Ok(())
+}
+
 // Appends a partition of a topic.
 #[tactic(auto, using(crate::proofs::Kept::front_kept))]
 fn put_key(out: &mut Vec<u8>, key: &TopicPartition) -> Result<(), AllocError>
@@ -132,6 +186,19 @@ fn put_entries(out: &mut Vec<u8>, entries: &[Entry]) -> Result<(), AllocError>
     Ok(())
 }
 
+#[tactic(auto, using(crate::proofs::Kept::front_kept))]
+fn put_listed_entries(out: &mut Vec<u8>, entries: &Entries) -> Result<(), AllocError>
+    ensures ok { OnOk result (out.new.items ≡ out.old.items ++ (count_text newest (length entries.now) ++ flat_map entry_text entries.now)) }
+    ensures err { OnErr result (StartsWith out.new.items out.old.items) }
+    ensures entries { AreEntries entries.now }
+    ensures each { OnOk result (AllByRecursion IsEntry entries.now) }
+{
+    let entries = entries.as_slice();
+    put_count(out, entries.len())?;
+    put_entries(out, entries)?;
+    Ok(())
+}
+
 #[tactic(auto, using(crate::proofs::Kept::front_kept), unfolding(crate::specs::Spelling::committed_text))]
 fn put_committed(out: &mut Vec<u8>, committed: &Committed) -> Result<(), AllocError>
     ensures ok { OnOk result (out.new.items ≡ out.old.items ++ committed_text newest committed.now) }
@@ -139,8 +206,49 @@ fn put_committed(out: &mut Vec<u8>, committed: &Committed) -> Result<(), AllocEr
     ensures lawful { OnOk result (IsCommitted committed.now) }
 {
     put_name(out, &committed.group)?;
-    out.push(committed.entries.len() as u8)?;
-    put_entries(out, committed.entries.as_slice())?;
+    put_moment(out, committed.moment)?;
+    put_listed_entries(out, &committed.entries)?;
+    Ok(())
+}
+
+#[tactic(auto, using(crate::proofs::Kept::front_kept))]
+fn put_partitions(out: &mut Vec<u8>, partitions: &[TopicPartition]) -> Result<(), AllocError>
+    ensures ok { OnOk result (out.new.items ≡ out.old.items ++ flat_map key_text partitions.now) }
+    ensures err { OnErr result (StartsWith out.new.items out.old.items) }
+    ensures lawful { OnOk result (AllByRecursion IsKey partitions.now) }
+{
+    for partition in partitions {
+        put_key(out, partition)?;
+    }
+    Ok(())
+}
+
+#[tactic(auto, using(crate::proofs::Kept::front_kept))]
+fn put_listed_partitions(out: &mut Vec<u8>, partitions: &Partitions) -> Result<(), AllocError>
+    ensures ok { OnOk result (out.new.items ≡ out.old.items ++ (count_text newest (length partitions.now) ++ flat_map key_text partitions.now)) }
+    ensures err { OnErr result (StartsWith out.new.items out.old.items) }
+    ensures partitions { ArePartitions partitions.now }
+    ensures each { OnOk result (AllByRecursion IsKey partitions.now) }
+{
+    let partitions = partitions.as_slice();
+    put_count(out, partitions.len())?;
+    put_partitions(out, partitions)?;
+    Ok(())
+}
+
+// Appends the fields of an `Expired` or `Dropped`.
+#[tactic(auto, using(crate::proofs::Kept::front_kept), unfolding(crate::specs::Spelling::removal_text))]
+fn put_removal(
+    out: &mut Vec<u8>,
+    group: &GroupId,
+    partitions: &Partitions,
+) -> Result<(), AllocError>
+    ensures ok { OnOk result (out.new.items ≡ out.old.items ++ removal_text newest group.now partitions.now) }
+    ensures err { OnErr result (StartsWith out.new.items out.old.items) }
+    ensures lawful { OnOk result (IsRemoval group.now partitions.now) }
+{
+    put_name(out, group)?;
+    put_listed_partitions(out, partitions)?;
     Ok(())
 }
 
@@ -178,6 +286,7 @@ fn put_emptied(out: &mut Vec<u8>, emptied: &Emptied) -> Result<(), AllocError>
     put_name(out, &emptied.group)?;
     put_four(out, emptied.generation.get())?;
     put_name(out, &emptied.kind)?;
+    put_moment(out, emptied.moment)?;
     Ok(())
 }
 
@@ -217,6 +326,14 @@ fn put_command(out: &mut Vec<u8>, command: &Command) -> Result<(), AllocError>
         Command::Deleted(deleted) => {
             out.push(DELETED_KIND)?;
             put_deleted(out, deleted)?;
+        }
+        Command::Expired(expired) => {
+            out.push(EXPIRED_KIND)?;
+            put_removal(out, &expired.group, &expired.partitions)?;
+        }
+        Command::Dropped(dropped) => {
+            out.push(DROPPED_KIND)?;
+            put_removal(out, &dropped.group, &dropped.partitions)?;
         }
     }
     Ok(())

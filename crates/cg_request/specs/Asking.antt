@@ -15,5 +15,6 @@ asked (request.Leave r) ticket fresh = event.Leave ticket r
 asked (request.Commit r) ticket fresh = event.Commit ticket r
 asked (request.Fetch r) ticket fresh = event.Fetch ticket r
 asked (request.Delete id) ticket fresh = event.Delete ticket id
+asked (request.Drop r) ticket fresh = event.Drop ticket r
 asked (request.Describe id) ticket fresh = event.Describe ticket id
 asked request.List ticket fresh = event.List ticket

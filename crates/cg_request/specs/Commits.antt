@@ -1,13 +1,12 @@
 -- Which entries a COMMIT can have, and what a command keeps of them.
 use Rattle.std.specs.Prelude.{ℕ, ◌+◌, Bool, ◌||◌, nat_lt, List, [], ◌∷◌, length}
 use Rattle.std.specs.List.{list_any}
-use Rattle.cg_record.specs.declared.entries.TheConstants.{ENTRIES_MAX}
+use Rattle.cg_record.specs.declared.entries.TheConstants.{COMMIT_METADATA_BYTES_MAX, ENTRIES_MAX}
 use Rattle.cg_record.specs.declared.entry.Entry.{Entry}
 use Rattle.cg_record.specs.declared.metadata.TheConstants.{METADATA_BYTES_MAX}
 use Rattle.cg_record.specs.Distinct.{AreDistinct}
 use Rattle.cg_record.specs.Partitions.{are_one}
 use Rattle.cg_request.specs.declared.commit_entry.CommitEntry.{CommitEntry}
-use Rattle.cg_request.specs.declared.commits.TheConstants.{COMMIT_METADATA_BYTES_MAX}
 
 -- the entry of the command
 abbrev pub kept_entry : CommitEntry → Entry

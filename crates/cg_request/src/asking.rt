@@ -4,7 +4,7 @@ ghost use Rattle.cg_request.specs.Asking.{asked};
 
 use crate::event::Event;
 use crate::request::{
-    BeatRequest, CommitRequest, FetchRequest, JoinRequest, LeaveRequest, SyncRequest,
+    BeatRequest, CommitRequest, DropRequest, FetchRequest, JoinRequest, LeaveRequest, SyncRequest,
 };
 use crate::ticket::Ticket;
 use cg_names::GroupId;
@@ -21,6 +21,8 @@ pub enum Request {
     Fetch(FetchRequest),
     /// DELETE (DeleteGroups request) of one group.
     Delete(Option<GroupId>),
+    /// DROP (OffsetDelete request, KIP-496) of partitions of one group.
+    Drop(DropRequest),
     /// DESCRIBE (DescribeGroups request) of one group.
     Describe(Option<GroupId>),
     /// LIST (ListGroups request).
@@ -41,6 +43,7 @@ impl Request {
             Request::Commit(request) => Event::Commit(ticket, request),
             Request::Fetch(request) => Event::Fetch(ticket, request),
             Request::Delete(group) => Event::Delete(ticket, group),
+            Request::Drop(request) => Event::Drop(ticket, request),
             Request::Describe(group) => Event::Describe(ticket, group),
             Request::List => Event::List(ticket),
         }

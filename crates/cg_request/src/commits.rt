@@ -4,11 +4,11 @@ ghost use Rattle.std.specs.List.{list_any};
 ghost use Rattle.cg_request.specs.Commits.{is_long, is_too_large, kept_entry, metadata_bytes};
 
 use crate::commit_entry::CommitEntry;
-use cg_record::{Distinct, ENTRIES_MAX, Entries, Entry, Keyed, METADATA_BYTES_MAX, Metadata};
+use cg_record::{
+    COMMIT_METADATA_BYTES_MAX, Distinct, ENTRIES_MAX, Entries, Entry, Keyed, METADATA_BYTES_MAX,
+    Metadata,
+};
 use std::alloc::{AllocError, Global};
-
-/// Bytes of metadata that the entries of one COMMIT may have together.
-pub const COMMIT_METADATA_BYTES_MAX: usize = 262_144;
 
 /// The entries of a COMMIT: 1 to `ENTRIES_MAX`, all for different partitions, in request order.
 pub type Commits = Distinct<CommitEntry, 1, ENTRIES_MAX>;

@@ -1,6 +1,6 @@
 //! The events of the group machine.
 use crate::request::{
-    BeatRequest, CommitRequest, FetchRequest, JoinRequest, LeaveRequest, SyncRequest,
+    BeatRequest, CommitRequest, DropRequest, FetchRequest, JoinRequest, LeaveRequest, SyncRequest,
 };
 use crate::ticket::Ticket;
 use cg_names::GroupId;
@@ -19,6 +19,8 @@ pub enum Event {
     Fetch(Ticket, FetchRequest),
     /// DELETE (DeleteGroups request).
     Delete(Ticket, Option<GroupId>),
+    /// DROP (OffsetDelete request, KIP-496).
+    Drop(Ticket, DropRequest),
     /// DESCRIBE (DescribeGroups request).
     Describe(Ticket, Option<GroupId>),
     /// LIST (ListGroups request).

@@ -80,3 +80,11 @@ pub struct FetchRequest {
     /// Partitions whose offsets are asked for, in request order.
     pub partitions: Partitions,
 }
+
+/// DROP (OffsetDelete request, KIP-496).
+#[derive(Debug, Drop)]
+pub struct DropRequest {
+    pub group: Option<GroupId>,
+    /// Partitions whose offsets are removed, in request order.
+    pub partitions: Partitions,
+}

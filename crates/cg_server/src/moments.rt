@@ -1,50 +1,75 @@
-//! The moments of calls and ticks.
+//! The moments of calls and ticks: milliseconds since the beginning of 1970 (UTC), so that moments in the log mean the same in each
+//! life of the server.
 use cg_names::Moment;
 use std::sync::atomic::{AtomicU64, Ordering};
 use std::time::{Clock, Duration};
 
+const SECOND_MS: u64 = 1_000;
+
 // Returns the whole milliseconds of a time, or the greatest number if they are more.
 fn millis_of(time: Duration) -> u64 {
     time.as_secs()
-        .saturating_mul(1_000)
+        .saturating_mul(SECOND_MS)
         .saturating_add(u64::from(time.subsec_millis()))
 }
 
 // Returns the milliseconds of the monotonic clock; 0 if it cannot be read.
-fn millis<R: Clock>(rt: &R) -> u64 {
+fn monotonic_millis<R: Clock>(rt: &R) -> u64 {
     match rt.monotonic() {
         Ok(time) => millis_of(time),
         Err(_) => 0,
     }
 }
 
-/// Returns the moment at which a log is loaded.
-pub fn loading() -> Moment {
-    Moment::from_millis(0)
+/// Returns the present moment by the system's clock; the beginning of 1970 if it cannot be read.
+pub fn present<R: Clock>(rt: &R) -> Moment {
+    match rt.since_1970() {
+        Ok(time) => Moment::from_millis(millis_of(time)),
+        Err(_) => Moment::from_millis(0),
+    }
 }
 
-/// A clock that shows 0 until it begins. It begins once the log is loaded, so the session timeouts of loaded members run
-/// from the end of the load, however long the load takes. An engine takes an earlier moment as its last one.
+/// A clock that shows the moment of loading until it begins, once the log is loaded: so the session timeouts of loaded members
+/// run from the end of the load, however long that takes. From then on it goes with the monotonic clock: setting the system's clock
+/// does not move it. An engine takes an earlier moment as its last one.
 #[derive(Drop)]
 pub struct Moments {
+    loading: Moment,
     start: AtomicU64,
 }
 
 impl Moments {
-    /// Creates a clock that has not begun.
-    pub fn new() -> Moments {
+    /// Creates a clock that has not begun, and shows this moment.
+    pub fn new(loading: Moment) -> Moments {
         Moments {
+            loading,
             start: AtomicU64::new(u64::MAX),
         }
     }
 
+    /// Returns the moment at which the log is loaded.
+    pub fn loading(&self) -> Moment {
+        self.loading
+    }
+
     /// Begins.
     pub fn begin<R: Clock>(&self, rt: &R) {
-        self.start.store(millis(rt), Ordering::SeqCst);
+        self.start.store(monotonic_millis(rt), Ordering::SeqCst);
+    }
+
+    // Returns the milliseconds since it began.
+    fn elapsed<R: Clock>(&self, rt: &R) -> u64 {
+        monotonic_millis(rt).saturating_sub(self.start.load(Ordering::SeqCst))
     }
 
     /// Returns the present moment.
     pub fn now<R: Clock>(&self, rt: &R) -> Moment {
-        Moment::from_millis(millis(rt).saturating_sub(self.start.load(Ordering::SeqCst)))
+        let elapsed = self.elapsed(rt);
+        Moment::from_millis(self.loading.as_millis().saturating_add(elapsed))
+    }
+
+    /// Returns the whole seconds since it began.
+    pub fn seconds<R: Clock>(&self, rt: &R) -> u64 {
+        self.elapsed(rt) / SECOND_MS
     }
 }

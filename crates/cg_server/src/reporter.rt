@@ -3,13 +3,13 @@ ghost use Rattle.std.specs.Prelude.{◌≡◌, OnOk, IfErr};
 ghost use Rattle.cg_server.specs.Ending.{Alarms, Loads, Reports, TellsFailure, TellsStatuses};
 ghost use Rattle.cg_server.specs.declared.stop.Stop.TheVariants as stop;
 
-use crate::moments::loading;
 use crate::output::{print_loaded, print_status, print_stop};
 use crate::server::Server;
 use crate::status::Status;
 use crate::stop::{ServerEnd, Stop, say_page};
 use cg_disk::SectorDisk;
 use cg_engine::Engine;
+use cg_names::Moment;
 use std::alloc::Global;
 use std::io::{Eprint, Write};
 use std::net::Net;
@@ -27,12 +27,13 @@ const LOOK_MS: u64 = 10;
 /// Longest wait for a report where no status is asked for, in seconds.
 const QUIET_SECONDS: u64 = 3_600;
 
-/// Loads the disk, and prints what was found.
+/// Loads the disk at this moment, and prints what was found.
 #[tactic(auto, using(crate::proofs::Written::appends_nothing))]
 pub fn load_and_print<D: SectorDisk + Drop, L: Ledger, R: Wait, W: Write>(
     rt: &R,
     alloc: Global,
     engine: &Engine<D, L>,
+    moment: Moment,
     disk: &mut Option<D>,
     writer: &mut W,
 ) -> Result<(), Stop>
@@ -41,7 +42,7 @@ pub fn load_and_print<D: SectorDisk + Drop, L: Ledger, R: Wait, W: Write>(
     let Some(disk) = disk.take() else {
         return Err(Stop::Loaded);
     };
-    match engine.load(rt, disk, loading()) {
+    match engine.load(rt, disk, moment) {
         Ok(found) => {
             print_loaded(alloc, writer, found)?;
             Ok(())
@@ -71,7 +72,8 @@ fn load_or_close<D: SectorDisk + Drop, L: Ledger, R: Wait + Clock + Net, W: Writ
 ) -> Result<(), Stop>
     ensures { Loads result (W.contents writer.old) (W.contents writer.new) }
 {
-    match load_and_print(rt, server.alloc, server.engine, disk, writer) {
+    let loading = server.moments.loading();
+    match load_and_print(rt, server.alloc, server.engine, loading, disk, writer) {
         Ok(()) => {
             server.moments.begin(rt);
             Ok(())

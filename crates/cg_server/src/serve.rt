@@ -8,6 +8,7 @@ ghost use Rattle.cg_server.specs.Ending.{Broke, Closes, Ends, Refuses, Reports, 
 
 use crate::crew::run_crew;
 use crate::inbox::Inbox;
+use crate::moments::{Moments, present};
 use crate::options::Options;
 use crate::output::{print_closed, print_listening, print_stop};
 use crate::reporter::{load_and_print, run_reports};
@@ -163,7 +164,8 @@ fn serve_connections<
     let inboxes = inboxes(rt, alloc)?;
     let engine: Engine<D, L> = Engine::new(alloc, blank, false)?;
     let tally = Tally::new(segment_count(disk.sectors()));
-    let server = Server::new(alloc, &engine, options, address, inboxes, tally);
+    let moments = Moments::new(present(rt));
+    let server = Server::new(alloc, &engine, options, address, inboxes, tally, moments);
     let ran = run_threads(rt, &server, listener, disk, writer);
     let passes = server.into_passes();
     let front = close(engine, passes);
@@ -174,7 +176,7 @@ fn serve_connections<
 }
 
 // Loads a disk and serves no connection. Returns the number of the last command, and that the server is over.
-fn load_alone<D: SectorDisk + Drop, L: Ledger, R: Wait, W: Write>(
+fn load_alone<D: SectorDisk + Drop, L: Ledger, R: Wait + Clock, W: Write>(
     rt: &R,
     alloc: Global,
     disk: D,
@@ -185,7 +187,7 @@ fn load_alone<D: SectorDisk + Drop, L: Ledger, R: Wait, W: Write>(
     ensures { Serves false result (W.contents writer.old) (W.contents writer.new) }
 {
     let engine: Engine<D, L> = Engine::new(alloc, blank, false)?;
-    let loaded = load_and_print(rt, alloc, &engine, &mut Some(disk), writer);
+    let loaded = load_and_print(rt, alloc, &engine, present(rt), &mut Some(disk), writer);
     let front = close(engine, Vec::new(alloc));
     loaded?;
     Ok((front, ServerEnd::Over))

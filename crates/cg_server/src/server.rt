@@ -68,12 +68,13 @@ impl<'a, D: SectorDisk + Drop, L: Ledger> Server<'a, D, L> {
         address: SocketAddr,
         inboxes: Vec<Inbox>,
         tally: Tally,
+        moments: Moments,
     ) -> Self {
         Server {
             alloc,
             engine,
             options,
-            moments: Moments::new(),
+            moments,
             inboxes,
             flush: Bell::new(),
             report: Bell::new(),

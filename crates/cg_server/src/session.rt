@@ -67,7 +67,11 @@ fn fresh_for<R: RandomSource>(rt: &R, request: &Request) -> Option<Uuid> {
 // Returns whether the reply to a request has to leave before the next line is served: it may be parked, or may be long.
 fn is_last(request: &Request) -> bool {
     match request {
-        Request::Beat(_) | Request::Commit(_) | Request::Leave(_) | Request::Delete(_) => false,
+        Request::Beat(_)
+        | Request::Commit(_)
+        | Request::Leave(_)
+        | Request::Delete(_)
+        | Request::Drop(_) => false,
         Request::Join(_) | Request::Sync(_) => true,
         Request::Fetch(_) | Request::Describe(_) | Request::List => true,
     }

@@ -6,9 +6,6 @@ use std::sync::Wait;
 use std::sync::ledger::Ledger;
 use std::time::Clock;
 
-/// Milliseconds of a second.
-const SECOND_MS: u64 = 1_000;
-
 /// What a status line says.
 #[derive(Clone, Copy, Debug, Drop, PartialEq, Eq)]
 pub struct Status {
@@ -61,7 +58,7 @@ impl Status {
             of: tally.segments,
             compactions: tally.compactions(),
             commits: tally.commits(),
-            seconds: server.moments.now(rt).as_millis() / SECOND_MS,
+            seconds: server.moments.seconds(rt),
         }
     }
 }

@@ -6,7 +6,7 @@ use cg_gate::{FIRST_SEGMENT_SECTOR, SEGMENT_SECTORS};
 use std::fmt;
 
 /// Requests, each with the form of its line.
-const REQUESTS: [(&[u8], &str); 9] = [
+const REQUESTS: [(&[u8], &str); 10] = [
     (
         b"JOIN",
         "JOIN group member instance client session-ms rebalance-ms type protocol=xBYTES ..",
@@ -24,6 +24,7 @@ const REQUESTS: [(&[u8], &str); 9] = [
     (b"FETCH", "FETCH group topic:partition .."),
     (b"DESCRIBE", "DESCRIBE group"),
     (b"DELETE", "DELETE group"),
+    (b"DROP", "DROP group topic:partition .."),
     (b"LIST", "LIST"),
 ];
 
@@ -106,7 +107,7 @@ impl fmt::Display for Problem {
             ),
             Problem::UnknownRequest => write!(
                 f,
-                "a request is JOIN, SYNC, BEAT, LEAVE, COMMIT, FETCH, DESCRIBE, DELETE or LIST"
+                "a request is JOIN, SYNC, BEAT, LEAVE, COMMIT, FETCH, DESCRIBE, DELETE, DROP or LIST"
             ),
             Problem::Form(form) => write!(
                 f,

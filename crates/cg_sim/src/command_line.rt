@@ -16,7 +16,7 @@ pub const SEGMENTS_DEFAULT: u64 = 8;
 const SCRIPT_HELP: &str = "\
 Script lines (blank lines and lines that begin with # are skipped):
   s<digits> REQUEST           a request of that session: JOIN, SYNC, BEAT, LEAVE,
-                              COMMIT, FETCH, DESCRIBE, DELETE or LIST
+                              COMMIT, FETCH, DESCRIBE, DELETE, DROP or LIST
   at M, tick M                set the moment in milliseconds; tick also runs timeouts
   gone s<digits>              the session is closed
   take, append, settle        hand out a batch, store it, release its replies

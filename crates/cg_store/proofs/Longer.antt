@@ -15,7 +15,7 @@ use Rattle.cg_store.specs.Texts.{IsText, told, what_is_read}
 
 spelling-push : (cs : List Command) (c : Command) → spelling (cs ++ c ∷ []) ≡ spelling cs ++ command_text c
 unfolding spelling
-spelling-push cs c = ap (λ bytes. 1 ∷ bytes) (flat_map-append command_text cs (c ∷ []) ∙ ap (λ bytes. flat_map command_text cs ++ bytes) (flat_map-cons command_text c [] ∙ append-nil (command_text c)))
+spelling-push cs c = ap (λ bytes. 3 ∷ bytes) (flat_map-append command_text cs (c ∷ []) ∙ ap (λ bytes. flat_map command_text cs ++ bytes) (flat_map-cons command_text c [] ∙ append-nil (command_text c)))
 
 few-told : (cs : List Command) → length cs ≤ length (flat_map command_text cs)
 few-told [] = omega arith

@@ -43,6 +43,7 @@ fn loaded(rt: &impl Abort, alloc: Global) -> Listed<Command> {
         group: name(rt, alloc, "g"),
         generation: CompletedGeneration::new(3).expect(rt, "a generation"),
         kind: name(rt, alloc, "consumer"),
+        moment: Some(Moment::from_millis(0)),
     };
     commands
         .push(Command::Emptied(emptied))

@@ -2,8 +2,8 @@
 ghost use Rattle.std.specs.Prelude.{◌≡◌, IfOk};
 
 use cg_group::{
-    BeatRequest, CommitEntry, CommitRequest, Commits, FetchRequest, JoinRequest, LeaveRequest,
-    Listed, Request, SyncEntries, SyncEntry, SyncRequest,
+    BeatRequest, CommitEntry, CommitRequest, Commits, DropRequest, FetchRequest, JoinRequest,
+    LeaveRequest, Listed, Request, SyncEntries, SyncEntry, SyncRequest,
 };
 use cg_member::copies::copied_name;
 use cg_record::{Partitions, TopicPartition};
@@ -170,6 +170,14 @@ fn copied_fetch(alloc: Global, request: &FetchRequest) -> Result<FetchRequest, A
     Ok(FetchRequest { group, partitions })
 }
 
+fn copied_drop(alloc: Global, request: &DropRequest) -> Result<DropRequest, AllocError>
+    ensures { IfOk result (λ copy. copy ≡ request.now) }
+{
+    let group = copied_name(&request.group)?;
+    let partitions = copied_partitions(alloc, &request.partitions)?;
+    Ok(DropRequest { group, partitions })
+}
+
 /// Copies a request. Fails only if an allocation fails.
 pub fn copied_request(alloc: Global, request: &Request) -> Result<Request, AllocError>
     ensures { IfOk result (λ copy. copy ≡ request.now) }
@@ -182,6 +190,7 @@ pub fn copied_request(alloc: Global, request: &Request) -> Result<Request, Alloc
         Request::Commit(request) => Request::Commit(copied_commit(alloc, request)?),
         Request::Fetch(request) => Request::Fetch(copied_fetch(alloc, request)?),
         Request::Delete(group) => Request::Delete(copied_name(group)?),
+        Request::Drop(request) => Request::Drop(copied_drop(alloc, request)?),
         Request::Describe(group) => Request::Describe(copied_name(group)?),
         Request::List => Request::List,
     };

@@ -1,8 +1,8 @@
 //! Equality of commands.
 use crate::same::{Same, are_same};
 use cg_record::{
-    Assigned, Command, Committed, Deleted, Emptied, Entries, Entry, Member, Replaced, Roster,
-    StaticMember, TopicPartition,
+    Assigned, Command, Committed, Deleted, Dropped, Emptied, Entries, Entry, Expired, Member,
+    Partitions, Replaced, Roster, StaticMember, TopicPartition,
 };
 
 impl Same for Member {
@@ -51,6 +51,12 @@ impl Same for Entries {
     }
 }
 
+impl Same for Partitions {
+    fn is_same(&self, other: &Self) -> bool {
+        are_same(self.as_slice(), other.as_slice())
+    }
+}
+
 impl Same for Assigned {
     fn is_same(&self, other: &Self) -> bool {
         self.group.is_same(&other.group)
@@ -65,6 +71,7 @@ impl Same for Emptied {
         self.group.is_same(&other.group)
             && self.generation.get() == other.generation.get()
             && self.kind.is_same(&other.kind)
+            && self.moment == other.moment
     }
 }
 
@@ -76,13 +83,27 @@ impl Same for Replaced {
 
 impl Same for Committed {
     fn is_same(&self, other: &Self) -> bool {
-        self.group.is_same(&other.group) && self.entries.is_same(&other.entries)
+        self.group.is_same(&other.group)
+            && self.moment == other.moment
+            && self.entries.is_same(&other.entries)
     }
 }
 
 impl Same for Deleted {
     fn is_same(&self, other: &Self) -> bool {
         self.group.is_same(&other.group)
+    }
+}
+
+impl Same for Expired {
+    fn is_same(&self, other: &Self) -> bool {
+        self.group.is_same(&other.group) && self.partitions.is_same(&other.partitions)
+    }
+}
+
+impl Same for Dropped {
+    fn is_same(&self, other: &Self) -> bool {
+        self.group.is_same(&other.group) && self.partitions.is_same(&other.partitions)
     }
 }
 
@@ -94,6 +115,8 @@ impl Same for Command {
             (Command::Replaced(a), Command::Replaced(b)) => a.is_same(b),
             (Command::Committed(a), Command::Committed(b)) => a.is_same(b),
             (Command::Deleted(a), Command::Deleted(b)) => a.is_same(b),
+            (Command::Expired(a), Command::Expired(b)) => a.is_same(b),
+            (Command::Dropped(a), Command::Dropped(b)) => a.is_same(b),
             _ => false,
         }
     }

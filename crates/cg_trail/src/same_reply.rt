@@ -7,7 +7,9 @@ use cg_group::{
 
 impl Same for StoredOffset {
     fn is_same(&self, other: &Self) -> bool {
-        self.offset.get() == other.offset.get() && self.metadata.is_same(&other.metadata)
+        self.offset.get() == other.offset.get()
+            && self.metadata.is_same(&other.metadata)
+            && self.moment == other.moment
     }
 }
 

@@ -163,10 +163,10 @@ module _ (f : Member → Member) (same_id : (m : Member) → (f m).id ≡ m.id) 
     alike_empty : is_empty g.members ≡ true → completed now (turned changed e) ≡ swapped (completed now (turned g e))
     unfolding completed emptied emptied_command swapped
     alike_empty none =
-        let gone : Turn = emptied (turned changed e) in
-        ap (λ b. if b then emptied (turned changed e) else told_to_joins now (turned (next_round changed) e)) (empty_alike f g.members ∙ none)
+        let gone : Turn = emptied now (turned changed e) in
+        ap (λ b. if b then emptied now (turned changed e) else told_to_joins now (turned (next_round changed) e)) (empty_alike f g.members ∙ none)
         ∙ ap (λ ms. record gone { group = record gone.group { members = ms } }) (sym (empty_stays now (map f g.members) (empty_alike f g.members ∙ none)))
-        ∙ ap swapped (sym (ap (λ b. if b then emptied (turned g e) else told_to_joins now (turned (next_round g) e)) none))
+        ∙ ap swapped (sym (ap (λ b. if b then emptied now (turned g e) else told_to_joins now (turned (next_round g) e)) none))
 
     alike_told : is_empty g.members ≡ false → completed now (turned changed e) ≡ swapped (completed now (turned g e))
     unfolding completed told_to_joins next_round next_leader joined_reply joined_members swapped
@@ -174,11 +174,11 @@ module _ (f : Member → Member) (same_id : (m : Member) → (f m).id ≡ m.id) 
         let replies : Option (List ℕ) → Option (List ℕ) → List (Ticket × Reply) = λ p l. answers Joins (joined_reply (record (next_round changed) { protocol = p; leader = l })) (map f g.members) in
         let made : Option (List ℕ) → Option (List ℕ) → List (Ticket × Reply) → Turn = λ p l rs.
         record { group = record (next_round changed) { protocol = p; leader = l; members = after_answers Joins now (map f g.members) }; replies = e.replies ++ rs; commands = e.commands } in
-        ap (λ b. if b then emptied (turned changed e) else told_to_joins now (turned (next_round changed) e)) (empty_alike f g.members ∙ some)
+        ap (λ b. if b then emptied now (turned changed e) else told_to_joins now (turned (next_round changed) e)) (empty_alike f g.members ∙ some)
         ∙ ap (λ p. made p (next_leader changed) (replies p (next_leader changed))) (elected_alike g.members)
         ∙ ap (λ l. made (elected g.members) l (replies (elected g.members) l)) (leader_alike g leader lead)
         ∙ ap (made (elected g.members) (next_leader g)) (answers_alike (next_round g) (joined_reply (record (next_round g) { members = map f g.members })) (reply_alike (next_round g)) g.members)
-        ∙ ap swapped (sym (ap (λ b. if b then emptied (turned g e) else told_to_joins now (turned (next_round g) e)) some))
+        ∙ ap swapped (sym (ap (λ b. if b then emptied now (turned g e) else told_to_joins now (turned (next_round g) e)) some))
 
     -- a rebalance of members that differ in nothing that it reads, where a leader that is none of them may be gone
     pub completed_alike : (after : Effects) (r : Round) → completed now (turned g e) ≡ turned (rounded now (Some r) g) after → completed now (turned changed e) ≡ turned (rounded now (Some r) changed) after

@@ -65,8 +65,8 @@ unready_stays begins now g e h = ap (λ b. if b then completed now (turned (begu
 
 module _ (now : ℕ) (g : Group) (e : Effects) (r : Round) where
   -- a rebalance without members completes
-  pub completed_empty : (commands : List Command) → is_empty g.members ≡ true → r ≡ record { phase = Empty; generation = next_generation g.generation; protocol = None; leader = None }
-      → commands ≡ e.commands ++ emptied_command (record g { generation = next_generation g.generation })
+  pub completed_empty : (commands : List Command) → is_empty g.members ≡ true → r ≡ record { phase = Empty; generation = next_generation g.generation; protocol = None; leader = None; emptied = Some now }
+      → commands ≡ e.commands ++ emptied_command now (record g { generation = next_generation g.generation })
       → completed now (turned g e) ≡ turned (rounded now (Some r) g) (record { commands = commands; replies = e.replies })
   unfolding completed emptied emptied_command after_answers
   completed_empty commands none is by = go g.members refl none
@@ -81,7 +81,7 @@ module _ (now : ℕ) (g : Group) (e : Effects) (r : Round) where
       → completed now (turned g e) ≡ turned (rounded now (Some r) g) (record { commands = e.commands; replies = replies })
   unfolding completed told_to_joins next_round
   completed_told replies some is by =
-      ap (λ b. if b then emptied (turned g e) else told_to_joins now (record (turned g e) { group = next_round g })) some
+      ap (λ b. if b then emptied now (turned g e) else told_to_joins now (record (turned g e) { group = next_round g })) some
       ∙ ap (λ (x : Group). turned (record x { members = after_answers Joins now g.members }) (record { commands = e.commands; replies = e.replies ++ answers Joins (joined_reply (next_round g)) g.members })) (sym is)
       ∙ ap (λ rs. turned (rounded now (Some r) g) (record { commands = e.commands; replies = rs })) (sym by)
 
@@ -89,8 +89,8 @@ module _ (now : ℕ) (g : Group) (e : Effects) (r : Round) where
   completed_started : completed now (turned (record g { phase = Preparing; started = now }) e) ≡ record (completed now (turned g e)) { group = record (completed now (turned g e)).group { started = now } }
   unfolding completed emptied emptied_command told_to_joins next_round next_leader joined_reply joined_members
   completed_started =
-      elim (is_empty g.members) as (λ b. (if b then emptied (turned (record g { phase = Preparing; started = now }) e) else told_to_joins now (turned (next_round (record g { phase = Preparing; started = now })) e))
-      ≡ record (if b then emptied (turned g e) else told_to_joins now (turned (next_round g) e)) { group = record (if b then emptied (turned g e) else told_to_joins now (turned (next_round g) e)).group { started = now } }) [
+      elim (is_empty g.members) as (λ b. (if b then emptied now (turned (record g { phase = Preparing; started = now }) e) else told_to_joins now (turned (next_round (record g { phase = Preparing; started = now })) e))
+      ≡ record (if b then emptied now (turned g e) else told_to_joins now (turned (next_round g) e)) { group = record (if b then emptied now (turned g e) else told_to_joins now (turned (next_round g) e)).group { started = now } }) [
         | true ↦ refl
         | false ↦ refl
       ]
@@ -112,10 +112,10 @@ module _ (now : ℕ) (g : Group) (e : Effects) (r : Round) where
           ∙ ap (λ ms. turned (in_round r (record g { started = now; members = after_answers Joins now ms })) after) (sym (syncs_of_joined now g.members j))
 
 -- what was planned is what the rebalance comes to
-pub plan_holds : (begins : Bool) (now : ℕ) (g : Group) (before : Effects) (round : Option Round) (after : Effects) → IsPlan begins g before round after
+pub plan_holds : (begins : Bool) (now : ℕ) (g : Group) (before : Effects) (round : Option Round) (after : Effects) → IsPlan now begins g before round after
     → tried now (turned (begun begins now g) before) ≡ turned (rounded now round (begun begins now g)) after
 plan_holds begins now g before None after h = unready_stays begins now g before h.0 ∙ ap (λ e. turned (begun begins now g) e) (sym h.1)
-plan_holds begins now g before (Some r) after h = ready_completes now g before r begins after h.0 (h.1 now)
+plan_holds begins now g before (Some r) after h = ready_completes now g before r begins after h.0 h.1
 
 -- nobody is chosen where nobody leads
 pub unled : (p q : Member → Bool) (ms : List Member) → list_any p ms ≡ false → list_any (λ m. p m && q m) ms ≡ false
@@ -142,13 +142,13 @@ next_leader_unled g =
 completed_unled : (now : ℕ) (g : Group) (e : Effects) → completed now (turned (record g { leader = leader_among g.members g.leader }) e) ≡ completed now (turned g e)
 unfolding completed emptied emptied_command next_round
 completed_unled now g e =
-    elim (is_empty g.members) as (λ b. (if b then emptied (turned (record g { leader = leader_among g.members g.leader }) e) else told_to_joins now (turned (next_round (record g { leader = leader_among g.members g.leader })) e))
-    ≡ (if b then emptied (turned g e) else told_to_joins now (turned (next_round g) e))) [
+    elim (is_empty g.members) as (λ b. (if b then emptied now (turned (record g { leader = leader_among g.members g.leader }) e) else told_to_joins now (turned (next_round (record g { leader = leader_among g.members g.leader })) e))
+    ≡ (if b then emptied now (turned g e) else told_to_joins now (turned (next_round g) e))) [
       | true ↦ refl
       | false ↦ ap (λ leader. told_to_joins now (turned (record (next_round g) { leader = leader }) e)) (next_leader_unled g)
     ]
 
 -- so what was planned with it holds without it
-pub plan_unled : (begins : Bool) (g : Group) (before : Effects) (round : Option Round) (after : Effects) → IsPlan begins g before round after → IsPlan begins (record g { leader = leader_among g.members g.leader }) before round after
-plan_unled begins g before None after h = h
-plan_unled begins g before (Some r) after h = (h.0, λ now. completed_unled now g before ∙ h.1 now)
+pub plan_unled : (now : ℕ) (begins : Bool) (g : Group) (before : Effects) (round : Option Round) (after : Effects) → IsPlan now begins g before round after → IsPlan now begins (record g { leader = leader_among g.members g.leader }) before round after
+plan_unled now begins g before None after h = h
+plan_unled now begins g before (Some r) after h = (h.0, completed_unled now g before ∙ h.1)

@@ -171,7 +171,7 @@ module _ (now : ℕ) (x : Group) (e : Effects) where
 -- a rebalance that has completed is not under way
 settled : (now : ℕ) (t : Turn) → is_preparing (completed now t).group.phase ≡ false
 unfolding completed emptied told_to_joins next_round
-settled now t = elim (is_empty t.group.members) as (λ b. is_preparing (if b then emptied t else told_to_joins now (record t { group = next_round t.group })).group.phase ≡ false) [ true ↦ refl | false ↦ refl ]
+settled now t = elim (is_empty t.group.members) as (λ b. is_preparing (if b then emptied now t else told_to_joins now (record t { group = next_round t.group })).group.phase ≡ false) [ true ↦ refl | false ↦ refl ]
 
 module _ (now : ℕ) (g : Group) where
   -- the group without the expired members, from whether a session has expired and whether the members had joined
@@ -235,14 +235,14 @@ module _ (now : ℕ) (g : Group) where
         ap (λ b. b && list_all (is_waiting Joins) left.members) phase_left
         ∙ ap (λ b. (begins || is_preparing g.phase) && b) (ap (list_all (is_waiting Joins)) members_left ∙ late_ready begins now (remaining (Unexpired now) g.members))
 
-    plan_left : (before : Effects) (round : Option Round) (after : Effects) → IsPlan begins (among (Unexpired now) g) before round after → tried now (turned left before) ≡ turned (rounded now round left) after
+    plan_left : (before : Effects) (round : Option Round) (after : Effects) → IsPlan now begins (among (Unexpired now) g) before round after → tried now (turned left before) ≡ turned (rounded now round left) after
     unfolding left begins keeping
     plan_left before round after plan = go some joined none plan
       where
-        go : (s j : Bool) → (s ≡ false → remaining (Unexpired now) g.members ≡ g.members) → IsPlan (s && j) (among (Unexpired now) g) before round after → tried now (turned (thinned_by s j) before) ≡ turned (rounded now round (thinned_by s j)) after
-        go true j n p = plan_holds j now (keeping (λ m. not (is_overdue now m)) g) before round after (plan_unled j (among (Unexpired now) g) before round after p)
+        go : (s j : Bool) → (s ≡ false → remaining (Unexpired now) g.members ≡ g.members) → IsPlan now (s && j) (among (Unexpired now) g) before round after → tried now (turned (thinned_by s j) before) ≡ turned (rounded now round (thinned_by s j)) after
+        go true j n p = plan_holds j now (keeping (λ m. not (is_overdue now m)) g) before round after (plan_unled now j (among (Unexpired now) g) before round after p)
         go false j n p =
-            let P : List Member → Type 0 = λ ms. IsPlan false (record g { members = ms }) before round after in
+            let P : List Member → Type 0 = λ ms. IsPlan now false (record g { members = ms }) before round after in
             plan_holds false now g before round after (subst P (n refl) p)
 
     -- those who outstay the end of the rebalance
@@ -284,33 +284,33 @@ module _ (now : ℕ) (g : Group) where
         ∙ ap (λ b. b || list_any (is_waiting Any) (map (late begins now) late_members)) (empty_alike (late begins now) late_members)
         ∙ ap (λ b. is_empty late_members || b) (any_alike (late begins now) (is_waiting Any) (is_waiting (outstaying begins)) (late_any begins now) late_members)
 
-    completed_left : (before : Effects) (r : Round) (after : Effects) → ((n : ℕ) → completed n (turned (among (Outstaying now (outstaying begins)) g) before) ≡ turned (rounded n (Some r) (among (Outstaying now (outstaying begins)) g)) after)
+    completed_left : (before : Effects) (r : Round) (after : Effects) → completed now (turned (among (Outstaying now (outstaying begins)) g) before) ≡ turned (rounded now (Some r) (among (Outstaying now (outstaying begins)) g)) after
         → completed now (turned (keeping outstays left) before) ≡ turned (rounded now (Some r) (keeping outstays left)) after
     unfolding late_members left
     completed_left before r after by =
         let P : Group → Type 0 = λ x. completed now (turned x before) ≡ turned (rounded now (Some r) x) after in
         subst P (sym kept_left)
         (completed_alike (late begins now) (late_same (λ x. x.id) (λ n x. refl) begins now) (late_same (λ x. x.instance) (λ n x. refl) begins now) (late_same (λ x. x.protocols) (λ n x. refl) begins now) (late_join begins now)
-        now left.started left.phase leader_left (among (Outstaying now (outstaying begins)) g) before lead_left after r (by now))
+        now left.started left.phase leader_left (among (Outstaying now (outstaying begins)) g) before lead_left after r by)
 
   none_here : list_any (is_overdue now) g.members ≡ false → remaining (Unexpired now) g.members ≡ g.members
   none_here h = none_expired now g.members h
 
   -- a tick at which all who have not expired have joined
-  pub tick_completes : (r : Round) (after : Effects) → IsPlan (begins_at now g) (among (Unexpired now) g) (first_effects now (begins_at now g) g.members) (Some r) after → ticked now g ≡ turned (finished now (Some r) (thinned now g)) after
+  pub tick_completes : (r : Round) (after : Effects) → IsPlan now (begins_at now g) (among (Unexpired now) g) (first_effects now (begins_at now g) g.members) (Some r) after → ticked now g ≡ turned (finished now (Some r) (thinned now g)) after
   unfolding ticked at_deadline left begins
   tick_completes r after plan =
       let some = list_any (is_overdue now) g.members in
       let joined = has_joined g.phase in
       let x : Group = thinned now g in
       let done : Turn = turned (rounded now (Some r) x) after in
-      let over : is_preparing r.phase ≡ false = sym (ap (λ (t : Turn). is_preparing t.group.phase) (plan.1 now)) ∙ settled now (turned (among (Unexpired now) g) (first_effects now (begins_at now g) g.members)) in
+      let over : is_preparing r.phase ≡ false = sym (ap (λ (t : Turn). is_preparing t.group.phase) plan.1) ∙ settled now (turned (among (Unexpired now) g) (first_effects now (begins_at now g) g.members)) in
       ap (at_deadline now) (expired_first ∙ plan_left some joined none_here (first_effects now (begins_at now g) g.members) (Some r) after plan)
       ∙ ap (λ b. if b && nat_le (done.group.started + greatest_rebalance done.group.members) now then ended now (record done { group = keeping outstays done.group }) else done) over
       ∙ ap (λ b. turned (if b then rounded now (Some r) x else at_end now (Some r) x) after) (sym (ready_left some joined none_here ∙ plan.0))
 
   -- any other tick
-  pub tick_ends : (effects after : Effects) (round : Option Round) → IsPlan (begins_at now g) (among (Unexpired now) g) (first_effects now (begins_at now g) g.members) None effects
+  pub tick_ends : (effects after : Effects) (round : Option Round) → IsPlan now (begins_at now g) (among (Unexpired now) g) (first_effects now (begins_at now g) g.members) None effects
       → at_deadline now (turned (thinned now g) effects) ≡ turned (at_end now round (thinned now g)) after → ticked now g ≡ turned (finished now round (thinned now g)) after
   unfolding ticked left begins
   tick_ends effects after round plan by =
@@ -342,20 +342,20 @@ module _ (now : ℕ) (g : Group) where
         (can_left some_expired (has_joined g.phase) none_here ∙ planned_at (λ b. (is_empty (remaining (Outstaying now (outstaying b)) g.members) || list_any (is_waiting (outstaying b)) (remaining (Outstaying now (outstaying b)) g.members)) ≡ false) waits)
 
     pub planned_completes : (r : Round) (after : Effects) → is_over now starts g ≡ true → (is_empty (remaining (Outstaying now (outstaying starts)) g.members) || list_any (is_waiting (outstaying starts)) (remaining (Outstaying now (outstaying starts)) g.members)) ≡ true
-        → ((n : ℕ) → completed n (turned (among (Outstaying now (outstaying starts)) g) e) ≡ turned (rounded n (Some r) (among (Outstaying now (outstaying starts)) g)) after)
+        → completed now (turned (among (Outstaying now (outstaying starts)) g) e) ≡ turned (rounded now (Some r) (among (Outstaying now (outstaying starts)) g)) after
         → at_deadline now (turned (thinned now g) e) ≡ turned (at_end now (Some r) (thinned now g)) after
     unfolding left begins late_members
     planned_completes r after over can by =
         end_completes now (thinned now g) e r after (over_due some_expired (has_joined g.phase) none_here ∙ planned_at (λ b. is_over now b g ≡ true) over)
         (can_left some_expired (has_joined g.phase) none_here ∙ planned_at (λ b. (is_empty (remaining (Outstaying now (outstaying b)) g.members) || list_any (is_waiting (outstaying b)) (remaining (Outstaying now (outstaying b)) g.members)) ≡ true) can)
         (completed_left some_expired (has_joined g.phase) none_here e r after
-        (planned_at (λ b. (n : ℕ) → completed n (turned (among (Outstaying now (outstaying b)) g) e) ≡ turned (rounded n (Some r) (among (Outstaying now (outstaying b)) g)) after) by))
+        (planned_at (λ b. completed now (turned (among (Outstaying now (outstaying b)) g) e) ≡ turned (rounded now (Some r) (among (Outstaying now (outstaying b)) g)) after) by))
 
   -- what was planned first, from what each call returned
   pub planned_first : (starts : Bool) (before : Effects) (ms : List Member) (round : Option Round) (after : Effects) → starts ≡ begins_at now g → ms ≡ g.members → before ≡ first_effects now starts ms
-      → IsPlan starts (among (Unexpired now) g) before round after → IsPlan (begins_at now g) (among (Unexpired now) g) (first_effects now (begins_at now g) g.members) round after
+      → IsPlan now starts (among (Unexpired now) g) before round after → IsPlan now (begins_at now g) (among (Unexpired now) g) (first_effects now (begins_at now g) g.members) round after
   planned_first starts before ms round after at same by h =
-      let P : Bool → Type 0 = λ b. IsPlan b (among (Unexpired now) g) (first_effects now b g.members) round after in
-      let Q : List Member → Type 0 = λ xs. IsPlan starts (among (Unexpired now) g) (first_effects now starts xs) round after in
-      let R : Effects → Type 0 = λ e. IsPlan starts (among (Unexpired now) g) e round after in
+      let P : Bool → Type 0 = λ b. IsPlan now b (among (Unexpired now) g) (first_effects now b g.members) round after in
+      let Q : List Member → Type 0 = λ xs. IsPlan now starts (among (Unexpired now) g) (first_effects now starts xs) round after in
+      let R : Effects → Type 0 = λ e. IsPlan now starts (among (Unexpired now) g) e round after in
       subst P at (subst Q same (subst R by h))

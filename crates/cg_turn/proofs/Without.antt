@@ -15,7 +15,7 @@ use Rattle.cg_turn.proofs.Rounds.{plan_holds, plan_unled}
 
 -- what the rebalance comes to without the member is what was planned
 pub leaves : (now : ℕ) (ticket : Ticket) (m : Member) (g : Group) (round : Option Round) (after : Effects)
-    → IsPlan (has_joined g.phase) (without m.id g) (left_effects (has_joined g.phase) ticket m (others_than m.id g.members)) round after
+    → IsPlan now (has_joined g.phase) (without m.id g) (left_effects (has_joined g.phase) ticket m (others_than m.id g.members)) round after
     → leave_taken now m.id ticket m g ≡ turned (rounded now round (begun (has_joined g.phase) now (keeping (λ other. not (has_id m.id other)) g))) after
 unfolding leave_taken after_removal left keeping prepared
 leaves now ticket m g round after plan =
@@ -25,4 +25,4 @@ leaves now ticket m g round after plan =
       | true ↦ refl
       | false ↦ refl
     ])
-    ∙ plan_holds (has_joined g.phase) now kept (left_effects (has_joined g.phase) ticket m others) round after (plan_unled (has_joined g.phase) (without m.id g) (left_effects (has_joined g.phase) ticket m others) round after plan)
+    ∙ plan_holds (has_joined g.phase) now kept (left_effects (has_joined g.phase) ticket m others) round after (plan_unled now (has_joined g.phase) (without m.id g) (left_effects (has_joined g.phase) ticket m others) round after plan)

@@ -3,6 +3,7 @@ use Rattle.std.specs.Prelude.{ℕ, ℤ, pos, int_lt, Bool, true, false, not, nat
 use Rattle.std.specs.Ordering.{int_eq}
 use Rattle.cg_names.specs.declared.code.Code.{Code}
 use Rattle.cg_names.specs.declared.code.Code.TheVariants.{CoordinatorNotAvailable, IllegalGeneration, OffsetMetadataTooLarge, RebalanceInProgress, UnknownMemberId}
+use Rattle.cg_record.specs.declared.committed.Committed.{Committed}
 use Rattle.cg_record.specs.declared.entry.Entry.{Entry}
 use Rattle.cg_record.specs.declared.command.Command.TheVariants as command
 use Rattle.cg_request.specs.declared.commit_entry.CommitEntry.{CommitEntry}
@@ -18,6 +19,7 @@ use Rattle.cg_request.specs.Commits.{is_too_large, kept_entry}
 use Rattle.cg_member.specs.Fencing.{member_check}
 use Rattle.cg_member.specs.Joining.{new_group}
 use Rattle.cg_member.specs.Membership.{hearing, is_empty}
+use Rattle.cg_member.specs.Rebalance.{turned}
 use Rattle.cg_member.specs.Refusing.{◌>>=◌, refused_if}
 
 -- a negative generation marks a commit from a non-member (a simple consumer)
@@ -53,23 +55,27 @@ abbrev pub hearing_committer : ℕ → Option (List ℕ) → Group → Group
 hearing_committer now None g = g
 hearing_committer now (Some id) g = hearing now id g
 
--- the command that stores the entries for a group, and the reply
-abbrev pub commit_effects : List Entry → Ticket → List ℕ → Effects
-commit_effects entries ticket group = record { commands = command.Committed (record { group = group; entries = entries }) ∷ []; replies = (ticket, reply.Done) ∷ [] }
+-- the commit of these entries for a group, at this moment
+abbrev pub commit_at : ℕ → List Entry → List ℕ → Committed
+commit_at now entries group = record { group = group; moment = Some now; entries = entries }
+
+-- the command that stores the commit, and the reply
+abbrev pub commit_effects : Committed → Ticket → Effects
+commit_effects commit ticket = record { commands = command.Committed commit ∷ []; replies = (ticket, reply.Done) ∷ [] }
 
 -- the step that stores the entries for the group
-unfoldable pub keeping_entries : List Entry → Ticket → Group → Turn
-keeping_entries entries ticket g = record { group = g; replies = (ticket, reply.Done) ∷ []; commands = command.Committed (record { group = g.id; entries = entries }) ∷ [] }
+unfoldable pub keeping_entries : ℕ → List Entry → Ticket → Group → Turn
+keeping_entries now entries ticket g = turned g (commit_effects (commit_at now entries g.id) ticket)
 
 -- COMMIT that passes the checks
-abbrev pub committed : List CommitEntry → Ticket → Group → Turn
-committed entries ticket g = keeping_entries (map kept_entry entries) ticket g
+abbrev pub committed : ℕ → List CommitEntry → Ticket → Group → Turn
+committed now entries ticket g = keeping_entries now (map kept_entry entries) ticket g
 
 -- COMMIT after the check of its sender
 abbrev pub commit_by : ℕ → Option (List ℕ) → List CommitEntry → Ticket → Group → Result Turn Code
 commit_by now who entries ticket g = do
   _ ← refused_if (is_too_large entries) OffsetMetadataTooLarge
-  Ok (committed entries ticket (hearing_committer now who g))
+  Ok (committed now entries ticket (hearing_committer now who g))
 
 -- COMMIT in a loaded group
 unfoldable pub commit_held : ℕ → ℤ → Option (List ℕ) → Option (List ℕ) → List CommitEntry → Ticket → Group → Result Turn Code
@@ -78,9 +84,9 @@ commit_held now generation instance member entries ticket g = do
   commit_by now who entries ticket g
 
 -- COMMIT in a group that is not loaded: the group is created, without members
-unfoldable pub commit_unheld : ℤ → List CommitEntry → Ticket → ℕ → List ℕ → Result Turn Code
-commit_unheld generation entries ticket loaded id = do
+unfoldable pub commit_unheld : ℕ → ℤ → List CommitEntry → Ticket → ℕ → List ℕ → Result Turn Code
+commit_unheld now generation entries ticket loaded id = do
   _ ← refused_if (not (is_negative generation)) IllegalGeneration
   _ ← refused_if (is_too_large entries) OffsetMetadataTooLarge
   _ ← refused_if (nat_le GROUPS_MAX loaded) CoordinatorNotAvailable
-  Ok (committed entries ticket (new_group id))
+  Ok (committed now entries ticket (new_group id))

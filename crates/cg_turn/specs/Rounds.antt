@@ -19,7 +19,7 @@ among who g = record g { members = remaining who g.members }
 
 -- the group in this round
 abbrev pub in_round : Round → Group → Group
-in_round r g = record g { phase = r.phase; generation = r.generation; protocol = r.protocol; leader = r.leader }
+in_round r g = record g { phase = r.phase; generation = r.generation; protocol = r.protocol; leader = r.leader; emptied = r.emptied }
 
 -- the group as its rebalance completes with the round, if there is one: every parked JOIN has its reply
 abbrev pub rounded : ℕ → Option Round → Group → Group
@@ -30,12 +30,12 @@ rounded now (Some r) g = in_round r (record g { members = after_answers Joins no
 abbrev pub is_complete : Bool → Group → Bool
 is_complete begins g = (begins || is_preparing g.phase) && list_all (is_waiting Joins) g.members
 
--- the round with which a rebalance of the group completes, if it does, and the effects before and after that
-abbrev pub IsPlan : Bool → Group → Effects → Option Round → Effects → Type 0
-IsPlan begins g before None after = (is_complete begins g ≡ false) × (after ≡ before)
-IsPlan begins g before (Some r) after = (is_complete begins g ≡ true) × ((now : ℕ) → completed now (turned g before) ≡ turned (rounded now (Some r) g) after)
+-- the round with which a rebalance of the group completes at this moment, if it does, and the effects before and after that
+abbrev pub IsPlan : ℕ → Bool → Group → Effects → Option Round → Effects → Type 0
+IsPlan now begins g before None after = (is_complete begins g ≡ false) × (after ≡ before)
+IsPlan now begins g before (Some r) after = (is_complete begins g ≡ true) × (completed now (turned g before) ≡ turned (rounded now (Some r) g) after)
 
--- a group of which the replies tell this; they tell neither its id nor its phase, nor when it began
+-- a group of which the replies tell this; they tell neither its id nor its phase, nor any moment
 abbrev pub told_group : Told → Group
 told_group t = record {
   id = [];
@@ -46,4 +46,5 @@ told_group t = record {
   leader = t.leader.now;
   members = remaining t.staying.now t.members.now;
   started = 0;
+  emptied = None;
 }

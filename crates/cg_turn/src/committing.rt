@@ -1,7 +1,7 @@
 //! COMMIT (OffsetCommit request): its checks and its command.
 ghost use Rattle.std.specs.Prelude.{◌≡◌, ℕ, List, Ok, Err, Some, false, MatchOption, MatchResult};
 ghost use Rattle.std.specs.Option.{option_copied};
-ghost use Rattle.cg_turn.specs.Committing.{commit_effects, commit_of_member, commit_unheld, committed, committer};
+ghost use Rattle.cg_turn.specs.Committing.{commit_at, commit_effects, commit_of_member, commit_unheld, committed, committer};
 ghost use Rattle.cg_request.specs.Commits.{is_too_large};
 ghost use Rattle.cg_member.specs.Joining.{new_group};
 
@@ -11,8 +11,8 @@ use cg_member::fencing::checked_member;
 use cg_member::few::Few;
 use cg_member::group::{Group, Phase};
 use cg_member::reply::Reply;
-use cg_names::{Code, InstanceId, MemberId};
-use cg_record::{Command, Committed};
+use cg_names::{Code, GroupId, InstanceId, MemberId, Moment};
+use cg_record::{Command, Committed, Entries};
 use cg_request::commits::{Commits, is_too_large};
 use cg_request::ticket::Ticket;
 use std::alloc::Global;
@@ -63,9 +63,20 @@ pub fn committer<'a>(
     }
 }
 
+/// Builds the commit of these entries for the group, at this moment, without an allocation.
+pub fn commit_at(now: Moment, entries: Entries, group: GroupId) -> Committed
+    ensures { result ≡ commit_at now entries group }
+{
+    Committed {
+        group,
+        moment: Some(now),
+        entries,
+    }
+}
+
 /// Builds the command that stores the commit, and the reply, without an allocation.
 pub fn kept(alloc: Global, committed: Committed, ticket: Ticket) -> Effects
-    ensures { result ≡ commit_effects committed.entries ticket committed.group }
+    ensures { result ≡ commit_effects committed ticket }
 {
     Effects {
         commands: Few::one(alloc, Command::Committed(committed)),
@@ -79,8 +90,8 @@ pub fn kept(alloc: Global, committed: Committed, ticket: Ticket) -> Effects
 pub fn new_group_commit_refusal(generation: i32, entries: &Commits, loaded: usize) -> Option<Code>
     ensures { MatchOption result
         ((is_too_large entries.now ≡ false)
-        × ((ticket : Ticket) (id : List ℕ) → commit_unheld generation entries.now ticket loaded id ≡ Ok (committed entries.now ticket (new_group id))))
-        (λ code. (ticket : Ticket) (id : List ℕ) → commit_unheld generation entries.now ticket loaded id ≡ Err code) }
+        × ((now : ℕ) (ticket : Ticket) (id : List ℕ) → commit_unheld now generation entries.now ticket loaded id ≡ Ok (committed now entries.now ticket (new_group id))))
+        (λ code. (now : ℕ) (ticket : Ticket) (id : List ℕ) → commit_unheld now generation entries.now ticket loaded id ≡ Err code) }
 {
     if generation >= 0 {
         return Some(Code::IllegalGeneration);

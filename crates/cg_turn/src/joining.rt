@@ -51,6 +51,7 @@ pub fn new_group(alloc: Global, id: GroupId) -> Group
         leader: None,
         members: Members::new(alloc),
         started: Moment::from_millis(0),
+        emptied: None,
     }
 }
 

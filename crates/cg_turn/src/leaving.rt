@@ -21,7 +21,7 @@ use cg_member::member::Member;
 use cg_member::members::Members;
 use cg_member::reply::Reply;
 use cg_member::staying::Staying;
-use cg_names::{Code, InstanceId, MemberId};
+use cg_names::{Code, InstanceId, MemberId, Moment};
 use cg_request::request::LeaveRequest;
 use cg_request::ticket::Ticket;
 use std::alloc::{AllocError, Global};
@@ -95,17 +95,18 @@ fn left_effects(
 // Works out what follows from the LEAVE of the member: the effects, and the round if the rebalance completes without it.
 fn plan_without(
     alloc: Global,
+    now: Moment,
     ticket: Ticket,
     begins: bool,
     member: &Member,
     group: &Group,
 ) -> Result<(Effects, Option<Round>), AllocError>
-    ensures { IfOk result (λ p. IsPlan begins (without member.now.id group.now)
+    ensures { IfOk result (λ p. IsPlan now begins (without member.now.id group.now)
         (left_effects begins ticket member.now (others_than member.now.id group.now.members)) p.1 p.0) }
 {
     let mut effects = left_effects(alloc, ticket, begins, member, group.members.as_slice())?;
     let others = Staying::Without(&member.id);
-    let round = planned(alloc, begins, &others, group, &mut effects)?;
+    let round = planned(alloc, now, begins, &others, group, &mut effects)?;
     Ok((effects, round))
 }
 
@@ -197,7 +198,7 @@ pub fn leave_in(
         unreachable!()
     };
     let begins = has_joined(group.phase);
-    let (effects, round) = plan_without(alloc, ticket, begins, member, group)?;
+    let (effects, round) = plan_without(alloc, now, ticket, begins, member, group)?;
     let id = member.id.clone()?;
     remove_member(&id, group);
     carry_out(now, begins, round, group);

@@ -1,5 +1,5 @@
 //! The rebalance: its start and its completion (KIP-62).
-ghost use Rattle.std.specs.Prelude.{◌≡◌, ℕ, true, ◌&&◌, ◌||◌, ◌++◌, Some, None, IfOk, OnOk, OnErr, find, option_map};
+ghost use Rattle.std.specs.Prelude.{◌≡◌, true, ◌&&◌, ◌||◌, ◌++◌, Some, None, IfOk, OnOk, OnErr, find, option_map};
 ghost use Rattle.std.specs.List.{list_all, list_any};
 ghost use Rattle.cg_member.specs.Rebalance.{turned, begun, joined_reply, next_leader, next_round, emptied_command, completed, is_ready, tried};
 ghost use Rattle.cg_member.specs.Membership.{is_empty, is_preparing, leads};
@@ -116,6 +116,8 @@ pub struct Round {
     generation: Generation,
     protocol: Option<ProtocolName>,
     leader: Option<MemberId>,
+    /// When the group was last emptied.
+    emptied: Option<Moment>,
 }
 
 // Returns the round that follows, with the protocol of the vote of the members that stay and with their leader.
@@ -130,18 +132,20 @@ fn next_round(alloc: Global, who: &Staying, group: &Group) -> Result<Round, Allo
         generation: group.generation.next(),
         protocol,
         leader,
+        emptied: group.emptied,
     })
 }
 
-// Appends the command that the generation has no members. A group that never had a member has no type and gets no
-// command.
+// Appends the command that the generation has no members from this moment on. A group that never had a member has no type and
+// gets no command.
 #[tactic(auto, unfolding(cg_member::specs::Rebalance::emptied_command))]
 fn push_emptied(
+    now: Moment,
     generation: Generation,
     group: &Group,
     commands: &mut Few<Command>,
 ) -> Result<(), AllocError>
-    ensures { OnOk result (commands.new ≡ commands.old ++ emptied_command (record group.now { generation = generation })) }
+    ensures { OnOk result (commands.new ≡ commands.old ++ emptied_command now (record group.now { generation = generation })) }
 {
     let Some(generation) = CompletedGeneration::new(generation.get()) else {
         return Ok(());
@@ -155,22 +159,28 @@ fn push_emptied(
         group: id,
         generation,
         kind,
+        moment: Some(now),
     }))?;
     Ok(())
 }
 
-// Returns the round of a group without members, and appends its command.
-fn emptied_round(group: &Group, commands: &mut Few<Command>) -> Result<Round, AllocError>
-    ensures round { IfOk result (λ r. r ≡ record { phase = Phase.Empty; generation = next_generation group.now.generation; protocol = None; leader = None }) }
-    ensures commands { OnOk result (commands.new ≡ commands.old ++ emptied_command (record group.now { generation = next_generation group.now.generation })) }
+// Returns the round of a group that is empty from this moment on, and appends its command.
+fn emptied_round(
+    now: Moment,
+    group: &Group,
+    commands: &mut Few<Command>,
+) -> Result<Round, AllocError>
+    ensures round { IfOk result (λ r. r ≡ record { phase = Phase.Empty; generation = next_generation group.now.generation; protocol = None; leader = None; emptied = Some now }) }
+    ensures commands { OnOk result (commands.new ≡ commands.old ++ emptied_command now (record group.now { generation = next_generation group.now.generation })) }
 {
     let generation = group.generation.next();
-    push_emptied(generation, group, commands)?;
+    push_emptied(now, generation, group, commands)?;
     Ok(Round {
         phase: Phase::Empty,
         generation,
         protocol: None,
         leader: None,
+        emptied: Some(now),
     })
 }
 
@@ -214,19 +224,19 @@ pub(crate) fn none_stays(who: &Staying, members: &[Member]) -> bool
     !some_stay(who, members)
 }
 
-/// Returns the round with which the rebalance of the members that stay completes, and appends the effects of that. The group
-/// stays as it is.
+/// Returns the round with which the rebalance of the members that stay completes at this moment, and appends the effects of
+/// that. The group stays as it is.
 pub(crate) fn completion(
     alloc: Global,
+    now: Moment,
     who: &Staying,
     group: &Group,
     effects: &mut Effects,
 ) -> Result<Round, AllocError>
-    ensures { IfOk result (λ r. (now : ℕ) →
-        completed now (turned (among who.now group.now) effects.old) ≡ turned (rounded now (Some r) (among who.now group.now)) effects.new) }
+    ensures { IfOk result (λ r. completed now (turned (among who.now group.now) effects.old) ≡ turned (rounded now (Some r) (among who.now group.now)) effects.new) }
 {
     if none_stays(who, group.members.as_slice()) {
-        let round = emptied_round(group, &mut effects.commands)?;
+        let round = emptied_round(now, group, &mut effects.commands)?;
         return Ok(round);
     }
     let round = told_round(alloc, who, group, &mut effects.replies)?;
@@ -256,19 +266,20 @@ fn completes(begins: bool, who: &Staying, group: &Group) -> bool
     is_under_way(begins, group.phase) && have_joined(who, group.members.as_slice())
 }
 
-/// Returns the round with which a rebalance of the members that stay completes, if one begins or is under way and all of them
-/// have joined, and appends the effects of that. The group stays as it is.
+/// Returns the round with which a rebalance of the members that stay completes at this moment, if one begins or is under way and
+/// all of them have joined, and appends the effects of that. The group stays as it is.
 pub fn planned(
     alloc: Global,
+    now: Moment,
     begins: bool,
     who: &Staying,
     group: &Group,
     effects: &mut Effects,
 ) -> Result<Option<Round>, AllocError>
-    ensures { IfOk result (λ round. IsPlan begins (among who.now group.now) effects.old round effects.new) }
+    ensures { IfOk result (λ round. IsPlan now begins (among who.now group.now) effects.old round effects.new) }
 {
     if completes(begins, who, group) {
-        let round = completion(alloc, who, group, effects)?;
+        let round = completion(alloc, now, who, group, effects)?;
         return Ok(Some(round));
     }
     Ok(None)
@@ -283,11 +294,13 @@ pub(crate) fn enter(now: Moment, round: Round, group: &mut Group)
         generation,
         protocol,
         leader,
+        emptied,
     } = round;
     group.phase = phase;
     group.generation = generation;
     group.protocol = protocol;
     group.leader = leader;
+    group.emptied = emptied;
     group.members.answer(Calls::Joins, now);
 }
 
@@ -315,7 +328,7 @@ pub fn advance(
     ensures ok { OnOk result (turned group.new effects.new ≡ tried now (turned (begun begins now group.old) effects.old)) }
     ensures err { OnErr result (group.new ≡ group.old) }
 {
-    let round = planned(alloc, begins, &Staying::All, group, effects)?;
+    let round = planned(alloc, now, begins, &Staying::All, group, effects)?;
     carry_out(now, begins, round, group);
     Ok(())
 }

@@ -163,7 +163,7 @@ fn planned_end(
     if !can_complete(calls, &who, group.members.as_slice()) {
         return Ok(None);
     }
-    let round = completion(alloc, &who, group, effects)?;
+    let round = completion(alloc, now, &who, group, effects)?;
     Ok(Some(round))
 }
 
@@ -195,7 +195,7 @@ pub fn plan_tick(
     let begins = begins_at(now, group);
     let mut effects = first_effects(alloc, now, begins, group.members.as_slice())?;
     let unexpired = Staying::Unexpired(now);
-    if let Some(round) = planned(alloc, begins, &unexpired, group, &mut effects)? {
+    if let Some(round) = planned(alloc, now, begins, &unexpired, group, &mut effects)? {
         let round = Some(round);
         return Ok((TickPlan { round }, effects));
     }

@@ -1,5 +1,5 @@
 -- Replies leave in the first step after which their sequence number is settled.
-use Rattle.std.proofs.Common.{◌≡◌, ℕ, ◌+◌, ◌≤◌, Bool, true, false, List, [], ◌∷◌, ◌++◌, append_assoc, append-nil, length, map, Option, None, Some, refl, sym, ap, ◌∙◌, subst, arith}
+use Rattle.std.proofs.Common.{◌≡◌, ℕ, ◌+◌, ◌≤◌, Bool, true, false, List, [], ◌∷◌, ◌++◌, append_assoc, append-nil, length, Option, None, Some, refl, sym, ap, ◌∙◌, subst, arith}
 use Rattle.std.specs.Prelude.{if◌then◌else◌, is_some, Result, Ok, Err, IfOk, OnOk, OnErr}
 use Rattle.std.proofs.lemmas.Bool.{false≢true}
 use Rattle.cg_fold.specs.Durable.{State as Durable}
@@ -85,6 +85,7 @@ asker-asked (asking.Leave r) ticket fresh = refl
 asker-asked (asking.Commit r) ticket fresh = refl
 asker-asked (asking.Fetch r) ticket fresh = refl
 asker-asked (asking.Delete id) ticket fresh = refl
+asker-asked (asking.Drop r) ticket fresh = refl
 asker-asked (asking.Describe id) ticket fresh = refl
 asker-asked asking.List ticket fresh = refl
 

@@ -32,6 +32,7 @@ asker (event.Leave ticket r) = Some ticket
 asker (event.Commit ticket r) = Some ticket
 asker (event.Fetch ticket r) = Some ticket
 asker (event.Delete ticket id) = Some ticket
+asker (event.Drop ticket r) = Some ticket
 asker (event.Describe ticket id) = Some ticket
 asker (event.List ticket) = Some ticket
 asker (event.Gone session) = None

@@ -1,4 +1,4 @@
-//! Partitions of a FETCH: `topic:partition` words.
+//! Partitions of a FETCH or a DROP: `topic:partition` words.
 ghost use Rattle.std.specs.Prelude.{◌≡◌, map, IsTrue, IfOk};
 ghost use Rattle.std.specs.List.{list_all};
 ghost use Rattle.cg_line.specs.Parsing.{are_partitions, is_partition, partition_in};
@@ -33,7 +33,7 @@ fn are_each(words: &[&[u8]]) -> bool
     pass_each(words)
 }
 
-/// Returns whether the words are the partitions of one FETCH. Does not allocate.
+/// Returns whether the words are the partitions of one FETCH or DROP. Does not allocate.
 #[tactic(auto, unfolding(crate::specs::Parsing::are_partitions))]
 pub fn are_partitions(words: &[&[u8]]) -> bool
     ensures { result ≡ are_partitions (map (λ w. w.now) words.now) }

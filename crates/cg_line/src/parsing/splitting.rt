@@ -3,10 +3,14 @@ ghost use Rattle.std.specs.Prelude.{◌≡◌, ◌+◌, ◌<◌, [], ◌∷◌, 
 ghost use Rattle.cg_line.specs.Splitting.{before, behind, words_of};
 
 use arrayvec::ArrayVec;
+use cg_record::ENTRIES_MAX;
 use memchr::memchr;
 
-/// Greatest number of words of a request: a SYNC or a COMMIT has its kind, four words and 64 entries.
-pub const WORDS_MAX: usize = 69;
+/// Greatest number of words of a request: a COMMIT has its kind, four words and `ENTRIES_MAX` entries.
+pub const WORDS_MAX: usize = 5 + ENTRIES_MAX;
+
+/// Number of words that suffices for most lines: only a SYNC, COMMIT, FETCH or DROP of more than 11 entries can have more.
+pub const FEW_WORDS: usize = 16;
 
 // Returns the text before the first mark and the text after it, or `None` without a mark.
 fn cut(text: &[u8], mark: u8) -> Option<(&[u8], &[u8])>
@@ -49,10 +53,10 @@ fn first_word(text: &[u8]) -> Option<(&[u8], &[u8])>
     Some((&text[..at], &text[at + 1..]))
 }
 
-/// Returns the words between the spaces of a line, or `None` if there are more than `WORDS_MAX`.
-pub fn words(line: &[u8]) -> Option<ArrayVec<&[u8], WORDS_MAX>>
+/// Returns the words between the spaces of a line, or `None` if there are more than `MOST`. Fills an array of `MOST` slices.
+pub fn words<const MOST: usize>(line: &[u8]) -> Option<ArrayVec<&[u8], MOST>>
     ensures { MatchOption result
-        (WORDS_MAX < length (words_of line.now))
+        (MOST < length (words_of line.now))
         (λ words. map (λ w. w.now) words.items ≡ words_of line.now) }
 {
     let mut words = ArrayVec::new();

@@ -12,6 +12,6 @@ abbrev pub invariant-loop-entry : goal.invariant-loop-entry
 invariant-loop-entry l = record {
   sorted : IsTrue (is_sorted partition_cmp l.rows.items);
   have : list_all (has_row l.rows.items) (into_iter_items l.entry-iterator) ≡ true;
-  rest : fold put_row l.rows.items (rows_of (into_iter_items l.entry-iterator)) ≡ fold put_row l.initial.rows.items (rows_of l.fn.entries.items);
+  rest : fold put_row l.rows.items (rows_of l.moment (into_iter_items l.entry-iterator)) ≡ fold put_row l.initial.rows.items (rows_of l.fn.moment l.fn.entries.items);
   len : length l.rows.items ≡ length l.initial.rows.items;
 }

@@ -7,13 +7,13 @@ use Rattle.cg_fold.proofs.moves.move_entry.Goals as goal
 
 pub returns-clause-rows : goal.returns-clause-rows
 returns-clause-rows c =
-    let kept = row_of c.args.entry in
+    let kept = row_of c.args.moment.now c.args.entry in
     c.renew_in.ensures ∙ renewed_is_put c.args.rows.now.items c.args.rows.now.items kept _ refl
     (renewal-at c.args.rows.now.items c.deref.result.now c.deref.result.now kept c.own_place-at.result c.deref.ensures.value c.deref.ensures.value c.own_place-at.ensures.value c.own_place-at.ensures.own)
 
 pub returns-clause-sorted : goal.returns-clause-sorted
 returns-clause-sorted c =
-    let kept = row_of c.args.entry in
+    let kept = row_of c.args.moment.now c.args.entry in
     put_keeps_order partition_total kept.0 kept.1 c.args.rows.now.items _ (returns-clause-rows c) c.requires.sorted
 
 pub returns-clause-keeps : goal.returns-clause-keeps

@@ -1,4 +1,4 @@
-use Rattle.std.proofs.Common.{[], sym, ap, ◌∙◌, subst}
+use Rattle.std.proofs.Common.{[], None, sym, ap, ◌∙◌, subst}
 use Rattle.std.proofs.Math.Dec.{T}
 use Rattle.std.specs.Prelude.{is_some}
 use Rattle.cg_fold.specs.Key.{KeptRow}
@@ -10,7 +10,7 @@ use Rattle.cg_fold.proofs.moves.own_place.Goals as goal
 pub returns-then-is_at-clause-value : goal.returns-then-is_at-clause-value
 returns-then-is_at-clause-value c =
     let key = c.args.entry.now.key in
-    let none : KeptRow = (key, record { offset = 0; metadata = [] }) in
+    let none : KeptRow = (key, record { offset = 0; metadata = []; moment = None }) in
     let own = c.if-is_at.ensures.own in
     own-placed partition_total key c.args.rows.now c.args.near none (tested c.requires.sorted) own.0 (own.1 none)
 

@@ -3,4 +3,4 @@ use Rattle.cg_fold.specs.Key.{rows_of}
 use Rattle.cg_fold.proofs.rows.rows_of.Given as goal
 
 abbrev pub invariant-loop-entry : goal.invariant-loop-entry
-invariant-loop-entry l = l.rows.items ≡ rows_of (take l.entry-index l.entries)
+invariant-loop-entry l = l.rows.items ≡ rows_of l.moment (take l.entry-index l.entries)

@@ -20,14 +20,14 @@ pub returns-in-Some-clause-ok : goal.returns-in-Some-clause-ok
 returns-in-Some-clause-ok c =
     let shelves = c.args.shelves.now.entries in
     let there : lookup (is_at (name_cmp c.args.commit.now.group)) shelves ≡ Some c.in-Some.rows.now = search rules in
-    added_over shelves (c.get_mut.follows.lender c.put_entries.new.self).entries c.args.commit.now.group c.in-Some.rows.now c.put_entries.new.self (rows_of c.args.commit.now.entries) there
+    added_over shelves (c.get_mut.follows.lender c.put_entries.new.self).entries c.args.commit.now.group c.in-Some.rows.now c.put_entries.new.self (rows_of c.args.commit.now.moment c.args.commit.now.entries) there
     (c.get_mut.follows.holds c.put_entries.new.self).0 c.in_ok-grown.ensures.ok c.requires
 
 pub returns-in-Some-clause-grown : goal.returns-in-Some-clause-grown
 returns-in-Some-clause-grown c =
     let shelves = c.args.shelves.now.entries in
     let there : lookup (is_at (name_cmp c.args.commit.now.group)) shelves ≡ Some c.in-Some.rows.now = search rules in
-    grown_over shelves (c.get_mut.follows.lender c.put_entries.new.self).entries c.args.commit.now.group c.in-Some.rows.now c.put_entries.new.self (rows_of c.args.commit.now.entries) there
+    grown_over shelves (c.get_mut.follows.lender c.put_entries.new.self).entries c.args.commit.now.group c.in-Some.rows.now c.put_entries.new.self (rows_of c.args.commit.now.moment c.args.commit.now.entries) there
     (c.get_mut.follows.holds c.put_entries.new.self).0 c.in_ok-grown.ensures.ok c.requires c.in_ok-grown.grown c.in_ok-grown.ensures.grown
 
 pub returns-clause-grown : goal.returns-clause-grown
@@ -35,4 +35,4 @@ returns-clause-grown c =
     let shelves = c.args.shelves.now.entries in
     let absent : lookup (is_at (name_cmp c.args.commit.now.group)) shelves ≡ None = search rules in
     let stored : c.put.new.kept.entries ≡ put name_cmp c.args.commit.now.group c.in_ok-rows.rows shelves = search rules in
-    grown_between shelves c.put.new.kept.entries c.args.commit.now.group c.in_ok-rows.rows (rows_of c.args.commit.now.entries) absent stored c.in_ok-rows.ensures c.as_slice.result.now c.as_slice.ensures.value
+    grown_between shelves c.put.new.kept.entries c.args.commit.now.group c.in_ok-rows.rows (rows_of c.args.commit.now.moment c.args.commit.now.entries) absent stored c.in_ok-rows.ensures c.as_slice.result.now c.as_slice.ensures.value

@@ -5,7 +5,8 @@ use Rattle.cg_record.specs.Partitions.{partition_cmp}
 use Rattle.cg_fold.specs.Snapshot.{first_len}
 use Rattle.cg_fold.proofs.Own.{sorted-drop}
 use Rattle.cg_fold.proofs.Put.{tested, is_true}
-use Rattle.cg_fold.proofs.Commits.{commits_none, commits_pushed, first_run}
+use Rattle.cg_fold.proofs.Commits.{commits_none, commits_pushed}
+use Rattle.cg_fold.proofs.Longest.{first_run}
 use Rattle.cg_fold.proofs.taking.take_commits.Goals as goal
 
 pub loop-alloc-smaller : goal.loop-alloc-smaller

@@ -19,7 +19,7 @@ returns-in_default-clause-ok c =
 pub returns-in_default-find-clause-ok : goal.returns-in_default-find-clause-ok
 returns-in_default-find-clause-ok c =
     let none : find_group c.in-Some.id c.args.held.now ≡ None = search rules in
-    let apart : concluded (at_moment c.args.now c.args.held.now) c.args.ticket (commit_unheld c.args.r.generation c.args.r.entries c.args.ticket (length c.args.held.now) c.in-Some.id) ≡ outcome (at_moment c.args.now c.commit_apart.new.held) c.in_ok-effects.effects = search rules in
+    let apart : concluded (at_moment c.args.now c.args.held.now) c.args.ticket (commit_unheld c.args.now c.args.r.generation c.args.r.entries c.args.ticket (length c.args.held.now) c.in-Some.id) ≡ outcome (at_moment c.args.now c.commit_apart.new.held) c.in_ok-effects.effects = search rules in
     ap (concluded (at_moment c.args.now c.args.held.now) c.args.ticket) (commit_absent c.args.now c.args.r c.args.ticket c.args.held.now c.in-Some.id c.in-Some.is none) ∙ apart
 
 pub returns-in-Err-clause-ok : goal.returns-in-Err-clause-ok
@@ -40,7 +40,7 @@ returns-clause-ok c =
 pub returns-in_err-effects-clause-taken : goal.returns-in_err-effects-clause-taken
 returns-in_err-effects-clause-taken c =
     let none : find_group c.in-Some.id c.args.held.now ≡ None = search rules in
-    let taken : is_ok (commit_unheld c.args.r.generation c.args.r.entries c.args.ticket (length c.args.held.now) c.in-Some.id) ≡ true = search rules in
+    let taken : is_ok (commit_unheld c.args.now c.args.r.generation c.args.r.entries c.args.ticket (length c.args.held.now) c.in-Some.id) ≡ true = search rules in
     on_err _ _ (ap is_ok (commit_absent c.args.now c.args.r c.args.ticket c.args.held.now c.in-Some.id c.in-Some.is none) ∙ taken)
 
 pub returns-in_err-effects-in-Ok-clause-taken : goal.returns-in_err-effects-in-Ok-clause-taken

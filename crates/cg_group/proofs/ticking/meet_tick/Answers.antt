@@ -1,14 +1,32 @@
-use Rattle.std.proofs.Common.{List, sym, subst}
-use Rattle.cg_member.specs.declared.group.Group.{Group}
-use Rattle.cg_held.specs.Sessions.{AreKnown, IsTight, is_home}
+use Rattle.std.proofs.Common.{◌≡◌, ◌||◌, true, false, rules, sym, ◌∙◌}
+use Rattle.std.specs.List.{list_any}
+use Rattle.cg_member.specs.Ticking.{ticked}
+use Rattle.cg_turn.specs.Touching.{tick_touches}
+use Rattle.cg_held.specs.Expiring.{expires}
+use Rattle.cg_group.proofs.Beside.{everywhere_still}
+use Rattle.cg_group.proofs.Quiet.{quiet-ticked}
+use Rattle.cg_group.proofs.Thinning.{any_expires, any_touched, tick_calm}
 use Rattle.cg_group.proofs.ticking.meet_tick.Goals as goal
 
-pub carry_out_all-requires-clause-known : goal.carry_out_all-requires-clause-known
-carry_out_all-requires-clause-known c =
-    let P : List Group → Type 0 = λ gs. AreKnown (is_home c.args.homes.now) gs in
-    subst P (sym c.plan_due.ensures.same) c.requires.known
+pub returns-in_err-effects-clause-changed : goal.returns-in_err-effects-clause-changed
+returns-in_err-effects-clause-changed c =
+    let touched = tick_touches c.args.clock.now.moment in
+    let stale = expires c.args.clock.now.loaded c.args.clock.now.moment c.args.offsets.now in
+    let some : list_any (λ g. touched g || stale g) c.args.held.now ≡ true = any_expires touched stale c.args.held.now (sym c.some_expire.ensures.some ∙ c.if-some_expire.true) in
+    search rules
 
-pub carry_out_all-requires-clause-tight : goal.carry_out_all-requires-clause-tight
-carry_out_all-requires-clause-tight c =
-    let P : List Group → Type 0 = λ gs. IsTight c.args.homes.now gs in
-    subst P (sym c.plan_due.ensures.same) c.requires.tight
+pub returns-in_err-effects-2-clause-changed : goal.returns-in_err-effects-2-clause-changed
+returns-in_err-effects-2-clause-changed c =
+    let touched = tick_touches c.args.clock.now.moment in
+    let stale = expires c.args.clock.now.loaded c.args.clock.now.moment c.args.offsets.now in
+    let some : list_any (λ g. touched g || stale g) c.args.held.now ≡ true = any_touched touched stale c.args.held.now c.in_err-effects-2.ensures.touched in
+    search rules
+
+pub returns-clause-ok : goal.returns-clause-ok
+returns-clause-ok c =
+    let none : list_any (expires c.args.clock.now.loaded c.args.clock.now.moment c.args.offsets.now) c.args.held.now ≡ false = sym c.some_expire.ensures.some ∙ c.if-some_expire.false in
+    tick_calm c.args.clock.now.loaded c.args.clock.now.moment c.args.offsets.now c.args.held.now c.time_out.new.held c.in_ok-effects-2.effects none c.in_ok-effects-2.ensures.ok
+
+pub returns-clause-offsets : goal.returns-clause-offsets
+returns-clause-offsets c =
+    everywhere_still c.args.clock.now.moment c.args.held.now c.time_out.new.held c.args.offsets.now (ticked c.args.clock.now.moment) c.in_ok-effects-2.effects (quiet-ticked c.args.clock.now.moment) c.in_ok-effects-2.ensures.ok

@@ -8,21 +8,13 @@ pub returns-in_default-clause-malformed : goal.returns-in_default-clause-malform
 returns-in_default-clause-malformed c = λ is r spells. many_spell_none c.args.line.now c.in_default.ensures r spells
 
 pub returns-clause-ok : goal.returns-clause-ok
-returns-clause-ok c =
-    let reads = rw (c.as_slice.ensures.value, c.in-Some.ensures) at c.request.ensures in
-    ok_spells c.args.line.now c.request.result reads
+returns-clause-ok c = ok_spells c.args.line.now c.in-Some.read c.in-Some.ensures
 
 pub returns-clause-complete : goal.returns-clause-complete
-returns-clause-complete c =
-    let reads = rw (c.as_slice.ensures.value, c.in-Some.ensures) at c.request.ensures in
-    λ r spells within. spelled_is_read c.args.line.now c.request.result reads r spells
+returns-clause-complete c = λ r spells within. spelled_is_read c.args.line.now c.in-Some.read c.in-Some.ensures r spells
 
 pub returns-clause-malformed : goal.returns-clause-malformed
-returns-clause-malformed c =
-    let reads = rw (c.as_slice.ensures.value, c.in-Some.ensures) at c.request.ensures in
-    λ is r spells. malformed_spells_none c.args.line.now c.request.result reads is r spells
+returns-clause-malformed c = λ is r spells. malformed_spells_none c.args.line.now c.in-Some.read c.in-Some.ensures is r spells
 
 pub returns-clause-memory : goal.returns-clause-memory
-returns-clause-memory c =
-    let reads = rw (c.as_slice.ensures.value, c.in-Some.ensures) at c.request.ensures in
-    λ is. memory_spells c.args.line.now c.request.result reads is
+returns-clause-memory c = λ is. memory_spells c.args.line.now c.in-Some.read c.in-Some.ensures is

@@ -14,7 +14,13 @@ pub returns-clause-distinct : goal.returns-clause-distinct
 returns-clause-distinct c =
     let read = many_end entry_at c.args.count c.loop.counter c.loop.entries.items c.loop.rest.now (entries_at c.args.count [] c.args.bytes.now) c.loop-test.false c.loop.invariant in
     let t = (reads_entries c.args.count).takes c.args.bytes.now c.loop.entries.items c.loop.rest.now (λ i. omega (arith, c.type_inv.bytes i)) read in
-    t.2.distinct
+    t.2.distinct.0
+
+pub returns-clause-metadata : goal.returns-clause-metadata
+returns-clause-metadata c =
+    let read = many_end entry_at c.args.count c.loop.counter c.loop.entries.items c.loop.rest.now (entries_at c.args.count [] c.args.bytes.now) c.loop-test.false c.loop.invariant in
+    let t = (reads_entries c.args.count).takes c.args.bytes.now c.loop.entries.items c.loop.rest.now (λ i. omega (arith, c.type_inv.bytes i)) read in
+    t.2.distinct.1
 
 pub loop-preserved : goal.loop-preserved
 loop-preserved c =

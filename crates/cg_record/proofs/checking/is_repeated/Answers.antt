@@ -28,7 +28,7 @@ loop-preserved c = λ whole end h.
     let n = unmet_next entry_at c.args.count c.loop.counter passes whole end c.loop.rest.now u c.loop-test.true in
     let same = c.in-Some.ensures u.front n.0.0 n.0.1 n.1 in
     let miss : passes n.0.0 ≡ false = rw (← same.0) (sym c.is_same.ensures ∙ c.if-is_same.false) in
-    rw same.1 (unmet_on entry_at c.args.count c.loop.counter passes whole end c.loop.rest.now u n.0.0 n.0.1 n.2 miss)
+    rw same.2 (unmet_on entry_at c.args.count c.loop.counter passes whole end c.loop.rest.now u n.0.0 n.0.1 n.2 miss)
 
 pub returns : goal.returns
 returns c = λ whole end h.

@@ -16,7 +16,7 @@ returns-clause-ok c =
     let m = c.in-Ok.member.now in
     let round = c.in_ok-effects.round in
     let after = c.in_ok-effects.effects in
-    let P : Bool → Type 0 = λ b. IsPlan b (without m.id g) (left_effects b ticket m (others_than m.id g.members)) round after in
+    let P : Bool → Type 0 = λ b. IsPlan now b (without m.id g) (left_effects b ticket m (others_than m.id g.members)) round after in
     let kept : List ℕ → Group = λ i. keeping (λ other. not (has_id i other)) g in
     c.in-Ok.ensures.taken now ticket
     ∙ ap Ok

@@ -11,5 +11,5 @@ pub returns-clause-ok : goal.returns-clause-ok
 returns-clause-ok c =
     let g : Group = c.args.group.now in
     let after = c.planned.new.effects in
-    let P : List Member → Type 0 = λ ms. IsPlan c.args.begins (record g { members = ms }) c.args.effects.now c.in_ok-round.round after in
+    let P : List Member → Type 0 = λ ms. IsPlan c.args.now c.args.begins (record g { members = ms }) c.args.effects.now c.in_ok-round.round after in
     ap (λ (g : Group). turned g after) c.carry_out.ensures ∙ sym (plan_holds c.args.begins c.args.now g c.args.effects.now c.in_ok-round.round after (subst P (all_stay g.members) c.in_ok-round.ensures))

@@ -10,10 +10,10 @@ use Rattle.cg_turn.proofs.rebalance.completion.Goals as goal
 pub returns-then-none_stays : goal.returns-then-none_stays
 unfolding emptied_command
 returns-then-none_stays c =
-    λ now. completed_empty now (among c.args.who.now c.args.group.now) c.args.effects.now c.in_ok-round.round c.emptied_round.new.commands
+    completed_empty c.args.now (among c.args.who.now c.args.group.now) c.args.effects.now c.in_ok-round.round c.emptied_round.new.commands
     (ap (λ (ms : List Member). is_empty (remaining c.args.who.now ms)) (sym c.as_slice.ensures.value) ∙ sym c.none_stays.ensures ∙ c.if-none_stays.true) c.in_ok-round.ensures.round c.in_ok-round.ensures.commands
 
 pub returns : goal.returns
 returns c =
-    λ now. completed_told now (among c.args.who.now c.args.group.now) c.args.effects.now c.in_ok-round-2.round c.told_round.new.replies
+    completed_told c.args.now (among c.args.who.now c.args.group.now) c.args.effects.now c.in_ok-round-2.round c.told_round.new.replies
     (ap (λ (ms : List Member). is_empty (remaining c.args.who.now ms)) (sym c.as_slice.ensures.value) ∙ sym c.none_stays.ensures ∙ c.if-none_stays.false) c.in_ok-round-2.ensures.round c.in_ok-round-2.ensures.replies

@@ -11,7 +11,7 @@ returns-in-Some c =
     let now = c.args.now in
     let g = c.args.group.now in
     let after = c.planned.new.effects in
-    let P : Option Round → Type 0 = λ o. IsPlan (begins_at now g) (among (Unexpired now) g) (first_effects now (begins_at now g) g.members) o after in
+    let P : Option Round → Type 0 = λ o. IsPlan now (begins_at now g) (among (Unexpired now) g) (first_effects now (begins_at now g) g.members) o after in
     tick_completes now g c.in-Some.round after
     (subst P c.in-Some.is (planned_first now g c.begins_at-begins.result c.in_ok-effects.effects c.as_slice.result.now c.in_ok-round.field-0 after c.begins_at-begins.ensures c.as_slice.ensures.value c.in_ok-effects.ensures c.in_ok-round.ensures))
 
@@ -20,7 +20,7 @@ returns c =
     let now = c.args.now in
     let g = c.args.group.now in
     let after = c.planned.new.effects in
-    let P : Option Round → Type 0 = λ o. IsPlan (begins_at now g) (among (Unexpired now) g) (first_effects now (begins_at now g) g.members) o after in
+    let P : Option Round → Type 0 = λ o. IsPlan now (begins_at now g) (among (Unexpired now) g) (first_effects now (begins_at now g) g.members) o after in
     tick_ends now g after c.planned_end.new.effects c.in_ok-round-2.round
     (subst P c.in_default.is (planned_first now g c.begins_at-begins.result c.in_ok-effects.effects c.as_slice.result.now c.in_ok-round.field-0 after c.begins_at-begins.ensures c.as_slice.ensures.value c.in_ok-effects.ensures c.in_ok-round.ensures))
     (c.in_ok-round-2.ensures c.begins_at-begins.ensures)

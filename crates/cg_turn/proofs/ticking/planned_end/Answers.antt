@@ -40,5 +40,5 @@ returns c =
     let P : Calls → Type 0 = λ k. can c.args.now k g.members ≡ true in
     let Q : List Member → Type 0 = λ ms. can c.args.now c.outstaying-calls.result ms ≡ true in
     let holds : can c.args.now c.outstaying-calls.result c.as_slice.result.now ≡ true = search rules in
-    let D : Calls → Type 0 = λ k. (n : ℕ) → completed n (turned (among (Outstaying c.args.now k) g) c.args.effects.now) ≡ turned (rounded n (Some c.in_ok-round.round) (among (Outstaying c.args.now k) g)) c.completion.new.effects in
+    let D : Calls → Type 0 = λ k. completed c.args.now (turned (among (Outstaying c.args.now k) g) c.args.effects.now) ≡ turned (rounded c.args.now (Some c.in_ok-round.round) (among (Outstaying c.args.now k) g)) c.completion.new.effects in
     planned_completes c.args.now g c.args.effects.now c.args.begins at c.in_ok-round.round c.completion.new.effects over (subst P c.outstaying-calls.ensures (subst Q c.as_slice.ensures.value holds)) (subst D c.outstaying-calls.ensures c.in_ok-round.ensures)

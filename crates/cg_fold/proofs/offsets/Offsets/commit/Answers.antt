@@ -9,21 +9,21 @@ overflow_add-self c =
     let commit = c.args.commit.now in
     omega (
       arith,
-      length-map commit.entries row_of,
+      length-map commit.entries (row_of commit.moment),
       c.in_ok-grown.ensures.grown,
-      length-rows-more commit.group c.self.inside.shelves.entries c.add.new.shelves.entries (rows_of commit.entries) c.in_ok-grown.ensures.ok,
+      length-rows-more commit.group c.self.inside.shelves.entries c.add.new.shelves.entries (rows_of commit.moment commit.entries) c.in_ok-grown.ensures.ok,
     )
 
 pub invariant_of-self-2 : goal.invariant_of-self-2
 invariant_of-self-2 c =
     let commit = c.args.commit.now in
-    let some : 0 < length (rows_of commit.entries) = omega (arith, length-map commit.entries row_of, c.len.ensures.lawful.some) in
-    shelves-more commit.group c.self.inside.len _ c.self.inside.shelves.entries c.add.new.shelves.entries (rows_of commit.entries) c.self.invariant some
+    let some : 0 < length (rows_of commit.moment commit.entries) = omega (arith, length-map commit.entries (row_of commit.moment), c.len.ensures.lawful.distinct.some) in
+    shelves-more commit.group c.self.inside.len _ c.self.inside.shelves.entries c.add.new.shelves.entries (rows_of commit.moment commit.entries) c.self.invariant some
     c.in_ok-grown.ensures.ok
     (omega (
       arith,
       c.in_ok-grown.ensures.grown,
-      length-stock-more commit.group c.self.inside.len c.self.inside.shelves.entries c.add.new.shelves.entries (rows_of commit.entries) c.self.invariant c.in_ok-grown.ensures.ok,
+      length-stock-more commit.group c.self.inside.len c.self.inside.shelves.entries c.add.new.shelves.entries (rows_of commit.moment commit.entries) c.self.invariant c.in_ok-grown.ensures.ok,
     ))
 
 pub returns-clause-ok : goal.returns-clause-ok

@@ -10,21 +10,21 @@ overflow_add-self c =
     let commit = c.args.commit in
     omega (
       arith,
-      length-map commit.entries row_of,
+      length-map commit.entries (row_of commit.moment),
       c.in_ok-grown.ensures.grown,
-      length-rows-more commit.group c.self.inside.shelves.entries c.take.new.shelves.entries (rows_of commit.entries) c.in_ok-grown.ensures.ok,
+      length-rows-more commit.group c.self.inside.shelves.entries c.take.new.shelves.entries (rows_of commit.moment commit.entries) c.in_ok-grown.ensures.ok,
     )
 
 pub invariant_of-self-2 : goal.invariant_of-self-2
 invariant_of-self-2 c =
     let commit = c.args.commit in
-    let some : 0 < length (rows_of commit.entries) = omega (arith, length-map commit.entries row_of, c.len.ensures.lawful.some) in
-    shelves-more commit.group c.self.inside.len _ c.self.inside.shelves.entries c.take.new.shelves.entries (rows_of commit.entries) c.self.invariant some
+    let some : 0 < length (rows_of commit.moment commit.entries) = omega (arith, length-map commit.entries (row_of commit.moment), c.len.ensures.lawful.distinct.some) in
+    shelves-more commit.group c.self.inside.len _ c.self.inside.shelves.entries c.take.new.shelves.entries (rows_of commit.moment commit.entries) c.self.invariant some
     c.in_ok-grown.ensures.ok
     (omega (
       arith,
       c.in_ok-grown.ensures.grown,
-      length-stock-more commit.group c.self.inside.len c.self.inside.shelves.entries c.take.new.shelves.entries (rows_of commit.entries) c.self.invariant c.in_ok-grown.ensures.ok,
+      length-stock-more commit.group c.self.inside.len c.self.inside.shelves.entries c.take.new.shelves.entries (rows_of commit.moment commit.entries) c.self.invariant c.in_ok-grown.ensures.ok,
     ))
 
 pub returns-clause-ok : goal.returns-clause-ok
@@ -35,7 +35,7 @@ returns-clause-ok c =
 pub returns-in_err-grown-clause-known : goal.returns-in_err-grown-clause-known
 returns-in_err-grown-clause-known c renews =
     let known = known_on c.args.commit.group c.self.inside.len c.self.inside.shelves.entries c.args.self.now c.self.invariant c.self.view_is c.args.commit.entries in
-    let ok = c.take.ensures.known c.len.ensures.lawful.some (known ∙ renews.each) in
+    let ok = c.take.ensures.known c.len.ensures.lawful.distinct.some (known ∙ renews.each) in
     search (rules, ok)
 
 pub returns-then-len-self-clause-known : goal.returns-then-len-self-clause-known

@@ -11,20 +11,20 @@ use Rattle.cg_fold.proofs.rows.Rows.put_entry.Goals as goal
 
 pub returns-in-Some-clause-ok : goal.returns-in-Some-clause-ok
 returns-in-Some-clause-ok c =
-    let kept = row_of c.args.entry.now in
+    let kept = row_of c.args.moment.now c.args.entry.now in
     let is : IsRenewal c.deref.result.now kept c.in-Some.renewal = rw c.in-Some.is at c.in_ok-renewal.ensures in
     c.renew.ensures ∙ renewed_is_put c.self.inside.rows.items c.deref.result.now kept c.in-Some.renewal c.deref.ensures.value is ∙ ap (λ rows. put_row rows kept) c.self.view_is
 
 pub invariant_of-self : goal.invariant_of-self
 invariant_of-self c =
-    let kept = row_of c.args.entry.now in
+    let kept = row_of c.args.moment.now c.args.entry.now in
     let is : IsRenewal c.deref.result.now kept c.in-Some.renewal = rw c.in-Some.is at c.in_ok-renewal.ensures in
     put_keeps_order partition_total kept.0 kept.1 c.self.inside.rows.items c.renew.new.rows.items
     (c.renew.ensures ∙ renewed_is_put c.self.inside.rows.items c.deref.result.now kept c.in-Some.renewal c.deref.ensures.value is) c.self.invariant
 
 pub returns-in_ok-reserve-in-None-clause-grown : goal.returns-in_ok-reserve-in-None-clause-grown
 returns-in_ok-reserve-in-None-clause-grown c =
-    let kept = row_of c.args.entry.now in
+    let kept = row_of c.args.moment.now c.args.entry.now in
     let absent : find partition_cmp kept.0 c.self.inside.rows.items ≡ None = ap (find partition_cmp kept.0) (sym c.deref.ensures.value) ∙ (rw c.in-None.is at c.in_ok-renewal.ensures) in
     let put_is : c.put_row.new.rows.items ≡ put_row c.self.inside.rows.items kept =
     c.put_row.ensures.rows ∙ ap (put_row c.reserve.new.self.items) c.in_ok-row-in-None.ensures ∙ ap (λ rows. put_row rows kept) c.in_ok-reserve-in-None.ensures.items in
