@@ -157,7 +157,9 @@ def no_bytes():
 def failing(program, path, *words, written=()):
     """Returns a server that has loaded a log with these commands, and whose disk fails: it may write no byte of a file."""
     write_log(path, 1, [Root(1), None], {0: [frame_of(*written)] if written else []})
-    server = Server(program, "--disk", path, *words, preexec_fn=no_bytes, restore_signals=False)
+    # A compaction would find no room, and say so.
+    words = ["--disk", path, "--compact-free", "0", *words]
+    server = Server(program, *words, preexec_fn=no_bytes, restore_signals=False)
     server.load()
     return server
 
