@@ -21,10 +21,9 @@ SEGMENTS = 200
 ROUNDS = {8: 5, 64: 3}
 ROOM_MIB = 1024
 REFUSED = b" ERR 24 INVALID_GROUP_ID\n"
-# The offsets of a group that only commits of non-members made, the ticks over such groups, and the `at` lines beside them.
+# The offsets of a group that only commits of non-members made, and the ticks over such groups.
 OFFSETS_A_GROUP = 64
-OFFSET_TICKS = 256
-OFFSET_MOMENTS = 65_536
+OFFSET_TICKS = 65_536
 OFFSET_ROUNDS = 3
 
 
@@ -157,7 +156,7 @@ def _events(settings, folder, size):
 
 
 def _offset_ticks(settings, folder):
-    """Returns the row of ticks over groups that only commits of non-members made: a tick looks at each offset, none is due."""
+    """Returns the row of ticks over groups that only commits of non-members made, of which no offset is due."""
     offsets = " ".join(f"t:{it}:1:x" for it in range(OFFSETS_A_GROUP))
     moment, times = 0, defaultdict(list)
     with ScriptProgram(settings.sim, folder, SEGMENTS) as program:
@@ -165,12 +164,12 @@ def _offset_ticks(settings, folder):
         if printed.count(b" OK\n") != settings.groups:
             raise Fault(f"of {settings.groups} commits {printed.count(b' OK')} were acknowledged")
         for _ in range(OFFSET_ROUNDS):
-            for word, count in (("tick", OFFSET_TICKS), ("at", OFFSET_MOMENTS)):
-                seconds, printed = program.play([f"{word} {it}" for it in range(moment, moment + count)])
+            for word in "tick", "at":
+                seconds, printed = program.play([f"{word} {it}" for it in range(moment, moment + OFFSET_TICKS)])
                 if printed:
                     raise Fault(f"a line {word} printed {printed.decode().strip()}")
-                moment += count
-                times[word].append(seconds / count)
+                moment += OFFSET_TICKS
+                times[word].append(seconds / OFFSET_TICKS)
         _, printed = program.play([f"s1 FETCH g0000 t:0 t:{OFFSETS_A_GROUP - 1}", "flush"])
         if printed != f"s1 FETCHED t:0:1:x t:{OFFSETS_A_GROUP - 1}:1:x\n".encode():
             raise Fault(f"after the ticks there is {printed.decode().strip()}")

@@ -9,6 +9,7 @@ pub mod Taken
 pub mod Merging
 pub mod Own
 pub mod Longest
+pub mod Searched
 pub mod Stock
 pub mod Restock
 pub mod Added

@@ -1,8 +1,8 @@
 -- Committed offsets and their order.
 use Rattle.std.specs.Prelude.{◌≡◌, ℕ, ◌<◌, Bool, not, List, length, map as each, filter, slice_index_or, Option, refl}
-use Rattle.std.specs.List.{list_any}
+use Rattle.std.specs.List.{AllAdjacentBelow, list_any}
 use Rattle.std.specs.declared.cmp.Ordering.{Ordering}
-use Rattle.std.specs.declared.cmp.Ordering.TheVariants.{Equal}
+use Rattle.std.specs.declared.cmp.Ordering.TheVariants.{Less, Equal}
 use Rattle.std.specs.Ordering.{nat_cmp, is_lt, on, then_cmp}
 use Rattle.std.specs.Cmp.Lexicographic.{slice_cmp}
 use Rattle.std.specs.Coded.{Coded, code_by, coded×, coded_list, coded_option, coded_ℕ}
@@ -49,6 +49,10 @@ in_group group row = (key_of group row.0, row.1)
 -- the offset without its group
 abbrev pub without_group_id : KeptOffset → KeptRow
 without_group_id kept = (kept.0.partition, kept.1)
+
+-- each of these partitions comes before the next
+abbrev pub AreInOrder : List TopicPartition → Type 0
+AreInOrder partitions = AllAdjacentBelow (λ a b. partition_cmp a b ≡ Less) partitions (length partitions)
 
 -- the partition is one of these
 abbrev pub is_among : List TopicPartition → TopicPartition → Bool

@@ -147,7 +147,8 @@ impl Offsets {
     }
 
     /// Removes the offsets of these partitions of a group; those that have none change nothing. Costs one look-up, a second
-    /// one if the group keeps no offset, and a comparison of each of its offsets with each partition. No allocation.
+    /// one if the group keeps no offset, and a search for each of its offsets among the partitions: logarithmic in their
+    /// number if they are in order. No allocation.
     pub fn forget_partitions(&mut self, group: &GroupId, partitions: &[TopicPartition])
         ensures { self.new ≡ finmap.retain_keys self.old (is_beside group.now partitions.now) }
     {

@@ -6,7 +6,7 @@ ghost use Rattle.std.specs.Bool.{OnTrue, OnFalse};
 ghost use Rattle.std.specs.Option.{option_copied};
 ghost use Rattle.std.specs.VecDeque.{deque_len};
 ghost use Rattle.cg_record.specs.Partitions.{partition_cmp};
-ghost use Rattle.cg_fold.specs.Key.{IsOther, IsOwn, is_among, is_below, put_row, row_of, rows_beside, rows_of};
+ghost use Rattle.cg_fold.specs.Key.{AreInOrder, IsOther, IsOwn, is_among, is_below, put_row, row_of, rows_beside, rows_of};
 ghost use Rattle.cg_fold.specs.Renewed.{has_row};
 
 use crate::stored_offset::StoredOffset;
@@ -118,7 +118,8 @@ impl Rows {
         Ok(0)
     }
 
-    /// Removes the rows of these partitions. Returns their number. Compares each row with each partition, no allocation.
+    /// Removes the rows of these partitions. Returns their number. Looks each row up among the partitions if these are in order,
+    /// and else compares it with each of them. No allocation.
     pub fn remove(&mut self, partitions: &[TopicPartition]) -> u64
         ensures rows { self.new ≡ rows_beside partitions.now self.old }
         ensures gone { length self.new + result ≡ length self.old }
@@ -232,6 +233,22 @@ fn put_rows(rows: &mut Vec<Row>, mut waiting: VecDeque<Row>)
     }
 }
 
+fn are_in_order(partitions: &[TopicPartition]) -> bool
+    ensures { OnTrue result (AreInOrder partitions.now) }
+{
+    partitions.is_sorted_by(|a, b| a.compare(b) == Ordering::Less)
+}
+
+// Returns whether a partition is one of these, which have to be in order.
+fn is_found(key: &TopicPartition, partitions: &[TopicPartition]) -> bool
+    ensures { AreInOrder partitions.now → result ≡ is_among partitions.now key.now }
+{
+    partitions
+        .binary_search_by(|partition| partition.compare(key))
+        .is_ok()
+}
+
+// Returns whether a partition is one of these, in any order.
 fn is_among(key: &TopicPartition, partitions: &[TopicPartition]) -> bool
     ensures { result ≡ is_among partitions.now key.now }
 {
@@ -242,7 +259,11 @@ fn is_among(key: &TopicPartition, partitions: &[TopicPartition]) -> bool
 fn keep_beside(rows: &mut Vec<Row>, partitions: &[TopicPartition])
     ensures { rows.new.items ≡ rows_beside partitions.now rows.old.items }
 {
-    rows.retain(|row| !is_among(&row.0, partitions));
+    if are_in_order(partitions) {
+        rows.retain(|row| !is_found(&row.0, partitions));
+    } else {
+        rows.retain(|row| !is_among(&row.0, partitions));
+    }
 }
 
 fn row_of(moment: &Option<Moment>, entry: &Entry) -> Result<Row, AllocError>

@@ -41,22 +41,20 @@ use Rattle.cg_member.specs.Rebalance.{subscription_for}
 use Rattle.cg_held.specs.Reviving.{revive, revived, revived_from, revived_member, revived_with}
 use Rattle.cg_fold.specs.Durable.{State}
 use Rattle.cg_fold.specs.Snapshot.{groups_in, in_order}
-use Rattle.cg_record.specs.Rosters.{RosterParts}
 use Rattle.cg_held.proofs.Removing.{each-without-over}
 use Rattle.cg_held.proofs.Revived.{held_revived, id_revived, in_order-revived, offsets_revived}
 use Rattle.cg_member.specs.Syncing.{kept_member}
-use Rattle.cg_member.specs.Ticking.{ticked}
 use Rattle.cg_member.specs.Vote.{is_common}
 use Rattle.cg_group.proofs.Agreeing.{Holds, Whole, has_kind, kind_holds, suits_consistent, suits_empty}
-use Rattle.cg_group.proofs.AgreeingTurns.{after-beat_taken, after-committed, after-gone_in, after-join_known, after-join_new, after-join_replacing, after-leave_taken, after-sync_taken, after-ticked}
+use Rattle.cg_group.proofs.AgreeingTurns.{after-beat_taken, after-committed, after-gone_in, after-join_known, after-join_new, after-join_replacing, after-leave_taken, after-sync_taken}
 use Rattle.cg_group.proofs.Calling.{AllWaits, is_named_wait, no_sync}
-use Rattle.cg_held.proofs.Framed.{framed-beat_taken, framed-committed, framed-gone_in, framed-join_known, framed-join_new, framed-join_replacing, framed-leave_taken, framed-sync_taken, framed-ticked}
+use Rattle.cg_held.proofs.Framed.{framed-beat_taken, framed-committed, framed-gone_in, framed-join_known, framed-join_new, framed-join_replacing, framed-leave_taken, framed-sync_taken}
 use Rattle.cg_held.proofs.KeptLists.{each-found, id-found, kept_after-append, kept_after-none, same_self}
 use Rattle.cg_group.proofs.Covering.{covered-after_all, covered-revive, offsets-after_all, offsets-revive, offsets-step}
 use Rattle.cg_group.proofs.Dated.{completed-after}
 use Rattle.cg_group.proofs.Founded.{Stores, has-deleted, others-concluded, own-concluded, stores-commit}
 use Rattle.cg_group.proofs.OffsetsKept.{AreQuiet, quiet-offsets}
-use Rattle.cg_group.proofs.Quiet.{quiet-all, quiet-beat, quiet-concluded, quiet-gone_in, quiet-join, quiet-leave, quiet-sync, quiet-ticked}
+use Rattle.cg_group.proofs.Quiet.{quiet-all, quiet-beat, quiet-concluded, quiet-gone_in, quiet-join, quiet-leave, quiet-sync}
 use Rattle.cg_group.proofs.KeptMachine.{Fits, Invariant, each-over, fits_framed, invariant-concluded, invariant-deleted, invariant-everywhere, kept-undeleted}
 use Rattle.cg_group.proofs.Requests.{Fine, fine-beat, fine-commit, fine-join, fine-leave, fine-sync}
 use Rattle.cg_group.proofs.Made.{own_id_new}

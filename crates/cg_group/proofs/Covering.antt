@@ -21,27 +21,24 @@ use Rattle.cg_member.specs.declared.turn.Turn.{Turn}
 use Rattle.cg_turn.specs.Committing.{keeping_entries}
 use Rattle.cg_group.specs.Laws.{after_all, commands_of}
 use Rattle.cg_member.specs.Leaving.{gone_in}
+use Rattle.cg_member.specs.declared.effects.Effects.{Effects}
 use Rattle.cg_record.specs.declared.topic_partition.TopicPartition.{TopicPartition}
 use Rattle.cg_held.specs.Expiring.{tick}
 use Rattle.cg_group.proofs.Lasting.{covered-drop, covered-tick}
 use Rattle.cg_group.specs.Machine.{beat, commit, concluded, deleted, dropped, memberless, join, leave, met, step, sync}
-use Rattle.cg_held.specs.Held.{Machine, everywhere, find_group, with_group}
+use Rattle.cg_held.specs.Held.{Machine, Outcome, everywhere, find_group, outcome, standing, with_group}
 use Rattle.cg_member.specs.Membership.{is_same}
 use Rattle.cg_member.specs.Offsets.{OffsetMap, offsets_after}
 use Rattle.cg_held.specs.Reviving.{revive}
-use Rattle.cg_member.specs.Ticking.{ticked}
 use Rattle.cg_group.proofs.KeptMachine.{found-turns}
-use Rattle.cg_held.proofs.Framed.{Framed, framed-gone_in, framed-ticked}
+use Rattle.cg_held.proofs.Framed.{Framed, framed-gone_in}
 use Rattle.cg_held.proofs.KeptLists.{found-with_group, same_self}
 use Rattle.cg_group.proofs.OffsetsKept.{after-append, offsets-after, quiet-offsets}
-use Rattle.cg_group.proofs.Quiet.{Quiet, quiet-all, quiet-beat, quiet-gone_in, quiet-join, quiet-leave, quiet-sync, quiet-ticked}
+use Rattle.cg_group.proofs.Quiet.{Quiet, quiet-all, quiet-beat, quiet-gone_in, quiet-join, quiet-leave, quiet-sync}
 use Rattle.cg_held.proofs.Removing.{found-without}
 use Rattle.cg_group.proofs.Requests.{Fine, fine-commit}
 use Rattle.cg_held.proofs.Revived.{read_revived}
-
--- each group with an offset is loaded
-abbrev pub Covered : OffsetMap → List Group → Type 0
-Covered offsets groups = (key : OffsetKey) → is_some (finmap.get offsets key) ≡ true → is_some (find_group key.group groups) ≡ true
+use Rattle.cg_held.specs.Resting.{Covered}
 
 -- the commands of the step add offsets of its own group only
 abbrev Adds : OffsetMap → Turn → Type 0
@@ -193,6 +190,12 @@ covered-after_all (x ∷ xs) s v = covered-after_all xs (step s x.0 x.1).after (
 pub offsets-revive : (state : State) (now : ℕ) → (revive state now).offsets ≡ state.offsets
 unfolding revive
 offsets-revive state now = refl
+
+-- the same, in the form of a call that processes an event
+pub covered-call : (loaded now : ℕ) (held held' : List Group) (offsets offsets' : OffsetMap) (e : Event) (effects : Effects) → met (standing loaded now held offsets) e ≡ outcome (standing loaded now held' offsets) effects
+    → offsets' ≡ offsets_after offsets effects.commands → Covered offsets held → Covered offsets' held'
+covered-call loaded now held held' offsets offsets' e effects is moved covered =
+    subst (λ o. Covered o held') (sym moved) (subst (λ (o : Outcome). Covered (offsets_after offsets o.effects.commands) o.after.groups) is (covered-met (standing loaded now held offsets) e covered))
 
 pub covered-revive : (state : State) (now : ℕ) → Covered (revive state now).offsets (revive state now).groups
 unfolding revive

@@ -19,7 +19,6 @@ use Rattle.cg_member.specs.Leaving.{gone_in}
 use Rattle.cg_member.specs.Membership.{is_same}
 use Rattle.cg_member.specs.Replacing.{join_replacing, keeps_generation, replaced, replaced_in_place, successor}
 use Rattle.cg_member.specs.Syncing.{kept_member}
-use Rattle.cg_member.specs.Ticking.{ticked}
 use Rattle.cg_turn.specs.Committing.{committed, hearing_committer, keeping_entries}
 use Rattle.cg_held.specs.Held.{Machine, everywhere}
 use Rattle.cg_held.specs.Kept.{Each, Kept, kept_in}

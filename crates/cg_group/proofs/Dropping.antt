@@ -99,6 +99,16 @@ dropped_some loaded now groups after offsets later ticket partitions kept id e i
     ∙ ap (λ gs. outcome (standing loaded now gs offsets) (dropping ticket id kept)) (sym left)
     ∙ ap (outcome (standing loaded now after offsets)) (sym made)
 
+-- it makes a command
+pub some-command : (loaded now : ℕ) (groups : List Group) (offsets : OffsetMap) (ticket : Ticket) (partitions : List TopicPartition) (id : List ℕ) → 1 ≤ length (with_offset offsets id partitions)
+    → 1 ≤ length (dropped (standing loaded now groups offsets) ticket partitions (Ok id)).effects.commands
+unfolding dropped
+some-command loaded now groups offsets ticket partitions id many = step (with_offset offsets id partitions) many
+  where
+    step : (kept : List TopicPartition) → 1 ≤ length kept → 1 ≤ length (drop_command id kept)
+    step [] many = many
+    step (p ∷ ps) many = omega arith
+
 -- the offsets after it
 pub offsets-dropped : (offsets later : OffsetMap) (ticket : Ticket) (id : List ℕ) (kept : List TopicPartition) (e : Effects) → later ≡ finmap.retain_keys offsets (is_beside id kept) → e ≡ dropping ticket id kept → later ≡ offsets_after offsets e.commands
 unfolding effect

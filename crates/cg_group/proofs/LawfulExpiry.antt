@@ -16,13 +16,11 @@ use Rattle.cg_record.specs.declared.command.Command.{Command}
 use Rattle.cg_record.specs.declared.command.Command.TheVariants as command
 use Rattle.cg_record.specs.declared.entries.TheConstants.{ENTRIES_MAX}
 use Rattle.cg_record.specs.declared.topic_partition.TopicPartition.{TopicPartition}
-use Rattle.cg_record.specs.Partitions.{partition_cmp}
 use Rattle.cg_fold.specs.declared.record.GroupRecord.{GroupRecord}
 use Rattle.cg_fold.specs.declared.record.RecordedMembers.{RecordedMembers}
 use Rattle.cg_fold.specs.declared.record.RecordedMembers.TheVariants as recorded
-use Rattle.cg_fold.specs.declared.stored_offset.StoredOffset.{StoredOffset}
 use Rattle.cg_fold.specs.Durable.{State}
-use Rattle.cg_fold.specs.Key.{KeptOffset, KeptRow, OffsetKey, key_cmp, key_of, without_group_id}
+use Rattle.cg_fold.specs.Key.{KeptOffset, KeptRow, key_cmp, key_of, without_group_id}
 use Rattle.cg_fold.specs.Snapshot.{is_of_group, offsets_in}
 use Rattle.cg_fold.proofs.KeyOrder.{key_total}
 use Rattle.cg_fold.proofs.Place.{both, less}
@@ -35,7 +33,7 @@ use Rattle.cg_member.specs.declared.group.Phase.TheVariants.{Empty, Preparing, C
 use Rattle.cg_member.specs.declared.turn.Turn.{Turn}
 use Rattle.cg_member.specs.Offsets.{OffsetMap}
 use Rattle.cg_member.specs.Ticking.{ticked}
-use Rattle.cg_held.specs.Expiring.{expiries, expiring, expiring_as, expiring_if, is_idle, is_stale, is_stale_row, is_vacant, stale_of, swept, tick, tick_effects}
+use Rattle.cg_held.specs.Expiring.{expiries, expiring, expiring_as, expiring_if, is_idle, is_stale, is_stale_row, is_vacant, stale_of, swept, tick}
 use Rattle.cg_held.specs.Held.{Machine, everywhere}
 use Rattle.cg_held.specs.Kept.{Each, kept_in}
 use Rattle.cg_held.specs.Reviving.{revive}
@@ -47,7 +45,6 @@ use Rattle.cg_member.specs.Membership.{is_empty}
 use Rattle.cg_group.proofs.AgreeingMachine.{machine_and_commands_agree}
 use Rattle.cg_group.proofs.AgreeingTick.{idle_is}
 use Rattle.cg_group.proofs.Making.{makes-ticked}
-use Rattle.cg_group.proofs.Sweeping.{each-filter}
 
 -- the moment of loading does not change
 
@@ -133,7 +130,7 @@ found-entries (x ∷ es) sorted =
     let parts = both (below_all key_cmp x.0 es) (is_sorted key_cmp es) sorted in
     (ap (λ b. cond b (Some x.1) (find key_cmp x.0 es)) ((eq_by_cmp_equiv key_total).refl x.0), behind x es es parts.0 (found-entries es parts.1))
 
-found-offsets_in : (group : List ℕ) (offsets : OffsetMap) → Each (λ (row : KeptRow). finmap.get offsets (key_of group row.0) ≡ Some row.1) (offsets_in offsets group)
+pub found-offsets_in : (group : List ℕ) (offsets : OffsetMap) → Each (λ (row : KeptRow). finmap.get offsets (key_of group row.0) ≡ Some row.1) (offsets_in offsets group)
 found-offsets_in group offsets =
     each-mapped without_group_id (λ (k : KeptOffset). (find key_cmp k.0 (finmap.entries offsets) ≡ Some k.1) × (is_of_group group k.0 ≡ true)) (λ row. finmap.get offsets (key_of group row.0) ≡ Some row.1)
     (λ k h.

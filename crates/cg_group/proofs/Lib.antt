@@ -41,3 +41,5 @@ pub mod AgreeingTick
 pub mod LawfulExpiry
 pub mod Thinning
 pub mod Dropping
+pub mod Resting
+pub mod RestingMachine

@@ -173,8 +173,9 @@ met s (event.List ticket) = replying s ticket (reply.Groups (map listing s.group
 met s (Gone session) = everywhere (gone_in s.last session) s
 met s Tick = tick s
 
--- the event may need memory: a request only if it is not refused, and a BEAT never; a DESCRIBE and a LIST only if there is a
--- group to show, the end of a session only if a call of it is parked, and a tick only if it changes a group
+-- the event may need memory: a request only if it is not refused, and a BEAT never; a DROP only if it makes a command; a DESCRIBE
+-- and a LIST only if there is a group to show, the end of a session only if a call of it is parked, and a tick only if it changes
+-- a group
 unfoldable pub MayNeedMemory : Machine → Event → Type 0
 MayNeedMemory s (Join ticket r fresh) = is_ok (join s.last r fresh ticket s.groups) ≡ true
 MayNeedMemory s (Sync ticket r) = is_ok (sync s.last r ticket s.groups) ≡ true
@@ -183,7 +184,7 @@ MayNeedMemory s (Leave ticket r) = is_ok (leave s.last r ticket s.groups) ≡ tr
 MayNeedMemory s (Commit ticket r) = is_ok (commit s.last r ticket s.groups) ≡ true
 MayNeedMemory s (Fetch ticket r) = is_some r.group ≡ true
 MayNeedMemory s (Delete ticket id) = is_ok (memberless id s.groups) ≡ true
-MayNeedMemory s (Drop ticket r) = is_ok (memberless r.group s.groups) ≡ true
+MayNeedMemory s (Drop ticket r) = 1 ≤ length (dropped s ticket r.partitions (memberless r.group s.groups)).effects.commands
 MayNeedMemory s (Describe ticket id) = is_ok (named_group id s.groups) ≡ true
 MayNeedMemory s (event.List ticket) = 1 ≤ length s.groups
 MayNeedMemory s (Gone session) = list_any (gone_touches session) s.groups ≡ true

@@ -1,5 +1,5 @@
 //! The group machine: the loaded groups, and the step function.
-ghost use Rattle.std.specs.Prelude.{◌≡◌, IfOk, IfErr, OnErr, length, slice_get};
+ghost use Rattle.std.specs.Prelude.{◌≡◌, ◌≤◌, ◌+◌, IfOk, IfErr, OnErr, length, slice_get};
 ghost use Rattle.std.specs.FinMap as finmap;
 ghost use Rattle.std.specs.Map.Iter.{ShowsInOrder, deref};
 ghost use Rattle.cg_member.specs.declared.group.Group.{Group};
@@ -7,6 +7,8 @@ ghost use Rattle.cg_held.specs.Props.{AreKnown-prop, IsTight-prop};
 ghost use Rattle.cg_held.specs.Sessions.{AreKnown, IsTight, is_home};
 ghost use Rattle.cg_member.specs.Waiting.{waiting_calls};
 ghost use Rattle.cg_held.specs.Held.{outcome};
+ghost use Rattle.cg_held.specs.Resting.{AreResting, AreResting-prop, Covered, Covered-prop};
+ghost use Rattle.cg_held.specs.declared.expiring.TheConstants.{RETENTION_MS};
 ghost use Rattle.cg_group.specs.Machine.{MayNeedMemory, at_event, member_count, step};
 ghost use Rattle.cg_held.specs.Reviving.{revive};
 
@@ -35,11 +37,17 @@ pub struct Groups {
     last: Moment,
     /// The moment of loading; an unknown moment counts as this one.
     loaded: Moment,
+    /// Before this moment nothing expires.
+    until: Moment,
     /// Session index: the groups in which the calls of each session may be parked.
     homes: Homes,
     // The index has every parked call, and no more.
     ghost known: { AreKnown (is_home homes) held } by { AreKnown-prop (is_home homes) held },
     ghost tight: { IsTight homes held } by { IsTight-prop homes held },
+    // Each group with an offset is loaded, and nothing expires before that moment, whatever events come.
+    ghost covered: { Covered offsets held } by { Covered-prop offsets held },
+    ghost early: { until ≤ last + RETENTION_MS },
+    ghost resting: { AreResting until loaded offsets held } by { AreResting-prop until loaded offsets held },
 }
 
 impl Model for Groups {
@@ -72,6 +80,7 @@ impl Groups {
                 offsets: durable.into_offsets(),
                 last: now,
                 loaded: now,
+                until: Moment::from_millis(0),
                 homes: BTreeMap::new(alloc),
             }),
             Err(wanting) => Err((wanting, durable)),
@@ -119,8 +128,8 @@ impl Groups {
     }
 
     /// Processes an event. An earlier moment counts as the last one. If an allocation fails, nothing changes. No allocation is
-    /// needed by a BEAT, a request that is refused, a DESCRIBE or LIST that shows no group, the end of a session without a
-    /// parked request, or a tick that changes no group.
+    /// needed by a BEAT, a request that is refused, a DROP of no offset, a DESCRIBE or LIST that shows no group, the end of a
+    /// session without a parked request, or a tick that changes no group.
     #[tactic(auto, unfolding(crate::specs::Machine::step))]
     pub fn step(&mut self, event: Event, now: Moment) -> Result<Effects, AllocError>
         ensures ok { IfOk result (λ effects. step self.old event now ≡ outcome self.new effects) }
@@ -136,6 +145,7 @@ impl Groups {
             &mut self.held,
             &mut self.offsets,
             &mut self.homes,
+            &mut self.until,
             event,
         )?;
         self.last = now;

@@ -1,5 +1,7 @@
 //! The processing of each event on the loaded groups.
-ghost use Rattle.std.specs.Prelude.{◌≡◌, ◌≤◌, ℕ, false, Ok, Err, None, true, is_ok, length, IfOk, OnErr, MatchResult};
+ghost use Rattle.cg_held.specs.Resting.{AreResting};
+ghost use Rattle.cg_held.specs.declared.expiring.TheConstants.{RETENTION_MS};
+ghost use Rattle.std.specs.Prelude.{◌≡◌, ◌+◌, ◌≤◌, ℕ, false, Ok, Err, None, true, is_ok, length, IfOk, OnErr, MatchResult};
 ghost use Rattle.std.specs.List.{list_any};
 ghost use Rattle.cg_record.specs.Partitions.{ArePartitions};
 ghost use Rattle.cg_member.specs.Leaving.{gone_in};
@@ -261,6 +263,7 @@ fn drop_offsets(
     ensures parked { StayParked held.old held.new }
     ensures offsets { IfOk result (λ e. offsets.new ≡ offsets_after offsets.old e.commands) }
     ensures err { OnErr result ((held.new ≡ held.old) × (offsets.new ≡ offsets.old)) }
+    ensures some { OnErr result (1 ≤ length (with_offset offsets.old own.now partitions)) }
 {
     let RequestContext { alloc, ticket, .. } = context;
     let partitions = with_offset(offsets, own, partitions);
@@ -293,7 +296,8 @@ fn meet_drop(
     ensures parked { StayParked held.old held.new }
     ensures offsets { IfOk result (λ e. offsets.new ≡ offsets_after offsets.old e.commands) }
     ensures err { OnErr result ((held.new ≡ held.old) × (offsets.new ≡ offsets.old)) }
-    ensures taken { OnErr result (is_ok (memberless r.group held.old) ≡ true) }
+    ensures some { OnErr result
+        ((loaded : ℕ) → 1 ≤ length (dropped (standing loaded now held.old offsets.old) ticket r.partitions (memberless r.group held.old)).effects.commands) }
 {
     let alloc = held.allocator();
     let DropRequest { group, partitions } = r;
@@ -330,22 +334,27 @@ fn meet_gone(
 }
 
 /// Processes an event at this moment, which becomes the last one. A closed session costs only the groups in which its
-/// calls may be parked.
+/// calls may be parked. Before the moment `until` nothing expires; a tick then finds out the next such moment.
 #[tactic(auto, unfolding(crate::specs::Machine::met, crate::specs::Machine::MayNeedMemory))]
 pub fn met(
     clock: &Clock,
     held: &mut Held,
     offsets: &mut Offsets,
     homes: &mut Homes,
+    until: &mut Moment,
     event: Event,
 ) -> Result<Effects, AllocError>
     requires known { AreKnown (is_home homes.old) held.old }
     requires tight { IsTight homes.old held.old }
+    requires early { until.old ≤ clock.now.moment + RETENTION_MS }
+    requires resting { AreResting until.old clock.now.loaded offsets.old held.old }
     ensures known { AreKnown (is_home homes.new) held.new }
     ensures tight { IsTight homes.new held.new }
+    ensures early { until.new ≤ clock.now.moment + RETENTION_MS }
+    ensures resting { AreResting until.new clock.now.loaded offsets.old held.old }
     ensures ok { IfOk result (λ e. met (standing clock.now.loaded clock.now.moment held.old offsets.old) event ≡ outcome (standing clock.now.loaded clock.now.moment held.new offsets.old) e) }
     ensures offsets { IfOk result (λ e. offsets.new ≡ offsets_after offsets.old e.commands) }
-    ensures err { OnErr result ((held.new ≡ held.old) × (offsets.new ≡ offsets.old)) }
+    ensures err { OnErr result ((held.new ≡ held.old) × (offsets.new ≡ offsets.old) × (until.new ≡ until.old)) }
     ensures memory { OnErr result (MayNeedMemory (standing clock.now.loaded clock.now.moment held.old offsets.old) event) }
 {
     let alloc = held.allocator();
@@ -393,7 +402,7 @@ pub fn met(
             Ok(effects)
         }
         Event::Tick => {
-            let effects = meet_tick(clock, held, offsets, homes)?;
+            let effects = meet_tick(clock, held, offsets, homes, until)?;
             Ok(effects)
         }
     }

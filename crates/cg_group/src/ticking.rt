@@ -1,7 +1,9 @@
 //! Ticks: what a tick comes to is worked out for each group that it changes, and then the groups are changed in place.
-ghost use Rattle.std.specs.Prelude.{◌≡◌, ◌||◌, Some, true, IfOk, IsTrue, OnErr};
+ghost use Rattle.std.specs.Prelude.{◌≡◌, ◌≤◌, ◌+◌, ◌||◌, Some, true, IfOk, IsTrue, OnErr};
 ghost use Rattle.std.specs.List.{list_any};
 ghost use Rattle.cg_held.specs.DueGroups.{AreDue, IsDue};
+ghost use Rattle.cg_held.specs.Resting.{AreResting};
+ghost use Rattle.cg_held.specs.declared.expiring.TheConstants.{RETENTION_MS};
 ghost use Rattle.cg_held.specs.Expiring.{are_takings, expires, tick, without_bare};
 ghost use Rattle.cg_held.specs.Held.{InOrder, at_moment, everywhere, find_group, groups_after, outcome, standing, with_group};
 ghost use Rattle.cg_member.specs.Offsets.{offsets_after};
@@ -13,7 +15,7 @@ ghost use Rattle.cg_turn.specs.Touching.{tick_touches};
 use cg_fold::Offsets;
 use cg_held::changing::Changing;
 use cg_held::due::{Due, Sweep, plan_due, plan_sweep};
-use cg_held::expiring::{Clock, expires};
+use cg_held::expiring::{Clock, RETENTION_MS, expires, fresh_until};
 use cg_held::held::Held;
 use cg_held::sessions::Homes;
 use cg_held::settling::settle;
@@ -131,8 +133,8 @@ fn sweep(
 }
 
 // Carries out the timeouts of a tick, in place. Visits only the groups that are due. What the tick comes to is worked out in
-// all of them before the first one changes; nothing is allocated after that. Then costs for each changed group four look-ups, the change, two
-// passes over the members, and a few look-ups for each call that was or is parked there.
+// all of them before the first one changes; nothing is allocated after that. Then costs for each changed group four look-ups,
+// the change, two passes over the members, and a few look-ups for each call that was or is parked there.
 #[tactic(auto, unfolding(cg_held::specs::Held::everywhere))]
 fn time_out(now: Moment, held: &mut Held, homes: &mut Homes) -> Result<Effects, AllocError>
     requires known { AreKnown (is_home homes.old) held.old }
@@ -163,29 +165,52 @@ fn some_expire(clock: &Clock, held: &Held, offsets: &Offsets) -> bool
     false
 }
 
-/// Processes a tick, in place. If nothing expires, it visits only the groups that are due, after a look at each Empty group and
-/// the offsets of those that have no record; otherwise it visits all groups.
+// Returns a moment before which nothing expires, whatever events come: at most the retention time from now. No allocation.
+fn rest_until(clock: &Clock, held: &Held, offsets: &Offsets) -> Moment
+    ensures early { result ≤ clock.now.moment + RETENTION_MS }
+    ensures resting { AreResting result clock.now.loaded offsets.now held.now }
+{
+    let mut until = clock.moment.later_by(RETENTION_MS);
+    for group in held.iter() {
+        until = fresh_until(clock, offsets, group, until);
+    }
+    until
+}
+
+/// Processes a tick, in place. Before the moment `until` it visits only the groups that are due. From then on it looks at each
+/// Empty group and at the offsets of those that have no record: if something expires it visits all groups, and otherwise it finds
+/// out the next such moment.
 #[tactic(auto, unfolding(cg_held::specs::Expiring::tick))]
 pub fn meet_tick(
     clock: &Clock,
     held: &mut Held,
     offsets: &mut Offsets,
     homes: &mut Homes,
+    until: &mut Moment,
 ) -> Result<Effects, AllocError>
     requires known { AreKnown (is_home homes.old) held.old }
     requires tight { IsTight homes.old held.old }
+    requires early { until.old ≤ clock.now.moment + RETENTION_MS }
+    requires resting { AreResting until.old clock.now.loaded offsets.old held.old }
     ensures known { AreKnown (is_home homes.new) held.new }
     ensures tight { IsTight homes.new held.new }
+    ensures early { until.new ≤ clock.now.moment + RETENTION_MS }
+    ensures resting { AreResting until.new clock.now.loaded offsets.old held.old }
     ensures ok { IfOk result
         (λ e. tick (standing clock.now.loaded clock.now.moment held.old offsets.old) ≡ outcome (standing clock.now.loaded clock.now.moment held.new offsets.old) e) }
     ensures offsets { IfOk result (λ e. offsets.new ≡ offsets_after offsets.old e.commands) }
-    ensures err { OnErr result ((held.new ≡ held.old) × (offsets.new ≡ offsets.old)) }
+    ensures err { OnErr result ((held.new ≡ held.old) × (offsets.new ≡ offsets.old) × (until.new ≡ until.old)) }
     ensures changed { OnErr result (list_any (λ g. tick_touches clock.now.moment g || expires clock.now.loaded clock.now.moment offsets.old g) held.old ≡ true) }
 {
-    if some_expire(clock, held, offsets) {
-        let effects = sweep(clock, held, offsets, homes)?;
-        return Ok(effects);
+    let mut next = *until;
+    if clock.moment >= next {
+        if some_expire(clock, held, offsets) {
+            let effects = sweep(clock, held, offsets, homes)?;
+            return Ok(effects);
+        }
+        next = rest_until(clock, held, offsets);
     }
     let effects = time_out(clock.moment, held, homes)?;
+    *until = next;
     Ok(effects)
 }

@@ -19,3 +19,4 @@ pub mod Timed
 pub mod Beaten
 pub mod Stale
 pub mod SweptGroups
+pub mod Fresh

@@ -4,6 +4,7 @@ pub mod Sessions
 pub mod Held
 pub mod Timed
 pub mod Expiring
+pub mod Resting
 pub mod Changes
 pub mod DueGroups
 pub mod Reviving

@@ -5,6 +5,8 @@ ghost use Rattle.cg_record.specs.Partitions.{ArePartitions, partition_cmp};
 ghost use Rattle.std.specs.List.{list_any};
 ghost use Rattle.cg_fold.specs.Key.{KeptRow};
 ghost use Rattle.cg_record.specs.declared.entries.TheConstants.{ENTRIES_MAX};
+ghost use Rattle.cg_held.specs.Kept.{Each};
+ghost use Rattle.cg_held.specs.Resting.{AreFresh, IsFresh, Rests};
 ghost use Rattle.cg_held.specs.Expiring.{expires, expiries, expiring, is_stale, is_stale_row, is_vacant, stale_of};
 
 use cg_fold::{Offsets, Row};
@@ -147,4 +149,39 @@ pub fn expires(clock: &Clock, offsets: &Offsets, group: &Group) -> bool
         return is_stale(clock, group.emptied);
     }
     has_stale(clock, offsets.of_group(&group.id))
+}
+
+// Returns the first moment at which this one is stale, or the last moment of all if that comes before.
+fn stale_at(clock: &Clock, moment: Option<Moment>) -> Moment
+    ensures { IsFresh result clock.now.loaded moment }
+{
+    moment.unwrap_or(clock.loaded).later_by(RETENTION_MS)
+}
+
+// Returns the least of `until` and the moments at which these rows are stale.
+fn rows_fresh_until(clock: &Clock, rows: &[Row], until: Moment) -> Moment
+    ensures earlier { result ≤ until }
+    ensures fresh { Each (λ row. IsFresh result clock.now.loaded row.1.moment) rows.now }
+{
+    let mut until = until;
+    for row in rows {
+        until = until.min(stale_at(clock, row.1.moment));
+    }
+    until
+}
+
+/// Returns the least of `until` and the first moment at which something expires in a group, if nothing else happens to it. Costs a
+/// pass over the offsets of a group that has no record, no allocation.
+pub fn fresh_until(clock: &Clock, offsets: &Offsets, group: &Group, until: Moment) -> Moment
+    ensures earlier { result ≤ until }
+    ensures rests { Rests result clock.now.loaded group.now }
+    ensures fresh { AreFresh result clock.now.loaded offsets.now group.now }
+{
+    if group.kind.is_none() {
+        return rows_fresh_until(clock, offsets.of_group(&group.id), until);
+    }
+    if group.phase == Phase::Empty {
+        return until.min(stale_at(clock, group.emptied));
+    }
+    until
 }

@@ -27,6 +27,7 @@ stop_text stop.BadRoot = fault_line (codes "BadRoot")
 stop_text stop.BadFrame = fault_line (codes "BadFrame")
 stop_text stop.BadRecord = fault_line (codes "BadRecord")
 stop_text stop.Loaded = fault_line (codes "Loaded")
+stop_text stop.Clock = fault_line (codes "Clock")
 stop_text stop.Net = fault_line (codes "Net")
 stop_text stop.Write = []
 
@@ -40,6 +41,7 @@ status_of stop.BadRoot = STATUS_DISK
 status_of stop.BadFrame = STATUS_DISK
 status_of stop.BadRecord = STATUS_DISK
 status_of stop.Loaded = STATUS_DISK
+status_of stop.Clock = STATUS_DISK
 status_of stop.Net = STATUS_NET
 status_of stop.Write = STATUS_NET
 

@@ -58,8 +58,8 @@ fn end_full<D: SectorDisk + Drop, L: Ledger, R: Wait + Eprint>(rt: &R, server: &
     }
 }
 
-/// Stores what waits for the disk until the server is over, or the disk fails, which it notes. Goes to the next batch at once while
-/// commands wait, and sleeps where none does. Waits for a compaction that needs the last free segments.
+/// Stores what waits for the disk until the server is over, or the disk fails, which it notes. Goes to the next batch at once
+/// while commands wait, and sleeps where none does. Waits for a compaction that needs the last free segments.
 pub fn flush_until_over<D: SectorDisk + Drop, L: Ledger, R: Wait + Clock + Eprint>(
     rt: &R,
     server: &Server<'_, D, L>,

@@ -1,5 +1,9 @@
-//! The moments of calls and ticks: milliseconds since the beginning of 1970 (UTC), so that moments in the log mean the same in each
-//! life of the server.
+//! The moments of calls and ticks: milliseconds since the beginning of 1970 (UTC), so that moments in the log mean the same in
+//! each life of the server.
+ghost use Rattle.std.specs.Prelude.{◌≡◌, IfErr};
+ghost use Rattle.cg_server.specs.declared.stop.Stop.TheVariants as stop;
+
+use crate::stop::Stop;
 use cg_names::Moment;
 use std::sync::atomic::{AtomicU64, Ordering};
 use std::time::{Clock, Duration};
@@ -21,17 +25,19 @@ fn monotonic_millis<R: Clock>(rt: &R) -> u64 {
     }
 }
 
-/// Returns the present moment by the system's clock; the beginning of 1970 if it cannot be read.
-pub fn present<R: Clock>(rt: &R) -> Moment {
+/// Returns the present moment by the system's clock.
+pub fn present<R: Clock>(rt: &R) -> Result<Moment, Stop>
+    ensures { IfErr result (λ cause. cause ≡ stop.Clock) }
+{
     match rt.since_1970() {
-        Ok(time) => Moment::from_millis(millis_of(time)),
-        Err(_) => Moment::from_millis(0),
+        Ok(time) => Ok(Moment::from_millis(millis_of(time))),
+        Err(_) => Err(Stop::Clock),
     }
 }
 
 /// A clock that shows the moment of loading until it begins, once the log is loaded: so the session timeouts of loaded members
-/// run from the end of the load, however long that takes. From then on it goes with the monotonic clock: setting the system's clock
-/// does not move it. An engine takes an earlier moment as its last one.
+/// run from the end of the load, however long that takes. From then on it goes with the monotonic clock: setting the system's
+/// clock does not move it. An engine takes an earlier moment as its last one.
 #[derive(Drop)]
 pub struct Moments {
     loading: Moment,

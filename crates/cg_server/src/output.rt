@@ -142,6 +142,7 @@ fn stop_line(stop: Stop) -> &'static [u8]
         Stop::BadFrame => b"FAULT BadFrame\n",
         Stop::BadRecord => b"FAULT BadRecord\n",
         Stop::Loaded => b"FAULT Loaded\n",
+        Stop::Clock => b"FAULT Clock\n",
         Stop::Net => b"FAULT Net\n",
         Stop::Write => b"",
     }

@@ -162,9 +162,9 @@ fn serve_connections<
 {
     let address = print_address(rt, alloc, listener, writer)?;
     let inboxes = inboxes(rt, alloc)?;
+    let moments = Moments::new(present(rt)?);
     let engine: Engine<D, L> = Engine::new(alloc, blank, false)?;
     let tally = Tally::new(segment_count(disk.sectors()));
-    let moments = Moments::new(present(rt));
     let server = Server::new(alloc, &engine, options, address, inboxes, tally, moments);
     let ran = run_threads(rt, &server, listener, disk, writer);
     let passes = server.into_passes();
@@ -186,15 +186,16 @@ fn load_alone<D: SectorDisk + Drop, L: Ledger, R: Wait + Clock, W: Write>(
     requires { (blank.name ≡ L.name) × (blank.parts ≡ L.parts) × (PARTS ≤ blank.parts) }
     ensures { Serves false result (W.contents writer.old) (W.contents writer.new) }
 {
+    let moment = present(rt)?;
     let engine: Engine<D, L> = Engine::new(alloc, blank, false)?;
-    let loaded = load_and_print(rt, alloc, &engine, present(rt), &mut Some(disk), writer);
+    let loaded = load_and_print(rt, alloc, &engine, moment, &mut Some(disk), writer);
     let front = close(engine, Vec::new(alloc));
     loaded?;
     Ok((front, ServerEnd::Over))
 }
 
-// Serves connections, or only loads the disk where there is no listener. Returns the number of the last command, and how the server
-// came to its end.
+// Serves connections, or only loads the disk where there is no listener. Returns the number of the last command, and how the
+// server came to its end.
 fn serve_or_load<
     D: SectorDisk + Drop + Send,
     L: Ledger + Send,

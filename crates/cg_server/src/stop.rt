@@ -10,8 +10,8 @@ use std::io::Eprint;
 /// Exit status of a server that has served its connections and closed.
 pub const STATUS_CLOSED: u8 = 0;
 
-/// Exit status if the disk was not opened, formatted or loaded, it failed and the server was to end then, an allocation failed, or
-/// no thread could be started.
+/// Exit status if the disk was not opened, formatted or loaded, it failed and the server was to end then, an allocation failed,
+/// no thread could be started, or the system's clock could not be read.
 pub const STATUS_DISK: u8 = 1;
 
 /// Exit status after words on the command line that are not understood, and after a call for help.
@@ -40,6 +40,8 @@ pub enum Stop {
     BadRecord,
     /// The engine has a disk already.
     Loaded,
+    /// The system's clock could not be read. A log that is used with a wrong moment would lose groups and offsets later.
+    Clock,
     /// The address was not bound, a worker had nothing to wait with (no file descriptor, or no memory for it), or no connection
     /// could be accepted.
     Net,
@@ -107,6 +109,7 @@ pub fn say_cause<R: Eprint>(rt: &R, log: &str, stop: Stop) {
         Stop::BadFrame => eprintln!(rt; "cg_server: {log}: a frame of the log is damaged"),
         Stop::BadRecord => eprintln!(rt; "cg_server: {log}: a record of the log is damaged"),
         Stop::Loaded => eprintln!(rt; "cg_server: a log is loaded already"),
+        Stop::Clock => eprintln!(rt; "cg_server: the system's clock cannot be read"),
         Stop::Write => eprintln!(rt; "cg_server: a line could not be written to standard output"),
     };
     say_page(rt);

@@ -1,4 +1,6 @@
 //! Replies that are not yet sent.
+ghost use Rattle.std.specs.Prelude.{◌≡◌, ◌+◌, ◌≤◌, vec_len};
+
 use cg_group::Reply;
 use cg_line::{Refusal, put_reply};
 use mio::net::TcpStream;
@@ -12,10 +14,16 @@ const UNSENT_MAX: usize = 65_536;
 const KEPT_MAX: usize = 2 * UNSENT_MAX;
 
 /// The replies of one connection that are not yet sent. The lines of one read are answered by few writes.
+///
+/// What was sent of them stays until it is at least as much as what is left. So a client that reads a long reply in small pieces
+/// costs a constant number of moves for each byte.
 #[derive(Drop)]
 pub struct Unsent {
     alloc: Global,
     bytes: Vec<u8>,
+    /// How many of the bytes were sent.
+    sent: usize,
+    ghost within: { sent ≤ vec_len bytes },
 }
 
 impl Unsent {
@@ -24,17 +32,25 @@ impl Unsent {
         Unsent {
             alloc,
             bytes: Vec::new(alloc),
+            sent: 0,
         }
+    }
+
+    // Returns the number of bytes that are not yet sent.
+    fn left(&self) -> usize
+        ensures { self.now.sent + result ≡ vec_len self.now.bytes }
+    {
+        self.bytes.len() - self.sent
     }
 
     /// Returns whether every reply was sent.
     pub fn is_empty(&self) -> bool {
-        self.bytes.is_empty()
+        self.left() == 0
     }
 
     /// Returns whether so much is unsent that no line is to be served.
     pub fn is_full(&self) -> bool {
-        self.bytes.len() >= UNSENT_MAX
+        self.left() >= UNSENT_MAX
     }
 
     /// Adds the line of a reply, or of -1 if there is no memory for it.
@@ -50,26 +66,27 @@ impl Unsent {
         self.bytes.extend_from_slice(refusal.line())
     }
 
-    // Removes bytes that were sent.
+    // Counts bytes that were sent, and gives their room back for the next replies.
     fn remove(&mut self, count: usize) {
-        if count < self.bytes.len() {
-            let left = self.bytes.len() - count;
-            self.bytes.as_mut_slice().copy_within(count.., 0);
-            self.bytes.truncate(left);
+        self.sent += count.min(self.left());
+        let left = self.left();
+        if self.sent < left {
             return;
         }
-        self.bytes.clear();
-        if self.bytes.capacity() > KEPT_MAX {
+        self.bytes.as_mut_slice().copy_within(self.sent.., 0);
+        self.bytes.truncate(left);
+        self.sent = 0;
+        if left == 0 && self.bytes.capacity() > KEPT_MAX {
             self.bytes = Vec::new(self.alloc);
         }
     }
 
     /// Sends as much as the stream takes now.
     pub fn send(&mut self, stream: &mut TcpStream) -> io::Result<()> {
-        if self.bytes.is_empty() {
+        if self.is_empty() {
             return Ok(());
         }
-        match stream.write(self.bytes.as_slice()) {
+        match stream.write(&self.bytes.as_slice()[self.sent..]) {
             Ok(count) => {
                 self.remove(count);
                 Ok(())

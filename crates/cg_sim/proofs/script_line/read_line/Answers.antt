@@ -1,4 +1,5 @@
 use Rattle.std.proofs.Common.{⊎_elim, inl, inr, ◌≤◌, ◌++◌, rules, arith, ap, sym, subst, length}
+use Rattle.cg_sim.specs.declared.line.TheConstants.{SCRIPT_LINE_BYTES_MAX}
 use Rattle.cg_sim.specs.Reading.{HasNoEnd, IsNext, IsOver}
 use Rattle.cg_sim.proofs.Lines.{is_next, read_more}
 use Rattle.cg_sim.proofs.script_line.read_line.Goals as goal
@@ -36,5 +37,5 @@ loop-preserved g c =
 
 pub returns-clause-io : goal.returns-clause-io
 returns-clause-io g c io =
-    let bound : length c.loop.line.items ≤ 1048640 = c.loop.invariant.room in
+    let bound : length c.loop.line.items ≤ SCRIPT_LINE_BYTES_MAX = c.loop.invariant.room in
     ⊎_elim (λ failed. failed) (λ long. absurd (omega (arith, long, bound, c.loop-test.false))) c.loop.invariant.grown
