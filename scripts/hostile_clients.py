@@ -3,10 +3,11 @@
   python3 scripts/hostile_clients.py PROGRAM
 
 PROGRAM is a built cg_server. Clients send half a line and stay; never read their replies, or those before a COMMIT; read a
-reply of two megabytes in small pieces; send 400,000 commits at once, every other of which is refused, and read nothing; write the log over more than twice; close
-while 500 commits wait; send a line that is too long; close in mid-line; close while their request waits; and 1,000
-connect and close. Beside each kind another client commits offsets and fetches them, each within a minute. At the end
-the sockets of the closed connections have to be gone. The status is 0 if every commit was answered and none was lost.
+reply of two megabytes in small pieces; send 400,000 commits at once, every other of which is refused, and read nothing;
+write the log over more than twice; close while 500 commits wait; send a line that is too long; close in mid-line; close
+while their request waits; and 1,000 connect and close. Beside each kind another client commits offsets and fetches them,
+each within a minute. At the end the sockets of the closed connections have to be gone. The status is 0 if every commit was
+answered and none was lost.
 """
 import contextlib
 import os
@@ -29,8 +30,11 @@ LARGE_COMMITS = 300
 SOCKETS_OF_ITS_OWN = 1
 # A write that takes so long has met a server that reads no more.
 BLOCKED_SECONDS = 1
-PARTITIONS = [f"u:{it}" for it in range(64)]
-LARGE_COMMIT = "COMMIT big -1 - - " + " ".join(f"{it}:1:x{'ab' * 4000}" for it in PARTITIONS)
+# As much metadata as 64 partitions may have in one COMMIT, or nearly.
+METADATA = f"x{'ab' * 4_000}"
+LARGE_COMMIT_PARTITIONS = 64
+PARTITIONS = [f"u:{it}" for it in range(LARGE_COMMIT_PARTITIONS)]
+LARGE_COMMIT = "COMMIT big -1 - - " + " ".join(f"{it}:1:{METADATA}" for it in PARTITIONS)
 # The most partitions of a FETCH, which make its longest replies.
 PARTITIONS_MAX = 256
 PIECE_BYTES = 4_096
@@ -60,11 +64,11 @@ def never_read(port, held):
 
 def read_in_small_pieces(port, held):
     """Reads the reply to a FETCH of all partitions, each with 4,000 bytes of metadata, in small pieces."""
-    offsets = [f"t:{it}:{it}:x{'ab' * 4000}" for it in range(PARTITIONS_MAX)]
+    offsets = [f"t:{it}:{it}:{METADATA}" for it in range(PARTITIONS_MAX)]
     with Connection(port) as client:
         client.stream.setsockopt(socket.SOL_SOCKET, socket.SO_RCVBUF, WINDOW_BYTES)
-        for first in range(0, PARTITIONS_MAX, 64):
-            if client.ask(f"COMMIT long -1 - - {' '.join(offsets[first:first + 64])}") != "OK":
+        for first in range(0, PARTITIONS_MAX, LARGE_COMMIT_PARTITIONS):
+            if client.ask(f"COMMIT long -1 - - {' '.join(offsets[first:first + LARGE_COMMIT_PARTITIONS])}") != "OK":
                 raise SystemExit("a large commit was refused")
         wanted = f"FETCHED {' '.join(offsets)}\n".encode()
         client.send(f"FETCH long {' '.join(f't:{it}' for it in range(PARTITIONS_MAX))}")
@@ -73,9 +77,11 @@ def read_in_small_pieces(port, held):
             read += piece
         # Else the log had to hold them in the snapshots of the compactions that follow.
         deleted = client.ask("DELETE long")
-    if read != wanted or deleted != "OK":
-        raise SystemExit(f"of a reply of {len(wanted)} bytes {len(os.path.commonprefix([bytes(read), wanted]))} came as they were committed, "
-                         f"and then {deleted}")
+    if read != wanted:
+        same = len(os.path.commonprefix([bytes(read), wanted]))
+        raise SystemExit(f"of a reply of {len(wanted)} bytes {same} came as they were committed")
+    if deleted != "OK":
+        raise SystemExit(f"the group of the long reply was not deleted: {deleted}")
 
 
 def read_nothing_and_commit(port, held):
