@@ -3,8 +3,8 @@ pub mod Drawn
 pub mod Keeping
 pub mod Places
 pub mod Seats
+pub mod Keyed
 pub mod SameLists
-pub mod Tagging
 pub mod Votes
 pub mod Recalling
 pub mod Exchanges

@@ -103,7 +103,7 @@ seating_no_place new ms e = sym (seating_past new ms (no_place_is (position_or_l
 
 -- the members stay distinct
 
-other_way : (x : List ℕ) (ys : List (List ℕ)) → list_any (λ y. is_same y x) ys ≡ false → list_any (is_same x) ys ≡ false
+pub other_way : (x : List ℕ) (ys : List (List ℕ)) → list_any (λ y. is_same y x) ys ≡ false → list_any (is_same x) ys ≡ false
 other_way x [] e = refl
 other_way x (y ∷ ys) e =
     let parts = or_parts (is_same y x) (list_any (λ z. is_same z x) ys) e in

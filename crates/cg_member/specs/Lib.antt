@@ -10,7 +10,7 @@ pub mod Tally
 pub mod Rebalance
 pub mod Joining
 pub mod Syncing
-pub mod Tags
+pub mod Keyed
 pub mod Replacing
 pub mod Few
 pub mod Assignments

@@ -1,14 +1,15 @@
-//! Changes of the members in a list, by their ids, their instances or their parked calls. `Members` keeps its promises over them.
-ghost use Rattle.std.specs.Prelude.{◌≡◌, ◌<◌, true, false, Some, length, not, filter, map, is_some};
+//! Changes of the members in a map, by their ids, their instances or their parked calls. `Members` keeps its promises over them.
+ghost use Rattle.std.specs.Prelude.{◌≡◌, ◌+◌, ◌<◌, ◌≤◌, ◌++◌, ◌∷◌, [], true, false, OnErr, OnOk, Some, length, not, filter, map, is_some};
+ghost use Rattle.indexmap.specs.IndexMap.{index_map_len, values, spare};
 ghost use Rattle.std.specs.List.{position};
 ghost use Rattle.cg_request.specs.Names.{are_distinct};
-ghost use Rattle.cg_member.specs.Members.{instances};
+ghost use Rattle.cg_member.specs.Keyed.{AreKeyed};
+ghost use Rattle.cg_member.specs.Members.{AreMembers, instances};
 ghost use Rattle.cg_member.specs.Membership.{has_id, has_instance, find_member, with_member, heard};
 ghost use Rattle.cg_member.specs.Replacing.{seating};
 ghost use Rattle.cg_member.specs.Waiting.{after_answer, is_waiting, recalled};
 ghost use Rattle.cg_member.specs.Joining.{updated, waits_with};
 ghost use Rattle.cg_member.specs.Assignments.{with_assignments};
-ghost use Rattle.cg_member.specs.Tags.{tags_of};
 ghost use Rattle.cg_member.specs.Ticking.{is_overdue, outstays};
 
 use crate::calls::{Calls, is_waiting};
@@ -16,11 +17,31 @@ use crate::checked::CheckedJoin;
 use crate::member::{Member, Waits};
 use crate::members::has_instance;
 use crate::sharing::sharing_join;
-use crate::tags::place_of;
 use cg_names::{InstanceId, MemberId, Moment};
 use cg_record::Assignment;
 use cg_request::request::JoinRequest;
+use indexmap::IndexMap;
+use std::alloc::AllocError;
 use std::mem;
+
+/// The members by their ids, in joining order.
+pub(crate) type ById = IndexMap<MemberId, Member>;
+
+/// Returns the members in joining order.
+pub(crate) fn listed(members: &ById) -> &[Member]
+    ensures { result.now ≡ values members.now }
+{
+    members.values().as_slice()
+}
+
+// Returns the position of the member with this id.
+#[tactic(auto, using(crate::proofs::Keyed::place_by_id))]
+fn place_of(id: &MemberId, members: &ById) -> Option<usize>
+    requires { AreKeyed members.now }
+    ensures { result ≡ position (has_id id.now) (values members.now) }
+{
+    members.get_index_of(id)
+}
 
 fn seat_of(instance: &Option<InstanceId>, members: &[Member]) -> Option<usize>
     ensures { result ≡ position (has_instance instance.now) members.now }
@@ -72,12 +93,13 @@ fn recall(member: &mut Member, heard: Moment, waits: Waits)
 }
 
 #[tactic(auto, using(crate::proofs::Places::placing))]
-pub(crate) fn hear_one(members: &mut Vec<Member>, tags: &[u32], id: &MemberId, now: Moment) -> bool
-    requires { tags.now ≡ tags_of members.old.items }
-    ensures heard { members.new.items ≡ with_member id.now (heard now) members.old.items }
-    ensures found { result ≡ is_some (find_member id.now members.old.items) }
+pub(crate) fn hear_one(members: &mut ById, id: &MemberId, now: Moment) -> bool
+    requires keyed { AreKeyed members.old }
+    ensures keyed { AreKeyed members.new }
+    ensures heard { values members.new ≡ with_member id.now (heard now) (values members.old) }
+    ensures found { result ≡ is_some (find_member id.now (values members.old)) }
 {
-    match place_of(id, tags, members.as_slice()) {
+    match place_of(id, members) {
         None => false,
         Some(place) => {
             members[place].heard = now;
@@ -87,33 +109,23 @@ pub(crate) fn hear_one(members: &mut Vec<Member>, tags: &[u32], id: &MemberId, n
 }
 
 #[tactic(auto, using(crate::proofs::Places::placing))]
-pub(crate) fn wait_one(
-    members: &mut Vec<Member>,
-    tags: &[u32],
-    id: &MemberId,
-    waits: Waits,
-    now: Moment,
-)
-    requires { tags.now ≡ tags_of members.old.items }
-    ensures { members.new.items ≡ with_member id.now (waits_with now waits) members.old.items }
+pub(crate) fn wait_one(members: &mut ById, id: &MemberId, waits: Waits, now: Moment)
+    requires keyed { AreKeyed members.old }
+    ensures keyed { AreKeyed members.new }
+    ensures waits { values members.new ≡ with_member id.now (waits_with now waits) (values members.old) }
 {
-    if let Some(place) = place_of(id, tags, members.as_slice()) {
+    if let Some(place) = place_of(id, members) {
         begin_to_wait(&mut members[place], waits, now);
     }
 }
 
 #[tactic(auto, using(crate::proofs::Places::placing))]
-pub(crate) fn recall_one(
-    members: &mut Vec<Member>,
-    tags: &[u32],
-    id: &MemberId,
-    heard: Moment,
-    waits: Waits,
-)
-    requires { tags.now ≡ tags_of members.old.items }
-    ensures { members.new.items ≡ with_member id.now (recalled heard waits) members.old.items }
+pub(crate) fn recall_one(members: &mut ById, id: &MemberId, heard: Moment, waits: Waits)
+    requires keyed { AreKeyed members.old }
+    ensures keyed { AreKeyed members.new }
+    ensures recalled { values members.new ≡ with_member id.now (recalled heard waits) (values members.old) }
 {
-    if let Some(place) = place_of(id, tags, members.as_slice()) {
+    if let Some(place) = place_of(id, members) {
         recall(&mut members[place], heard, waits);
     }
 }
@@ -141,20 +153,16 @@ fn exchange_terms(member: &mut Member, join: CheckedJoin) -> CheckedJoin
 }
 
 #[tactic(auto, using(crate::proofs::Places::placing))]
-pub(crate) fn exchange_terms_of(
-    members: &mut Vec<Member>,
-    tags: &[u32],
-    id: &MemberId,
-    join: CheckedJoin,
-) -> CheckedJoin
-    requires { tags.now ≡ tags_of members.old.items }
-    ensures given { members.new.items ≡ with_member id.now (updated join) members.old.items }
-    ensures back { with_member id.now (updated result) members.new.items ≡ members.old.items }
+pub(crate) fn exchange_terms_of(members: &mut ById, id: &MemberId, join: CheckedJoin) -> CheckedJoin
+    requires keyed { AreKeyed members.old }
+    ensures keyed { AreKeyed members.new }
+    ensures given { values members.new ≡ with_member id.now (updated join) (values members.old) }
+    ensures back { with_member id.now (updated result) (values members.new) ≡ values members.old }
 {
-    match place_of(id, tags, members.as_slice()) {
+    match place_of(id, members) {
         None => join,
         Some(place) => {
-            let join = sharing_join(members.as_slice(), join);
+            let join = sharing_join(listed(members), join);
             exchange_terms(&mut members[place], join)
         }
     }
@@ -167,64 +175,92 @@ fn exchange_one(member: &mut Member, assignment: &mut Assignment)
     mem::swap(&mut member.assignment, assignment);
 }
 
-fn exchange_each(members: &mut [Member], assignments: &mut [Assignment])
-    requires { length assignments.old ≡ length members.old }
-    ensures members { members.new ≡ with_assignments assignments.old members.old }
-    ensures assignments { assignments.new ≡ map (λ m. m.assignment) members.old }
+pub(crate) fn exchange_in(members: &mut ById, assignments: &mut [Assignment])
+    requires keyed { AreKeyed members.old }
+    requires same_len { length assignments.old ≡ length (values members.old) }
+    ensures keyed { AreKeyed members.new }
+    ensures members { values members.new ≡ with_assignments assignments.old (values members.old) }
+    ensures assignments { assignments.new ≡ map (λ m. m.assignment) (values members.old) }
 {
-    for i in 0..members.len() {
-        exchange_one(&mut members[i], &mut assignments[i]);
+    for place in 0..members.len() {
+        exchange_one(&mut members[place], &mut assignments[place]);
     }
 }
 
-fn answer_each(members: &mut [Member], which: Calls, now: Moment)
-    ensures { members.new ≡ map (after_answer which now) members.old }
+pub(crate) fn answer_in(members: &mut ById, which: Calls, now: Moment)
+    requires keyed { AreKeyed members.old }
+    ensures keyed { AreKeyed members.new }
+    ensures answered { values members.new ≡ map (after_answer which now) (values members.old) }
 {
-    for member in members.iter_mut() {
-        answer_one(member, which, now);
+    for place in 0..members.len() {
+        answer_one(&mut members[place], which, now);
     }
 }
 
-pub(crate) fn answer_in(members: &mut Vec<Member>, which: Calls, now: Moment)
-    ensures { members.new.items ≡ map (after_answer which now) members.old.items }
+pub(crate) fn keep_others(members: &mut ById, id: &MemberId)
+    requires keyed { AreKeyed members.old }
+    ensures keyed { AreKeyed members.new }
+    ensures kept { values members.new ≡ filter (λ m. not (has_id id.now m)) (values members.old) }
 {
-    answer_each(members.as_mut_slice(), which, now);
+    members.retain(|_, m| !has_id(m, id));
 }
 
-pub(crate) fn exchange_in(members: &mut Vec<Member>, assignments: &mut [Assignment])
-    requires { length assignments.old ≡ length members.old.items }
-    ensures members { members.new.items ≡ with_assignments assignments.old members.old.items }
-    ensures assignments { assignments.new ≡ map (λ m. m.assignment) members.old.items }
+pub(crate) fn keep_timely(members: &mut ById, now: Moment)
+    requires keyed { AreKeyed members.old }
+    ensures keyed { AreKeyed members.new }
+    ensures kept { values members.new ≡ filter (λ m. not (is_overdue now m)) (values members.old) }
 {
-    exchange_each(members.as_mut_slice(), assignments);
+    members.retain(|_, m| !is_overdue(m, now));
 }
 
-pub(crate) fn keep_others(members: &mut Vec<Member>, id: &MemberId)
-    ensures { members.new.items ≡ filter (λ m. not (has_id id.now m)) members.old.items }
+pub(crate) fn keep_outstaying(members: &mut ById)
+    requires keyed { AreKeyed members.old }
+    ensures keyed { AreKeyed members.new }
+    ensures kept { values members.new ≡ filter outstays (values members.old) }
 {
-    members.retain(|m| !has_id(m, id));
+    members.retain(|_, m| outstays(m));
 }
 
-pub(crate) fn keep_timely(members: &mut Vec<Member>, now: Moment)
-    ensures { members.new.items ≡ filter (λ m. not (is_overdue now m)) members.old.items }
+/// Appends a member, under a copy of its id. If an allocation fails, the members are as they were.
+pub(crate) fn append_one(members: &mut ById, member: Member) -> Result<(), AllocError>
+    requires keyed { AreKeyed members.old }
+    requires own_id { is_some (find_member member.id (values members.old)) ≡ false }
+    ensures keyed { AreKeyed members.new }
+    ensures ok { OnOk result (values members.new ≡ values members.old ++ member ∷ []) }
+    ensures err { OnErr result (values members.new ≡ values members.old) }
 {
-    members.retain(|m| !is_overdue(m, now));
+    let id = member.id.clone()?;
+    members.insert(id, member)?;
+    Ok(())
 }
 
-pub(crate) fn keep_outstaying(members: &mut Vec<Member>)
-    ensures { members.new.items ≡ filter outstays members.old.items }
+// Moves the members from one map into another one, with the new member under its id in the place of the one that has its
+// instance. Returns what was there, or the new member if there is none. No allocation.
+pub(crate) fn seat_in(
+    from: &mut ById,
+    to: &mut ById,
+    id: MemberId,
+    member: Member,
+) -> (MemberId, Member)
+    requires keyed { AreKeyed from.old }
+    requires empty { index_map_len to.old ≡ 0 }
+    requires room { index_map_len from.old < spare to.old }
+    requires own_key { id ≡ member.id }
+    requires before { AreMembers (values from.old) }
+    requires after { AreMembers (seating member (values from.old)) }
+    ensures keyed { AreKeyed to.new }
+    ensures seated { values to.new ≡ seating member (values from.old) }
+    ensures back { seating result.1 (values to.new) ≡ values from.old }
+    ensures back_key { result.0 ≡ result.1.id }
+    ensures emptied { index_map_len from.new ≡ 0 }
+    ensures room_left { index_map_len from.old + spare from.old ≤ spare from.new }
 {
-    members.retain(|m| outstays(m));
-}
-
-// Exchanges the member that has the new member's instance for the new one, which is returned if there is none.
-pub(crate) fn seat_one(members: &mut Vec<Member>, member: Member) -> Member
-    requires { are_distinct (instances members.old.items) ≡ true }
-    ensures seated { members.new.items ≡ seating member members.old.items }
-    ensures back { seating result members.new.items ≡ members.old.items }
-{
-    match seat_of(&member.instance, members.as_slice()) {
-        None => member,
-        Some(place) => mem::replace(&mut members[place], member),
-    }
+    let seat = seat_of(&member.instance, listed(from));
+    to.append(from).unwrap();
+    let Some(place) = seat else {
+        return (id, member);
+    };
+    let before = to.shift_remove_index(place).unwrap();
+    let _none = to.shift_insert(place, id, member).unwrap();
+    before
 }

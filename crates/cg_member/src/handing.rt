@@ -1,9 +1,8 @@
 //! The assignments of the leader's SYNC, moved out of its entries: an index by member id, and from it the assignment of each
-//! member. A look-up takes time logarithmic in the number of entries.
-ghost use Rattle.std.specs.Prelude.{◌≡◌, ◌++◌, ℕ, List, [], true, false, map, unwrap_or, IfOk, OnOk};
-ghost use Rattle.std.specs.BTreeMap.{get};
-ghost use Rattle.std.specs.Ordering.{nat_cmp};
-ghost use Rattle.std.specs.Cmp.Lexicographic.{slice_cmp};
+//! member. A look-up takes the same time whatever the number of entries.
+ghost use Rattle.std.specs.Prelude.{◌≡◌, ◌++◌, ℕ, List, [], true, false, map, nat_eq, unwrap_or, IfOk, OnOk};
+ghost use Rattle.std.specs.Cmp.Lexicographic.{pointwise};
+ghost use Rattle.indexmap.specs.IndexMap.{get};
 ghost use Rattle.cg_request.specs.Names.{are_distinct, is_same};
 ghost use Rattle.cg_member.specs.Assignments.{IsIndex, after_note};
 ghost use Rattle.cg_member.specs.Members.{ids};
@@ -15,15 +14,15 @@ use cg_names::MemberId;
 use cg_record::Assignment;
 use cg_request::request::SyncEntry;
 use cg_request::sync_entries::SyncEntries;
+use indexmap::IndexMap;
 use std::alloc::{AllocError, Global};
-use std::collections::BTreeMap;
 
 // The assignment of each member that has an entry, by member id.
-type Index = BTreeMap<MemberId, Assignment>;
+type Index = IndexMap<MemberId, Assignment>;
 
 // Moves the entry in. It overwrites another entry of the same member, so entries have to be added from the last to the first.
 fn note(index: &mut Index, entry: SyncEntry) -> Result<(), AllocError>
-    ensures { OnOk result ((id : List ℕ) → get (slice_cmp nat_cmp) index.new id ≡ after_note entry id (get (slice_cmp nat_cmp) index.old id)) }
+    ensures { OnOk result ((id : List ℕ) → get (pointwise nat_eq) index.new id ≡ after_note entry id (get (pointwise nat_eq) index.old id)) }
 {
     let SyncEntry { member, assignment } = entry;
     index.insert(member, assignment)?;
@@ -34,8 +33,8 @@ fn note(index: &mut Index, entry: SyncEntry) -> Result<(), AllocError>
 fn indexed(alloc: Global, entries: SyncEntries) -> Result<Index, AllocError>
     ensures { IfOk result (λ index. IsIndex entries index) }
 {
-    let mut index = BTreeMap::new(alloc);
     let mut rest = entries.into_vec();
+    let mut index = IndexMap::with_capacity(alloc, rest.len())?;
     while let Some(entry) = rest.pop() {
         note(&mut index, entry)?;
     }
@@ -44,10 +43,10 @@ fn indexed(alloc: Global, entries: SyncEntries) -> Result<Index, AllocError>
 
 // Moves the member's assignment out of the index; it is empty if the index has none.
 fn take_out(alloc: Global, index: &mut Index, id: &MemberId) -> Assignment
-    ensures value { result ≡ unwrap_or (get (slice_cmp nat_cmp) index.old id.now) [] }
-    ensures others { (other : List ℕ) → is_same id.now other ≡ false → get (slice_cmp nat_cmp) index.new other ≡ get (slice_cmp nat_cmp) index.old other }
+    ensures value { result ≡ unwrap_or (get (pointwise nat_eq) index.old id.now) [] }
+    ensures others { (other : List ℕ) → is_same id.now other ≡ false → get (pointwise nat_eq) index.new other ≡ get (pointwise nat_eq) index.old other }
 {
-    match index.remove(id) {
+    match index.swap_remove(id) {
         None => Assignment::empty(alloc),
         Some(assignment) => assignment,
     }
@@ -61,7 +60,7 @@ fn take_all(
     taken: &mut Vec<Assignment>,
 ) -> Result<(), AllocError>
     requires { are_distinct (ids members.now) ≡ true }
-    ensures { OnOk result (taken.new.items ≡ taken.old.items ++ map (λ m. unwrap_or (get (slice_cmp nat_cmp) index.old m.id) []) members.now) }
+    ensures { OnOk result (taken.new.items ≡ taken.old.items ++ map (λ m. unwrap_or (get (pointwise nat_eq) index.old m.id) []) members.now) }
 {
     match members {
         [] => Ok(()),
@@ -74,7 +73,7 @@ fn take_all(
 }
 
 /// Returns the assignment of each member, in joining order: that of its first entry, moved out of the entries, or no bytes. The
-/// entries of others are dropped. The cost is n log n.
+/// entries of others are dropped. The cost is linear.
 #[tactic(auto, unfolding(crate::specs::Syncing::assignment_for))]
 pub fn handed_out(
     alloc: Global,

@@ -20,6 +20,5 @@ pub mod members;
 pub mod reply;
 pub mod sharing;
 pub mod staying;
-mod tags;
 pub mod turn;
 pub mod vote;

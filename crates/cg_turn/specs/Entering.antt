@@ -14,7 +14,7 @@ use Rattle.cg_member.specs.Replacing.{seating}
 use Rattle.cg_member.specs.Waiting.{answer, refusing}
 use Rattle.cg_member.specs.declared.reply.Reply.{Reply}
 use Rattle.cg_turn.specs.declared.joining.Header.{Header}
-use Rattle.cg_turn.specs.declared.replacing.Seat.{Seat}
+use Rattle.cg_turn.specs.declared.replacing.Predecessor.{Predecessor}
 
 -- there is room for a new member, and none has this id or this instance
 pub record HasPlace (id : List ℕ) (instance : Option (List ℕ)) (members : List Member) : Type 0 where
@@ -32,8 +32,8 @@ with_header None g = g
 with_header (Some h) g = record g { kind = h.kind; leader = h.leader }
 
 -- the group with what a replacement took from it: the member, and the lead if the member led
-abbrev pub put_back : Seat → Group → Group
-put_back s g = record g { members = seating s.member g.members; leader = unwrap_or s.lead g.leader }
+abbrev pub put_back : Predecessor → Group → Group
+put_back old g = record g { members = seating old.seat.member g.members; leader = unwrap_or old.lead g.leader }
 
 -- the refusal 27 of the member's parked call, if there is a member and its call is one of these
 abbrev pub refused_call : Calls → Option Member → List (Ticket × Reply)

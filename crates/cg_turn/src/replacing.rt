@@ -1,5 +1,5 @@
 //! JOIN that replaces the member with the same instance (KIP-345), in place.
-ghost use Rattle.std.specs.Prelude.{◌≡◌, ◌++◌, ◌∷◌, [], Some, None, true, false, is_some, unwrap_or, IfOk, IsSome, OnErr, OnOk, if◌then◌else◌};
+ghost use Rattle.std.specs.Prelude.{◌≡◌, ◌≤◌, ◌++◌, length, ◌∷◌, [], Some, None, true, false, is_some, unwrap_or, IfOk, IsSome, OnErr, OnOk, if◌then◌else◌};
 ghost use Rattle.std.specs.List.{list_any};
 ghost use Rattle.cg_names.specs.declared.code.Code.TheVariants.{FencedInstanceId};
 ghost use Rattle.cg_member.specs.Joining.{new_member, rejoined};
@@ -26,7 +26,7 @@ use cg_member::effects::Effects;
 use cg_member::few::Few;
 use cg_member::group::{Group, Phase};
 use cg_member::member::{Member, Waits};
-use cg_member::members::has_instance;
+use cg_member::members::{Seat, has_instance};
 use cg_member::reply::{Joined, Reply};
 use cg_member::staying::Staying;
 use cg_member::vote::elected;
@@ -39,8 +39,8 @@ use std::mem;
 
 /// What a replacement took from the group: the member, and the lead if the member led.
 #[derive(Drop)]
-struct Seat {
-    member: Member,
+struct Predecessor {
+    seat: Seat,
     lead: Option<Option<MemberId>>,
 }
 
@@ -69,31 +69,33 @@ fn heir(new: &Member, group: &Group) -> Result<Option<MemberId>, AllocError>
 
 // Puts the new member into the position of the old one, with the lead if the old one led. Returns what the group had there.
 #[tactic(auto, unfolding(cg_member::specs::Replacing::replacing))]
-fn replace_in(new: Member, group: &mut Group) -> Result<Seat, AllocError>
+fn replace_in(new: Member, group: &mut Group) -> Result<Predecessor, AllocError>
     requires own_id { is_some (find_member new.id group.old.members) ≡ false }
     ensures ok { OnOk result (group.new ≡ replacing new group.old) }
-    ensures before { IfOk result (λ seat. put_back seat group.new ≡ group.old) }
-    ensures lead { IfOk result (λ seat. unwrap_or seat.lead group.new.leader ≡ group.old.leader) }
+    ensures before { IfOk result (λ old. put_back old group.new ≡ group.old) }
+    ensures room { IfOk result (λ old. length group.new.members ≤ old.seat.places) }
+    ensures lead { IfOk result (λ old. unwrap_or old.lead group.new.leader ≡ group.old.leader) }
     ensures lawful { AreMembers group.old.members }
     ensures err { OnErr result (group.new ≡ group.old) }
 {
     let _members = group.members.as_slice();
     let heir = heir(&new, group)?;
-    let member = group.members.replace(new);
+    let seat = group.members.replace(new)?;
     let lead = match heir {
         None => None,
         Some(id) => Some(mem::replace(&mut group.leader, Some(id))),
     };
-    Ok(Seat { member, lead })
+    Ok(Predecessor { seat, lead })
 }
 
 // Puts the old member back, and the lead if it led.
-fn put_back(seat: Seat, group: &mut Group)
-    requires { AreMembers (seating seat.member group.old.members) }
-    ensures { group.new ≡ put_back seat group.old }
+fn put_back(old: Predecessor, group: &mut Group)
+    requires lawful { AreMembers (seating old.seat.member group.old.members) }
+    requires room { length group.old.members ≤ old.seat.places }
+    ensures { group.new ≡ put_back old group.old }
 {
-    let Seat { member, lead } = seat;
-    let _new = group.members.replace(member);
+    let Predecessor { seat, lead } = old;
+    group.members.put_back(seat);
     if let Some(leader) = lead {
         group.leader = leader;
     }
@@ -247,35 +249,35 @@ fn succeed(
 }
 
 // Returns the leader from before the replacement.
-fn leader_before<'a>(seat: &'a Seat, group: &'a Group) -> &'a Option<MemberId>
-    ensures { result.now ≡ unwrap_or seat.now.lead group.now.leader }
+fn leader_before<'a>(old: &'a Predecessor, group: &'a Group) -> &'a Option<MemberId>
+    ensures { result.now ≡ unwrap_or old.now.lead group.now.leader }
 {
-    match &seat.lead {
+    match &old.lead {
         None => &group.leader,
         Some(leader) => leader,
     }
 }
 
-// Ends a replacement: the generation continues with the new member, or that member joins a rebalance. `seat` is what the group
+// Ends a replacement: the generation continues with the new member, or that member joins a rebalance. `old` is what the group
 // had.
 #[tactic(auto, unfolding(cg_member::specs::Replacing::replaced_in_place))]
 fn go_on(
     context: RequestContext,
     own: &MemberId,
     kept: StaticMember,
-    seat: &Seat,
+    old: &Predecessor,
     group: &mut Group,
     effects: &mut Effects,
 ) -> Result<(), AllocError>
     ensures ok { OnOk result (turned group.new effects.new ≡ if keeps_generation group.old
-        then replaced_in_place context.ticket kept (record group.old { leader = unwrap_or seat.now.lead group.old.leader }) (turned group.old effects.old)
+        then replaced_in_place context.ticket kept (record group.old { leader = unwrap_or old.now.lead group.old.leader }) (turned group.old effects.old)
         else rejoined context.now own.now context.ticket (turned group.old effects.old)) }
     ensures err { OnErr result (group.new ≡ group.old) }
 {
     if !keeps_generation(context.alloc, group)? {
         return rejoin(context, own, group, effects);
     }
-    replace_alone(context, kept, leader_before(seat, group), group, effects)?;
+    replace_alone(context, kept, leader_before(old, group), group, effects)?;
     Ok(())
 }
 
@@ -297,12 +299,12 @@ pub fn join_replacing(
     let own = id.clone()?;
     let mut effects = Effects::new(alloc);
     let (new, kept) = succeed(alloc, now, r, id, group, &mut effects.replies)?;
-    let seat = replace_in(new, group)?;
+    let old = replace_in(new, group)?;
     let context = RequestContext { alloc, now, ticket };
-    match go_on(context, &own, kept, &seat, group, &mut effects) {
+    match go_on(context, &own, kept, &old, group, &mut effects) {
         Ok(()) => Ok(effects),
         Err(wanting) => {
-            put_back(seat, group);
+            put_back(old, group);
             Err(wanting)
         }
     }

@@ -1,11 +1,10 @@
-use Rattle.std.proofs.Common.{◌≡◌, Some, sym, ◌∙◌}
-use Rattle.std.specs.List.{position}
-use Rattle.cg_member.specs.Membership.{has_id}
+use Rattle.std.proofs.Common.{refl, sym, ◌∙◌}
 use Rattle.cg_member.specs.Joining.{waits_with}
-use Rattle.cg_member.proofs.Places.{with_member_from_place}
+use Rattle.cg_member.proofs.Keyed.{changed_keys, changed_values}
 use Rattle.cg_member.proofs.changes.wait_one.Goals as goal
 
-pub returns-in-Some : goal.returns-in-Some
-returns-in-Some c =
-    let at : position (has_id c.args.id.now) c.args.members.now.items ≡ Some c.in-Some.place = sym (rw c.as_slice.ensures.value at c.place_of.ensures) ∙ c.in-Some.is in
-    (with_member_from_place c.args.id.now (waits_with c.args.now c.args.waits) c.args.members.now.items c.in-Some.place c.index_mut.result.now _ at c.index_mut.ensures.value c.begin_to_wait.ensures)
+pub returns-in-Some-clause-keyed : goal.returns-in-Some-clause-keyed
+returns-in-Some-clause-keyed c = changed_keys c.args.members.now c.requires.keyed c.args.id.now (waits_with c.args.now c.args.waits) (λ x. refl) c.in-Some.place c.index_mut.result.now _ (sym c.place_of.ensures ∙ c.in-Some.is) c.index_mut.ensures.value c.begin_to_wait.ensures
+
+pub returns-in-Some-clause-waits : goal.returns-in-Some-clause-waits
+returns-in-Some-clause-waits c = changed_values c.args.members.now c.requires.keyed c.args.id.now (waits_with c.args.now c.args.waits) (λ x. refl) c.in-Some.place c.index_mut.result.now _ (sym c.place_of.ensures ∙ c.in-Some.is) c.index_mut.ensures.value c.begin_to_wait.ensures

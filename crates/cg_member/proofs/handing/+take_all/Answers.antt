@@ -1,7 +1,7 @@
 use Rattle.std.proofs.Common.{◌-◌, List, length, take, drop, sym, ap, ◌∙◌, rules, arith}
-use Rattle.std.specs.BTreeMap.{get}
-use Rattle.std.specs.Ordering.{nat_cmp}
-use Rattle.std.specs.Cmp.Lexicographic.{slice_cmp}
+use Rattle.indexmap.specs.IndexMap.{get}
+use Rattle.std.specs.Prelude.{nat_eq}
+use Rattle.std.specs.Cmp.Lexicographic.{pointwise}
 use Rattle.cg_member.specs.declared.member.Member.{Member}
 use Rattle.cg_request.specs.Names.{are_distinct}
 use Rattle.cg_member.specs.Members.{ids}
@@ -15,6 +15,6 @@ take_all-requires t c =
 
 pub returns-in_ok-take_all-in-len1-up : goal.returns-in_ok-take_all-in-len1-up
 returns-in_ok-take_all-in-len1-up t c =
-    all_taken (get (slice_cmp nat_cmp) c.args.index.now) (get (slice_cmp nat_cmp) c.take_out.new.index) c.first-item.result _ c.args.members.now c.args.taken.now.items c.push.new.self.items c.take_all.new.taken.items c.take_out.result
+    all_taken (get (pointwise nat_eq) c.args.index.now) (get (pointwise nat_eq) c.take_out.new.index) c.first-item.result _ c.args.members.now c.args.taken.now.items c.push.new.self.items c.take_all.new.taken.items c.take_out.result
     (rest_is c.args.members.now c.first-item.result (omega arith) c.first-item.is)
     c.requires c.take_out.ensures.others c.take_out.ensures.value c.in_ok-push-in-len1-up.ensures.items c.in_ok-take_all-in-len1-up.ensures

@@ -8,6 +8,6 @@ pub returns-in-Ok-clause-ok : goal.returns-in-Ok-clause-ok
 returns-in-Ok-clause-ok c =
     λ old found.
     let e : Effects = record { commands = c.new-effects.result.commands; replies = c.succeed.new.replies } in
-    succeeded c.args.context.now c.args.r c.args.id c.args.context.ticket old c.args.group.now c.in_ok-new.new c.in_ok-new.kept c.in_ok-own.own c.replace_in.new.group e c.in_ok-seat.seat.lead
-    (turned c.go_on.new.group c.go_on.new.effects) c.in-Ok.ensures.ok c.in_ok-seat.ensures.ok c.in_ok-seat.ensures.lead
+    succeeded c.args.context.now c.args.r c.args.id c.args.context.ticket old c.args.group.now c.in_ok-new.new c.in_ok-new.kept c.in_ok-own.own c.replace_in.new.group e c.in_ok-old.old.lead
+    (turned c.go_on.new.group c.go_on.new.effects) c.in-Ok.ensures.ok c.in_ok-old.ensures.ok c.in_ok-old.ensures.lead
     (c.in_ok-new.ensures.replies old found ∙ search rules) (search rules) (c.in_ok-new.ensures.new old found) (c.in_ok-new.ensures.kept old found) (sym (search rules))
