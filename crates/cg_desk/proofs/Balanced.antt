@@ -2,16 +2,16 @@
 use Rattle.std.proofs.Common.{ℕ, Bool, true, false, List, [], ◌∷◌, refl, sym, subst}
 use Rattle.std.specs.Prelude.{Option, Some, None, if◌then◌else◌}
 use Rattle.cg_fold.specs.Durable.{State as Durable}
-use Rattle.cg_request.specs.declared.asking.Request.{Request}
+use Rattle.cg_request.specs.declared.request.Request.{Request}
 use Rattle.cg_request.specs.declared.event.Event.{Event}
 use Rattle.cg_request.specs.declared.event.Event.TheVariants.{Gone, Tick}
-use Rattle.cg_member.specs.declared.reply.Reply.TheVariants.{Refused}
-use Rattle.cg_request.specs.Asking.{asked}
-use Rattle.cg_held.specs.Kept.{AreRecords, Each}
+use Rattle.cg_group_state.specs.declared.reply.Reply.TheVariants.{Refused}
+use Rattle.cg_request.specs.Request.{asked}
+use Rattle.cg_group_table.specs.Kept.{AreRecords, Each}
 use Rattle.cg_group.specs.Laws.{after_all}
-use Rattle.cg_held.specs.Held.{Machine}
-use Rattle.cg_member.specs.Members.{AreDistinct}
-use Rattle.cg_held.specs.Reviving.{revive}
+use Rattle.cg_group_table.specs.GroupTable.{Machine}
+use Rattle.cg_group_state.specs.Members.{AreDistinct}
+use Rattle.cg_group_table.specs.Recovery.{revive}
 use Rattle.cg_names.specs.declared.code.Code.TheVariants.{CoordinatorNotAvailable}
 use Rattle.cg_store.specs.declared.batch.Batch.{Batch}
 use Rattle.cg_desk.specs.Books.{Books, IsTake, is_short, letting_go, returning, served, settling, taking}

@@ -4,22 +4,23 @@ use Rattle.std.specs.Prelude.{Option, Some, None, is_some, filter, option_map, o
 use Rattle.std.specs.List.{list_any}
 use Rattle.std.proofs.lemmas.List.Sums.{sum_by-append, sum_by-cons}
 use Rattle.cg_names.specs.declared.code.Code.TheVariants.{CoordinatorNotAvailable, RebalanceInProgress}
-use Rattle.cg_member.specs.declared.calls.Calls.{Calls}
-use Rattle.cg_member.specs.declared.calls.Calls.TheVariants.{Joins, Syncs, Any, OfSession}
-use Rattle.cg_member.specs.declared.group.Group.{Group}
-use Rattle.cg_member.specs.declared.member.Member.{Member}
-use Rattle.cg_member.specs.declared.member.Waits.{Waits}
-use Rattle.cg_member.specs.declared.member.Waits.TheVariants.{Nothing, Join, Sync}
-use Rattle.cg_member.specs.declared.reply.Reply.{Reply}
+use Rattle.cg_group_state.specs.declared.calls.Calls.{Calls}
+use Rattle.cg_group_state.specs.declared.calls.Calls.TheVariants.{Joins, Syncs, Any, OfSession}
+use Rattle.cg_group_state.specs.declared.group.Group.{Group}
+use Rattle.cg_group_state.specs.declared.member.Member.{Member}
+use Rattle.cg_group_state.specs.declared.member.Waits.{Waits}
+use Rattle.cg_group_state.specs.declared.member.Waits.TheVariants.{Nothing, Join, Sync}
+use Rattle.cg_group_state.specs.declared.reply.Reply.{Reply}
 use Rattle.cg_request.specs.declared.ticket.Ticket.{Ticket}
-use Rattle.cg_member.specs.declared.turn.Turn.{Turn}
-use Rattle.cg_member.specs.Joining.{in_join_phase}
-use Rattle.cg_member.specs.Leaving.{after_removal, gone_in, has_joined}
-use Rattle.cg_member.specs.Membership.{is_empty, is_preparing, keeping}
-use Rattle.cg_member.specs.Rebalance.{completed, emptied, is_ready, joined_reply, next_round, prepared, told_to_joins, tried, turn_of}
-use Rattle.cg_member.specs.Syncing.{synced_reply, told_to_syncs}
-use Rattle.cg_member.specs.Ticking.{at_deadline, can_complete, ended, expired, is_due, is_overdue, outstays, ticked}
-use Rattle.cg_member.specs.Waiting.{after_answer, after_answers, answer, answered, answers, called, is_waiting, refusing}
+use Rattle.cg_group_state.specs.declared.turn.Turn.{Turn}
+use Rattle.cg_group_rules.specs.Join.{in_join_phase}
+use Rattle.cg_group_rules.specs.Leave.{after_removal, gone_in, has_joined}
+use Rattle.cg_group_state.specs.Membership.{is_empty, is_preparing, keeping}
+use Rattle.cg_group_rules.specs.Rebalance.{complete_join, emptied, is_ready, joined_reply, init_next_generation, prepare_rebalance, reply_to_joins, try_complete_join, turn_of}
+use Rattle.cg_group_rules.specs.Sync.{synced_reply, reply_to_syncs}
+use Rattle.cg_group_rules.specs.Tick.{at_deadline, can_complete, ended, expire_heartbeats, is_due, ticked}
+use Rattle.cg_group_state.specs.Staying.{is_overdue, outstays}
+use Rattle.cg_group_state.specs.Waiting.{after_answer, after_answers, answer, answered, answers, called, is_waiting, refusing}
 use Rattle.cg_desk.specs.Held.{calls_of}
 use Rattle.cg_desk.specs.Owed.{weight_calls}
 use Rattle.cg_desk.specs.Turns.{own, told_of, total, waits_of}
@@ -70,22 +71,22 @@ answers-kept weight which reply now (m ∷ ms) =
     let all = sum_by-cons (own weight) m ms in
     omega arith
 
-pub prepared-kept : (weight : Ticket → ℕ) (now : ℕ) (t : Turn) → total weight (prepared now t) ≡ total weight t
-unfolding prepared
+pub prepared-kept : (weight : Ticket → ℕ) (now : ℕ) (t : Turn) → total weight (prepare_rebalance now t) ≡ total weight t
+unfolding prepare_rebalance
 prepared-kept weight now t =
     let told = told-append weight t.replies (answers Syncs (refusing RebalanceInProgress) t.group.members) in
     let kept = answers-kept weight Syncs (refusing RebalanceInProgress) now t.group.members in
     omega arith
 
-joins-kept : (weight : Ticket → ℕ) (now : ℕ) (t : Turn) → total weight (told_to_joins now t) ≡ total weight t
-unfolding told_to_joins
+joins-kept : (weight : Ticket → ℕ) (now : ℕ) (t : Turn) → total weight (reply_to_joins now t) ≡ total weight t
+unfolding reply_to_joins
 joins-kept weight now t =
     let told = told-append weight t.replies (answers Joins (joined_reply t.group) t.group.members) in
     let kept = answers-kept weight Joins (joined_reply t.group) now t.group.members in
     omega arith
 
-pub syncs-kept : (weight : Ticket → ℕ) (now : ℕ) (t : Turn) → total weight (told_to_syncs now t) ≡ total weight t
-unfolding told_to_syncs
+pub syncs-kept : (weight : Ticket → ℕ) (now : ℕ) (t : Turn) → total weight (reply_to_syncs now t) ≡ total weight t
+unfolding reply_to_syncs
 syncs-kept weight now t =
     let told = told-append weight t.replies (answers Syncs synced_reply t.group.members) in
     let kept = answers-kept weight Syncs synced_reply now t.group.members in
@@ -95,40 +96,40 @@ emptied-kept : (weight : Ticket → ℕ) (now : ℕ) (t : Turn) → total weight
 unfolding emptied
 emptied-kept weight now t = refl
 
-round-kept : (weight : Ticket → ℕ) (t : Turn) → total weight (record t { group = next_round t.group }) ≡ total weight t
-unfolding next_round
+round-kept : (weight : Ticket → ℕ) (t : Turn) → total weight (record t { group = init_next_generation t.group }) ≡ total weight t
+unfolding init_next_generation
 round-kept weight t = refl
 
-completed-at : (b : Bool) (weight : Ticket → ℕ) (now : ℕ) (t : Turn) → total weight (if b then emptied now t else told_to_joins now (record t { group = next_round t.group })) ≡ total weight t
+completed-at : (b : Bool) (weight : Ticket → ℕ) (now : ℕ) (t : Turn) → total weight (if b then emptied now t else reply_to_joins now (record t { group = init_next_generation t.group })) ≡ total weight t
 completed-at true weight now t = emptied-kept weight now t
-completed-at false weight now t = joins-kept weight now (record t { group = next_round t.group }) ∙ round-kept weight t
+completed-at false weight now t = joins-kept weight now (record t { group = init_next_generation t.group }) ∙ round-kept weight t
 
-completed-kept : (weight : Ticket → ℕ) (now : ℕ) (t : Turn) → total weight (completed now t) ≡ total weight t
-unfolding completed
+completed-kept : (weight : Ticket → ℕ) (now : ℕ) (t : Turn) → total weight (complete_join now t) ≡ total weight t
+unfolding complete_join
 completed-kept weight now t = completed-at (is_empty t.group.members) weight now t
 
-tried-at : (b : Bool) (weight : Ticket → ℕ) (now : ℕ) (t : Turn) → total weight (if b then completed now t else t) ≡ total weight t
+tried-at : (b : Bool) (weight : Ticket → ℕ) (now : ℕ) (t : Turn) → total weight (if b then complete_join now t else t) ≡ total weight t
 tried-at true weight now t = completed-kept weight now t
 tried-at false weight now t = refl
 
-pub tried-kept : (weight : Ticket → ℕ) (now : ℕ) (t : Turn) → total weight (tried now t) ≡ total weight t
-unfolding tried
+pub tried-kept : (weight : Ticket → ℕ) (now : ℕ) (t : Turn) → total weight (try_complete_join now t) ≡ total weight t
+unfolding try_complete_join
 tried-kept weight now t = tried-at (is_ready t.group) weight now t
 
-phase-at : (b : Bool) (weight : Ticket → ℕ) (now : ℕ) (t : Turn) → total weight (if b then t else prepared now t) ≡ total weight t
+phase-at : (b : Bool) (weight : Ticket → ℕ) (now : ℕ) (t : Turn) → total weight (if b then t else prepare_rebalance now t) ≡ total weight t
 phase-at true weight now t = refl
 phase-at false weight now t = prepared-kept weight now t
 
 pub phase-kept : (weight : Ticket → ℕ) (now : ℕ) (t : Turn) → total weight (in_join_phase now t) ≡ total weight t
 phase-kept weight now t = phase-at (is_preparing t.group.phase) weight now t
 
-removal-at : (b : Bool) (weight : Ticket → ℕ) (now : ℕ) (t : Turn) → total weight (if b then prepared now t else t) ≡ total weight t
+removal-at : (b : Bool) (weight : Ticket → ℕ) (now : ℕ) (t : Turn) → total weight (if b then prepare_rebalance now t else t) ≡ total weight t
 removal-at true weight now t = prepared-kept weight now t
 removal-at false weight now t = refl
 
 pub removal-kept : (weight : Ticket → ℕ) (now : ℕ) (t : Turn) → total weight (after_removal now t) ≡ total weight t
 unfolding after_removal
-removal-kept weight now t = tried-kept weight now (if has_joined t.group.phase then prepared now t else t) ∙ removal-at (has_joined t.group.phase) weight now t
+removal-kept weight now t = tried-kept weight now (if has_joined t.group.phase then prepare_rebalance now t else t) ∙ removal-at (has_joined t.group.phase) weight now t
 
 -- members without a parked request may be removed
 idle-own : (weight : Ticket → ℕ) (o : Option Ticket) → is_some o ≡ false → weight_calls weight (option_to_list o) ≡ 0
@@ -157,17 +158,17 @@ keeping-kept : (weight : Ticket → ℕ) (stays : Member → Bool) (t : Turn) �
 unfolding keeping
 keeping-kept weight stays t idle = ap (λ n. told_of weight t.replies + n) (filter-kept weight stays t.group.members idle)
 
-expired-at : (b : Bool) (weight : Ticket → ℕ) (now : ℕ) (t : Turn) → total weight (if b then after_removal now (record t { group = keeping (λ m. not (is_overdue now m)) t.group }) else tried now t) ≡ total weight t
+expired-at : (b : Bool) (weight : Ticket → ℕ) (now : ℕ) (t : Turn) → total weight (if b then after_removal now (record t { group = keeping (λ m. not (is_overdue now m)) t.group }) else try_complete_join now t) ≡ total weight t
 expired-at true weight now t =
     removal-kept weight now (record t { group = keeping (λ m. not (is_overdue now m)) t.group })
     ∙ keeping-kept weight (λ m. not (is_overdue now m)) t (λ m is. overdue-idle (is_waiting Any m) (leb (m.heard + m.session) now) is)
 expired-at false weight now t = tried-kept weight now t
 
-expired-kept : (weight : Ticket → ℕ) (now : ℕ) (t : Turn) → total weight (expired now t) ≡ total weight t
-unfolding expired
+expired-kept : (weight : Ticket → ℕ) (now : ℕ) (t : Turn) → total weight (expire_heartbeats now t) ≡ total weight t
+unfolding expire_heartbeats
 expired-kept weight now t = expired-at (list_any (is_overdue now) t.group.members) weight now t
 
-ended-at : (b : Bool) (weight : Ticket → ℕ) (now : ℕ) (t : Turn) → total weight (if b then completed now t else record t { group = record t.group { started = now } }) ≡ total weight t
+ended-at : (b : Bool) (weight : Ticket → ℕ) (now : ℕ) (t : Turn) → total weight (if b then complete_join now t else record t { group = record t.group { started = now } }) ≡ total weight t
 ended-at true weight now t = completed-kept weight now t
 ended-at false weight now t = refl
 
@@ -189,7 +190,7 @@ deadline-at false weight now t = refl
 pub ticked-kept : (weight : Ticket → ℕ) (now : ℕ) (g : Group) → total weight (ticked now g) ≡ waits_of weight g.members
 unfolding ticked at_deadline
 ticked-kept weight now g =
-    let last = deadline-at (is_due now (expired now (turn_of g)).group) weight now (expired now (turn_of g)) in
+    let last = deadline-at (is_due now (expire_heartbeats now (turn_of g)).group) weight now (expire_heartbeats now (turn_of g)) in
     let first = expired-kept weight now (turn_of g) in
     omega arith
 

@@ -7,35 +7,35 @@ use Rattle.cg_names.specs.declared.code.Code.{Code}
 use Rattle.cg_names.specs.declared.code.Code.TheVariants.{FencedInstanceId, GroupIdNotFound, InvalidGroupId, NonEmptyGroup, UnknownMemberId}
 use Rattle.cg_record.specs.declared.command.Command.{Command}
 use Rattle.cg_record.specs.declared.topic_partition.TopicPartition.{TopicPartition}
-use Rattle.cg_request.specs.declared.asking.Request.{Request}
-use Rattle.cg_request.specs.declared.asking.Request.TheVariants as request
-use Rattle.cg_member.specs.declared.group.Group.{Group}
-use Rattle.cg_member.specs.declared.member.Member.{Member}
-use Rattle.cg_request.specs.declared.request.BeatRequest.{BeatRequest}
-use Rattle.cg_request.specs.declared.request.CommitRequest.{CommitRequest}
-use Rattle.cg_request.specs.declared.request.JoinRequest.{JoinRequest}
-use Rattle.cg_request.specs.declared.request.LeaveRequest.{LeaveRequest}
-use Rattle.cg_request.specs.declared.request.SyncRequest.{SyncRequest}
+use Rattle.cg_request.specs.declared.request.Request.{Request}
+use Rattle.cg_request.specs.declared.request.Request.TheVariants as request
+use Rattle.cg_group_state.specs.declared.group.Group.{Group}
+use Rattle.cg_group_state.specs.declared.member.Member.{Member}
+use Rattle.cg_request.specs.declared.request_fields.BeatRequest.{BeatRequest}
+use Rattle.cg_request.specs.declared.request_fields.CommitRequest.{CommitRequest}
+use Rattle.cg_request.specs.declared.request_fields.JoinRequest.{JoinRequest}
+use Rattle.cg_request.specs.declared.request_fields.LeaveRequest.{LeaveRequest}
+use Rattle.cg_request.specs.declared.request_fields.SyncRequest.{SyncRequest}
 use Rattle.cg_request.specs.declared.ticket.Ticket.{Ticket}
-use Rattle.cg_member.specs.declared.turn.Turn.{Turn}
-use Rattle.cg_request.specs.Asking.{asked}
-use Rattle.cg_turn.specs.Beating.{beat_taken}
-use Rattle.cg_turn.specs.Committing.{committed, hearing_committer}
-use Rattle.cg_member.specs.Joining.{join_known, join_new, new_group}
-use Rattle.cg_held.specs.Kept.{Each}
-use Rattle.cg_member.specs.Leaving.{leave_held, leave_taken, leaver, may_be}
-use Rattle.cg_group.specs.Machine.{beat, commit, concluded, deleted, drop_command, dropped, founded_after, is_unfounded, join, leave, memberless, met, named_group, step, sync, with_offset}
-use Rattle.cg_held.specs.Expiring.{is_nil}
-use Rattle.cg_held.specs.Held.{InOrder, Machine, Outcome, find_group, without_group}
-use Rattle.cg_member.specs.Members.{AreDistinct, ids}
-use Rattle.cg_member.specs.Offsets.{OffsetMap, offsets_after}
-use Rattle.cg_member.specs.Membership.{find_instance, find_member, has_id, has_instance, is_empty, is_same}
+use Rattle.cg_group_state.specs.declared.turn.Turn.{Turn}
+use Rattle.cg_request.specs.Request.{asked}
+use Rattle.cg_group_rules.specs.Heartbeat.{beat_taken}
+use Rattle.cg_group_rules.specs.OffsetCommit.{committed, hearing_committer}
+use Rattle.cg_group_rules.specs.Join.{join_known, add_member_and_rebalance, new_group}
+use Rattle.cg_group_table.specs.Kept.{Each}
+use Rattle.cg_group_rules.specs.Leave.{leave_held, leave_taken, leaver, may_be}
+use Rattle.cg_group.specs.Machine.{beat, commit, concluded, deleted, drop_command, dropped, founded_after, is_unfounded, join, leave, memberless, handled, named_group, step, sync, with_offset}
+use Rattle.cg_group_table.specs.Expiry.{is_nil}
+use Rattle.cg_group_table.specs.GroupTable.{InOrder, Machine, Outcome, find_group, without_group}
+use Rattle.cg_group_state.specs.Members.{AreDistinct, ids}
+use Rattle.cg_group_state.specs.Offsets.{OffsetMap, offsets_after}
+use Rattle.cg_group_state.specs.Membership.{find_instance, find_member, has_id, has_instance, is_empty, is_same}
 use Rattle.cg_request.specs.Names.{are_distinct}
-use Rattle.cg_member.specs.Refusing.{◌>>=◌, refused_if}
-use Rattle.cg_member.specs.Replacing.{join_replacing}
-use Rattle.cg_member.specs.Syncing.{sync_taken}
-use Rattle.cg_held.proofs.Framed.{framed-beat_taken, framed-committed, framed-join_known, framed-join_new, framed-join_replacing, framed-leave_taken, framed-sync_taken}
-use Rattle.cg_held.proofs.KeptLists.{each-found, same_self}
+use Rattle.cg_group_state.specs.Checks.{◌>>=◌, refused_if}
+use Rattle.cg_group_rules.specs.StaticMember.{replace_static_member}
+use Rattle.cg_group_rules.specs.Sync.{sync_taken}
+use Rattle.cg_group_table.proofs.Framed.{framed-beat_taken, framed-committed, framed-join_known, framed-add_member_and_rebalance, framed-replace_static_member, framed-leave_taken, framed-sync_taken}
+use Rattle.cg_group_table.proofs.KeptLists.{each-found, same_self}
 use Rattle.cg_group.proofs.Requests.{Fine, after_checked, after_given, fine-beat, fine-commit, fine-join, fine-sync, given_by, tested}
 use Rattle.cg_desk.specs.Owed.{KeepsCalls}
 use Rattle.cg_desk.specs.Tokens.{call_of}
@@ -112,9 +112,9 @@ module _ (now : ℕ) (ticket : Ticket) (s : Machine) (sound : IsSound s) where
   unfolding new_group
   join-takes r fresh =
       fine-join (Takes s.groups ticket) now r fresh ticket s.groups
-      (λ id new _ none. takes-made s.groups id ticket (join_new now r new ticket (new_group id)) none (framed-join_new now r new ticket (new_group id)).0 (λ weight. new-kept weight now r new ticket (new_group id)))
-      (λ id new g _ found _ _ _. takes-held s.groups id g ticket (join_new now r new ticket g) sound.in_order found (framed-join_new now r new ticket g).0 (λ weight. new-kept weight now r new ticket g))
-      (λ id new g old _ found _ one _. takes-held s.groups id g ticket (join_replacing now r new ticket old g) sound.in_order found (framed-join_replacing now r new ticket old g).0 (λ weight. replacing-kept weight now r new ticket old g (members-of id g found).1 one))
+      (λ id new _ none. takes-made s.groups id ticket (add_member_and_rebalance now r new ticket (new_group id)) none (framed-add_member_and_rebalance now r new ticket (new_group id)).0 (λ weight. new-kept weight now r new ticket (new_group id)))
+      (λ id new g _ found _ _ _. takes-held s.groups id g ticket (add_member_and_rebalance now r new ticket g) sound.in_order found (framed-add_member_and_rebalance now r new ticket g).0 (λ weight. new-kept weight now r new ticket g))
+      (λ id new g old _ found _ one _. takes-held s.groups id g ticket (replace_static_member now r new ticket old g) sound.in_order found (framed-replace_static_member now r new ticket old g).0 (λ weight. replacing-kept weight now r new ticket old g (members-of id g found).1 one))
       (λ id own g m _ found one _. takes-held s.groups id g ticket (join_known now r own ticket m g) sound.in_order found (framed-join_known now r own ticket m g).0 (λ weight. known-kept weight now r own ticket m g (ap is_some one)))
 
   sync-takes : (r : SyncRequest) → Fine (Takes s.groups ticket) (sync now r ticket s.groups)
@@ -187,8 +187,8 @@ dropped-keeps s ticket partitions id (Ok name) is weight =
     let left = founded-kept weight s.offsets (drop_command name (with_offset s.offsets name partitions)) name s.groups found.0 found.1 found.2 in
     omega arith
 
-met-keeps : (s : Machine) (r : Request) (ticket : Ticket) (fresh : List ℕ) → IsSound s → Keeps s ticket (met s (asked r ticket fresh))
-unfolding met
+met-keeps : (s : Machine) (r : Request) (ticket : Ticket) (fresh : List ℕ) → IsSound s → Keeps s ticket (handled s (asked r ticket fresh))
+unfolding handled
 met-keeps s (request.Join r) ticket fresh sound = concluded-keeps s ticket (join s.last r fresh ticket s.groups) (join-takes s.last ticket s sound r fresh)
 met-keeps s (request.Sync r) ticket fresh sound = concluded-keeps s ticket (sync s.last r ticket s.groups) (sync-takes s.last ticket s sound r)
 met-keeps s (request.Beat r) ticket fresh sound = concluded-keeps s ticket (beat s.last r ticket s.groups) (beat-takes s.last ticket s sound r)
@@ -204,7 +204,7 @@ pub request-keeps : (s : Machine) (r : Request) (token : ReplyToken) (fresh : Li
 unfolding step
 request-keeps s r token fresh now sound weight =
     let at : Machine = record s { last = max s.last now } in
-    let o = met at (asked r (call_of token) fresh) in
+    let o = handled at (asked r (call_of token) fresh) in
     let kept = met-keeps at r (call_of token) fresh (record { distinct = sound.distinct; in_order = sound.in_order }) weight in
     let after = groups-waiting weight o.after.groups in
     let before = groups-waiting weight s.groups in

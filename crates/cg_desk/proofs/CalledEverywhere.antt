@@ -6,26 +6,26 @@ use Rattle.std.specs.List.{cons_option, filter_map, flat_map, sum_by}
 use Rattle.std.proofs.lemmas.Bool.{and_parts, false≢true, not-false}
 use Rattle.std.proofs.lemmas.List.Sums.{sum_by-append, sum_by-cons}
 use Rattle.cg_fold.specs.Durable.{State}
-use Rattle.cg_fold.specs.declared.record.GroupRecord.{GroupRecord}
-use Rattle.cg_fold.specs.declared.record.RecordedMembers.{RecordedMembers}
-use Rattle.cg_fold.specs.declared.record.RecordedMembers.TheVariants as recorded
-use Rattle.cg_record.specs.declared.member.Member.{Member as KeptMember}
-use Rattle.cg_member.specs.declared.calls.Calls.TheVariants.{Any}
+use Rattle.cg_fold.specs.declared.group_record.GroupRecord.{GroupRecord}
+use Rattle.cg_fold.specs.declared.group_record.RecordedMembers.{RecordedMembers}
+use Rattle.cg_fold.specs.declared.group_record.RecordedMembers.TheVariants as recorded
+use Rattle.cg_record.specs.declared.member_record.MemberRecord.{MemberRecord}
+use Rattle.cg_group_state.specs.declared.calls.Calls.TheVariants.{Any}
 use Rattle.cg_request.specs.declared.event.Event.TheVariants.{Gone, Tick}
-use Rattle.cg_member.specs.declared.group.Group.{Group}
-use Rattle.cg_member.specs.declared.member.Member.{Member}
+use Rattle.cg_group_state.specs.declared.group.Group.{Group}
+use Rattle.cg_group_state.specs.declared.member.Member.{Member}
 use Rattle.cg_request.specs.declared.ticket.Ticket.{Ticket}
-use Rattle.cg_member.specs.declared.turn.Turn.{Turn}
-use Rattle.cg_member.specs.Joining.{new_group}
-use Rattle.cg_member.specs.Leaving.{gone_in}
-use Rattle.cg_group.specs.Machine.{met, step}
-use Rattle.cg_held.specs.Expiring.{expires, expiring_if, goes, is_bare, is_idle, is_nil, is_vacant, lasting, tick, tick_effects}
-use Rattle.cg_held.specs.Held.{Machine, everywhere}
-use Rattle.cg_held.specs.Reviving.{revive, revived, revived_from, revived_member, revived_with}
-use Rattle.cg_member.specs.Membership.{is_empty}
-use Rattle.cg_member.specs.Offsets.{OffsetMap, offsets_after}
-use Rattle.cg_member.specs.Ticking.{ticked}
-use Rattle.cg_member.specs.Waiting.{called, waiting_calls}
+use Rattle.cg_group_state.specs.declared.turn.Turn.{Turn}
+use Rattle.cg_group_rules.specs.Join.{new_group}
+use Rattle.cg_group_rules.specs.Leave.{gone_in}
+use Rattle.cg_group.specs.Machine.{handled, step}
+use Rattle.cg_group_table.specs.Expiry.{expires, expiring_if, goes, is_bare, is_idle, is_nil, is_vacant, lasting, tick, tick_effects}
+use Rattle.cg_group_table.specs.GroupTable.{Machine, everywhere}
+use Rattle.cg_group_table.specs.Recovery.{revive, revived, revived_from, revived_member, revived_with}
+use Rattle.cg_group_state.specs.Membership.{is_empty}
+use Rattle.cg_group_state.specs.Offsets.{OffsetMap, offsets_after}
+use Rattle.cg_group_rules.specs.Tick.{ticked}
+use Rattle.cg_group_state.specs.Waiting.{called, waiting_calls}
 use Rattle.cg_desk.specs.Owed.{KeepsCalls, weight_calls}
 use Rattle.cg_desk.specs.Turns.{own, told_of, total, waits_of}
 use Rattle.cg_desk.proofs.Called.{gone-kept, ticked-kept, told-append}
@@ -104,7 +104,7 @@ goes-idle weight loaded now offsets later g is =
     vacant-idle (is_vacant g) weight loaded now offsets g refl (and_parts (expires loaded now offsets g) (is_bare later g.id) (not-false (goes loaded now offsets later g) is)).0
 
 pub tick-keeps : (s : Machine) (now : ℕ) → KeepsCalls s [] Tick now
-unfolding step met tick
+unfolding step handled tick
 tick-keeps s now weight =
     let m = max s.last now in
     let later : OffsetMap = offsets_after s.offsets (tick_effects (record s { last = m })).commands in
@@ -114,7 +114,7 @@ tick-keeps s now weight =
     omega arith
 
 pub gone-keeps : (s : Machine) (session now : ℕ) → KeepsCalls s [] (Gone session) now
-unfolding step met everywhere
+unfolding step handled everywhere
 gone-keeps s session now weight =
     let m = max s.last now in
     let after = groups-waiting weight (map (λ (g : Group). (gone_in m session g).group) s.groups) in
@@ -126,7 +126,7 @@ gone-keeps s session now weight =
 append-none : {X : Type 0} (xs ys : List X) → xs ≡ [] → ys ≡ [] → xs ++ ys ≡ []
 append-none xs ys none rest = ap (λ l. l ++ ys) none ∙ rest
 
-idle-members : (now : ℕ) (protocol : List ℕ) (ms : List KeptMember) → filter_map (λ (m : Member). called Any m.waits) (map (revived_member now protocol) ms) ≡ []
+idle-members : (now : ℕ) (protocol : List ℕ) (ms : List MemberRecord) → filter_map (λ (m : Member). called Any m.waits) (map (revived_member now protocol) ms) ≡ []
 unfolding revived_member
 idle-members now protocol [] = refl
 idle-members now protocol (m ∷ ms) = idle-members now protocol ms

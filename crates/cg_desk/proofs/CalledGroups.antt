@@ -6,14 +6,14 @@ use Rattle.std.specs.Ordering.{nat_cmp, match_ordering}
 use Rattle.std.specs.declared.cmp.Ordering.TheVariants.{Less, Equal, Greater}
 use Rattle.std.proofs.lemmas.Bool.{false≢true}
 use Rattle.std.proofs.lemmas.List.Sums.{sum_by-cons}
-use Rattle.cg_member.specs.declared.group.Group.{Group}
+use Rattle.cg_group_state.specs.declared.group.Group.{Group}
 use Rattle.cg_request.specs.declared.ticket.Ticket.{Ticket}
-use Rattle.cg_member.specs.declared.turn.Turn.{Turn}
-use Rattle.cg_member.specs.Joining.{new_group}
-use Rattle.cg_held.specs.Held.{InOrder, find_group, with_group, without_group}
+use Rattle.cg_group_state.specs.declared.turn.Turn.{Turn}
+use Rattle.cg_group_rules.specs.Join.{new_group}
+use Rattle.cg_group_table.specs.GroupTable.{InOrder, find_group, with_group, without_group}
 use Rattle.cg_request.specs.Names.{is_same}
-use Rattle.cg_held.proofs.InOrder.{before_found, equal_is, less_greater, same_order}
-use Rattle.cg_held.proofs.KeptLists.{same_self}
+use Rattle.cg_group_table.proofs.InOrder.{before_found, equal_is, less_greater, same_order}
+use Rattle.cg_group_table.proofs.KeptLists.{same_self}
 use Rattle.cg_desk.specs.Turns.{TakesIn, told_of, waits_of}
 use Rattle.cg_desk.proofs.CalledEverywhere.{in_groups}
 

@@ -7,31 +7,33 @@ use Rattle.std.proofs.lemmas.Cmp.{nat_list_eq_equiv}
 use Rattle.std.proofs.lemmas.List.Sums.{sum_by-append, sum_by-cons}
 use Rattle.std.proofs.lemmas.Bool.{or_parts, and_parts, not-true}
 use Rattle.cg_names.specs.declared.code.Code.TheVariants.{RebalanceInProgress, UnknownMemberId}
-use Rattle.cg_member.specs.declared.calls.Calls.TheVariants.{Any, Syncs}
-use Rattle.cg_member.specs.declared.group.Group.{Group}
-use Rattle.cg_member.specs.declared.group.Phase.{Phase}
-use Rattle.cg_member.specs.declared.group.Phase.TheVariants.{Empty, Preparing, Completing, Stable}
-use Rattle.cg_member.specs.declared.member.Member.{Member}
-use Rattle.cg_member.specs.declared.member.Waits.{Waits}
-use Rattle.cg_member.specs.declared.member.Waits.TheVariants.{Join, Sync}
-use Rattle.cg_member.specs.declared.reply.Reply.{Reply}
-use Rattle.cg_member.specs.declared.reply.Reply.TheVariants as reply
-use Rattle.cg_request.specs.declared.request.JoinRequest.{JoinRequest}
-use Rattle.cg_request.specs.declared.request.SyncEntry.{SyncEntry}
-use Rattle.cg_request.specs.declared.request.SyncRequest.{SyncRequest}
+use Rattle.cg_group_state.specs.declared.calls.Calls.TheVariants.{Any, Syncs}
+use Rattle.cg_group_state.specs.declared.group.Group.{Group}
+use Rattle.cg_group_state.specs.declared.group.Phase.{Phase}
+use Rattle.cg_group_state.specs.declared.group.Phase.TheVariants.{Empty, Preparing, Completing, Stable}
+use Rattle.cg_group_state.specs.declared.member.Member.{Member}
+use Rattle.cg_group_state.specs.declared.member.Waits.{Waits}
+use Rattle.cg_group_state.specs.declared.member.Waits.TheVariants.{Join, Sync}
+use Rattle.cg_group_state.specs.declared.reply.Reply.{Reply}
+use Rattle.cg_group_state.specs.declared.reply.Reply.TheVariants as reply
+use Rattle.cg_request.specs.declared.request_fields.JoinRequest.{JoinRequest}
+use Rattle.cg_request.specs.declared.request_fields.SyncEntry.{SyncEntry}
+use Rattle.cg_request.specs.declared.request_fields.SyncRequest.{SyncRequest}
 use Rattle.cg_request.specs.declared.ticket.Ticket.{Ticket}
-use Rattle.cg_member.specs.declared.turn.Turn.{Turn}
-use Rattle.cg_turn.specs.Beating.{beat_taken}
-use Rattle.cg_member.specs.Joining.{admitted, displaced, in_join_phase, is_current, join_again, join_current, join_known, join_new, new_member, rejoined, updated, updating, waits_with, waiting}
-use Rattle.cg_member.specs.Membership.{find_member, has_id, heard, hearing, is_preparing, is_same, keeping, leads, with_member}
-use Rattle.cg_member.specs.Rebalance.{prepared, turn_of}
-use Rattle.cg_member.specs.Syncing.{assigned, assigning, distributed, sync_current, sync_taken, sync_waits, assigned_command}
-use Rattle.cg_member.specs.Members.{ids}
+use Rattle.cg_group_state.specs.declared.turn.Turn.{Turn}
+use Rattle.cg_group_rules.specs.Heartbeat.{beat_taken}
+use Rattle.cg_group_rules.specs.Join.{admitted, displaced, in_join_phase, is_current, update_member_and_rebalance, join_current, join_known, add_member_and_rebalance, new_member, rejoined, updating, waiting}
+use Rattle.cg_group_state.specs.JoinTerms.{updated}
+use Rattle.cg_group_state.specs.Waiting.{waits_with, after_answer, after_answers, answer, answered, called, is_waiting, refusing}
+use Rattle.cg_group_state.specs.Membership.{find_member, has_id, heard, hearing, is_preparing, is_same, keeping, leads, with_member}
+use Rattle.cg_group_rules.specs.Rebalance.{prepare_rebalance, turn_of}
+use Rattle.cg_group_state.specs.Assignments.{assigned}
+use Rattle.cg_group_rules.specs.Sync.{assigning, propagate_assignment, sync_current, sync_taken, sync_waits, assigned_command}
+use Rattle.cg_group_state.specs.Members.{ids}
 use Rattle.cg_request.specs.Names.{are_distinct}
-use Rattle.cg_member.specs.Leaving.{leave_taken, left}
+use Rattle.cg_group_rules.specs.Leave.{leave_taken, left}
 use Rattle.cg_request.specs.declared.commit_entry.CommitEntry.{CommitEntry}
-use Rattle.cg_turn.specs.Committing.{committed, hearing_committer, keeping_entries}
-use Rattle.cg_member.specs.Waiting.{after_answer, after_answers, answer, answered, called, is_waiting, refusing}
+use Rattle.cg_group_rules.specs.OffsetCommit.{committed, hearing_committer, keeping_entries}
 use Rattle.cg_desk.specs.Owed.{weight_calls}
 use Rattle.cg_desk.specs.Turns.{own, told_of, total, waits_of}
 use Rattle.cg_desk.proofs.Called.{phase-kept, removal-kept, syncs-kept, told-append, tried-kept}
@@ -125,11 +127,11 @@ answer-id : (b : Bool) (now : ℕ) (m : Member) → (let n : Member = if b then 
 answer-id true now m = refl
 answer-id false now m = refl
 
-some-prepared : (id : List ℕ) (now : ℕ) (t : Turn) → is_some (find_member id (prepared now t).group.members) ≡ is_some (find_member id t.group.members)
-unfolding prepared after_answers
+some-prepared : (id : List ℕ) (now : ℕ) (t : Turn) → is_some (find_member id (prepare_rebalance now t).group.members) ≡ is_some (find_member id t.group.members)
+unfolding prepare_rebalance after_answers
 some-prepared id now t = some-map id (after_answer Syncs now) t.group.members (λ m. answer-id (is_waiting Syncs m) now m)
 
-some-phase-at : (b : Bool) (id : List ℕ) (now : ℕ) (t : Turn) → is_some (find_member id (let u : Turn = if b then t else prepared now t in u).group.members) ≡ is_some (find_member id t.group.members)
+some-phase-at : (b : Bool) (id : List ℕ) (now : ℕ) (t : Turn) → is_some (find_member id (let u : Turn = if b then t else prepare_rebalance now t in u).group.members) ≡ is_some (find_member id t.group.members)
 some-phase-at true id now t = refl
 some-phase-at false id now t = some-prepared id now t
 
@@ -151,8 +153,8 @@ admitted-kept weight now r id ticket kind g =
     let both = sum_by-append (own weight) g.members (new_member now r id [] (Join ticket) ∷ []) in
     omega arith
 
-pub new-kept : (weight : Ticket → ℕ) (now : ℕ) (r : JoinRequest) (id : List ℕ) (ticket : Ticket) (g : Group) → total weight (join_new now r id ticket g) ≡ waits_of weight g.members + weight ticket
-unfolding join_new
+pub new-kept : (weight : Ticket → ℕ) (now : ℕ) (r : JoinRequest) (id : List ℕ) (ticket : Ticket) (g : Group) → total weight (add_member_and_rebalance now r id ticket g) ≡ waits_of weight g.members + weight ticket
+unfolding add_member_and_rebalance
 new-kept weight now r id ticket g =
     let tries = tried-kept weight now (in_join_phase now (turn_of (admitted (new_member now r id [] (Join ticket)) r.kind g))) in
     let phase = phase-kept weight now (turn_of (admitted (new_member now r id [] (Join ticket)) r.kind g)) in
@@ -169,8 +171,8 @@ rejoined-kept weight now id ticket t has =
     let phase = phase-kept weight now t in
     omega arith
 
-again-kept : (weight : Ticket → ℕ) (now : ℕ) (r : JoinRequest) (id : List ℕ) (ticket : Ticket) (g : Group) → is_some (find_member id g.members) ≡ true → total weight (join_again now r id ticket g) ≡ waits_of weight g.members + weight ticket
-unfolding join_again
+again-kept : (weight : Ticket → ℕ) (now : ℕ) (r : JoinRequest) (id : List ℕ) (ticket : Ticket) (g : Group) → is_some (find_member id g.members) ≡ true → total weight (update_member_and_rebalance now r id ticket g) ≡ waits_of weight g.members + weight ticket
+unfolding update_member_and_rebalance
 again-kept weight now r id ticket g has =
     let joins = rejoined-kept weight now id ticket (turn_of (updating r id g)) (some-updating r id g ∙ has) in
     let before = updating-kept weight r id g in
@@ -181,7 +183,7 @@ unfolding join_current
 current-kept weight now id ticket m g = let before = hearing-kept weight now id g in omega arith
 
 known-at : (b : Bool) (weight : Ticket → ℕ) (now : ℕ) (r : JoinRequest) (id : List ℕ) (ticket : Ticket) (m : Member) (g : Group) → is_some (find_member id g.members) ≡ true
-    → total weight (if b then join_current now id ticket m g else join_again now r id ticket g) ≡ waits_of weight g.members + weight ticket
+    → total weight (if b then join_current now id ticket m g else update_member_and_rebalance now r id ticket g) ≡ waits_of weight g.members + weight ticket
 known-at true weight now r id ticket m g has = current-kept weight now id ticket m g
 known-at false weight now r id ticket m g has = again-kept weight now r id ticket g has
 
@@ -199,14 +201,14 @@ map-kept weight change (m ∷ ms) same =
     let all = sum_by-cons (own weight) m ms in
     omega arith
 
-distributed-kept : (weight : Ticket → ℕ) (now : ℕ) (entries : List SyncEntry) (t : Turn) → total weight (distributed now entries t) ≡ total weight t
-unfolding distributed assigning
+distributed-kept : (weight : Ticket → ℕ) (now : ℕ) (entries : List SyncEntry) (t : Turn) → total weight (propagate_assignment now entries t) ≡ total weight t
+unfolding propagate_assignment assigning
 distributed-kept weight now entries t =
     let told = syncs-kept weight now (let u : Turn = record { group = assigning entries t.group; replies = t.replies; commands = t.commands ++ assigned_command (assigning entries t.group) } in u) in
     let kept = map-kept weight (assigned entries) t.group.members (λ m. refl) in
     omega arith
 
-sync-at : (b : Bool) (weight : Ticket → ℕ) (now : ℕ) (entries : List SyncEntry) (t : Turn) → total weight (if b then distributed now entries t else t) ≡ total weight t
+sync-at : (b : Bool) (weight : Ticket → ℕ) (now : ℕ) (entries : List SyncEntry) (t : Turn) → total weight (if b then propagate_assignment now entries t else t) ≡ total weight t
 sync-at true weight now entries t = distributed-kept weight now entries t
 sync-at false weight now entries t = refl
 

@@ -7,22 +7,22 @@ use Rattle.std.proofs.lemmas.Cmp.{nat_list_eq_equiv}
 use Rattle.std.proofs.lemmas.List.Sums.{sum_by-cons}
 use Rattle.std.proofs.lemmas.Bool.{or_parts, and_parts, not-true}
 use Rattle.cg_names.specs.declared.code.Code.TheVariants.{FencedInstanceId}
-use Rattle.cg_record.specs.declared.member.Member.{Member as KeptMember}
-use Rattle.cg_member.specs.declared.calls.Calls.TheVariants.{Any}
-use Rattle.cg_member.specs.declared.group.Group.{Group}
-use Rattle.cg_member.specs.declared.member.Member.{Member}
-use Rattle.cg_request.specs.declared.request.JoinRequest.{JoinRequest}
+use Rattle.cg_record.specs.declared.member_record.MemberRecord.{MemberRecord}
+use Rattle.cg_group_state.specs.declared.calls.Calls.TheVariants.{Any}
+use Rattle.cg_group_state.specs.declared.group.Group.{Group}
+use Rattle.cg_group_state.specs.declared.member.Member.{Member}
+use Rattle.cg_request.specs.declared.request_fields.JoinRequest.{JoinRequest}
 use Rattle.cg_request.specs.declared.ticket.Ticket.{Ticket}
-use Rattle.cg_member.specs.declared.turn.Turn.{Turn}
-use Rattle.cg_member.specs.Joining.{new_member, rejoined}
-use Rattle.cg_member.specs.Members.{instances}
-use Rattle.cg_member.specs.Membership.{find_instance, find_member, has_instance, is_named, is_same}
+use Rattle.cg_group_state.specs.declared.turn.Turn.{Turn}
+use Rattle.cg_group_rules.specs.Join.{new_member, rejoined}
+use Rattle.cg_group_state.specs.Members.{instances}
+use Rattle.cg_group_state.specs.Membership.{find_instance, find_member, has_instance, is_named, is_same, seating}
 use Rattle.cg_request.specs.Names.{are_distinct}
-use Rattle.cg_member.specs.Replacing.{join_replacing, keeps_generation, replaced, replaced_in_place, replaced_reply, replacing, seating, successor}
-use Rattle.cg_member.specs.Syncing.{kept_member}
-use Rattle.cg_member.specs.Waiting.{called, refusing}
-use Rattle.cg_member.proofs.Seats.{rest_distinct}
-use Rattle.cg_held.proofs.KeptLists.{same_self}
+use Rattle.cg_group_rules.specs.StaticMember.{replace_static_member, keeps_generation, replaced, replaced_in_place, replaced_reply, replacing, successor}
+use Rattle.cg_group_rules.specs.Sync.{kept_member}
+use Rattle.cg_group_state.specs.Waiting.{called, refusing}
+use Rattle.cg_group_state.proofs.Seats.{rest_distinct}
+use Rattle.cg_group_table.proofs.KeptLists.{same_self}
 use Rattle.cg_desk.specs.Turns.{TurnsKeepTheirCalls, own, total, waits_of}
 use Rattle.cg_desk.proofs.Called.{gone-kept, ticked-kept, told-append}
 use Rattle.cg_desk.proofs.CalledRequests.{answer-own, beat-kept, commit-kept, known-kept, leave-kept, new-kept, rejoined-kept, sync-kept}
@@ -127,20 +127,20 @@ replaced-found : (now : ℕ) (r : JoinRequest) (id : List ℕ) (old : Member) (g
 unfolding replaced replacing seating new_member
 replaced-found now r id old g found = seated-found r.instance (successor now r id old) old g.members found
 
-in-place-kept : (weight : Ticket → ℕ) (ticket : Ticket) (new : KeptMember) (before : Group) (t : Turn) → total weight (replaced_in_place ticket new before t) ≡ total weight t + weight ticket
+in-place-kept : (weight : Ticket → ℕ) (ticket : Ticket) (new : MemberRecord) (before : Group) (t : Turn) → total weight (replaced_in_place ticket new before t) ≡ total weight t + weight ticket
 unfolding replaced_in_place
 in-place-kept weight ticket new before t =
     let told = told-append weight t.replies ((ticket, replaced_reply new.id before) ∷ []) in
     omega arith
 
-replacing-at : (b : Bool) (weight : Ticket → ℕ) (now : ℕ) (id : List ℕ) (ticket : Ticket) (new : KeptMember) (g : Group) (t : Turn) → is_some (find_member id t.group.members) ≡ true
+replacing-at : (b : Bool) (weight : Ticket → ℕ) (now : ℕ) (id : List ℕ) (ticket : Ticket) (new : MemberRecord) (g : Group) (t : Turn) → is_some (find_member id t.group.members) ≡ true
     → total weight (if b then replaced_in_place ticket new g t else rejoined now id ticket t) ≡ total weight t + weight ticket
 replacing-at true weight now id ticket new g t has = in-place-kept weight ticket new g t
 replacing-at false weight now id ticket new g t has = rejoined-kept weight now id ticket t has
 
 pub replacing-kept : (weight : Ticket → ℕ) (now : ℕ) (r : JoinRequest) (id : List ℕ) (ticket : Ticket) (old : Member) (g : Group) → are_distinct (instances g.members) ≡ true → find_instance r.instance g.members ≡ Some old
-    → total weight (join_replacing now r id ticket old g) ≡ waits_of weight g.members + weight ticket
-unfolding join_replacing
+    → total weight (replace_static_member now r id ticket old g) ≡ waits_of weight g.members + weight ticket
+unfolding replace_static_member
 replacing-kept weight now r id ticket old g distinct found =
     let new = successor now r id old in
     let t = replaced new old g in

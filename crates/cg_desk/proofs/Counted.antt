@@ -4,12 +4,12 @@ use Rattle.std.specs.Prelude.{Option, None, Some}
 use Rattle.std.specs.List.{sum_by}
 use Rattle.std.proofs.lemmas.Bool.{false≢true}
 use Rattle.std.proofs.lemmas.List.Sums.{sum_by-cons}
-use Rattle.cg_member.specs.declared.effects.Effects.{Effects}
-use Rattle.cg_member.specs.declared.reply.Reply.{Reply}
+use Rattle.cg_group_state.specs.declared.effects.Effects.{Effects}
+use Rattle.cg_group_state.specs.declared.reply.Reply.{Reply}
 use Rattle.cg_request.specs.declared.event.Event.{Event}
 use Rattle.cg_request.specs.declared.event.Event.TheVariants.{Gone, Tick}
 use Rattle.cg_request.specs.declared.ticket.Ticket.{Ticket}
-use Rattle.cg_request.specs.Asking.{asked}
+use Rattle.cg_request.specs.Request.{asked}
 use Rattle.cg_group.specs.Machine.{step}
 use Rattle.cg_desk.specs.Laws.{CommandsAreCountedOnce, made_in}
 use Rattle.cg_desk.specs.Books.{Books}

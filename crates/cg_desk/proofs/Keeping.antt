@@ -5,12 +5,12 @@ use Rattle.std.specs.declared.alloc.Global.{Global}
 use Rattle.std.proofs.Math.Logic.{∥∥₁_elim, ∥∥₁_map}
 use Rattle.std.proofs.Math.Nat.{ℕ_set}
 use Rattle.cg_fold.specs.Durable.{State as Durable}
-use Rattle.cg_request.specs.declared.asking.Request.{Request}
+use Rattle.cg_request.specs.declared.request.Request.{Request}
 use Rattle.cg_request.specs.declared.event.Event.TheVariants.{Gone, Tick}
-use Rattle.cg_request.specs.Asking.{asked}
-use Rattle.cg_held.specs.Held.{Machine}
-use Rattle.cg_held.specs.Kept.{AreRecords}
-use Rattle.cg_held.specs.Reviving.{revive}
+use Rattle.cg_request.specs.Request.{asked}
+use Rattle.cg_group_table.specs.GroupTable.{Machine}
+use Rattle.cg_group_table.specs.Kept.{AreRecords}
+use Rattle.cg_group_table.specs.Recovery.{revive}
 use Rattle.cg_store.specs.declared.batch.Batch.{Batch}
 use Rattle.cg_desk.specs.Balanced.{IsBalanced, IsBalancedAt}
 use Rattle.cg_desk.specs.Books.{Books, Served, IsInFlight, IsTake, failing, returning, served, settling}

@@ -7,24 +7,24 @@ use Rattle.cg_record.specs.declared.command.Command.{Command}
 use Rattle.cg_record.specs.declared.topic_partition.TopicPartition.{TopicPartition}
 use Rattle.cg_request.specs.declared.event.Event.{Event}
 use Rattle.cg_request.specs.declared.event.Event.TheVariants as event
-use Rattle.cg_member.specs.declared.group.Group.{Group}
+use Rattle.cg_group_state.specs.declared.group.Group.{Group}
 use Rattle.cg_request.specs.declared.ticket.Ticket.{Ticket}
-use Rattle.cg_member.specs.declared.turn.Turn.{Turn}
-use Rattle.cg_held.specs.Kept.{Ascending}
+use Rattle.cg_group_state.specs.declared.turn.Turn.{Turn}
+use Rattle.cg_group_table.specs.Kept.{Ascending}
 use Rattle.cg_group.specs.Laws.{after_all}
-use Rattle.cg_member.specs.Leaving.{gone_in}
-use Rattle.cg_group.specs.Machine.{beat, commit, concluded, deleted, drop_command, dropped, founded_after, is_unfounded, join, leave, memberless, met, step, sync, with_offset}
-use Rattle.cg_held.specs.Expiring.{goes, is_nil, lasting, tick, tick_effects}
-use Rattle.cg_held.specs.Held.{InOrder, Machine, groups_after, everywhere, without_group}
-use Rattle.cg_held.specs.Reviving.{revive}
-use Rattle.cg_member.specs.Offsets.{OffsetMap, offsets_after}
-use Rattle.cg_member.specs.Ticking.{ticked}
+use Rattle.cg_group_rules.specs.Leave.{gone_in}
+use Rattle.cg_group.specs.Machine.{beat, commit, concluded, deleted, drop_command, dropped, founded_after, is_unfounded, join, leave, memberless, handled, step, sync, with_offset}
+use Rattle.cg_group_table.specs.Expiry.{goes, is_nil, lasting, tick, tick_effects}
+use Rattle.cg_group_table.specs.GroupTable.{InOrder, Machine, groups_after, everywhere, without_group}
+use Rattle.cg_group_table.specs.Recovery.{revive}
+use Rattle.cg_group_state.specs.Offsets.{OffsetMap, offsets_after}
+use Rattle.cg_group_rules.specs.Tick.{ticked}
 use Rattle.cg_group.proofs.AgreeingTick.{ascending-filter}
 use Rattle.cg_group.proofs.DistinctMachine.{members_stay_distinct}
-use Rattle.cg_held.proofs.Framed.{framed-gone_in, framed-ticked}
-use Rattle.cg_held.proofs.KeptLists.{ascending-with_group, group_ids}
-use Rattle.cg_held.proofs.Removing.{ascending-without}
-use Rattle.cg_held.proofs.Revived.{in_order-revived}
+use Rattle.cg_group_table.proofs.Framed.{framed-gone_in, framed-ticked}
+use Rattle.cg_group_table.proofs.KeptLists.{ascending-with_group, group_ids}
+use Rattle.cg_group_table.proofs.Removing.{ascending-without}
+use Rattle.cg_group_table.proofs.Revived.{in_order-revived}
 use Rattle.cg_desk.specs.Made.{EventsKeepCalls, IsMade}
 use Rattle.cg_desk.proofs.CalledEvents.{IsSound, request-keeps}
 use Rattle.cg_desk.proofs.CalledEverywhere.{gone-keeps, loaded-idle, tick-keeps}
@@ -66,8 +66,8 @@ tick-ordered s h =
     subst P (sym (same-ids (ticked s.last) (λ g. (framed-ticked s.last g).0) (lasting s.loaded s.last s.offsets later s.groups)))
     (ascending-filter (λ g. not (goes s.loaded s.last s.offsets later g)) s.groups h)
 
-met-ordered : (s : Machine) (e : Event) → InOrder s.groups → InOrder (met s e).after.groups
-unfolding met
+met-ordered : (s : Machine) (e : Event) → InOrder s.groups → InOrder (handled s e).after.groups
+unfolding handled
 met-ordered s (event.Join ticket r fresh) h = concluded-ordered s ticket (join s.last r fresh ticket s.groups) h
 met-ordered s (event.Sync ticket r) h = concluded-ordered s ticket (sync s.last r ticket s.groups) h
 met-ordered s (event.Beat ticket r) h = concluded-ordered s ticket (beat s.last r ticket s.groups) h

@@ -7,11 +7,11 @@ use Rattle.std.proofs.lemmas.List.{append-nil, map-append, nil_from_length, take
 use Rattle.std.proofs.lemmas.List.Concat.{flat_map-append}
 use Rattle.std.proofs.lemmas.List.Sums.{sum_by-append, sum_by-cons}
 use Rattle.cg_request.specs.declared.event.Event.{Event}
-use Rattle.cg_member.specs.declared.reply.Reply.{Reply}
+use Rattle.cg_group_state.specs.declared.reply.Reply.{Reply}
 use Rattle.cg_request.specs.declared.ticket.Ticket.{Ticket}
 use Rattle.cg_group.specs.Machine.{step}
-use Rattle.cg_held.specs.Held.{Machine}
-use Rattle.cg_member.specs.Waiting.{waiting_calls}
+use Rattle.cg_group_table.specs.GroupTable.{Machine}
+use Rattle.cg_group_state.specs.Waiting.{waiting_calls}
 use Rattle.cg_desk.specs.Answering.{after_answering, answering, answering_one, refusal, refused}
 use Rattle.cg_desk.specs.Books.{Books, letting_go, served, settling, stepped}
 use Rattle.cg_desk.specs.Desks.{opened}
@@ -22,7 +22,7 @@ use Rattle.cg_desk.specs.Outgoings.{ticket_of}
 use Rattle.cg_desk.proofs.Sums.{weight_of, weight_out}
 use Rattle.cg_desk.specs.Owed.{IsOwed, KeepsCalls, weight_calls}
 use Rattle.cg_desk.specs.Tokens.{call_of, has_token, is_for, is_ticket, without}
-use Rattle.cg_desk.specs.declared.held.HeldStep.{HeldStep}
+use Rattle.cg_desk.specs.declared.pending_replies.HeldStep.{HeldStep}
 use Rattle.cg_desk.specs.declared.origin.Origin.{Origin}
 use Rattle.cg_desk.specs.declared.outgoing.Outgoing.{Outgoing}
 use Rattle.cg_desk.specs.declared.token.ReplyToken.{ReplyToken}

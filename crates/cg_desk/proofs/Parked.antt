@@ -4,10 +4,10 @@ use Rattle.std.specs.Prelude.{Option, None, Some, option_to_list}
 use Rattle.std.specs.List.{cons_option, filter_map, flat_map}
 use Rattle.std.proofs.lemmas.List.{map-append}
 use Rattle.std.proofs.lemmas.List.Elements.{filter_map-append}
-use Rattle.cg_member.specs.Waiting.{called, waiting_calls}
-use Rattle.cg_member.specs.declared.calls.Calls.TheVariants.{Any}
-use Rattle.cg_member.specs.declared.group.Group.{Group}
-use Rattle.cg_member.specs.declared.member.Member.{Member}
+use Rattle.cg_group_state.specs.Waiting.{called, waiting_calls}
+use Rattle.cg_group_state.specs.declared.calls.Calls.TheVariants.{Any}
+use Rattle.cg_group_state.specs.declared.group.Group.{Group}
+use Rattle.cg_group_state.specs.declared.member.Member.{Member}
 use Rattle.cg_request.specs.declared.ticket.Ticket.{Ticket}
 use Rattle.cg_desk.specs.Answering.{refusal}
 

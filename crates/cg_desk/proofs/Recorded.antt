@@ -4,18 +4,18 @@ use Rattle.std.specs.List.{list_any}
 use Rattle.std.specs.Ordering.{eq_by_cmp}
 use Rattle.std.specs.FinMap as finmap
 use Rattle.std.proofs.lemmas.Bool.{and_parts, not-true}
-use Rattle.cg_fold.specs.declared.record.GroupRecord.{GroupRecord}
-use Rattle.cg_fold.specs.declared.record.RecordedMembers.{RecordedMembers}
-use Rattle.cg_fold.specs.declared.record.RecordedMembers.TheVariants as recorded
+use Rattle.cg_fold.specs.declared.group_record.GroupRecord.{GroupRecord}
+use Rattle.cg_fold.specs.declared.group_record.RecordedMembers.{RecordedMembers}
+use Rattle.cg_fold.specs.declared.group_record.RecordedMembers.TheVariants as recorded
 use Rattle.cg_fold.specs.Durable.{State, after, effect, empty, with_member, with_record}
 use Rattle.cg_fold.specs.Grouped.{is_another}
 use Rattle.cg_fold.specs.Key.{name_cmp}
 use Rattle.cg_fold.specs.Record.{assigned_record, emptied_record, replaced_members, replaced_record, roster_in}
 use Rattle.cg_fold.proofs.KeyOrder.{name_same, name_total}
-use Rattle.cg_held.specs.Kept.{AreRecords, IsRecord, kept_in}
+use Rattle.cg_group_table.specs.Kept.{AreRecords, IsRecord, kept_in}
 use Rattle.cg_record.specs.declared.command.Command.{Command}
 use Rattle.cg_record.specs.declared.command.Command.TheVariants.{Assigned, Emptied, Replaced, Committed, Deleted, Dropped, Expired}
-use Rattle.cg_record.specs.declared.member.Member.{Member}
+use Rattle.cg_record.specs.declared.member_record.MemberRecord.{MemberRecord}
 use Rattle.cg_record.specs.Lawful.{AreCommands, IsCommand}
 use Rattle.cg_record.specs.Rosters.{IsRoster, RosterParts, has_id_of_other, leader_after, may_replace, replaced_in, roster_of, seated, takes_place_of}
 use Rattle.cg_record.proofs.Replacing.{seated_roster}
@@ -23,14 +23,14 @@ use Rattle.cg_store.specs.Carried.{AreMade}
 use Rattle.cg_desk.specs.Laws.{CommandsMakeRecords}
 
 -- a member may replace another
-roster-at : (may : Bool) (new : Member) (roster : RosterParts) → may_replace new roster.members ≡ may → IsRoster roster
+roster-at : (may : Bool) (new : MemberRecord) (roster : RosterParts) → may_replace new roster.members ≡ may → IsRoster roster
     → IsRoster (cond may (roster_of roster.protocol (leader_after new roster) (map (seated new) roster.members)) roster)
 roster-at true new roster is h =
     let parts = and_parts (list_any (takes_place_of new) roster.members) (not (list_any (has_id_of_other new) roster.members)) is in
     seated_roster new roster h parts.0 (not-true (list_any (has_id_of_other new) roster.members) parts.1)
 roster-at false new roster is h = h
 
-replaced-roster : (new : Member) (o : RecordedMembers) → IfSome (roster_in o) IsRoster → IfSome (roster_in (replaced_members new o)) IsRoster
+replaced-roster : (new : MemberRecord) (o : RecordedMembers) → IfSome (roster_in o) IsRoster → IfSome (roster_in (replaced_members new o)) IsRoster
 unfolding replaced_in
 replaced-roster new (recorded.Empty moment) h = tt
 replaced-roster new (recorded.Roster roster) h = roster-at (may_replace new roster.members) new roster refl h
@@ -51,7 +51,7 @@ set-lawful state group r h is q =
     either true = is
     either false = h q
 
-member-lawful : (state : State) (group : List ℕ) (new : Member) (o : Option GroupRecord) → IfSome o IsSound → AreSound state → AreSound (with_member state group new o)
+member-lawful : (state : State) (group : List ℕ) (new : MemberRecord) (o : Option GroupRecord) → IfSome o IsSound → AreSound state → AreSound (with_member state group new o)
 member-lawful state group new None is h = h
 member-lawful state group new (Some r) is h = set-lawful state group (replaced_record new r) h (replaced-roster new r.members is.0, is.1)
 

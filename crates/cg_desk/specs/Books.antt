@@ -1,11 +1,11 @@
 -- What contracts see of a desk that serves, and what each call does.
 use Rattle.std.specs.Prelude.{◌≡◌, ◌+◌, ◌-◌, ◌*◌, ℕ, Bool, List, [], ◌++◌, length, map, take, drop, nat_lt, true, false, Option, Some, None}
-use Rattle.cg_member.specs.declared.effects.Effects.{Effects}
+use Rattle.cg_group_state.specs.declared.effects.Effects.{Effects}
 use Rattle.cg_request.specs.declared.event.Event.{Event}
 use Rattle.cg_request.specs.declared.ticket.Ticket.{Ticket}
 use Rattle.cg_group.specs.Machine.{step}
-use Rattle.cg_held.specs.Held.{Machine, Outcome}
-use Rattle.cg_member.specs.Waiting.{waiting_calls}
+use Rattle.cg_group_table.specs.GroupTable.{Machine, Outcome}
+use Rattle.cg_group_state.specs.Waiting.{waiting_calls}
 use Rattle.cg_record.specs.declared.command.Command.{Command}
 use Rattle.cg_store.specs.declared.batch.Batch.{Batch}
 use Rattle.cg_log.specs.declared.numbers.TheConstants.{COMMAND_NUMBER_MAX}
@@ -14,10 +14,10 @@ use Rattle.cg_desk.specs.Fronts.{in_frame}
 use Rattle.cg_desk.specs.Held.{calls_of, holding, released, replies_of, still_held}
 use Rattle.cg_desk.specs.Origins.{origin_of, own_of}
 use Rattle.cg_desk.specs.Flights.{Course, Idle, Away, Returned, is_away, unsettled}
-use Rattle.cg_desk.specs.declared.bounds.TheConstants.{SPARE_NUMBERS, SPARE_NUMBERS_PER_GROUP}
+use Rattle.cg_desk.specs.declared.number_reserve.TheConstants.{SPARE_NUMBERS, SPARE_NUMBERS_PER_GROUP}
 use Rattle.cg_desk.specs.declared.fault.SettleFault.{SettleFault}
 use Rattle.cg_desk.specs.declared.fault.SettleFault.TheVariants.{Memory, NotInFlight, Foreign}
-use Rattle.cg_desk.specs.declared.held.HeldStep.{HeldStep}
+use Rattle.cg_desk.specs.declared.pending_replies.HeldStep.{HeldStep}
 use Rattle.cg_desk.specs.declared.outgoing.Outgoing.{Outgoing}
 use Rattle.cg_desk.specs.declared.token.ReplyToken.{ReplyToken}
 

@@ -3,8 +3,8 @@ use Rattle.std.specs.Prelude.{◌≡◌, ℕ, ⊤, Bool, true, false, List, [], 
 use Rattle.std.specs.FinMap as finmap
 use Rattle.cg_request.specs.declared.event.Event.{Event}
 use Rattle.cg_request.specs.declared.event.Event.TheVariants as event
-use Rattle.cg_member.specs.declared.reply.Reply.TheVariants.{Refused}
-use Rattle.cg_held.specs.Held.{Machine}
+use Rattle.cg_group_state.specs.declared.reply.Reply.TheVariants.{Refused}
+use Rattle.cg_group_table.specs.GroupTable.{Machine}
 use Rattle.cg_group.specs.Machine.{member_count}
 use Rattle.cg_names.specs.declared.code.Code.TheVariants.{CoordinatorLoadInProgress, CoordinatorNotAvailable}
 use Rattle.cg_store.specs.declared.batch.Batch.{Batch}
@@ -17,7 +17,7 @@ use Rattle.cg_desk.specs.declared.desk.Counts.{Counts}
 use Rattle.cg_desk.specs.declared.desk.Desk.{Desk}
 use Rattle.cg_desk.specs.declared.fault.SettleFault.{SettleFault}
 use Rattle.cg_desk.specs.declared.fault.SettleFault.TheVariants.{NotInFlight}
-use Rattle.cg_desk.specs.declared.held.HeldStep.{HeldStep}
+use Rattle.cg_desk.specs.declared.pending_replies.HeldStep.{HeldStep}
 use Rattle.cg_desk.specs.declared.outgoing.Outgoing.{Outgoing}
 use Rattle.cg_desk.specs.declared.token.ReplyToken.{ReplyToken}
 pub use Rattle.cg_desk.specs.States.{State, Loading, Serving, Failed}

@@ -1,10 +1,10 @@
 -- Replies that wait for their commands: those of one step wait together.
 use Rattle.std.specs.Prelude.{ℕ, List, [], ◌∷◌, take, drop, map, nat_le, nat_lt, Bool, false}
 use Rattle.std.specs.List.{flat_map, prefix_len}
-use Rattle.cg_member.specs.declared.reply.Reply.{Reply}
+use Rattle.cg_group_state.specs.declared.reply.Reply.{Reply}
 use Rattle.cg_request.specs.declared.ticket.Ticket.{Ticket}
 use Rattle.cg_desk.specs.Origins.{sent}
-use Rattle.cg_desk.specs.declared.held.HeldStep.{HeldStep}
+use Rattle.cg_desk.specs.declared.pending_replies.HeldStep.{HeldStep}
 use Rattle.cg_desk.specs.declared.origin.Origin.{Origin}
 use Rattle.cg_desk.specs.declared.outgoing.Outgoing.{Outgoing}
 

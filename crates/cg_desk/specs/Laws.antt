@@ -3,14 +3,14 @@ use Rattle.std.specs.Prelude.{◌≡◌, ◌≤◌, ◌<◌, ◌+◌, ℕ, false
 use Rattle.std.specs.List.{sum_by}
 use Rattle.cg_fold.specs.Durable.{State as Durable}
 use Rattle.cg_frame.specs.declared.segment.TheConstants.{LARGEST_PAYLOAD_BYTES}
-use Rattle.cg_request.specs.declared.asking.Request.{Request}
+use Rattle.cg_request.specs.declared.request.Request.{Request}
 use Rattle.cg_request.specs.declared.event.Event.{Event}
 use Rattle.cg_request.specs.declared.event.Event.TheVariants.{Gone, Tick}
 use Rattle.cg_request.specs.declared.ticket.Ticket.{Ticket}
-use Rattle.cg_request.specs.Asking.{asked}
-use Rattle.cg_member.specs.Members.{AreDistinct}
-use Rattle.cg_held.specs.Kept.{AreRecords, Each}
-use Rattle.cg_held.specs.Reviving.{revive}
+use Rattle.cg_request.specs.Request.{asked}
+use Rattle.cg_group_state.specs.Members.{AreDistinct}
+use Rattle.cg_group_table.specs.Kept.{AreRecords, Each}
+use Rattle.cg_group_table.specs.Recovery.{revive}
 use Rattle.cg_group.specs.Machine.{step}
 use Rattle.cg_record.specs.declared.command.Command.{Command}
 use Rattle.cg_record.specs.Spelling.{spelling}

@@ -1,15 +1,15 @@
 -- Every event keeps the pending requests of all groups, and recovery parks none.
 use Rattle.std.specs.Prelude.{◌≡◌, ℕ, List, [], ◌∷◌}
 use Rattle.cg_fold.specs.Durable.{State}
-use Rattle.cg_request.specs.declared.asking.Request.{Request}
+use Rattle.cg_request.specs.declared.request.Request.{Request}
 use Rattle.cg_request.specs.declared.event.Event.{Event}
 use Rattle.cg_request.specs.declared.event.Event.TheVariants.{Gone, Tick}
-use Rattle.cg_request.specs.Asking.{asked}
-use Rattle.cg_held.specs.Kept.{AreRecords}
+use Rattle.cg_request.specs.Request.{asked}
+use Rattle.cg_group_table.specs.Kept.{AreRecords}
 use Rattle.cg_group.specs.Laws.{after_all}
-use Rattle.cg_held.specs.Held.{Machine}
-use Rattle.cg_held.specs.Reviving.{revive}
-use Rattle.cg_member.specs.Waiting.{waiting_calls}
+use Rattle.cg_group_table.specs.GroupTable.{Machine}
+use Rattle.cg_group_table.specs.Recovery.{revive}
+use Rattle.cg_group_state.specs.Waiting.{waiting_calls}
 use Rattle.cg_desk.specs.Owed.{KeepsCalls}
 use Rattle.cg_desk.specs.Tokens.{call_of}
 use Rattle.cg_desk.specs.declared.token.ReplyToken.{ReplyToken}

@@ -1,6 +1,6 @@
 -- What contracts see of a reply that leaves.
 use Rattle.std.specs.Prelude.{ℕ}
-use Rattle.cg_member.specs.declared.reply.Reply.{Reply}
+use Rattle.cg_group_state.specs.declared.reply.Reply.{Reply}
 use Rattle.cg_request.specs.declared.ticket.Ticket.{Ticket}
 use Rattle.cg_desk.specs.declared.outgoing.Outgoing.{Outgoing}
 

@@ -4,8 +4,8 @@ use Rattle.std.specs.List.{sum_by}
 use Rattle.cg_request.specs.declared.event.Event.{Event}
 use Rattle.cg_request.specs.declared.ticket.Ticket.{Ticket}
 use Rattle.cg_group.specs.Machine.{step}
-use Rattle.cg_held.specs.Held.{Machine}
-use Rattle.cg_member.specs.Waiting.{waiting_calls}
+use Rattle.cg_group_table.specs.GroupTable.{Machine}
+use Rattle.cg_group_state.specs.Waiting.{waiting_calls}
 use Rattle.cg_desk.specs.Books.{Books}
 use Rattle.cg_desk.specs.Held.{calls_of, replies_of}
 use Rattle.cg_desk.specs.Bags.{AreSameTickets, bag_of, bag_of_tokens, together}

@@ -2,27 +2,27 @@
 use Rattle.std.specs.Prelude.{◌≡◌, ◌+◌, ℕ, true, List, Option, Some, is_some}
 use Rattle.std.specs.List.{sum_by}
 use Rattle.std.specs.Option.{option_to_list}
-use Rattle.cg_member.specs.declared.calls.Calls.TheVariants.{Any}
+use Rattle.cg_group_state.specs.declared.calls.Calls.TheVariants.{Any}
 use Rattle.cg_request.specs.declared.commit_entry.CommitEntry.{CommitEntry}
-use Rattle.cg_member.specs.declared.group.Group.{Group}
-use Rattle.cg_member.specs.declared.group.Phase.{Phase}
-use Rattle.cg_member.specs.declared.member.Member.{Member}
-use Rattle.cg_member.specs.declared.reply.Reply.{Reply}
-use Rattle.cg_request.specs.declared.request.JoinRequest.{JoinRequest}
-use Rattle.cg_request.specs.declared.request.SyncRequest.{SyncRequest}
+use Rattle.cg_group_state.specs.declared.group.Group.{Group}
+use Rattle.cg_group_state.specs.declared.group.Phase.{Phase}
+use Rattle.cg_group_state.specs.declared.member.Member.{Member}
+use Rattle.cg_group_state.specs.declared.reply.Reply.{Reply}
+use Rattle.cg_request.specs.declared.request_fields.JoinRequest.{JoinRequest}
+use Rattle.cg_request.specs.declared.request_fields.SyncRequest.{SyncRequest}
 use Rattle.cg_request.specs.declared.ticket.Ticket.{Ticket}
-use Rattle.cg_member.specs.declared.turn.Turn.{Turn}
-use Rattle.cg_turn.specs.Beating.{beat_taken}
-use Rattle.cg_turn.specs.Committing.{committed, hearing_committer}
-use Rattle.cg_member.specs.Joining.{join_known, join_new}
-use Rattle.cg_member.specs.Leaving.{gone_in, leave_taken}
-use Rattle.cg_member.specs.Members.{ids, instances}
-use Rattle.cg_member.specs.Membership.{find_instance, find_member}
+use Rattle.cg_group_state.specs.declared.turn.Turn.{Turn}
+use Rattle.cg_group_rules.specs.Heartbeat.{beat_taken}
+use Rattle.cg_group_rules.specs.OffsetCommit.{committed, hearing_committer}
+use Rattle.cg_group_rules.specs.Join.{join_known, add_member_and_rebalance}
+use Rattle.cg_group_rules.specs.Leave.{gone_in, leave_taken}
+use Rattle.cg_group_state.specs.Members.{ids, instances}
+use Rattle.cg_group_state.specs.Membership.{find_instance, find_member}
 use Rattle.cg_request.specs.Names.{are_distinct}
-use Rattle.cg_member.specs.Replacing.{join_replacing}
-use Rattle.cg_member.specs.Syncing.{sync_taken}
-use Rattle.cg_member.specs.Ticking.{ticked}
-use Rattle.cg_member.specs.Waiting.{called}
+use Rattle.cg_group_rules.specs.StaticMember.{replace_static_member}
+use Rattle.cg_group_rules.specs.Sync.{sync_taken}
+use Rattle.cg_group_rules.specs.Tick.{ticked}
+use Rattle.cg_group_state.specs.Waiting.{called}
 use Rattle.cg_desk.specs.Held.{calls_of}
 use Rattle.cg_desk.specs.Bags.{AreSameTickets}
 use Rattle.cg_desk.specs.Owed.{weight_calls}
@@ -51,9 +51,9 @@ TakesNone g t = AreSameTickets (λ weight. total weight t) (λ weight. waits_of 
 
 -- every step of a group keeps its requests
 pub record TurnsKeepTheirCalls : Type 0 where
-  pub first_join : (now : ℕ) (r : JoinRequest) (id : List ℕ) (ticket : Ticket) (g : Group) → TakesIn g ticket (join_new now r id ticket g)
+  pub first_join : (now : ℕ) (r : JoinRequest) (id : List ℕ) (ticket : Ticket) (g : Group) → TakesIn g ticket (add_member_and_rebalance now r id ticket g)
   pub join : (now : ℕ) (r : JoinRequest) (id : List ℕ) (ticket : Ticket) (m : Member) (g : Group) → is_some (find_member id g.members) ≡ true → TakesIn g ticket (join_known now r id ticket m g)
-  pub replace : (now : ℕ) (r : JoinRequest) (id : List ℕ) (ticket : Ticket) (old : Member) (g : Group) → are_distinct (instances g.members) ≡ true → find_instance r.instance g.members ≡ Some old → TakesIn g ticket (join_replacing now r id ticket old g)
+  pub replace : (now : ℕ) (r : JoinRequest) (id : List ℕ) (ticket : Ticket) (old : Member) (g : Group) → are_distinct (instances g.members) ≡ true → find_instance r.instance g.members ≡ Some old → TakesIn g ticket (replace_static_member now r id ticket old g)
   pub sync : (now : ℕ) (r : SyncRequest) (id : List ℕ) (ticket : Ticket) (m : Member) (g : Group) (phase : Phase) → is_some (find_member id g.members) ≡ true → TakesIn g ticket (sync_taken now r id ticket m g phase)
   pub beat : (now : ℕ) (id : List ℕ) (ticket : Ticket) (g : Group) → TakesIn g ticket (beat_taken now id ticket g)
   pub leave : (now : ℕ) (id : List ℕ) (ticket : Ticket) (m : Member) (g : Group) → are_distinct (ids g.members) ≡ true → find_member id g.members ≡ Some m → TakesIn g ticket (leave_taken now id ticket m g)

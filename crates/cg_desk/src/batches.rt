@@ -7,8 +7,8 @@ ghost use Rattle.cg_desk.specs.Queues.{commands_of};
 
 use crate::fault::{SettleFault, TakeFault};
 use crate::flight::{Flight, ReturnedBatch};
-use crate::held::HeldStep;
 use crate::outgoing::Outgoing;
+use crate::pending_replies::HeldStep;
 use crate::permit::Permit;
 use crate::queue::Queue;
 use crate::serving::Serving;

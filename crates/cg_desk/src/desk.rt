@@ -7,8 +7,8 @@ ghost use Rattle.cg_desk.specs.States.{phase_state};
 ghost use Rattle.cg_desk.specs.Tokens.{call_of};
 
 use crate::fault::{SettleFault, TakeFault};
-use crate::held::HeldStep;
 use crate::outgoing::Outgoing;
+use crate::pending_replies::HeldStep;
 use crate::serving::Serving;
 use crate::token::ReplyToken;
 use cg_fold::Durable;
@@ -75,9 +75,9 @@ fn refused_at_once(
 
 impl Desk {
     ghost use Rattle.cg_fold.specs.Durable.{State as DurableState};
-    ghost use Rattle.cg_request.specs.Asking.{asked};
-    ghost use Rattle.cg_held.specs.Kept.{AreRecords};
-    ghost use Rattle.cg_held.specs.Reviving.{revive};
+    ghost use Rattle.cg_request.specs.Request.{asked};
+    ghost use Rattle.cg_group_table.specs.Kept.{AreRecords};
+    ghost use Rattle.cg_group_table.specs.Recovery.{revive};
     ghost use Rattle.cg_store.specs.Receipts.{batch_of};
     ghost use Rattle.cg_desk.specs.Desks.{HasNothing, IsOut, IsReasonAt, IsTakenFrom, counts_of, failing_on, gone_on, held_of, is_back, is_out, is_serving, is_short_at, numbered_of, opened, request_on, return_to, settle_on, settled_of, state_of, tick_on};
     ghost use Rattle.cg_desk.specs.Held.{last_replies};

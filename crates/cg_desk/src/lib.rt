@@ -3,24 +3,23 @@
 //! which cannot be dropped and can be spent once.
 #![tactic(auto)]
 
-mod answering;
+mod batch_builder;
 mod batches;
-mod bounds;
 mod desk;
 mod fault;
-mod filling;
 mod flight;
-mod held;
 mod laws;
+mod number_reserve;
 mod origin;
 mod outgoing;
+mod pending_replies;
 mod permit;
 mod queue;
-mod refusing;
+mod refuse_all;
+mod released_replies;
 mod serving;
 mod token;
 
-pub use bounds::{SPARE_NUMBERS, SPARE_NUMBERS_PER_GROUP};
 pub use desk::{Counts, Desk};
 pub use fault::{SettleFault, TakeFault};
 pub use laws::{
@@ -28,6 +27,7 @@ pub use laws::{
     desks_have_distinct_members, desks_stay_balanced, events_keep_calls, replies_find_their_calls,
     tickets_are_kept, turns_keep_their_calls,
 };
+pub use number_reserve::{SPARE_NUMBERS, SPARE_NUMBERS_PER_GROUP};
 pub use outgoing::Outgoing;
 pub use permit::Permit;
 pub use token::ReplyToken;

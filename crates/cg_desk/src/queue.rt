@@ -5,7 +5,7 @@ ghost use Rattle.std.specs.VecDeque.{deque_capacity, deque_len};
 ghost use Rattle.cg_store.specs.Batches.{IsBatch};
 ghost use Rattle.cg_desk.specs.Fronts.{FitsFrame, IsFull, in_frame, spelled};
 
-use crate::filling::{spell, spell_front};
+use crate::batch_builder::{spell, spell_front};
 use cg_group::{Few, Items};
 use cg_record::Command;
 use cg_store::Commands;

@@ -4,14 +4,14 @@ ghost use Rattle.std.specs.VecDeque.{deque_len};
 ghost use Rattle.cg_desk.specs.Flights.{course_of, first_of, unsettled};
 ghost use Rattle.cg_desk.specs.Queues.{commands_of};
 
-use crate::bounds::{SPARE_NUMBERS, SPARE_NUMBERS_PER_GROUP};
 use crate::flight::Flight;
-use crate::held::HeldStep;
+use crate::number_reserve::{SPARE_NUMBERS, SPARE_NUMBERS_PER_GROUP};
 use crate::origin::Origin;
 use crate::outgoing::Outgoing;
+use crate::pending_replies::HeldStep;
 use crate::permit::Permit;
 use crate::queue::Queue;
-use crate::refusing::{refuse_held, refuse_rest, refuse_waiting};
+use crate::refuse_all::{refuse_held, refuse_rest, refuse_waiting};
 use crate::token::ReplyToken;
 use cg_group::{Effects, Event, Groups, Request, Ticket};
 use cg_names::Moment;
@@ -44,7 +44,7 @@ pub struct Serving {
 }
 
 impl Serving {
-    ghost use Rattle.cg_request.specs.Asking.{asked};
+    ghost use Rattle.cg_request.specs.Request.{asked};
     ghost use Rattle.cg_request.specs.declared.event.Event.TheVariants as event;
     ghost use Rattle.cg_desk.specs.Owed.{IsOwed};
     ghost use Rattle.cg_desk.specs.Laws.{AreRefusedOnce};

@@ -13,15 +13,15 @@ use Rattle.std.specs.declared.cmp.PartialEq as PartialEq
 use Rattle.std.specs.declared.cmp.PartialOrd as PartialOrd
 use Rattle.cg_names.proofs.moment.Moment.TheSendSync as moment
 use Rattle.cg_names.proofs.name.Name.TheSendSync as name
-use Rattle.cg_held.proofs.sessions.Home.TheSendSync as home
-use Rattle.cg_held.proofs.loaded.Loaded.TheSendSync as loaded
+use Rattle.cg_group_table.proofs.session_index.Home.TheSendSync as home
+use Rattle.cg_group_table.proofs.loaded_groups.Loaded.TheSendSync as loaded
 use Rattle.cg_fold.proofs.offsets.Offsets.TheSendSync as offsets
 use Rattle.cg_desk.proofs.flight.Flight.TheSendSync as flight
-use Rattle.cg_desk.proofs.held.HeldStep.TheSendSync as step
+use Rattle.cg_desk.proofs.pending_replies.HeldStep.TheSendSync as step
 use Rattle.cg_desk.proofs.queue.Queue.TheSendSync as queue
 use Rattle.cg_desk.proofs.token.ReplyToken.TheSendSync as token
 use Rattle.cg_desk.proofs.outgoing.Outgoing.TheSendSync as outgoing
-use Rattle.cg_held.specs.contracts.held.Held as Held
+use Rattle.cg_group_table.specs.contracts.group_table.GroupTable as GroupTable
 use Rattle.cg_group.specs.contracts.groups.Groups as Groups
 use Rattle.cg_desk.specs.contracts.serving.Serving as Serving
 use Rattle.cg_desk.specs.contracts.desk.Phase as Phase
@@ -31,7 +31,7 @@ use Rattle.std.specs.declared.sync.ledger.Ledger as ledger
 use Rattle.cg_disk.specs.declared.disk.SectorDisk as disk
 use Rattle.slab.specs.contracts.Slab as Slab
 use Rattle.slab.proofs.Slab.TheSendSync as slab
-use Rattle.cg_engine.specs.contracts.session.Session as Session
+use Rattle.cg_engine.specs.contracts.pass_state.Session as Session
 use Rattle.cg_engine.specs.contracts.desk_side.DeskSide as DeskSide
 use Rattle.cg_engine.specs.contracts.engine.Engine as Engine
 use Rattle.cg_engine.proofs.store_side.StoreSide.TheSendSync as storeside
@@ -39,7 +39,7 @@ use Rattle.cg_engine.proofs.units.Pool.TheSendSync as pool
 use Rattle.cg_engine.proofs.units.Part.TheSendSync as part
 use Rattle.cg_engine.proofs.booked.BookedReceipt.TheSendSync as receipt
 use Rattle.cg_engine.proofs.recorder.Recorder.TheSendSync as recorder
-use Rattle.cg_engine.proofs.session.Session.TheSendSync as session
+use Rattle.cg_engine.proofs.pass_state.Session.TheSendSync as session
 use Rattle.cg_engine.proofs.intake.Intake.TheSendSync as intake
 use Rattle.cg_engine.proofs.intake.Submission.TheSendSync as submission
 use Rattle.cg_time.proofs.tree.Tree.TheLaws.TheKnot as knot
@@ -87,10 +87,10 @@ module _ (T : RattleType) (g : Ord.Ghosts T.Denot) (g' : PartialEq.Ghosts T.Deno
   pub deadlines : IsSend (Deadlines.the_row T g g' g'')
   deadlines = view_send _ _ _ _ _ inside
 
-held : IsSend Held.the_row
+held : IsSend GroupTable.the_row
 held = search (sendable, one.crosses, maps.crosses, moment.the_send, loaded.the_send, name.the_send, deadlines) depth 30 fits 5000
 
-groups-of : IsSend Held.the_row → IsSend Groups.the_row
+groups-of : IsSend GroupTable.the_row → IsSend Groups.the_row
 groups-of h = search (sendable, one.crosses, maps.crosses, moment.the_send, home.the_send, offsets.the_send, name.the_send) depth 30 fits 5000
 
 serving-of : IsSend Groups.the_row → IsSend (Serving.the_field).row

@@ -1,8 +1,8 @@
 -- The answers that a pass notes, for the test of a trail.
 use Rattle.std.specs.Prelude.{◌≡◌, ◌⊎◌, Bool, false, List, [], ◌∷◌, ◌++◌, if◌then◌else◌}
 use Rattle.cg_desk.specs.Refusals.{is_refusal}
-use Rattle.cg_member.specs.declared.reply.Reply.{Reply}
-use Rattle.cg_member.specs.declared.reply.Reply.TheVariants as reply
+use Rattle.cg_group_state.specs.declared.reply.Reply.{Reply}
+use Rattle.cg_group_state.specs.declared.reply.Reply.TheVariants as reply
 use Rattle.cg_request.specs.declared.ticket.Ticket.{Ticket}
 use Rattle.cg_trail.specs.Entries.{Answer}
 use Rattle.cg_trail.specs.Trails.{TrailParts, AreAnswers}

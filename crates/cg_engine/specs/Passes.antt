@@ -3,7 +3,7 @@ use Rattle.std.specs.Prelude.{ℕ, ◌+◌, nat_lt, if◌then◌else◌}
 use Rattle.cg_desk.specs.declared.outgoing.Outgoing.{Outgoing}
 use Rattle.cg_request.specs.declared.ticket.Ticket.{Ticket}
 use Rattle.cg_engine.specs.Units.{count_of}
-use Rattle.cg_engine.specs.declared.bounds.TheConstants.{CALLS_MAX}
+use Rattle.cg_engine.specs.declared.engine_limits.TheConstants.{CALLS_MAX}
 use Rattle.cg_engine.specs.declared.kind.CallKind.{CallKind}
 use Rattle.cg_engine.specs.declared.noted.Noted.{Noted}
 use Rattle.cg_engine.specs.declared.pass.SessionPass.{SessionPass}

@@ -1,9 +1,9 @@
 -- How many settled commands an answer is worth.
 use Rattle.std.specs.Prelude.{ℕ, min}
-use Rattle.cg_member.specs.declared.reply.Reply.{Reply}
-use Rattle.cg_member.specs.declared.reply.Reply.TheVariants as reply
-use Rattle.cg_request.specs.declared.asking.Request.{Request}
-use Rattle.cg_request.specs.declared.asking.Request.TheVariants as request
+use Rattle.cg_group_state.specs.declared.reply.Reply.{Reply}
+use Rattle.cg_group_state.specs.declared.reply.Reply.TheVariants as reply
+use Rattle.cg_request.specs.declared.request.Request.{Request}
+use Rattle.cg_request.specs.declared.request.Request.TheVariants as request
 use Rattle.cg_engine.specs.declared.kind.CallKind.{CallKind}
 use Rattle.cg_engine.specs.declared.kind.CallKind.TheVariants.{Write, Changing, Read}
 

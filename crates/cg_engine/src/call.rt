@@ -6,8 +6,8 @@ ghost use Rattle.cg_engine.specs.Passes.{IfEnded, IfWaits, MatchBegun, calls_aft
 ghost use Rattle.cg_engine.specs.Worth.{kind_of, worth};
 
 use crate::answer::Answer;
-use crate::bounds::CALLS_MAX;
 use crate::engine::Engine;
+use crate::engine_limits::CALLS_MAX;
 use crate::intake::Submission;
 use crate::kind::CallKind;
 use crate::pass::SessionPass;

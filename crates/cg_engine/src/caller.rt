@@ -4,7 +4,7 @@ ghost use Rattle.cg_desk.specs.Outgoings.{made_of, reply_of, ticket_of};
 ghost use Rattle.cg_engine.specs.Noted.{IsNoted};
 ghost use Rattle.cg_engine.specs.Units.{count_of};
 ghost use Rattle.cg_engine.specs.Worth.{worth};
-ghost use Rattle.cg_engine.specs.declared.bounds.TheConstants.{CALLS_MAX};
+ghost use Rattle.cg_engine.specs.declared.engine_limits.TheConstants.{CALLS_MAX};
 
 use crate::answer::Answer;
 use crate::noted::Noted;

@@ -1,20 +1,20 @@
 //! What the desk lock of an engine guards: the desk, the sessions, and the units that no answer has yet.
 ghost use Rattle.std.specs.Prelude.{◌≡◌, ◌↔◌, IfErr, IsTrue};
-ghost use Rattle.cg_held.specs.Kept.{AreRecords};
+ghost use Rattle.cg_group_table.specs.Kept.{AreRecords};
 ghost use Rattle.cg_desk.specs.Tokens.{call_of};
 ghost use Rattle.cg_engine.specs.Left.{AreRefusals};
-ghost use Rattle.cg_engine.specs.declared.bounds.TheConstants.{PARTS};
+ghost use Rattle.cg_engine.specs.declared.engine_limits.TheConstants.{PARTS};
 
 use crate::answer::Answer;
 use crate::booked::BookedReceipt;
-use crate::bounds::{PARTS, PARTS_FOR_PASS, PASSES_MAX};
 use crate::delivery::{Deliveries, Delivery};
+use crate::engine_limits::{PARTS, PARTS_FOR_PASS, PASSES_MAX};
 use crate::fault::{PassFault, RoundEnd, RoundFault, Skip};
 use crate::intake::Submission;
 use crate::kind::CallKind;
 use crate::pass::SessionPass;
+use crate::pass_state::{Session, Waiting};
 use crate::recorder::{Begun, Recorder};
-use crate::session::{Session, Waiting};
 use crate::taken::{Taken, TakenBatch};
 use crate::units::{Part, Pool};
 use cg_desk::{Counts, Desk, Outgoing, ReplyToken, SettleFault, TakeFault};

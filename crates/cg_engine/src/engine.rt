@@ -7,13 +7,13 @@ ghost use Rattle.cg_engine.specs.Loads.{IsFound, IsPassing, Tells, found};
 ghost use Rattle.cg_engine.specs.Passes.{opening_of, units_of};
 
 use crate::appended::snapshots;
-use crate::bounds::PARTS;
 use crate::delivery::Deliveries;
 use crate::desk_side::DeskSide;
+use crate::engine_limits::PARTS;
 use crate::fault::{LoadFault, PassFault, RoundEnd, RoundFault, Skip};
 use crate::intake::Intake;
-use crate::loading::opened;
 use crate::pass::SessionPass;
+use crate::store_load::opened;
 use crate::store_side::{BlankBook, StoreSide};
 use cg_desk::Counts;
 use cg_disk::SectorDisk;

@@ -4,37 +4,37 @@
 #![tactic(auto)]
 
 mod answer;
+mod answer_poll;
 mod appended;
 mod booked;
-mod bounds;
 mod call;
 mod caller;
 mod closed;
-mod copies;
 mod delivery;
 mod desk_side;
 mod engine;
+mod engine_limits;
 mod fault;
 mod finish;
-mod flushing;
-mod handing_over;
+mod flush_round;
+mod hand_over;
 mod intake;
 mod kind;
-mod loading;
-mod looking;
 mod noted;
 mod pass;
+mod pass_state;
 mod pending_call;
 mod recorder;
-mod session;
 mod store_calls;
+mod store_load;
 mod store_side;
 mod taken;
+mod trail_copies;
 mod units;
 
-pub use bounds::{CALLS_MAX, PARTS, PASSES_MAX};
 pub use closed::Closed;
 pub use engine::Engine;
+pub use engine_limits::{CALLS_MAX, PARTS, PASSES_MAX};
 pub use fault::{FinishFault, LoadFault, PassFault, RoundEnd, RoundFault, Skip};
 pub use kind::CallKind;
 pub use pass::SessionPass;

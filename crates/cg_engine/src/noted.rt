@@ -3,7 +3,7 @@ ghost use Rattle.std.specs.Prelude.{◌≡◌, ◌∷◌, ◌++◌, [], OnOk, �
 ghost use Rattle.cg_desk.specs.Outgoings.{reply_of, ticket_of};
 ghost use Rattle.cg_engine.specs.Noted.{AreIn, IsNoted, is_refused};
 
-use crate::copies::copied_reply;
+use crate::trail_copies::copied_reply;
 use cg_desk::Outgoing;
 use cg_group::{Listed, Reply, Ticket};
 use cg_names::Code;

@@ -1,11 +1,11 @@
 //! The pass of a session: the right to call the engine, and the units of the answers so far.
 ghost use Rattle.std.specs.Prelude.{◌≡◌, ◌+◌, ◌<◌, ◌≤◌, ◌↔◌, IsTrue};
 ghost use Rattle.cg_engine.specs.Units.{count_of};
-ghost use Rattle.cg_engine.specs.declared.bounds.TheConstants.{CALLS_MAX};
+ghost use Rattle.cg_engine.specs.declared.engine_limits.TheConstants.{CALLS_MAX};
 
 use crate::answer::Answer;
-use crate::bounds::CALLS_MAX;
 use crate::caller::Caller;
+use crate::engine_limits::CALLS_MAX;
 use crate::noted::Noted;
 use crate::units::{Part, Units};
 use cg_group::Ticket;

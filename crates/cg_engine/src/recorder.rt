@@ -1,9 +1,9 @@
 //! The trail of an engine, as the desk lock keeps it: each step of the desk in the machine's own order.
 ghost use Rattle.std.specs.Prelude.{◌≡◌, IfOk};
 
-use crate::bounds::NUMBERED_SURELY;
-use crate::copies::{copied_replies, copied_reply};
+use crate::engine_limits::NUMBERED_SURELY;
 use crate::noted::Noted;
+use crate::trail_copies::{copied_replies, copied_reply};
 use cg_desk::{Desk, Outgoing};
 use cg_group::{Few, Listed, Reply, Request, Ticket};
 use cg_names::{Code, Moment};

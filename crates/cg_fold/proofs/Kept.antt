@@ -13,10 +13,10 @@ use Rattle.cg_record.specs.declared.command.Command.TheVariants as variants
 use Rattle.cg_record.specs.declared.committed.Committed.{Committed}
 use Rattle.cg_record.specs.declared.replaced.Replaced.{Replaced}
 use Rattle.cg_record.specs.declared.deleted.Deleted.{Deleted}
-use Rattle.cg_record.specs.declared.member.Member.{Member}
+use Rattle.cg_record.specs.declared.member_record.MemberRecord.{MemberRecord}
 use Rattle.cg_record.specs.declared.topic_partition.TopicPartition.{TopicPartition}
 use Rattle.cg_fold.specs.declared.stored_offset.StoredOffset.{StoredOffset}
-use Rattle.cg_fold.specs.declared.record.GroupRecord.{GroupRecord}
+use Rattle.cg_fold.specs.declared.group_record.GroupRecord.{GroupRecord}
 use Rattle.cg_fold.specs.Key.{KeptOffset, key_cmp, name_cmp}
 use Rattle.cg_fold.specs.Record.{KeptRecord, replaced_record, put_found, replaced_among}
 use Rattle.cg_fold.specs.Grouped.{is_another}
@@ -89,12 +89,12 @@ state-keep group new before after offsets now sorted stored is =
     ap (λ m. state_of m offsets) maps ∙ ap (λ s. with_record s group new) is
 
 -- the effect of a replacement
-found_then : (group : List ℕ) (new : Member) (found : Option GroupRecord) (before after : List KeptRecord) (offsets : Offsets)
+found_then : (group : List ℕ) (new : MemberRecord) (found : Option GroupRecord) (before after : List KeptRecord) (offsets : Offsets)
     → IsTrue (is_sorted name_cmp before) → after ≡ put_found group (option_map (replaced_record new) found) before → state after offsets ≡ with_member (state before offsets) group new found
 found_then group new None before after offsets sorted same = ap (λ r. state r offsets) same
 found_then group new (Some held) before after offsets sorted same = state-keep group (replaced_record new held) before after offsets (state before offsets) sorted same refl
 
-pub state-replace : (replaced : Replaced) (new : Member) (before after : List KeptRecord) (offsets : Offsets) (now : State)
+pub state-replace : (replaced : Replaced) (new : MemberRecord) (before after : List KeptRecord) (offsets : Offsets) (now : State)
     → IsTrue (is_sorted name_cmp before) → new ≡ replaced.member → after ≡ replaced_among replaced.group new before
     → state before offsets ≡ now → state after offsets ≡ effect now (variants.Replaced replaced)
 unfolding effect

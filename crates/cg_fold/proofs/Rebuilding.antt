@@ -16,9 +16,9 @@ use Rattle.std.proofs.lemmas.Slice.Eq.{bytes_eq-Decides}
 use Rattle.std.proofs.Math.Bool.{or-true}
 use Rattle.std.proofs.lemmas.List.Sums.{fold-append}
 use Rattle.cg_fold.specs.declared.stored_offset.StoredOffset.{StoredOffset}
-use Rattle.cg_fold.specs.declared.record.GroupRecord.{GroupRecord}
-use Rattle.cg_fold.specs.declared.record.RecordedMembers.{RecordedMembers}
-use Rattle.cg_fold.specs.declared.record.RecordedMembers.TheVariants.{Empty, Roster}
+use Rattle.cg_fold.specs.declared.group_record.GroupRecord.{GroupRecord}
+use Rattle.cg_fold.specs.declared.group_record.RecordedMembers.{RecordedMembers}
+use Rattle.cg_fold.specs.declared.group_record.RecordedMembers.TheVariants.{Empty, Roster}
 use Rattle.cg_fold.specs.Key.{KeptOffset, KeptRow, OffsetKey, in_group, key_cmp, key_of, name_cmp}
 use Rattle.cg_fold.specs.Durable.{State, after, effect, empty, folded, with_entry, with_record}
 use Rattle.cg_fold.specs.Snapshot.{CutsRuns, groups_in, has_moment, in_order, record_command, record_commands, entry_of, commits_by, first_len, is_of_group, offsets_of, group_commands_by, snapshot_by, snapshot_of}

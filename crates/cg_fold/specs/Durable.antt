@@ -7,10 +7,10 @@ use Rattle.cg_record.specs.declared.command.Command.{Command}
 use Rattle.cg_record.specs.declared.command.Command.TheVariants.{Assigned, Emptied, Replaced, Committed, Deleted, Expired, Dropped}
 use Rattle.cg_record.specs.declared.committed.Committed as commits
 use Rattle.cg_record.specs.declared.entry.Entry.{Entry}
-use Rattle.cg_record.specs.declared.member.Member.{Member}
+use Rattle.cg_record.specs.declared.member_record.MemberRecord.{MemberRecord}
 use Rattle.cg_record.specs.declared.topic_partition.TopicPartition.{TopicPartition}
 use Rattle.cg_fold.specs.declared.stored_offset.StoredOffset.{StoredOffset}
-use Rattle.cg_fold.specs.declared.record.GroupRecord.{GroupRecord}
+use Rattle.cg_fold.specs.declared.group_record.GroupRecord.{GroupRecord}
 use Rattle.cg_fold.specs.Key.{OffsetKey, is_among, key_cmp, key_of, name_cmp, kept_of, offsets_code}
 use Rattle.cg_fold.specs.Record.{assigned_record, emptied_record, replaced_record, record_code}
 use Rattle.cg_fold.specs.Grouped.{is_another}
@@ -33,7 +33,7 @@ abbrev pub with_record : State → List ℕ → GroupRecord → State
 with_record state group new = record state { records = map.insert state.records group new }
 
 -- the state with a replaced member in the record of a group, if it has one
-abbrev pub with_member : State → List ℕ → Member → Option GroupRecord → State
+abbrev pub with_member : State → List ℕ → MemberRecord → Option GroupRecord → State
 with_member state group new None = state
 with_member state group new (Some held) = with_record state group (replaced_record new held)
 

@@ -6,11 +6,11 @@ use Rattle.std.specs.Coded.{Coded, code_by, coded×, coded⊎, coded_list, coded
 use Rattle.std.specs.FinMap.{find, put}
 use Rattle.cg_record.specs.declared.assigned.Assigned.{Assigned}
 use Rattle.cg_record.specs.declared.emptied.Emptied.{Emptied}
-use Rattle.cg_record.specs.declared.member.Member.{Member}
+use Rattle.cg_record.specs.declared.member_record.MemberRecord.{MemberRecord}
 use Rattle.cg_record.specs.Rosters.{RosterParts, replaced_in}
-use Rattle.cg_fold.specs.declared.record.GroupRecord.{GroupRecord}
-use Rattle.cg_fold.specs.declared.record.RecordedMembers.{RecordedMembers}
-use Rattle.cg_fold.specs.declared.record.RecordedMembers.TheVariants.{Empty, Roster}
+use Rattle.cg_fold.specs.declared.group_record.GroupRecord.{GroupRecord}
+use Rattle.cg_fold.specs.declared.group_record.RecordedMembers.{RecordedMembers}
+use Rattle.cg_fold.specs.declared.group_record.RecordedMembers.TheVariants.{Empty, Roster}
 use Rattle.cg_fold.specs.Key.{name_cmp}
 use Rattle.cg_fold.specs.Grouped.{OfGroup}
 
@@ -27,12 +27,12 @@ abbrev pub emptied_record : Emptied → GroupRecord
 emptied_record e = record { generation = e.generation; kind = e.kind; members = Empty e.moment }
 
 -- the members after the replacement of one, if it is allowed
-abbrev pub replaced_members : Member → RecordedMembers → RecordedMembers
+abbrev pub replaced_members : MemberRecord → RecordedMembers → RecordedMembers
 replaced_members new (Empty moment) = Empty moment
 replaced_members new (Roster roster) = Roster (replaced_in new roster)
 
 -- the record after the replacement of a member, if it is allowed
-abbrev pub replaced_record : Member → GroupRecord → GroupRecord
+abbrev pub replaced_record : MemberRecord → GroupRecord → GroupRecord
 replaced_record new r = record r { members = replaced_members new r.members }
 
 -- the roster of the members, if there are any
@@ -46,11 +46,11 @@ put_found group None records = records
 put_found group (Some r) records = put name_cmp group r records
 
 -- the records with a replaced member in the record of one group
-abbrev pub replaced_among : List ℕ → Member → List KeptRecord → List KeptRecord
+abbrev pub replaced_among : List ℕ → MemberRecord → List KeptRecord → List KeptRecord
 replaced_among group new records = put_found group (option_map (replaced_record new) (find name_cmp group records)) records
 
 -- a member, a roster, the members of a record and a record have the codes of their parts
-abbrev pub member_code : Coded Member
+abbrev pub member_code : Coded MemberRecord
 member_code = code_by (List ℕ × (Option (List ℕ) × (List ℕ × (ℕ × (ℕ × (List ℕ × List ℕ))))))
     (coded× (coded_list coded_ℕ) (coded× (coded_option (coded_list coded_ℕ)) (coded× (coded_list coded_ℕ) (coded× coded_ℕ (coded× coded_ℕ (coded× (coded_list coded_ℕ) (coded_list coded_ℕ)))))))
     (λ m. (m.id, (m.instance, (m.client, (m.session, (m.rebalance, (m.subscription, m.assignment)))))))
@@ -58,7 +58,7 @@ member_code = code_by (List ℕ × (Option (List ℕ) × (List ℕ × (ℕ × (�
     (λ _. refl)
 
 abbrev pub roster_code : Coded RosterParts
-roster_code = code_by (List ℕ × (List ℕ × List Member)) (coded× (coded_list coded_ℕ) (coded× (coded_list coded_ℕ) (coded_list member_code))) (λ r. (r.protocol, (r.leader, r.members))) (λ p. record { protocol = p.0; leader = p.1.0; members = p.1.1 }) (λ _. refl)
+roster_code = code_by (List ℕ × (List ℕ × List MemberRecord)) (coded× (coded_list coded_ℕ) (coded× (coded_list coded_ℕ) (coded_list member_code))) (λ r. (r.protocol, (r.leader, r.members))) (λ p. record { protocol = p.0; leader = p.1.0; members = p.1.1 }) (λ _. refl)
 
 abbrev pub parts_of : RecordedMembers → Option ℕ ⊎ RosterParts
 parts_of (Empty moment) = inl moment

@@ -7,8 +7,8 @@ ghost use Rattle.cg_fold.specs.Key.{key_of};
 ghost use Rattle.cg_fold.specs.Durable.{Renews, counts_of, effect, empty, takes_away, with_record, without_offsets};
 ghost use Rattle.cg_fold.specs.Snapshot.{Ascending, AreListed, group_commands, groups_in, in_order, listed, snapshot_of};
 
+use crate::group_record::GroupRecord;
 use crate::offsets::Offsets;
-use crate::record::GroupRecord;
 use crate::records::{self, Records};
 use crate::shelves::Shelves;
 use crate::stored_offset::StoredOffset;

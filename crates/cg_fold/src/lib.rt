@@ -5,11 +5,12 @@
 mod durable;
 mod either;
 mod first_group;
+mod group_record;
 mod grouped;
 mod law;
 mod moves;
 mod offsets;
-mod record;
+mod owned_commands;
 mod records;
 mod renewals;
 mod rows;
@@ -18,12 +19,11 @@ mod shelves;
 mod snapshot;
 mod snapshots;
 mod stored_offset;
-mod taking;
 
 pub use durable::Durable;
+pub use group_record::{GroupRecord, RecordedMembers};
 pub use law::{any_runs_make_the_state_anew, snapshots_make_the_state_anew};
 pub use offsets::Offsets;
-pub use record::{GroupRecord, RecordedMembers};
 pub use rows::Row;
 pub use snapshot::Snapshot;
 pub use stored_offset::StoredOffset;

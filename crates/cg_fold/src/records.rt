@@ -4,8 +4,8 @@ ghost use Rattle.std.specs.FinMap.{is_sorted};
 ghost use Rattle.cg_fold.specs.Key.{name_cmp};
 ghost use Rattle.cg_fold.specs.Record.{replaced_among};
 
+use crate::group_record::GroupRecord;
 use crate::grouped::ByGroup;
-use crate::record::GroupRecord;
 use cg_names::{GroupId, MemberId};
 use cg_record::Member;
 

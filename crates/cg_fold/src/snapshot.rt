@@ -6,9 +6,9 @@ ghost use Rattle.cg_fold.specs.Snapshot.{AreListed, left_of, snapshot_of};
 
 use crate::durable::Durable;
 use crate::first_group::pop_first;
+use crate::owned_commands::commands_from;
 use crate::records::Records;
 use crate::shelves::Shelves;
-use crate::taking::commands_from;
 use cg_record::Command;
 use std::alloc::{AllocError, Global};
 use std::marker::Model;

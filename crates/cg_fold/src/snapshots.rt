@@ -7,7 +7,7 @@ ghost use Rattle.cg_record.specs.Keys.{metadata_bytes};
 ghost use Rattle.cg_record.specs.Partitions.{partition_cmp};
 ghost use Rattle.cg_fold.specs.Snapshot.{IsLongestRun, commit_command, commits_of, entry_of, first_len, record_command, record_commands};
 
-use crate::record::{GroupRecord, RecordedMembers};
+use crate::group_record::{GroupRecord, RecordedMembers};
 use crate::rows::Row;
 use crate::runs::{first_len, first_moment};
 use cg_names::{GroupId, Moment};

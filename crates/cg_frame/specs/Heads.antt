@@ -4,7 +4,7 @@ use Rattle.cg_disk.specs.Disk.{Image, Moment}
 use Rattle.cg_frame.specs.Frames.{IsOpen, IsClosed, FrameAt, HeadAt}
 use Rattle.cg_frame.specs.declared.fault.ScanFault.{ScanFault}
 use Rattle.cg_frame.specs.declared.fault.ScanFault.TheVariants.{Memory, Device, BadLength}
-use Rattle.cg_frame.specs.declared.reading.Head.{Head}
+use Rattle.cg_frame.specs.declared.frame_reader.Head.{Head}
 use Rattle.cg_frame.specs.declared.segment.Segment.{Segment}
 
 -- reads at a moment return the sectors of an image

@@ -5,19 +5,19 @@
 
 mod buffer;
 mod fault;
-mod reading;
+mod frame_reader;
+mod frame_writer;
 mod segment;
 mod segment_reader;
 mod staged;
 #[cfg(test)]
 mod tests;
-mod writing;
 
 pub use fault::{FrameFault, ScanFault};
-pub use reading::scan;
+pub use frame_reader::scan;
+pub use frame_writer::{append, close_gate};
 pub use segment::{
     Frame, LARGEST_PAYLOAD_BYTES, SECTORS_BOUND, SEGMENT_SECTORS, Segment, fits, frame_numbers,
 };
 pub use segment_reader::{PIECE_SECTORS, SegmentReader};
 pub use staged::{StagedFrame, append_staged, stage};
-pub use writing::{append, close_gate};

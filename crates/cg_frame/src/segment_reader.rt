@@ -7,7 +7,7 @@ ghost use Rattle.cg_frame.specs.Frames.{next_gate};
 ghost use Rattle.cg_frame.specs.Outcomes.{is_scan_device_failure};
 ghost use Rattle.cg_frame.specs.Heads.{HasContent, FindsHead};
 
-use crate::reading::{FRONT_BYTES, Head, head_of};
+use crate::frame_reader::{FRONT_BYTES, Head, head_of};
 use crate::segment::{HEAD_BYTES, positions_fit, sectors_of};
 use crate::{ScanFault, Segment};
 use cg_disk::{DiskFault, SECTOR_BYTES, SectorDisk};

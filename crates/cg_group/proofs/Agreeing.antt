@@ -8,38 +8,39 @@ use Rattle.cg_names.specs.Generations.{next_generation}
 use Rattle.cg_names.specs.declared.generation.TheConstants.{GENERATION_MAX}
 use Rattle.std.proofs.lemmas.Bool.{and_parts, and_from, or_parts, or_left, or_right, not-false, false≢true}
 use Rattle.std.proofs.lemmas.List.Folds.{list_all-append, list_all-map}
-use Rattle.cg_member.specs.declared.calls.Calls.TheVariants.{Joins, Syncs}
+use Rattle.cg_group_state.specs.declared.calls.Calls.TheVariants.{Joins, Syncs}
 use Rattle.cg_record.specs.declared.command.Command.TheVariants as command
 use Rattle.cg_request.specs.declared.event.Event.{Event}
-use Rattle.cg_fold.specs.declared.record.GroupRecord.{GroupRecord}
-use Rattle.cg_fold.specs.declared.record.RecordedMembers.{RecordedMembers}
-use Rattle.cg_fold.specs.declared.record.RecordedMembers.TheVariants as recorded
-use Rattle.cg_member.specs.declared.group.Group.{Group}
-use Rattle.cg_member.specs.declared.group.Phase.{Phase}
-use Rattle.cg_member.specs.declared.group.Phase.TheVariants.{Empty, Preparing, Completing, Stable}
-use Rattle.cg_member.specs.declared.member.Member.{Member}
+use Rattle.cg_fold.specs.declared.group_record.GroupRecord.{GroupRecord}
+use Rattle.cg_fold.specs.declared.group_record.RecordedMembers.{RecordedMembers}
+use Rattle.cg_fold.specs.declared.group_record.RecordedMembers.TheVariants as recorded
+use Rattle.cg_group_state.specs.declared.group.Group.{Group}
+use Rattle.cg_group_state.specs.declared.group.Phase.{Phase}
+use Rattle.cg_group_state.specs.declared.group.Phase.TheVariants.{Empty, Preparing, Completing, Stable}
+use Rattle.cg_group_state.specs.declared.member.Member.{Member}
 use Rattle.cg_request.specs.declared.protocol.Protocol.{Protocol}
-use Rattle.cg_member.specs.declared.member.Waits.TheVariants.{Join}
-use Rattle.cg_request.specs.declared.request.JoinRequest.{JoinRequest}
-use Rattle.cg_request.specs.declared.request.SyncEntry.{SyncEntry}
+use Rattle.cg_group_state.specs.declared.member.Waits.TheVariants.{Join}
+use Rattle.cg_request.specs.declared.request_fields.JoinRequest.{JoinRequest}
+use Rattle.cg_request.specs.declared.request_fields.SyncEntry.{SyncEntry}
 use Rattle.cg_request.specs.declared.ticket.Ticket.{Ticket}
-use Rattle.cg_member.specs.declared.turn.Turn.{Turn}
-use Rattle.cg_member.specs.Joining.{in_join_phase, is_inconsistent, updated, waiting, waits_with}
-use Rattle.cg_held.specs.Kept.{HasOffset, Kept}
-use Rattle.cg_held.proofs.Kept.{kept_after}
+use Rattle.cg_group_state.specs.declared.turn.Turn.{Turn}
+use Rattle.cg_group_rules.specs.Join.{in_join_phase, is_inconsistent, waiting}
+use Rattle.cg_group_state.specs.JoinTerms.{updated}
+use Rattle.cg_group_state.specs.Waiting.{waits_with, after_answers}
+use Rattle.cg_group_table.specs.Kept.{HasOffset, Kept}
+use Rattle.cg_group_table.proofs.Kept.{kept_after}
 use Rattle.cg_group.specs.Laws.{IsRecordedAs, TellsOf}
-use Rattle.cg_member.specs.Offsets.{OffsetMap}
-use Rattle.cg_member.specs.Leaving.{after_removal, has_joined}
-use Rattle.cg_member.specs.Membership.{has_id, has_instance, heard, hearing, is_empty, is_named, is_preparing, is_same, with_member}
-use Rattle.cg_member.specs.Rebalance.{completed, completed_generation, emptied, emptied_command, is_ready, next_round, prepared, told_to_joins, tried}
-use Rattle.cg_member.specs.Replacing.{seated, seating}
-use Rattle.cg_member.specs.Syncing.{assigned, assigned_command, assigning, distributed, kept_member, kept_roster, told_to_syncs}
-use Rattle.cg_member.specs.Ticking.{can_complete, ended}
-use Rattle.cg_member.specs.Vote.{is_common, offers}
-use Rattle.cg_member.specs.Waiting.{after_answers}
+use Rattle.cg_group_state.specs.Offsets.{OffsetMap}
+use Rattle.cg_group_rules.specs.Leave.{after_removal, has_joined}
+use Rattle.cg_group_state.specs.Membership.{has_id, has_instance, heard, hearing, is_empty, is_named, is_preparing, is_same, with_member, seated, seating}
+use Rattle.cg_group_rules.specs.Rebalance.{complete_join, completed_generation, emptied, emptied_command, is_ready, init_next_generation, prepare_rebalance, reply_to_joins, try_complete_join}
+use Rattle.cg_group_state.specs.Assignments.{assigned}
+use Rattle.cg_group_rules.specs.Sync.{assigned_command, assigning, propagate_assignment, kept_member, kept_roster, reply_to_syncs}
+use Rattle.cg_group_rules.specs.Tick.{can_complete, ended}
+use Rattle.cg_group_state.specs.Vote.{is_common, offers}
 use Rattle.cg_group.proofs.Elections.{HasCommon, elected_is}
-use Rattle.cg_member.proofs.Keeping.{IsLasting, map-same, map-with_member, keep-after_answers}
-use Rattle.cg_held.proofs.KeptLists.{kept_after-append, kept_after-one, same_self}
+use Rattle.cg_group_state.proofs.Keeping.{IsLasting, map-same, map-with_member, keep-after_answers}
+use Rattle.cg_group_table.proofs.KeptLists.{kept_after-append, kept_after-one, same_self}
 use Rattle.cg_group.proofs.Calling.{AllWaits, all-named, is_named_wait, no_sync, no_sync-after_answers, waits-after_answers, waits-assigned, waits-with_member}
 
 -- a rebalance has completed the group's generation
@@ -242,9 +243,9 @@ whole_joining events offsets g o j = let P : Phase → Type 0 = λ x. Holds x g 
 
 emptied_tells : (now : ℕ) (g : Group) (kept : Kept) (id : List ℕ) → g.id ≡ id → g.phase ≡ Empty → g.emptied ≡ Some now → g.protocol ≡ None → g.leader ≡ None → g.members ≡ [] → is_some g.kind ≡ true → IsCompleted g → TellsOf g (kept_after kept (emptied_command now g) id)
 unfolding emptied_command
-emptied_tells now g kept id named phase moment protocol leader members kind completed =
+emptied_tells now g kept id named phase moment protocol leader members kind complete_join =
     let P : Option ℕ → Type 0 = λ n. TellsOf g (kept_after kept (option_to_list (option_and_then (λ generation. option_map (λ kind. command.Emptied (record { group = g.id; generation = generation; kind = kind; moment = Some now })) g.kind) n)) id) in
-    subst P (sym completed) (go g.kind refl kind)
+    subst P (sym complete_join) (go g.kind refl kind)
   where
     go : (k : Option (List ℕ)) → k ≡ g.kind → is_some k ≡ true → TellsOf g (kept_after kept (option_to_list (option_map (λ kind. command.Emptied (record { group = g.id; generation = g.generation; kind = kind; moment = Some now })) k)) id)
     go None e h = absurd (false≢true h)
@@ -254,9 +255,9 @@ emptied_tells now g kept id named phase moment protocol leader members kind comp
 
 pub assigned_tells : (g : Group) (kept : Kept) (id : List ℕ) → g.id ≡ id → g.phase ≡ Stable → is_some g.kind ≡ true → is_some g.protocol ≡ true → is_some g.leader ≡ true → IsCompleted g → TellsOf g (kept_after kept (assigned_command g) id)
 unfolding assigned_command
-assigned_tells g kept id named phase kind protocol leader completed =
+assigned_tells g kept id named phase kind protocol leader complete_join =
     let P : Option ℕ → Type 0 = λ n. TellsOf g (kept_after kept (option_to_list (option_and_then (λ generation. option_and_then (λ kind. option_and_then (λ protocol. option_map (λ leader. command.Assigned (record { group = g.id; generation = generation; kind = kind; roster = kept_roster protocol leader g })) g.leader) g.protocol) g.kind) n)) id) in
-    subst P (sym completed) (go g.kind g.protocol g.leader refl refl refl kind protocol leader)
+    subst P (sym complete_join) (go g.kind g.protocol g.leader refl refl refl kind protocol leader)
   where
     go : (k p l : Option (List ℕ)) → k ≡ g.kind → p ≡ g.protocol → l ≡ g.leader → is_some k ≡ true → is_some p ≡ true → is_some l ≡ true → TellsOf g (kept_after kept (option_to_list (option_and_then (λ kind. option_and_then (λ protocol. option_map (λ leader. command.Assigned (record { group = g.id; generation = g.generation; kind = kind; roster = kept_roster protocol leader g })) l) p) k)) id)
     go None p l ek ep el hk hp hl = absurd (false≢true hk)
@@ -297,38 +298,38 @@ module _ (events : List (Event × ℕ)) (offsets : OffsetMap) (kept : Kept) (id 
         typed = has_kind g.kind j.kind;
       }
 
-  after-round : (now : ℕ) (t : Turn) → is_empty t.group.members ≡ false → Joining t.group → After (told_to_joins now (record t { group = next_round t.group }))
-  unfolding told_to_joins next_round
+  after-round : (now : ℕ) (t : Turn) → is_empty t.group.members ≡ false → Joining t.group → After (reply_to_joins now (record t { group = init_next_generation t.group }))
+  unfolding reply_to_joins init_next_generation
   after-round now t filled j = record {
     common = common-map (after_answers Joins now t.group.members) t.group.members (keep-after_answers (λ m. m.protocols) lasting_protocols Joins now t.group.members) j.common;
     holds = (j.kind, elected_is t.group.members j.common filled, next_is_completed t.group.generation);
-    named = all-named events (next_round t.group).id (next_round t.group).generation (after_answers Joins now t.group.members) (waits-after_answers no_sync (λ _. refl) Joins now t.group.members j.quiet);
+    named = all-named events (init_next_generation t.group).id (init_next_generation t.group).generation (after_answers Joins now t.group.members) (waits-after_answers no_sync (λ _. refl) Joins now t.group.members j.quiet);
     quiet = λ e. absurd (false≢true e);
     typed = has_kind t.group.kind j.kind;
   }
 
-  pub after-completed : (now : ℕ) (t : Turn) → t.group.id ≡ id → Joining t.group → After (completed now t)
-  unfolding completed
+  pub after-completed : (now : ℕ) (t : Turn) → t.group.id ≡ id → Joining t.group → After (complete_join now t)
+  unfolding complete_join
   after-completed now t named j =
-      (elim (is_empty t.group.members) as (λ b. is_empty t.group.members ≡ b → After (if b then emptied now t else told_to_joins now (record t { group = next_round t.group }))) [
+      (elim (is_empty t.group.members) as (λ b. is_empty t.group.members ≡ b → After (if b then emptied now t else reply_to_joins now (record t { group = init_next_generation t.group }))) [
         | true ↦ λ e. after-emptied now t named e j
         | false ↦ λ e. after-round now t e j
       ]) refl
 
-  pub after-tried : (now : ℕ) (t : Turn) → t.group.id ≡ id → Joining t.group → After (tried now t)
-  unfolding tried
-  after-tried now t named j = elim (is_ready t.group) as (λ b. After (if b then completed now t else t)) [ true ↦ after-completed now t named j | false ↦ whole_joining events offsets t.group (kept_after kept t.commands id) j ]
+  pub after-tried : (now : ℕ) (t : Turn) → t.group.id ≡ id → Joining t.group → After (try_complete_join now t)
+  unfolding try_complete_join
+  after-tried now t named j = elim (is_ready t.group) as (λ b. After (if b then complete_join now t else t)) [ true ↦ after-completed now t named j | false ↦ whole_joining events offsets t.group (kept_after kept t.commands id) j ]
 
   pub after-ended : (now : ℕ) (t : Turn) → t.group.id ≡ id → Joining t.group → After (ended now t)
   unfolding ended
   after-ended now t named j =
-      elim (can_complete t.group.members) as (λ b. After (if b then completed now t else record t { group = record t.group { started = now } })) [
+      elim (can_complete t.group.members) as (λ b. After (if b then complete_join now t else record t { group = record t.group { started = now } })) [
         | true ↦ after-completed now t named j
         | false ↦ whole_joining events offsets (record t.group { started = now }) (kept_after kept t.commands id) (record { phase = j.phase; kind = j.kind; common = j.common; quiet = j.quiet })
       ]
 
-  joining-prepared : (now : ℕ) (t : Turn) → is_some t.group.kind ≡ true → HasCommon t.group.members → Joining (prepared now t).group
-  unfolding prepared
+  joining-prepared : (now : ℕ) (t : Turn) → is_some t.group.kind ≡ true → HasCommon t.group.members → Joining (prepare_rebalance now t).group
+  unfolding prepare_rebalance
   joining-prepared now t kind common = record {
     phase = refl;
     kind = kind;
@@ -338,7 +339,7 @@ module _ (events : List (Event × ℕ)) (offsets : OffsetMap) (kept : Kept) (id 
 
   pub joining-in_join_phase : (now : ℕ) (t : Turn) → is_some t.group.kind ≡ true → HasCommon t.group.members → (is_preparing t.group.phase ≡ true → AllWaits no_sync t.group.members) → Joining (in_join_phase now t).group
   joining-in_join_phase now t kind common quiet =
-      (elim (is_preparing t.group.phase) as (λ b. is_preparing t.group.phase ≡ b → Joining (if b then t else prepared now t).group) [
+      (elim (is_preparing t.group.phase) as (λ b. is_preparing t.group.phase ≡ b → Joining (if b then t else prepare_rebalance now t).group) [
         | true ↦ λ e. record { phase = preparing_is t.group.phase e; kind = kind; common = common; quiet = quiet e }
         | false ↦ λ e. joining-prepared now t kind common
       ]) refl
@@ -361,30 +362,30 @@ module _ (events : List (Event × ℕ)) (offsets : OffsetMap) (kept : Kept) (id 
       (waits-with_member (is_named_wait events g.id g.generation) own (heard now) (λ m _ e. e) g.members h.named)
       (λ p. waits-with_member no_sync own (heard now) (λ m _ e. e) g.members (h.quiet p)) h
 
-  after-told_to_syncs : (now : ℕ) (t : Turn) → After t → After (told_to_syncs now t)
-  unfolding told_to_syncs
-  after-told_to_syncs now t h =
+  after-reply_to_syncs : (now : ℕ) (t : Turn) → After t → After (reply_to_syncs now t)
+  unfolding reply_to_syncs
+  after-reply_to_syncs now t h =
       whole-members events offsets t.group (after_answers Syncs now t.group.members) (kept_after kept t.commands id)
       (keep-after_answers (λ m. m.protocols) lasting_protocols Syncs now t.group.members)
       (keep-after_answers (kept_member t.group.protocol) (lasting_kept t.group.protocol) Syncs now t.group.members)
       (waits-after_answers (is_named_wait events t.group.id t.group.generation) (λ _. refl) Syncs now t.group.members h.named)
       (λ p. no_sync-after_answers now t.group.members) h
 
-  pub after-distributed : (now : ℕ) (entries : List SyncEntry) (t : Turn) → t.group.id ≡ id → is_some t.group.kind ≡ true → is_some t.group.protocol ≡ true → is_some t.group.leader ≡ true → IsCompleted t.group → HasCommon t.group.members → AllWaits (is_named_wait events t.group.id t.group.generation) t.group.members → After (distributed now entries t)
-  unfolding distributed assigning
-  after-distributed now entries t named kind protocol leader completed common waits =
+  pub after-distributed : (now : ℕ) (entries : List SyncEntry) (t : Turn) → t.group.id ≡ id → is_some t.group.kind ≡ true → is_some t.group.protocol ≡ true → is_some t.group.leader ≡ true → IsCompleted t.group → HasCommon t.group.members → AllWaits (is_named_wait events t.group.id t.group.generation) t.group.members → After (propagate_assignment now entries t)
+  unfolding propagate_assignment assigning
+  after-distributed now entries t named kind protocol leader complete_join common waits =
       let g : Group = assigning entries t.group in
       let P : Kept → Type 0 = λ k. TellsOf g (k id) in
-      after-told_to_syncs now (record { group = g; replies = t.replies; commands = t.commands ++ assigned_command g }) (record {
+      after-reply_to_syncs now (record { group = g; replies = t.replies; commands = t.commands ++ assigned_command g }) (record {
         common = common-map (map (assigned entries) t.group.members) t.group.members (map-same (λ m. m.protocols) (assigned entries) (λ m. refl) t.group.members) common;
-        holds = subst P (sym (kept_after-append kept t.commands (assigned_command g))) (assigned_tells g (kept_after kept t.commands) id named refl kind protocol leader completed);
+        holds = subst P (sym (kept_after-append kept t.commands (assigned_command g))) (assigned_tells g (kept_after kept t.commands) id named refl kind protocol leader complete_join);
         named = waits-assigned (is_named_wait events t.group.id t.group.generation) entries t.group.members waits;
         quiet = λ e. absurd (false≢true e);
         typed = has_kind t.group.kind kind;
       })
 
-  id-prepared : (now : ℕ) (t : Turn) → (prepared now t).group.id ≡ t.group.id
-  unfolding prepared
+  id-prepared : (now : ℕ) (t : Turn) → (prepare_rebalance now t).group.id ≡ t.group.id
+  unfolding prepare_rebalance
   id-prepared now t = refl
 
   joined_or_joining : (p : Phase) → has_joined p ≡ false → (p ≡ Empty → ⊥) → p ≡ Preparing
@@ -396,7 +397,7 @@ module _ (events : List (Event × ℕ)) (offsets : OffsetMap) (kept : Kept) (id 
   pub after-after_removal : (now : ℕ) (t : Turn) → t.group.id ≡ id → is_some t.group.kind ≡ true → HasCommon t.group.members → (is_preparing t.group.phase ≡ true → AllWaits no_sync t.group.members) → (t.group.phase ≡ Empty → ⊥) → After (after_removal now t)
   unfolding after_removal
   after-after_removal now t named kind common quiet filled =
-      (elim (has_joined t.group.phase) as (λ b. has_joined t.group.phase ≡ b → After (tried now (if b then prepared now t else t))) [
-        | true ↦ λ e. after-tried now (prepared now t) (id-prepared now t ∙ named) (joining-prepared now t kind common)
+      (elim (has_joined t.group.phase) as (λ b. has_joined t.group.phase ≡ b → After (try_complete_join now (if b then prepare_rebalance now t else t))) [
+        | true ↦ λ e. after-tried now (prepare_rebalance now t) (id-prepared now t ∙ named) (joining-prepared now t kind common)
         | false ↦ λ e. let p : t.group.phase ≡ Preparing = joined_or_joining t.group.phase e filled in after-tried now t named (record { phase = p; kind = kind; common = common; quiet = quiet (is_preparing_from t.group.phase p) })
       ]) refl

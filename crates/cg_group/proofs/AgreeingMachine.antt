@@ -2,54 +2,54 @@
 use Rattle.std.proofs.Common.{◌≡◌, ◌≤◌, ℕ, arith, length, inl, inr, Result, Ok, Err, Bool, true, false, ◌&&◌, ◌||◌, List, [], ◌∷◌, ◌++◌, append_assoc, append-nil, map, cond, is_some, refl, sym, ap, ◌∙◌, subst, max, nat_eq, Option, Some, None}
 use Rattle.std.specs.List.{list_any}
 use Rattle.std.proofs.lemmas.Bool.{and_from, or_left, or_right, false≢true}
-use Rattle.std.proofs.lemmas.Cmp.{nat_eq_equiv}
+use Rattle.std.proofs.lemmas.Cmp.{nat_eq_equiv, nat_list_eq_equiv}
 use Rattle.std.proofs.lemmas.List.Folds.{list_any-append}
 use Rattle.std.specs.Prelude.{◌⊎◌, IfSome, pos, unwrap_or, option_map}
 use Rattle.cg_request.specs.declared.protocol.Protocol.{Protocol}
 use Rattle.std.specs.Ordering.{int_eq}
 use Rattle.std.specs.FinMap as finmap
-use Rattle.cg_record.specs.declared.member.Member.{Member as KeptMember}
+use Rattle.cg_record.specs.declared.member_record.MemberRecord.{MemberRecord}
 use Rattle.cg_names.specs.declared.code.Code.{Code}
 use Rattle.cg_record.specs.declared.command.Command.{Command}
 use Rattle.cg_record.specs.declared.command.Command.TheVariants as command
 use Rattle.cg_request.specs.declared.event.Event.{Event}
 use Rattle.cg_request.specs.declared.event.Event.TheVariants as event
-use Rattle.cg_fold.specs.declared.record.GroupRecord.{GroupRecord}
-use Rattle.cg_fold.specs.declared.record.RecordedMembers.{RecordedMembers}
-use Rattle.cg_fold.specs.declared.record.RecordedMembers.TheVariants as recorded
-use Rattle.cg_member.specs.declared.group.Group.{Group}
-use Rattle.cg_member.specs.declared.group.Phase.{Phase}
-use Rattle.cg_member.specs.declared.group.Phase.TheVariants.{Empty, Preparing, Completing, Stable}
-use Rattle.cg_member.specs.declared.member.Waits.{Waits}
-use Rattle.cg_member.specs.declared.member.Waits.TheVariants.{Nothing, Join, Sync}
-use Rattle.cg_request.specs.declared.request.SyncRequest.{SyncRequest}
+use Rattle.cg_fold.specs.declared.group_record.GroupRecord.{GroupRecord}
+use Rattle.cg_fold.specs.declared.group_record.RecordedMembers.{RecordedMembers}
+use Rattle.cg_fold.specs.declared.group_record.RecordedMembers.TheVariants as recorded
+use Rattle.cg_group_state.specs.declared.group.Group.{Group}
+use Rattle.cg_group_state.specs.declared.group.Phase.{Phase}
+use Rattle.cg_group_state.specs.declared.group.Phase.TheVariants.{Empty, Preparing, Completing, Stable}
+use Rattle.cg_group_state.specs.declared.member.Waits.{Waits}
+use Rattle.cg_group_state.specs.declared.member.Waits.TheVariants.{Nothing, Join, Sync}
+use Rattle.cg_request.specs.declared.request_fields.SyncRequest.{SyncRequest}
 use Rattle.cg_request.specs.declared.ticket.Ticket.{Ticket}
-use Rattle.cg_member.specs.Joining.{new_group}
-use Rattle.cg_held.specs.Kept.{Each, HasOffset, Kept, kept_in}
-use Rattle.cg_held.proofs.Kept.{kept-after, kept_after}
+use Rattle.cg_group_rules.specs.Join.{new_group}
+use Rattle.cg_group_table.specs.Kept.{Each, HasOffset, Kept, kept_in}
+use Rattle.cg_group_table.proofs.Kept.{kept-after, kept_after}
 use Rattle.cg_group.specs.Laws.{AgreesIn, AreCompleted, AreRequests, IsFounded, IsFresh, IsRebalancing, IsRecordedAs, MachineAndCommandsAgree, TellsOf, after_all, commands_of, is_request, state_after}
 use Rattle.cg_group.proofs.Asked.{has_named, is_same_ticket, is_sync_of}
-use Rattle.cg_member.specs.Leaving.{gone_in}
+use Rattle.cg_group_rules.specs.Leave.{gone_in}
 use Rattle.cg_record.specs.declared.topic_partition.TopicPartition.{TopicPartition}
 use Rattle.cg_group.proofs.AgreeingTick.{whole-drop, whole-tick, whole_under}
-use Rattle.cg_group.specs.Machine.{beat, commit, concluded, deleted, dropped, memberless, join, leave, met, step, sync}
-use Rattle.cg_held.specs.Held.{Machine, everywhere, find_group}
-use Rattle.cg_member.specs.declared.turn.Turn.{Turn}
-use Rattle.cg_member.specs.Offsets.{OffsetMap, offsets_after}
-use Rattle.cg_member.specs.Membership.{is_empty, is_named, is_same}
-use Rattle.cg_member.specs.Rebalance.{subscription_for}
-use Rattle.cg_held.specs.Reviving.{revive, revived, revived_from, revived_member, revived_with}
+use Rattle.cg_group.specs.Machine.{beat, commit, concluded, deleted, dropped, memberless, join, leave, handled, step, sync}
+use Rattle.cg_group_table.specs.GroupTable.{Machine, everywhere, find_group}
+use Rattle.cg_group_state.specs.declared.turn.Turn.{Turn}
+use Rattle.cg_group_state.specs.Offsets.{OffsetMap, offsets_after}
+use Rattle.cg_group_state.specs.Membership.{is_empty, is_named, is_same}
+use Rattle.cg_group_rules.specs.Rebalance.{subscription_for}
+use Rattle.cg_group_table.specs.Recovery.{revive, revived, revived_from, revived_member, revived_with}
 use Rattle.cg_fold.specs.Durable.{State}
 use Rattle.cg_fold.specs.Snapshot.{groups_in, in_order}
-use Rattle.cg_held.proofs.Removing.{each-without-over}
-use Rattle.cg_held.proofs.Revived.{held_revived, id_revived, in_order-revived, offsets_revived}
-use Rattle.cg_member.specs.Syncing.{kept_member}
-use Rattle.cg_member.specs.Vote.{is_common}
+use Rattle.cg_group_table.proofs.Removing.{each-without-over}
+use Rattle.cg_group_table.proofs.Revived.{held_revived, id_revived, in_order-revived, offsets_revived}
+use Rattle.cg_group_rules.specs.Sync.{kept_member}
+use Rattle.cg_group_state.specs.Vote.{is_common}
 use Rattle.cg_group.proofs.Agreeing.{Holds, Whole, has_kind, kind_holds, suits_consistent, suits_empty}
-use Rattle.cg_group.proofs.AgreeingTurns.{after-beat_taken, after-committed, after-gone_in, after-join_known, after-join_new, after-join_replacing, after-leave_taken, after-sync_taken}
+use Rattle.cg_group.proofs.AgreeingTurns.{after-beat_taken, after-committed, after-gone_in, after-join_known, after-add_member_and_rebalance, after-replace_static_member, after-leave_taken, after-sync_taken}
 use Rattle.cg_group.proofs.Calling.{AllWaits, is_named_wait, no_sync}
-use Rattle.cg_held.proofs.Framed.{framed-beat_taken, framed-committed, framed-gone_in, framed-join_known, framed-join_new, framed-join_replacing, framed-leave_taken, framed-sync_taken}
-use Rattle.cg_held.proofs.KeptLists.{each-found, id-found, kept_after-append, kept_after-none, same_self}
+use Rattle.cg_group_table.proofs.Framed.{framed-beat_taken, framed-committed, framed-gone_in, framed-join_known, framed-add_member_and_rebalance, framed-replace_static_member, framed-leave_taken, framed-sync_taken}
+use Rattle.cg_group_table.proofs.KeptLists.{each-found, id-found, kept_after-append, kept_after-none, same_self}
 use Rattle.cg_group.proofs.Covering.{covered-after_all, covered-revive, offsets-after_all, offsets-revive, offsets-step}
 use Rattle.cg_group.proofs.Dated.{completed-after}
 use Rattle.cg_group.proofs.Founded.{Stores, has-deleted, others-concluded, own-concluded, stores-commit}
@@ -58,7 +58,6 @@ use Rattle.cg_group.proofs.Quiet.{quiet-all, quiet-beat, quiet-concluded, quiet-
 use Rattle.cg_group.proofs.KeptMachine.{Fits, Invariant, each-over, fits_framed, invariant-concluded, invariant-deleted, invariant-everywhere, kept-undeleted}
 use Rattle.cg_group.proofs.Requests.{Fine, fine-beat, fine-commit, fine-join, fine-leave, fine-sync}
 use Rattle.cg_group.proofs.Made.{own_id_new}
-use Rattle.std.proofs.lemmas.Cmp.{nat_list_eq_equiv}
 
 -- the machine agrees with the records, after these events
 abbrev pub WholeMachine : List (Event × ℕ) → Machine → Kept → Type 0
@@ -162,21 +161,21 @@ StoresIn offsets s (event.Gone session) = Unit {0}
 StoresIn offsets s event.Tick = ⊥
 
 module _ (events : List (Event × ℕ)) (offsets : OffsetMap) (kept : Kept) where
-  whole-met : (s : Machine) (e : Event) → is_request e ≡ true → WasMet events e → StoresIn offsets s e → Invariant (Whole events offsets) s.groups kept → Invariant (Whole events offsets) (met s e).after.groups (kept_after kept (met s e).effects.commands)
-  unfolding met
+  whole-met : (s : Machine) (e : Event) → is_request e ≡ true → WasMet events e → StoresIn offsets s e → Invariant (Whole events offsets) s.groups kept → Invariant (Whole events offsets) (handled s e).after.groups (kept_after kept (handled s e).effects.commands)
+  unfolding handled
   whole-met s (event.Join ticket r fresh) asked seen stored v =
       invariant-concluded (Whole events offsets) s kept ticket (join s.last r fresh ticket s.groups)
       (fine-join (Fits (Whole events offsets) kept) s.last r fresh ticket s.groups
-      (λ id new _ _. fits_framed (Whole events offsets) kept (new_group id).id _ (framed-join_new s.last r new ticket (new_group id))
-      (after-join_new events offsets kept s.last r new ticket (new_group id) (suits_empty r (new_group id).members asked (none_in_new id)) (λ e. absurd (false≢true (sym e ∙ none_in_new id))) (λ _. quiet_in_new id)))
+      (λ id new _ _. fits_framed (Whole events offsets) kept (new_group id).id _ (framed-add_member_and_rebalance s.last r new ticket (new_group id))
+      (after-add_member_and_rebalance events offsets kept s.last r new ticket (new_group id) (suits_empty r (new_group id).members asked (none_in_new id)) (λ e. absurd (false≢true (sym e ∙ none_in_new id))) (λ _. quiet_in_new id)))
       (λ id new g _ e _ _ fits.
       let h : Whole events offsets g (kept g.id) = each-found (λ k. Whole events offsets k (kept k.id)) id s.groups g e v.each in
-      fits_framed (Whole events offsets) kept g.id _ (framed-join_new s.last r new ticket g)
-      (after-join_new events offsets kept s.last r new ticket g (suits_consistent r g asked fits) (λ filled. kind_holds g.phase g (kept g.id) filled h.holds) h.quiet))
+      fits_framed (Whole events offsets) kept g.id _ (framed-add_member_and_rebalance s.last r new ticket g)
+      (after-add_member_and_rebalance events offsets kept s.last r new ticket g (suits_consistent r g asked fits) (λ filled. kind_holds g.phase g (kept g.id) filled h.holds) h.quiet))
       (λ id new g old _ e free found fits.
       let h : Whole events offsets g (kept g.id) = each-found (λ k. Whole events offsets k (kept k.id)) id s.groups g e v.each in
-      fits_framed (Whole events offsets) kept g.id _ (framed-join_replacing s.last r new ticket old g)
-      (after-join_replacing events offsets kept s.last r new ticket old g free found (suits_consistent r g asked fits) h))
+      fits_framed (Whole events offsets) kept g.id _ (framed-replace_static_member s.last r new ticket old g)
+      (after-replace_static_member events offsets kept s.last r new ticket old g free found (suits_consistent r g asked fits) h))
       (λ id own g m _ e found fits.
       let h : Whole events offsets g (kept g.id) = each-found (λ k. Whole events offsets k (kept k.id)) id s.groups g e v.each in
       fits_framed (Whole events offsets) kept g.id _ (framed-join_known s.last r own ticket m g)
@@ -242,15 +241,15 @@ whole-dropped events kept s ticket partitions (Err code) v = let P : Kept → Ty
 whole-dropped events kept s ticket partitions (Ok id) v = whole-drop events kept s id partitions v
 
 -- the machine under the offsets after the event
-whole-quiet : (events : List (Event × ℕ)) (s : Machine) (e : Event) (kept : Kept) → AreQuiet (met s e).effects.commands → Invariant (Whole events s.offsets) (met s e).after.groups (kept_after kept (met s e).effects.commands)
-    → Invariant (Whole events (offsets_after s.offsets (met s e).effects.commands)) (met s e).after.groups (kept_after kept (met s e).effects.commands)
+whole-quiet : (events : List (Event × ℕ)) (s : Machine) (e : Event) (kept : Kept) → AreQuiet (handled s e).effects.commands → Invariant (Whole events s.offsets) (handled s e).after.groups (kept_after kept (handled s e).effects.commands)
+    → Invariant (Whole events (offsets_after s.offsets (handled s e).effects.commands)) (handled s e).after.groups (kept_after kept (handled s e).effects.commands)
 whole-quiet events s e kept quiet v =
-    let P : OffsetMap → Type 0 = λ o. Invariant (Whole events o) (met s e).after.groups (kept_after kept (met s e).effects.commands) in
-    subst P (sym (quiet-offsets s.offsets (met s e).effects.commands quiet)) v
+    let P : OffsetMap → Type 0 = λ o. Invariant (Whole events o) (handled s e).after.groups (kept_after kept (handled s e).effects.commands) in
+    subst P (sym (quiet-offsets s.offsets (handled s e).effects.commands quiet)) v
 
 whole-moved : (events : List (Event × ℕ)) (kept : Kept) (s : Machine) (e : Event) → is_request e ≡ true → WasMet events e → WholeMachine events s kept
-    → Invariant (Whole events (offsets_after s.offsets (met s e).effects.commands)) (met s e).after.groups (kept_after kept (met s e).effects.commands)
-unfolding met everywhere
+    → Invariant (Whole events (offsets_after s.offsets (handled s e).effects.commands)) (handled s e).after.groups (kept_after kept (handled s e).effects.commands)
+unfolding handled everywhere
 whole-moved events kept s (event.Join ticket r fresh) asked seen v =
     whole-quiet events s (event.Join ticket r fresh) kept (quiet-concluded s ticket (join s.last r fresh ticket s.groups) (quiet-join s.last r fresh ticket s.groups)) (whole-met events s.offsets kept s (event.Join ticket r fresh) asked seen tt v)
 whole-moved events kept s (event.Sync ticket r) asked seen v =
@@ -305,7 +304,7 @@ whole-after_all (e ∷ es) events kept s asked v =
 
 -- the machine after recovery
 
-kept_revived : (now : ℕ) (protocol : List ℕ) (m : KeptMember) → kept_member (Some protocol) (revived_member now protocol m) ≡ m
+kept_revived : (now : ℕ) (protocol : List ℕ) (m : MemberRecord) → kept_member (Some protocol) (revived_member now protocol m) ≡ m
 unfolding revived_member subscription_for
 kept_revived now protocol m =
     let only : Protocol = record { name = protocol; subscription = m.subscription } in
@@ -315,16 +314,16 @@ kept_revived now protocol m =
       | false ↦ λ e. absurd (false≢true (sym e ∙ same_self protocol))
     ]) refl
 
-kept_back : (now : ℕ) (protocol : List ℕ) (ms : List KeptMember) → ms ≡ map (kept_member (Some protocol)) (map (revived_member now protocol) ms)
+kept_back : (now : ℕ) (protocol : List ℕ) (ms : List MemberRecord) → ms ≡ map (kept_member (Some protocol)) (map (revived_member now protocol) ms)
 kept_back now protocol [] = refl
 kept_back now protocol (m ∷ ms) = ap (λ x. x ∷ ms) (sym (kept_revived now protocol m)) ∙ ap (λ xs. kept_member (Some protocol) (revived_member now protocol m) ∷ xs) (kept_back now protocol ms)
 
-common_revived : (now : ℕ) (protocol : List ℕ) (ms : List KeptMember) → is_common (map (revived_member now protocol) ms) protocol ≡ true
+common_revived : (now : ℕ) (protocol : List ℕ) (ms : List MemberRecord) → is_common (map (revived_member now protocol) ms) protocol ≡ true
 unfolding is_common revived_member
 common_revived now protocol [] = refl
 common_revived now protocol (m ∷ ms) = and_from (is_same protocol protocol || false) _ (or_left (is_same protocol protocol) false (same_self protocol)) (common_revived now protocol ms)
 
-quiet_revived : (q : List ℕ → Waits → Bool) → ((id : List ℕ) → q id Nothing ≡ true) → (now : ℕ) (protocol : List ℕ) (ms : List KeptMember) → AllWaits q (map (revived_member now protocol) ms)
+quiet_revived : (q : List ℕ → Waits → Bool) → ((id : List ℕ) → q id Nothing ≡ true) → (now : ℕ) (protocol : List ℕ) (ms : List MemberRecord) → AllWaits q (map (revived_member now protocol) ms)
 unfolding revived_member
 quiet_revived q calm now protocol [] = tt
 quiet_revived q calm now protocol (m ∷ ms) = (calm m.id, quiet_revived q calm now protocol ms)

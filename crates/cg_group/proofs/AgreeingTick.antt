@@ -14,9 +14,9 @@ use Rattle.cg_record.specs.declared.command.Command.TheVariants as command
 use Rattle.cg_record.specs.declared.entries.TheConstants.{ENTRIES_MAX}
 use Rattle.cg_record.specs.declared.topic_partition.TopicPartition.{TopicPartition}
 use Rattle.cg_record.specs.Partitions.{partition_cmp}
-use Rattle.cg_fold.specs.declared.record.GroupRecord.{GroupRecord}
-use Rattle.cg_fold.specs.declared.record.RecordedMembers.{RecordedMembers}
-use Rattle.cg_fold.specs.declared.record.RecordedMembers.TheVariants as recorded
+use Rattle.cg_fold.specs.declared.group_record.GroupRecord.{GroupRecord}
+use Rattle.cg_fold.specs.declared.group_record.RecordedMembers.{RecordedMembers}
+use Rattle.cg_fold.specs.declared.group_record.RecordedMembers.TheVariants as recorded
 use Rattle.cg_fold.specs.declared.stored_offset.StoredOffset.{StoredOffset}
 use Rattle.cg_fold.specs.Durable.{is_of_other}
 use Rattle.cg_fold.specs.Key.{KeptRow, OffsetKey, key_of}
@@ -24,26 +24,27 @@ use Rattle.cg_fold.specs.Snapshot.{offsets_in}
 use Rattle.cg_fold.proofs.KeyOrder.{partition_total}
 use Rattle.cg_fold.proofs.Stock.{find-offsets_in}
 use Rattle.cg_request.specs.declared.event.Event.{Event}
-use Rattle.cg_member.specs.declared.group.Group.{Group}
-use Rattle.cg_member.specs.declared.group.Phase.{Phase}
-use Rattle.cg_member.specs.declared.group.Phase.TheVariants.{Empty, Preparing, Completing, Stable}
-use Rattle.cg_member.specs.declared.turn.Turn.{Turn}
-use Rattle.cg_member.specs.declared.calls.Calls.TheVariants.{Joins}
-use Rattle.cg_member.specs.Membership.{is_empty, is_preparing, is_same}
-use Rattle.cg_member.specs.Waiting.{is_waiting}
-use Rattle.cg_member.specs.Offsets.{OffsetMap, offsets_after}
-use Rattle.cg_member.specs.Rebalance.{is_ready, turn_of}
-use Rattle.cg_member.specs.Ticking.{greatest_rebalance, is_due, is_overdue, ticked}
-use Rattle.cg_held.specs.Expiring.{expires, expiries, expiring, expiring_as, expiring_if, goes, is_bare, is_idle, is_nil, is_stale, is_vacant, lasting, stale_of, swept, tick, tick_effects}
-use Rattle.cg_held.specs.Held.{Machine, find_group, groups_after, without_group}
-use Rattle.cg_held.specs.Kept.{Ascending, ComesBefore, Each, HasOffset, Kept}
-use Rattle.cg_held.specs.declared.expiring.TheConstants.{EXPIRED_COMMANDS_MAX}
-use Rattle.cg_held.proofs.Framed.{OfGroup, each-append, framed-ticked}
-use Rattle.cg_held.proofs.InOrder.{found_alone}
-use Rattle.cg_held.proofs.Kept.{group_of, kept_after}
-use Rattle.cg_held.proofs.KeptLists.{differs_from_order, each-after, each-found, group_ids, id-found, kept_after-append, kept_after-none, kept_after-one, kept_after-other, same_names, same_self}
-use Rattle.cg_held.proofs.Removing.{ascending-without, each-without-over, found-without}
-use Rattle.cg_held.proofs.Untouched.{calm_ticked}
+use Rattle.cg_group_state.specs.declared.group.Group.{Group}
+use Rattle.cg_group_state.specs.declared.group.Phase.{Phase}
+use Rattle.cg_group_state.specs.declared.group.Phase.TheVariants.{Empty, Preparing, Completing, Stable}
+use Rattle.cg_group_state.specs.declared.turn.Turn.{Turn}
+use Rattle.cg_group_state.specs.declared.calls.Calls.TheVariants.{Joins}
+use Rattle.cg_group_state.specs.Membership.{is_empty, is_preparing, is_same}
+use Rattle.cg_group_state.specs.Waiting.{is_waiting}
+use Rattle.cg_group_state.specs.Offsets.{OffsetMap, offsets_after}
+use Rattle.cg_group_rules.specs.Rebalance.{is_ready, turn_of}
+use Rattle.cg_group_rules.specs.Tick.{greatest_rebalance, is_due, ticked}
+use Rattle.cg_group_state.specs.Staying.{is_overdue}
+use Rattle.cg_group_table.specs.Expiry.{expires, expiries, expiring, expiring_as, expiring_if, goes, is_bare, is_idle, is_nil, is_stale, is_vacant, lasting, stale_of, swept, tick, tick_effects}
+use Rattle.cg_group_table.specs.GroupTable.{Machine, find_group, groups_after, without_group}
+use Rattle.cg_group_table.specs.Kept.{Ascending, ComesBefore, Each, HasOffset, Kept}
+use Rattle.cg_group_table.specs.declared.expiry.TheConstants.{EXPIRED_COMMANDS_MAX}
+use Rattle.cg_group_table.proofs.Framed.{OfGroup, each-append, framed-ticked}
+use Rattle.cg_group_table.proofs.InOrder.{found_alone}
+use Rattle.cg_group_table.proofs.Kept.{group_of, kept_after}
+use Rattle.cg_group_table.proofs.KeptLists.{differs_from_order, each-after, each-found, group_ids, id-found, kept_after-append, kept_after-none, kept_after-one, kept_after-other, same_names, same_self}
+use Rattle.cg_group_table.proofs.Removing.{ascending-without, each-without-over, found-without}
+use Rattle.cg_group_table.proofs.Untouched.{calm_ticked}
 use Rattle.cg_group.specs.Laws.{IsRecordedAs, TellsOf}
 use Rattle.cg_group.specs.Machine.{drop_command, founded_after, is_unfounded, is_unrecorded, with_offset}
 use Rattle.cg_group.proofs.Agreeing.{Holds, Whole, empty_members}

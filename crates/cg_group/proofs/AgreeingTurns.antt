@@ -4,44 +4,46 @@ use Rattle.std.specs.Prelude.{if◌then◌else◌}
 use Rattle.std.specs.List.{list_any, list_all}
 use Rattle.std.specs.Option.{option_map}
 use Rattle.std.proofs.lemmas.Bool.{and_parts, false≢true}
-use Rattle.cg_member.specs.declared.calls.Calls.TheVariants.{Joins, OfSession}
+use Rattle.cg_group_state.specs.declared.calls.Calls.TheVariants.{Joins, OfSession}
 use Rattle.cg_request.specs.declared.event.Event.{Event}
-use Rattle.cg_member.specs.declared.group.Group.{Group}
-use Rattle.cg_member.specs.declared.group.Phase.{Phase}
-use Rattle.cg_member.specs.declared.group.Phase.TheVariants.{Empty, Preparing, Completing, Stable}
-use Rattle.cg_member.specs.declared.member.Member.{Member}
-use Rattle.cg_member.specs.declared.member.Waits.{Waits}
-use Rattle.cg_member.specs.declared.member.Waits.TheVariants.{Join, Nothing, Sync}
-use Rattle.cg_request.specs.declared.request.JoinRequest.{JoinRequest}
-use Rattle.cg_request.specs.declared.request.SyncRequest.{SyncRequest}
+use Rattle.cg_group_state.specs.declared.group.Group.{Group}
+use Rattle.cg_group_state.specs.declared.group.Phase.{Phase}
+use Rattle.cg_group_state.specs.declared.group.Phase.TheVariants.{Empty, Preparing, Completing, Stable}
+use Rattle.cg_group_state.specs.declared.member.Member.{Member}
+use Rattle.cg_group_state.specs.declared.member.Waits.{Waits}
+use Rattle.cg_group_state.specs.declared.member.Waits.TheVariants.{Join, Nothing, Sync}
+use Rattle.cg_request.specs.declared.request_fields.JoinRequest.{JoinRequest}
+use Rattle.cg_request.specs.declared.request_fields.SyncRequest.{SyncRequest}
 use Rattle.cg_request.specs.declared.ticket.Ticket.{Ticket}
-use Rattle.cg_member.specs.declared.turn.Turn.{Turn}
+use Rattle.cg_group_state.specs.declared.turn.Turn.{Turn}
 use Rattle.cg_record.specs.declared.command.Command.{Command}
 use Rattle.cg_record.specs.declared.command.Command.TheVariants as command
 use Rattle.cg_record.specs.Rosters.{may_replace}
 use Rattle.cg_fold.specs.Record.{replaced_record}
-use Rattle.cg_fold.specs.declared.record.GroupRecord.{GroupRecord}
+use Rattle.cg_fold.specs.declared.group_record.GroupRecord.{GroupRecord}
 use Rattle.cg_request.specs.declared.commit_entry.CommitEntry.{CommitEntry}
-use Rattle.cg_turn.specs.Beating.{beat_taken}
+use Rattle.cg_group_rules.specs.Heartbeat.{beat_taken}
 use Rattle.cg_request.specs.Commits.{kept_entry}
-use Rattle.cg_turn.specs.Committing.{committed, hearing_committer, keeping_entries}
-use Rattle.cg_member.specs.Joining.{admitted, in_join_phase, is_current, join_again, join_current, join_known, join_new, new_member, rejoined, updated, updating, waiting, waits_with}
-use Rattle.cg_held.specs.Kept.{Kept}
-use Rattle.cg_held.proofs.Kept.{kept_after}
+use Rattle.cg_group_rules.specs.OffsetCommit.{committed, hearing_committer, keeping_entries}
+use Rattle.cg_group_rules.specs.Join.{admitted, in_join_phase, is_current, update_member_and_rebalance, join_current, join_known, add_member_and_rebalance, new_member, rejoined, updating, waiting}
+use Rattle.cg_group_state.specs.JoinTerms.{updated}
+use Rattle.cg_group_state.specs.Waiting.{waits_with, after_answers, is_waiting}
+use Rattle.cg_group_table.specs.Kept.{Kept}
+use Rattle.cg_group_table.proofs.Kept.{kept_after}
 use Rattle.cg_group.proofs.Asked.{has_named}
-use Rattle.cg_member.specs.Offsets.{OffsetMap}
-use Rattle.cg_member.specs.Leaving.{after_removal, gone_in, leave_taken, left}
-use Rattle.cg_member.specs.Membership.{find_instance, find_member, has_id, heard, hearing, is_empty, is_named, is_preparing, is_stable, keeping, leads, with_member}
-use Rattle.cg_member.specs.Rebalance.{completed, is_ready, tried, turn_of}
-use Rattle.cg_member.specs.Replacing.{join_replacing, keeps_generation, replaced, replaced_command, replaced_in_place, replacing, seating, successor}
-use Rattle.cg_member.specs.Syncing.{distributed, kept_member, sync_current, sync_taken, sync_waits}
-use Rattle.cg_member.specs.Ticking.{at_deadline, ended, expired, is_due, is_overdue, outstays, ticked}
-use Rattle.cg_member.specs.Waiting.{after_answers, is_waiting}
+use Rattle.cg_group_state.specs.Offsets.{OffsetMap}
+use Rattle.cg_group_rules.specs.Leave.{after_removal, gone_in, leave_taken, left}
+use Rattle.cg_group_state.specs.Membership.{find_instance, find_member, has_id, heard, hearing, is_empty, is_named, is_preparing, is_stable, keeping, leads, with_member, seating}
+use Rattle.cg_group_rules.specs.Rebalance.{complete_join, is_ready, try_complete_join, turn_of}
+use Rattle.cg_group_rules.specs.StaticMember.{replace_static_member, keeps_generation, replaced, replaced_command, replaced_in_place, replacing, successor}
+use Rattle.cg_group_rules.specs.Sync.{propagate_assignment, kept_member, sync_current, sync_taken, sync_waits}
+use Rattle.cg_group_rules.specs.Tick.{at_deadline, ended, expire_heartbeats, is_due, ticked}
+use Rattle.cg_group_state.specs.Staying.{is_overdue, outstays}
 use Rattle.cg_group.proofs.Elections.{HasCommon}
-use Rattle.cg_held.proofs.Framed.{Framed, framed-in_join_phase, framed-waiting, framed-expired_of}
-use Rattle.cg_member.proofs.Keeping.{map-with_member, keep-after_answers}
-use Rattle.cg_held.proofs.KeptLists.{kept_after-one, same_names}
-use Rattle.cg_held.proofs.Mapped.{id-hearing}
+use Rattle.cg_group_table.proofs.Framed.{Framed, framed-in_join_phase, framed-waiting, framed-expired_of}
+use Rattle.cg_group_state.proofs.Keeping.{map-with_member, keep-after_answers}
+use Rattle.cg_group_table.proofs.KeptLists.{kept_after-one, same_names}
+use Rattle.cg_group_table.proofs.Mapped.{id-hearing}
 use Rattle.cg_group.proofs.Calling.{AllWaits, each-filter, is_named_wait, no_sync, waits-after_answers, waits-append, waits-seated, waits-with_member}
 use Rattle.cg_group.proofs.Succeeding.{successor_may, told-replacing}
 use Rattle.cg_group.proofs.Agreeing.{After, Holds, Joining, Suits, Whole, after-after_removal, after-completed, after-distributed, after-ended, after-hearing, after-tried, common-append, common-filter, common-map, common-seated, common-update, empty_members, joining-in_join_phase, joining-waiting, joining_from, kind_holds, lasting_kept, lasting_protocols, preparing_is, whole-members}
@@ -87,9 +89,9 @@ is_preparing_due : (now : ℕ) (g : Group) → is_due now g ≡ true → is_prep
 is_preparing_due now g e = (and_parts (is_preparing g.phase) _ e).0
 
 module _ (events : List (Event × ℕ)) (offsets : OffsetMap) (kept : Kept) where
-  pub after-join_new : (now : ℕ) (r : JoinRequest) (new : List ℕ) (ticket : Ticket) (g : Group) → Suits r g.members → (is_empty g.members ≡ false → is_some g.kind ≡ true) → (is_preparing g.phase ≡ true → AllWaits no_sync g.members) → After events offsets kept g.id (join_new now r new ticket g)
-  unfolding join_new admitted new_member
-  after-join_new now r new ticket g suits kinds quiet =
+  pub after-add_member_and_rebalance : (now : ℕ) (r : JoinRequest) (new : List ℕ) (ticket : Ticket) (g : Group) → Suits r g.members → (is_empty g.members ≡ false → is_some g.kind ≡ true) → (is_preparing g.phase ≡ true → AllWaits no_sync g.members) → After events offsets kept g.id (add_member_and_rebalance now r new ticket g)
+  unfolding add_member_and_rebalance admitted new_member
+  after-add_member_and_rebalance now r new ticket g suits kinds quiet =
       let m : Member = new_member now r new [] (Join ticket) in
       let t : Turn = turn_of (admitted m r.kind g) in
       let kind : is_some t.group.kind ≡ true = (elim (is_empty g.members) as (λ b. is_empty g.members ≡ b → is_some (if b then Some r.kind else g.kind) ≡ true) [ true ↦ λ _. refl | false ↦ kinds ]) refl in
@@ -103,9 +105,9 @@ module _ (events : List (Event × ℕ)) (offsets : OffsetMap) (kept : Kept) wher
       let j : Joining u.group = joining-in_join_phase events offsets kept id now t kind common quiet in
       after-tried events offsets kept id now (waiting now own (Join ticket) u) (framed-waiting id now own (Join ticket) u (framed-in_join_phase id now t framed)).0 (joining-waiting events offsets kept id now own ticket u j)
 
-  after-join_again : (now : ℕ) (r : JoinRequest) (own : List ℕ) (ticket : Ticket) (g : Group) → is_empty g.members ≡ false → Suits r g.members → Whole events offsets g (kept g.id) → After events offsets kept g.id (join_again now r own ticket g)
-  unfolding join_again updating
-  after-join_again now r own ticket g filled suits h =
+  after-update_member_and_rebalance : (now : ℕ) (r : JoinRequest) (own : List ℕ) (ticket : Ticket) (g : Group) → is_empty g.members ≡ false → Suits r g.members → Whole events offsets g (kept g.id) → After events offsets kept g.id (update_member_and_rebalance now r own ticket g)
+  unfolding update_member_and_rebalance updating
+  after-update_member_and_rebalance now r own ticket g filled suits h =
       after-rejoined g.id now own ticket (turn_of (updating r own g)) (refl, tt) (kind_holds g.phase g (kept g.id) filled h.holds) (suits.name, common-update suits.name own r g.members suits.common suits.offers) (λ p. waits-with_member no_sync own (updated r) (λ m _ e. e) g.members (h.quiet p))
 
   after-replaced_in_place : (ticket : Ticket) (new : Member) (g : Group) (t : Turn) → t.commands ≡ [] → t.group ≡ replacing new g → new.waits ≡ Nothing → g.phase ≡ Stable → HasCommon (seating new g.members) → may_replace (kept_member g.protocol new) (map (kept_member g.protocol) g.members) ≡ true → Whole events offsets g (kept g.id) → After events offsets kept g.id (replaced_in_place ticket (kept_member g.protocol new) g t)
@@ -137,9 +139,9 @@ module _ (events : List (Event × ℕ)) (offsets : OffsetMap) (kept : Kept) wher
   unfolding keeps_generation
   kept_phase g e = stable_phase g.phase _ e
 
-  pub after-join_replacing : (now : ℕ) (r : JoinRequest) (id : List ℕ) (ticket : Ticket) (old : Member) (g : Group) → is_some (find_member id g.members) ≡ false → find_instance r.instance g.members ≡ Some old → Suits r g.members → Whole events offsets g (kept g.id) → After events offsets kept g.id (join_replacing now r id ticket old g)
-  unfolding join_replacing replaced replacing seating new_member
-  after-join_replacing now r id ticket old g own found suits h =
+  pub after-replace_static_member : (now : ℕ) (r : JoinRequest) (id : List ℕ) (ticket : Ticket) (old : Member) (g : Group) → is_some (find_member id g.members) ≡ false → find_instance r.instance g.members ≡ Some old → Suits r g.members → Whole events offsets g (kept g.id) → After events offsets kept g.id (replace_static_member now r id ticket old g)
+  unfolding replace_static_member replaced replacing seating new_member
+  after-replace_static_member now r id ticket old g own found suits h =
       let new : Member = successor now r id old in
       let t : Turn = replaced new old g in
       let common : HasCommon (seating new g.members) = (suits.name, common-seated suits.name new g.members suits.common suits.offers) in
@@ -155,9 +157,9 @@ module _ (events : List (Event × ℕ)) (offsets : OffsetMap) (kept : Kept) wher
   pub after-join_known : (now : ℕ) (r : JoinRequest) (own : List ℕ) (ticket : Ticket) (m : Member) (g : Group) → find_member own g.members ≡ Some m → Suits r g.members → Whole events offsets g (kept g.id) → After events offsets kept g.id (join_known now r own ticket m g)
   unfolding join_known
   after-join_known now r own ticket m g found suits h =
-      elim (is_current r m g g.phase) as (λ b. After events offsets kept g.id (if b then join_current now own ticket m g else join_again now r own ticket g)) [
+      elim (is_current r m g g.phase) as (λ b. After events offsets kept g.id (if b then join_current now own ticket m g else update_member_and_rebalance now r own ticket g)) [
         | true ↦ after-join_current now own ticket m g h
-        | false ↦ after-join_again now r own ticket g (filled_found own g.members m found) suits h
+        | false ↦ after-update_member_and_rebalance now r own ticket g (filled_found own g.members m found) suits h
       ]
 
   after-sync_waits : (now : ℕ) (r : SyncRequest) (own : List ℕ) (ticket : Ticket) (m : Member) (g : Group) → g.phase ≡ Completing → has_named events g.id g.generation own ticket ≡ true → Whole events offsets g (kept g.id) → After events offsets kept g.id (sync_waits now r own ticket m g)
@@ -172,7 +174,7 @@ module _ (events : List (Event × ℕ)) (offsets : OffsetMap) (kept : Kept) wher
       let named : AllWaits q t.group.members = waits-with_member q own (waits_with now (Sync ticket)) (λ x e _. at x e) first (waits-with_member q own (heard now) (λ x _ e. e) g.members h.named) in
       let protocols : map (λ x. x.protocols) t.group.members ≡ map (λ x. x.protocols) g.members = map-with_member (λ x. x.protocols) own (waits_with now (Sync ticket)) (λ x. refl) first ∙ map-with_member (λ x. x.protocols) own (heard now) (λ x. refl) g.members in
       let stored : map (kept_member g.protocol) t.group.members ≡ map (kept_member g.protocol) g.members = map-with_member (kept_member g.protocol) own (waits_with now (Sync ticket)) (λ x. refl) first ∙ map-with_member (kept_member g.protocol) own (heard now) (λ x. refl) g.members in
-      (elim (leads g m) as (λ b. leads g m ≡ b → After events offsets kept g.id (if b then distributed now r.entries t else t)) [
+      (elim (leads g m) as (λ b. leads g m ≡ b → After events offsets kept g.id (if b then propagate_assignment now r.entries t else t)) [
         | true ↦ λ e. after-distributed events offsets kept g.id now r.entries t refl holds.0 holds.1 (some_named g.leader m.id e) holds.2 (common-map t.group.members g.members protocols h.common) named
         | false ↦ λ e. whole-members events offsets g t.group.members (kept g.id) protocols stored named (λ p. absurd (false≢true (sym (ap is_preparing phase) ∙ p))) h
       ]) refl
@@ -217,19 +219,19 @@ module _ (events : List (Event × ℕ)) (offsets : OffsetMap) (kept : Kept) wher
       (waits-after_answers (is_named_wait events g.id g.generation) (λ _. refl) (OfSession session) now g.members h.named)
       (λ p. waits-after_answers no_sync (λ _. refl) (OfSession session) now g.members (h.quiet p)) h
 
-  after-tried_any : (now : ℕ) (g : Group) → Whole events offsets g (kept g.id) → After events offsets kept g.id (tried now (turn_of g))
-  unfolding tried is_ready kept_after
+  after-tried_any : (now : ℕ) (g : Group) → Whole events offsets g (kept g.id) → After events offsets kept g.id (try_complete_join now (turn_of g))
+  unfolding try_complete_join is_ready kept_after
   after-tried_any now g h =
-      (elim (is_ready g) as (λ b. is_ready g ≡ b → After events offsets kept g.id (if b then completed now (turn_of g) else turn_of g)) [
+      (elim (is_ready g) as (λ b. is_ready g ≡ b → After events offsets kept g.id (if b then complete_join now (turn_of g) else turn_of g)) [
         | true ↦ λ e. after-completed events offsets kept g.id now (turn_of g) refl (joining_from events offsets g (kept g.id) h (preparing_is g.phase (and_parts (is_preparing g.phase) (list_all (is_waiting Joins) g.members) e).0))
         | false ↦ λ e. h
       ]) refl
 
-  after-expired : (now : ℕ) (g : Group) → Whole events offsets g (kept g.id) → After events offsets kept g.id (expired now (turn_of g))
-  unfolding expired keeping
+  after-expired : (now : ℕ) (g : Group) → Whole events offsets g (kept g.id) → After events offsets kept g.id (expire_heartbeats now (turn_of g))
+  unfolding expire_heartbeats keeping
   after-expired now g h =
       let stays : Member → Bool = λ m. not (is_overdue now m) in
-      (elim (list_any (is_overdue now) g.members) as (λ b. list_any (is_overdue now) g.members ≡ b → After events offsets kept g.id (if b then after_removal now (record (turn_of g) { group = keeping stays g }) else tried now (turn_of g))) [
+      (elim (list_any (is_overdue now) g.members) as (λ b. list_any (is_overdue now) g.members ≡ b → After events offsets kept g.id (if b then after_removal now (record (turn_of g) { group = keeping stays g }) else try_complete_join now (turn_of g))) [
         | true ↦ λ e. after-after_removal events offsets kept g.id now (record (turn_of g) { group = keeping stays g }) refl (kind_holds g.phase g (kept g.id) (filled_passes (is_overdue now) g.members e) h.holds) (common-filter stays g.members h.common)
             (λ p. each-filter (λ x. no_sync x.id x.waits ≡ true) stays g.members (h.quiet p))
             (λ p. nothing_passes (is_overdue now) g.members e (empty_members events offsets g (kept g.id) h p))
@@ -247,4 +249,4 @@ module _ (events : List (Event × ℕ)) (offsets : OffsetMap) (kept : Kept) wher
 
   pub after-ticked : (now : ℕ) (g : Group) → Whole events offsets g (kept g.id) → After events offsets kept g.id (ticked now g)
   unfolding ticked
-  after-ticked now g h = after-at_deadline now g.id (expired now (turn_of g)) (framed-expired_of now g) (after-expired now g h)
+  after-ticked now g h = after-at_deadline now g.id (expire_heartbeats now (turn_of g)) (framed-expired_of now g) (after-expired now g h)

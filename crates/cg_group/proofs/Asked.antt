@@ -6,23 +6,23 @@ use Rattle.std.specs.Ordering.{int_eq}
 use Rattle.std.proofs.lemmas.Bool.{and_parts, eqb-true, false≢true}
 use Rattle.cg_record.specs.declared.command.Command.{Command}
 use Rattle.cg_record.specs.declared.command.Command.TheVariants as command
-use Rattle.cg_record.specs.declared.member.Member.{Member as KeptMember}
+use Rattle.cg_record.specs.declared.member_record.MemberRecord.{MemberRecord}
 use Rattle.cg_record.specs.declared.replaced.Replaced.{Replaced}
 use Rattle.cg_record.specs.Rosters.{RosterParts}
-use Rattle.cg_fold.specs.declared.record.GroupRecord.{GroupRecord}
-use Rattle.cg_fold.specs.declared.record.RecordedMembers.{RecordedMembers}
-use Rattle.cg_fold.specs.declared.record.RecordedMembers.TheVariants as recorded
+use Rattle.cg_fold.specs.declared.group_record.GroupRecord.{GroupRecord}
+use Rattle.cg_fold.specs.declared.group_record.RecordedMembers.{RecordedMembers}
+use Rattle.cg_fold.specs.declared.group_record.RecordedMembers.TheVariants as recorded
 use Rattle.cg_request.specs.declared.event.Event.{Event}
 use Rattle.cg_request.specs.declared.event.Event.TheVariants as event
-use Rattle.cg_request.specs.declared.request.SyncRequest.{SyncRequest}
+use Rattle.cg_request.specs.declared.request_fields.SyncRequest.{SyncRequest}
 use Rattle.cg_request.specs.declared.ticket.Ticket.{Ticket}
-use Rattle.cg_member.specs.declared.group.Group.{Group}
-use Rattle.cg_member.specs.declared.member.Member.{Member}
-use Rattle.cg_member.specs.declared.reply.Reply.{Reply}
-use Rattle.cg_member.specs.declared.reply.Reply.TheVariants as reply
-use Rattle.cg_member.specs.Membership.{has_instance, is_named, is_same}
-use Rattle.cg_held.specs.Kept.{Kept}
-use Rattle.cg_held.proofs.KeptLists.{same_names}
+use Rattle.cg_group_state.specs.declared.group.Group.{Group}
+use Rattle.cg_group_state.specs.declared.member.Member.{Member}
+use Rattle.cg_group_state.specs.declared.reply.Reply.{Reply}
+use Rattle.cg_group_state.specs.declared.reply.Reply.TheVariants as reply
+use Rattle.cg_group_state.specs.Membership.{has_instance, is_named, is_same}
+use Rattle.cg_group_table.specs.Kept.{Kept}
+use Rattle.cg_group_table.proofs.KeptLists.{same_names}
 use Rattle.cg_group.specs.Laws.{IsEarnedAssignment, IsPassedOn}
 
 abbrev pub is_same_ticket : Ticket → Ticket → Bool
@@ -81,7 +81,7 @@ is_earned events groups kept (t, reply.Groups listings) = true
 is_earned events groups kept (t, reply.Refused code) = true
 
 -- the member has the instance of the new one, and the same assignment
-abbrev pub passes_assignment : KeptMember → Member → Bool
+abbrev pub passes_assignment : MemberRecord → Member → Bool
 passes_assignment new m = has_instance new.instance m && is_same m.assignment new.assignment
 
 -- a Replaced command has the assignment of the member that it replaces, as its group was before
@@ -154,7 +154,7 @@ record StoredFor (o : Option GroupRecord) (id bytes : List ℕ) : Type 0 where
   entry_is : o ≡ Some entry
   roster : RosterParts
   roster_is : entry.members ≡ recorded.Roster roster
-  stored : KeptMember
+  stored : MemberRecord
   listed : Contains roster.members stored
   own : stored.id ≡ id
   assigned : stored.assignment ≡ bytes
@@ -162,7 +162,7 @@ record StoredFor (o : Option GroupRecord) (id bytes : List ℕ) : Type 0 where
 stored_in : (r : GroupRecord) (o : RecordedMembers) (id bytes : List ℕ) → r.members ≡ o → is_in_roster o id bytes ≡ true → StoredFor (Some r) id bytes
 stored_in r (recorded.Empty moment) id bytes e h = absurd (false≢true h)
 stored_in r (recorded.Roster roster) id bytes e h =
-    let k = contained (λ (m : KeptMember). is_same m.id id && is_same m.assignment bytes) roster.members h in
+    let k = contained (λ (m : MemberRecord). is_same m.id id && is_same m.assignment bytes) roster.members h in
     let parts = and_parts (is_same k.0.id id) (is_same k.0.assignment bytes) k.2 in
     record {
       entry = r;

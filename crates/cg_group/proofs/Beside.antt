@@ -2,13 +2,13 @@
 use Rattle.std.proofs.Common.{◌≡◌, ℕ, List, refl, sym, ap, subst, ◌∙◌, Result, Ok, Err}
 use Rattle.cg_names.specs.declared.code.Code.{Code}
 use Rattle.cg_record.specs.declared.command.Command.{Command}
-use Rattle.cg_member.specs.declared.effects.Effects.{Effects}
-use Rattle.cg_member.specs.declared.group.Group.{Group}
+use Rattle.cg_group_state.specs.declared.effects.Effects.{Effects}
+use Rattle.cg_group_state.specs.declared.group.Group.{Group}
 use Rattle.cg_request.specs.declared.ticket.Ticket.{Ticket}
-use Rattle.cg_member.specs.declared.turn.Turn.{Turn}
+use Rattle.cg_group_state.specs.declared.turn.Turn.{Turn}
 use Rattle.cg_group.specs.Machine.{concluded, deleted}
-use Rattle.cg_held.specs.Held.{Outcome, at_moment, everywhere, outcome, standing}
-use Rattle.cg_member.specs.Offsets.{OffsetMap, offsets_after}
+use Rattle.cg_group_table.specs.GroupTable.{Outcome, at_moment, everywhere, outcome, standing}
+use Rattle.cg_group_state.specs.Offsets.{OffsetMap, offsets_after}
 use Rattle.cg_group.proofs.OffsetsKept.{AreQuiet, quiet-offsets}
 use Rattle.cg_group.proofs.Quiet.{Quiet, quiet-all, quiet-concluded}
 use Rattle.cg_group.proofs.Requests.{Fine}

@@ -1,19 +1,18 @@
 -- Facts about the parked calls of all members, and the stages that preserve them.
 use Rattle.std.proofs.Common.{◌≡◌, ℕ, Bool, true, false, List, [], ◌∷◌, ◌++◌, map, filter, cond, refl}
 use Rattle.std.specs.Prelude.{if◌then◌else◌, is_some}
-use Rattle.cg_member.specs.declared.calls.Calls.{Calls}
-use Rattle.cg_member.specs.declared.calls.Calls.TheVariants.{Syncs}
+use Rattle.cg_group_state.specs.declared.calls.Calls.{Calls}
+use Rattle.cg_group_state.specs.declared.calls.Calls.TheVariants.{Syncs}
 use Rattle.cg_request.specs.declared.event.Event.{Event}
-use Rattle.cg_member.specs.declared.member.Member.{Member}
-use Rattle.cg_member.specs.declared.member.Waits.{Waits}
-use Rattle.cg_member.specs.declared.member.Waits.TheVariants.{Nothing, Join, Sync}
-use Rattle.cg_request.specs.declared.request.SyncEntry.{SyncEntry}
-use Rattle.cg_held.specs.Kept.{Each}
+use Rattle.cg_group_state.specs.declared.member.Member.{Member}
+use Rattle.cg_group_state.specs.declared.member.Waits.{Waits}
+use Rattle.cg_group_state.specs.declared.member.Waits.TheVariants.{Nothing, Join, Sync}
+use Rattle.cg_request.specs.declared.request_fields.SyncEntry.{SyncEntry}
+use Rattle.cg_group_table.specs.Kept.{Each}
 use Rattle.cg_group.proofs.Asked.{has_named}
-use Rattle.cg_member.specs.Membership.{has_id, has_instance, with_member}
-use Rattle.cg_member.specs.Replacing.{seated}
-use Rattle.cg_member.specs.Syncing.{assigned}
-use Rattle.cg_member.specs.Waiting.{after_answer, after_answers, answered, called, is_waiting}
+use Rattle.cg_group_state.specs.Membership.{has_id, has_instance, with_member, seated}
+use Rattle.cg_group_state.specs.Assignments.{assigned}
+use Rattle.cg_group_state.specs.Waiting.{after_answer, after_answers, answered, called, is_waiting}
 
 -- a test of the id and the parked call of each member
 abbrev pub AllWaits : (List ℕ → Waits → Bool) → List Member → Type 0

@@ -15,30 +15,30 @@ use Rattle.cg_fold.proofs.KeyOrder.{key_same, key_total}
 use Rattle.cg_fold.proofs.Names.{equal}
 use Rattle.cg_request.specs.declared.event.Event.{Event}
 use Rattle.cg_request.specs.declared.event.Event.TheVariants as event
-use Rattle.cg_member.specs.declared.group.Group.{Group}
+use Rattle.cg_group_state.specs.declared.group.Group.{Group}
 use Rattle.cg_request.specs.declared.ticket.Ticket.{Ticket}
-use Rattle.cg_member.specs.declared.turn.Turn.{Turn}
-use Rattle.cg_turn.specs.Committing.{keeping_entries}
+use Rattle.cg_group_state.specs.declared.turn.Turn.{Turn}
+use Rattle.cg_group_rules.specs.OffsetCommit.{keeping_entries}
 use Rattle.cg_group.specs.Laws.{after_all, commands_of}
-use Rattle.cg_member.specs.Leaving.{gone_in}
-use Rattle.cg_member.specs.declared.effects.Effects.{Effects}
+use Rattle.cg_group_rules.specs.Leave.{gone_in}
+use Rattle.cg_group_state.specs.declared.effects.Effects.{Effects}
 use Rattle.cg_record.specs.declared.topic_partition.TopicPartition.{TopicPartition}
-use Rattle.cg_held.specs.Expiring.{tick}
+use Rattle.cg_group_table.specs.Expiry.{tick}
 use Rattle.cg_group.proofs.Lasting.{covered-drop, covered-tick}
-use Rattle.cg_group.specs.Machine.{beat, commit, concluded, deleted, dropped, memberless, join, leave, met, step, sync}
-use Rattle.cg_held.specs.Held.{Machine, Outcome, everywhere, find_group, outcome, standing, with_group}
-use Rattle.cg_member.specs.Membership.{is_same}
-use Rattle.cg_member.specs.Offsets.{OffsetMap, offsets_after}
-use Rattle.cg_held.specs.Reviving.{revive}
+use Rattle.cg_group.specs.Machine.{beat, commit, concluded, deleted, dropped, memberless, join, leave, handled, step, sync}
+use Rattle.cg_group_table.specs.GroupTable.{Machine, Outcome, everywhere, find_group, outcome, standing, with_group}
+use Rattle.cg_group_state.specs.Membership.{is_same}
+use Rattle.cg_group_state.specs.Offsets.{OffsetMap, offsets_after}
+use Rattle.cg_group_table.specs.Recovery.{revive}
 use Rattle.cg_group.proofs.KeptMachine.{found-turns}
-use Rattle.cg_held.proofs.Framed.{Framed, framed-gone_in}
-use Rattle.cg_held.proofs.KeptLists.{found-with_group, same_self}
+use Rattle.cg_group_table.proofs.Framed.{Framed, framed-gone_in}
+use Rattle.cg_group_table.proofs.KeptLists.{found-with_group, same_self}
 use Rattle.cg_group.proofs.OffsetsKept.{after-append, offsets-after, quiet-offsets}
 use Rattle.cg_group.proofs.Quiet.{Quiet, quiet-all, quiet-beat, quiet-gone_in, quiet-join, quiet-leave, quiet-sync}
-use Rattle.cg_held.proofs.Removing.{found-without}
+use Rattle.cg_group_table.proofs.Removing.{found-without}
 use Rattle.cg_group.proofs.Requests.{Fine, fine-commit}
-use Rattle.cg_held.proofs.Revived.{read_revived}
-use Rattle.cg_held.specs.Resting.{Covered}
+use Rattle.cg_group_table.proofs.Revived.{read_revived}
+use Rattle.cg_group_table.specs.Resting.{Covered}
 
 -- the commands of the step add offsets of its own group only
 abbrev Adds : OffsetMap → Turn → Type 0
@@ -107,8 +107,8 @@ unfolding dropped
 covered-dropped s ticket partitions (Err code) v key e = v key e
 covered-dropped s ticket partitions (Ok id) v key e = covered-drop s.offsets s.groups id partitions v key e
 
-pub covered-met : (s : Machine) (e : Event) → Covered s.offsets s.groups → Covered (offsets_after s.offsets (met s e).effects.commands) (met s e).after.groups
-unfolding met
+pub covered-met : (s : Machine) (e : Event) → Covered s.offsets s.groups → Covered (offsets_after s.offsets (handled s e).effects.commands) (handled s e).after.groups
+unfolding handled
 covered-met s (event.Join ticket r fresh) v =
     covered-concluded s ticket (join s.last r fresh ticket s.groups) (fine-over Quiet (Adds s.offsets) (adds-quiet s.offsets) (join s.last r fresh ticket s.groups) (quiet-join s.last r fresh ticket s.groups)) v
 covered-met s (event.Sync ticket r) v =
@@ -143,8 +143,8 @@ offsets-dropped s ticket partitions (Ok id) = refl
 offsets-dropped s ticket partitions (Err code) = refl
 
 -- only the commands of an event change the offsets
-pub offsets-met : (s : Machine) (e : Event) → (met s e).after.offsets ≡ s.offsets
-unfolding met everywhere tick
+pub offsets-met : (s : Machine) (e : Event) → (handled s e).after.offsets ≡ s.offsets
+unfolding handled everywhere tick
 offsets-met s (event.Join ticket r fresh) = offsets-concluded s ticket (join s.last r fresh ticket s.groups)
 offsets-met s (event.Sync ticket r) = offsets-concluded s ticket (sync s.last r ticket s.groups)
 offsets-met s (event.Beat ticket r) = offsets-concluded s ticket (beat s.last r ticket s.groups)
@@ -161,7 +161,7 @@ offsets-met s event.Tick = refl
 -- the offsets after a step
 pub offsets-step : (s : Machine) (e : Event) (m : ℕ) → (step s e m).after.offsets ≡ offsets_after s.offsets (step s e m).effects.commands
 unfolding step
-offsets-step s e m = ap (λ o. offsets_after o (met (record s { last = max s.last m }) e).effects.commands) (offsets-met (record s { last = max s.last m }) e)
+offsets-step s e m = ap (λ o. offsets_after o (handled (record s { last = max s.last m }) e).effects.commands) (offsets-met (record s { last = max s.last m }) e)
 
 pub offsets-after_all : (events : List (Event × ℕ)) (s : Machine) (state : State) → s.offsets ≡ state.offsets → (after_all events s).offsets ≡ (after state (commands_of events s)).offsets
 unfolding after_all commands_of
@@ -192,7 +192,7 @@ unfolding revive
 offsets-revive state now = refl
 
 -- the same, in the form of a call that processes an event
-pub covered-call : (loaded now : ℕ) (held held' : List Group) (offsets offsets' : OffsetMap) (e : Event) (effects : Effects) → met (standing loaded now held offsets) e ≡ outcome (standing loaded now held' offsets) effects
+pub covered-call : (loaded now : ℕ) (held held' : List Group) (offsets offsets' : OffsetMap) (e : Event) (effects : Effects) → handled (standing loaded now held offsets) e ≡ outcome (standing loaded now held' offsets) effects
     → offsets' ≡ offsets_after offsets effects.commands → Covered offsets held → Covered offsets' held'
 covered-call loaded now held held' offsets offsets' e effects is moved covered =
     subst (λ o. Covered o held') (sym moved) (subst (λ (o : Outcome). Covered (offsets_after offsets o.effects.commands) o.after.groups) is (covered-met (standing loaded now held offsets) e covered))

@@ -4,31 +4,31 @@ use Rattle.std.specs.Prelude.{IfSome, if◌then◌else◌}
 use Rattle.cg_names.specs.declared.code.Code.{Code}
 use Rattle.cg_record.specs.declared.command.Command.{Command}
 use Rattle.cg_record.specs.declared.command.Command.TheVariants as command
-use Rattle.cg_fold.specs.declared.record.GroupRecord.{GroupRecord}
+use Rattle.cg_fold.specs.declared.group_record.GroupRecord.{GroupRecord}
 use Rattle.cg_fold.specs.Durable.{State, after}
 use Rattle.cg_request.specs.declared.commit_entry.CommitEntry.{CommitEntry}
 use Rattle.cg_request.specs.declared.event.Event.{Event}
 use Rattle.cg_request.specs.declared.event.Event.TheVariants as event
-use Rattle.cg_request.specs.declared.request.JoinRequest.{JoinRequest}
+use Rattle.cg_request.specs.declared.request_fields.JoinRequest.{JoinRequest}
 use Rattle.cg_request.specs.declared.ticket.Ticket.{Ticket}
-use Rattle.cg_member.specs.declared.group.Group.{Group}
-use Rattle.cg_member.specs.declared.member.Member.{Member}
-use Rattle.cg_member.specs.declared.turn.Turn.{Turn}
-use Rattle.cg_member.specs.Joining.{new_group, rejoined}
-use Rattle.cg_member.specs.Leaving.{gone_in}
-use Rattle.cg_member.specs.Membership.{is_same}
-use Rattle.cg_member.specs.Replacing.{join_replacing, keeps_generation, replaced, replaced_in_place, successor}
-use Rattle.cg_member.specs.Syncing.{kept_member}
-use Rattle.cg_turn.specs.Committing.{committed, hearing_committer, keeping_entries}
-use Rattle.cg_held.specs.Held.{Machine, everywhere}
-use Rattle.cg_held.specs.Kept.{Each, Kept, kept_in}
-use Rattle.cg_held.proofs.Framed.{each-append}
-use Rattle.cg_held.proofs.Kept.{effect, group_of, kept-after, kept_after, left_by}
+use Rattle.cg_group_state.specs.declared.group.Group.{Group}
+use Rattle.cg_group_state.specs.declared.member.Member.{Member}
+use Rattle.cg_group_state.specs.declared.turn.Turn.{Turn}
+use Rattle.cg_group_rules.specs.Join.{new_group, rejoined}
+use Rattle.cg_group_rules.specs.Leave.{gone_in}
+use Rattle.cg_group_state.specs.Membership.{is_same}
+use Rattle.cg_group_rules.specs.StaticMember.{replace_static_member, keeps_generation, replaced, replaced_in_place, successor}
+use Rattle.cg_group_rules.specs.Sync.{kept_member}
+use Rattle.cg_group_rules.specs.OffsetCommit.{committed, hearing_committer, keeping_entries}
+use Rattle.cg_group_table.specs.GroupTable.{Machine, everywhere}
+use Rattle.cg_group_table.specs.Kept.{Each, Kept, kept_in}
+use Rattle.cg_group_table.proofs.Framed.{each-append}
+use Rattle.cg_group_table.proofs.Kept.{effect, group_of, kept-after, kept_after, left_by}
 use Rattle.cg_group.specs.Laws.{AreCompleted, commands_of}
 use Rattle.cg_record.specs.declared.topic_partition.TopicPartition.{TopicPartition}
 use Rattle.cg_group.proofs.Sweeping.{each-drop, each-tick}
-use Rattle.cg_group.specs.Machine.{beat, commit, concluded, deleted, dropped, join, leave, memberless, met, step, sync, with_offset}
-use Rattle.cg_group.proofs.Making.{makes-all, makes-beat_taken, makes-gone_in, makes-join_known, makes-join_new, makes-leave_taken, makes-rejoined, makes-sync_taken, makes-ticked}
+use Rattle.cg_group.specs.Machine.{beat, commit, concluded, deleted, dropped, join, leave, memberless, handled, step, sync, with_offset}
+use Rattle.cg_group.proofs.Making.{makes-all, makes-beat_taken, makes-gone_in, makes-join_known, makes-add_member_and_rebalance, makes-leave_taken, makes-rejoined, makes-sync_taken, makes-ticked}
 use Rattle.cg_group.proofs.Requests.{Fine, fine-beat, fine-commit, fine-join, fine-leave, fine-sync}
 
 -- the command makes no record of generation 0
@@ -51,9 +51,9 @@ dated-committed : (now : ℕ) (entries : List CommitEntry) (ticket : Ticket) (g 
 unfolding keeping_entries
 dated-committed now entries ticket g = (tt, tt)
 
-dated-join_replacing : (now : ℕ) (r : JoinRequest) (id : List ℕ) (ticket : Ticket) (old : Member) (g : Group) → Dated (join_replacing now r id ticket old g)
-unfolding join_replacing replaced replaced_in_place
-dated-join_replacing now r id ticket old g =
+dated-replace_static_member : (now : ℕ) (r : JoinRequest) (id : List ℕ) (ticket : Ticket) (old : Member) (g : Group) → Dated (replace_static_member now r id ticket old g)
+unfolding replace_static_member replaced replaced_in_place
+dated-replace_static_member now r id ticket old g =
     let m : Member = successor now r id old in
     let t : Turn = replaced m old g in
     elim (keeps_generation t.group) as (λ b. Dated (if b then replaced_in_place ticket (kept_member g.protocol m) g t else rejoined now id ticket t)) [
@@ -76,14 +76,14 @@ unfolding dropped
 dated-dropped s ticket partitions (Ok id) = each-drop HasDate (λ _. tt) id (with_offset s.offsets id partitions)
 dated-dropped s ticket partitions (Err code) = tt
 
-dated-met : (s : Machine) (e : Event) → HaveDates (met s e).effects.commands
-unfolding met everywhere
+dated-met : (s : Machine) (e : Event) → HaveDates (handled s e).effects.commands
+unfolding handled everywhere
 dated-met s (event.Join ticket r fresh) =
     dated-concluded s ticket (join s.last r fresh ticket s.groups)
     (fine-join Dated s.last r fresh ticket s.groups
-    (λ id new _ _. makes-join_new HasDate (λ a h. h) (λ e h. h) s.last r new ticket (new_group id))
-    (λ id new g _ _ _ _ _. makes-join_new HasDate (λ a h. h) (λ e h. h) s.last r new ticket g)
-    (λ id new g old _ _ _ _ _. dated-join_replacing s.last r new ticket old g)
+    (λ id new _ _. makes-add_member_and_rebalance HasDate (λ a h. h) (λ e h. h) s.last r new ticket (new_group id))
+    (λ id new g _ _ _ _ _. makes-add_member_and_rebalance HasDate (λ a h. h) (λ e h. h) s.last r new ticket g)
+    (λ id new g old _ _ _ _ _. dated-replace_static_member s.last r new ticket old g)
     (λ id own g m _ _ _ _. makes-join_known HasDate (λ a h. h) (λ e h. h) s.last r own ticket m g))
 dated-met s (event.Sync ticket r) =
     dated-concluded s ticket (sync s.last r ticket s.groups)

@@ -1,25 +1,24 @@
 -- A member that leaves, and nothing else: the rebalance under way waits for others.
 use Rattle.std.proofs.Common.{◌≡◌, ℕ, true, not, List, inl, inr, Some, Ok, refl, sym, ap, ◌∙◌, subst}
-use Rattle.std.specs.Prelude.{is_ok}
+use Rattle.std.specs.Prelude.{is_ok, Option}
 use Rattle.std.specs.BTreeMap.{BTreeMap, get}
-use Rattle.std.specs.Prelude.{Option}
 use Rattle.std.specs.Ordering.{nat_cmp}
-use Rattle.cg_member.specs.declared.effects.Effects.{Effects}
-use Rattle.cg_member.specs.declared.group.Group.{Group}
-use Rattle.cg_member.specs.declared.member.Member.{Member}
-use Rattle.cg_request.specs.declared.request.LeaveRequest.{LeaveRequest}
+use Rattle.cg_group_state.specs.declared.effects.Effects.{Effects}
+use Rattle.cg_group_state.specs.declared.group.Group.{Group}
+use Rattle.cg_group_state.specs.declared.member.Member.{Member}
+use Rattle.cg_request.specs.declared.request_fields.LeaveRequest.{LeaveRequest}
 use Rattle.cg_request.specs.declared.ticket.Ticket.{Ticket}
 use Rattle.cg_group.specs.InPlace.{CameOn, IsDeparture, IsNamed, departing_effects}
 use Rattle.cg_group.specs.Machine.{concluded, leave}
-use Rattle.cg_held.specs.declared.sessions.Home.{Home}
-use Rattle.cg_held.specs.Held.{at_moment, find_group, outcome, with_group}
-use Rattle.cg_held.specs.Sessions.{IsFilled, IsLetGo, IsTight, is_home, is_parked}
-use Rattle.cg_held.proofs.Finding.{find-own}
-use Rattle.cg_held.proofs.InOrder.{found_named}
-use Rattle.cg_member.specs.Leaving.{leave_held, left}
-use Rattle.cg_member.specs.Membership.{has_id, keeping}
-use Rattle.cg_member.specs.Rebalance.{turn_of}
-use Rattle.cg_member.specs.Refusing.{◌>>=◌}
+use Rattle.cg_group_table.specs.declared.session_index.Home.{Home}
+use Rattle.cg_group_table.specs.GroupTable.{at_moment, find_group, outcome, with_group}
+use Rattle.cg_group_table.specs.SessionIndex.{IsFilled, IsLetGo, IsTight, is_home, is_parked}
+use Rattle.cg_group_table.proofs.Finding.{find-own}
+use Rattle.cg_group_table.proofs.InOrder.{found_named}
+use Rattle.cg_group_rules.specs.Leave.{leave_held, left}
+use Rattle.cg_group_state.specs.Membership.{has_id, keeping}
+use Rattle.cg_group_rules.specs.Rebalance.{turn_of}
+use Rattle.cg_group_state.specs.Checks.{◌>>=◌}
 use Rattle.cg_group.proofs.Displacing.{of_session}
 use Rattle.cg_group.proofs.InPlace.{named_is}
 use Rattle.cg_group.proofs.TightIndex.{tight_left}

@@ -5,30 +5,31 @@ use Rattle.std.specs.BTreeMap.{BTreeMap, get}
 use Rattle.std.specs.List.{list_any}
 use Rattle.std.specs.Ordering.{nat_cmp}
 use Rattle.std.proofs.lemmas.Bool.{eqb-false, eqb-true, false≢true, or_left, or_right}
-use Rattle.cg_member.specs.declared.calls.Calls.TheVariants.{Any, OfSession}
-use Rattle.cg_member.specs.declared.effects.Effects.{Effects}
-use Rattle.cg_member.specs.declared.group.Group.{Group}
-use Rattle.cg_member.specs.declared.member.Member.{Member}
-use Rattle.cg_member.specs.declared.member.Waits.{Waits}
-use Rattle.cg_member.specs.declared.member.Waits.TheVariants.{Nothing, Join, Sync}
-use Rattle.cg_request.specs.declared.request.JoinRequest.{JoinRequest}
-use Rattle.cg_request.specs.declared.request.SyncRequest.{SyncRequest}
+use Rattle.cg_group_state.specs.declared.calls.Calls.TheVariants.{Any, OfSession}
+use Rattle.cg_group_state.specs.declared.effects.Effects.{Effects}
+use Rattle.cg_group_state.specs.declared.group.Group.{Group}
+use Rattle.cg_group_state.specs.declared.member.Member.{Member}
+use Rattle.cg_group_state.specs.declared.member.Waits.{Waits}
+use Rattle.cg_group_state.specs.declared.member.Waits.TheVariants.{Nothing, Join, Sync}
+use Rattle.cg_request.specs.declared.request_fields.JoinRequest.{JoinRequest}
+use Rattle.cg_request.specs.declared.request_fields.SyncRequest.{SyncRequest}
 use Rattle.cg_request.specs.declared.ticket.Ticket.{Ticket}
-use Rattle.cg_turn.specs.declared.syncing.SyncCase.TheVariants.{Parked}
+use Rattle.cg_group_rules.specs.declared.sync.SyncCase.TheVariants.{Parked}
 use Rattle.cg_group.specs.InPlace.{IsJoinParked, IsSync, Parks, parking_effects, CameOn}
 use Rattle.cg_group.specs.Machine.{concluded, join, sync}
-use Rattle.cg_held.specs.declared.sessions.Home.{Home}
-use Rattle.cg_held.specs.Changes.{ChangeKeepsId}
-use Rattle.cg_held.specs.Held.{at_moment, find_group, outcome, with_group}
-use Rattle.cg_held.specs.Sessions.{AreKnown, IsFilled, IsLetGo, IsTight, Known, is_home, is_parked}
-use Rattle.cg_held.proofs.Finding.{find-own}
-use Rattle.cg_held.proofs.InOrder.{found_named}
-use Rattle.cg_held.proofs.KeptLists.{each-found, each-put}
-use Rattle.cg_member.specs.Joining.{displaced, updated, updating, waiting, waits_with}
-use Rattle.cg_member.specs.Membership.{find_member, has_id, heard, hearing, with_member}
-use Rattle.cg_member.specs.Rebalance.{turn_of}
-use Rattle.cg_member.specs.Waiting.{called, is_waiting}
-use Rattle.cg_member.proofs.Recalling.{find-with_member}
+use Rattle.cg_group_table.specs.declared.session_index.Home.{Home}
+use Rattle.cg_group_table.specs.GroupChanges.{ChangeKeepsId}
+use Rattle.cg_group_table.specs.GroupTable.{at_moment, find_group, outcome, with_group}
+use Rattle.cg_group_table.specs.SessionIndex.{AreKnown, IsFilled, IsLetGo, IsTight, Known, is_home, is_parked}
+use Rattle.cg_group_table.proofs.Finding.{find-own}
+use Rattle.cg_group_table.proofs.InOrder.{found_named}
+use Rattle.cg_group_table.proofs.KeptLists.{each-found, each-put}
+use Rattle.cg_group_rules.specs.Join.{displaced, updating, waiting}
+use Rattle.cg_group_state.specs.JoinTerms.{updated}
+use Rattle.cg_group_state.specs.Waiting.{waits_with, called, is_waiting}
+use Rattle.cg_group_state.specs.Membership.{find_member, has_id, heard, hearing, with_member}
+use Rattle.cg_group_rules.specs.Rebalance.{turn_of}
+use Rattle.cg_group_state.proofs.Recalling.{find-with_member}
 use Rattle.cg_group.proofs.InPlace.{join_here, sync_here}
 use Rattle.cg_group.proofs.KnownSessions.{known-parked_join, known-parked_sync}
 use Rattle.cg_group.proofs.TightIndex.{tight_parked}

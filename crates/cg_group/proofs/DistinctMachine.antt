@@ -1,37 +1,36 @@
 -- Each event, and so every list of events, keeps the ids and the instances of members distinct.
-use Rattle.std.proofs.Common.{ℕ, List, [], ◌∷◌, map, refl, max, Option, Some, None}
+use Rattle.std.proofs.Common.{ℕ, List, [], ◌∷◌, map, refl, max, Option, Some, None, Result, Ok, Err}
 use Rattle.std.specs.Prelude.{IfSome}
 use Rattle.cg_record.specs.Rosters.{IsRoster, RosterParts}
-use Rattle.cg_fold.specs.declared.record.GroupRecord.{GroupRecord}
-use Rattle.cg_fold.specs.declared.record.RecordedMembers.{RecordedMembers}
-use Rattle.cg_fold.specs.declared.record.RecordedMembers.TheVariants as recorded
+use Rattle.cg_fold.specs.declared.group_record.GroupRecord.{GroupRecord}
+use Rattle.cg_fold.specs.declared.group_record.RecordedMembers.{RecordedMembers}
+use Rattle.cg_fold.specs.declared.group_record.RecordedMembers.TheVariants as recorded
 use Rattle.cg_fold.specs.Record.{roster_in}
 use Rattle.cg_fold.specs.Durable.{State}
 use Rattle.cg_fold.specs.Snapshot.{groups_in, in_order}
 use Rattle.cg_request.specs.declared.event.Event.{Event}
 use Rattle.cg_request.specs.declared.event.Event.TheVariants as event
-use Rattle.cg_member.specs.declared.group.Group.{Group}
+use Rattle.cg_group_state.specs.declared.group.Group.{Group}
 use Rattle.cg_request.specs.declared.ticket.Ticket.{Ticket}
-use Rattle.cg_member.specs.declared.turn.Turn.{Turn}
-use Rattle.cg_member.specs.Joining.{new_group}
-use Rattle.cg_held.specs.Kept.{AreRecords, Each, IsRecord, kept_in}
+use Rattle.cg_group_state.specs.declared.turn.Turn.{Turn}
+use Rattle.cg_group_rules.specs.Join.{new_group}
+use Rattle.cg_group_table.specs.Kept.{AreRecords, Each, IsRecord, kept_in}
 use Rattle.cg_request.specs.Names.{are_distinct}
 use Rattle.cg_group.specs.Laws.{MembersStayDistinct, after_all}
-use Rattle.cg_member.specs.Leaving.{gone_in}
+use Rattle.cg_group_rules.specs.Leave.{gone_in}
 use Rattle.cg_record.specs.declared.topic_partition.TopicPartition.{TopicPartition}
-use Rattle.cg_member.specs.Offsets.{offsets_after}
-use Rattle.cg_held.specs.Expiring.{lasting, tick, tick_effects}
+use Rattle.cg_group_state.specs.Offsets.{offsets_after}
+use Rattle.cg_group_table.specs.Expiry.{lasting, tick, tick_effects}
 use Rattle.cg_group.proofs.Sweeping.{each-founded, each-lasting}
-use Rattle.cg_group.specs.Machine.{beat, commit, concluded, deleted, drop_command, dropped, join, leave, memberless, met, step, sync, with_offset}
-use Rattle.cg_held.specs.Held.{Machine, everywhere, groups_after}
-use Rattle.cg_held.specs.Reviving.{revive, revived, revived_from, revived_with}
-use Rattle.cg_member.specs.Ticking.{ticked}
-use Rattle.cg_group.proofs.Distinct.{Distinct, apart-new_group, distinct-beat_taken, distinct-committed, distinct-gone_in, distinct-join_known, distinct-join_new, distinct-join_replacing, distinct-leave_taken, distinct-new_group, distinct-sync_taken, distinct-ticked, free-new_group}
-use Rattle.cg_held.proofs.KeptLists.{each-found, each-put}
-use Rattle.cg_held.proofs.Recalled.{distinct-revived_members}
-use Rattle.cg_held.proofs.Removing.{each-without}
+use Rattle.cg_group.specs.Machine.{beat, commit, concluded, deleted, drop_command, dropped, join, leave, memberless, handled, step, sync, with_offset}
+use Rattle.cg_group_table.specs.GroupTable.{Machine, everywhere, groups_after}
+use Rattle.cg_group_table.specs.Recovery.{revive, revived, revived_from, revived_with}
+use Rattle.cg_group_rules.specs.Tick.{ticked}
+use Rattle.cg_group.proofs.Distinct.{Distinct, apart-new_group, distinct-beat_taken, distinct-committed, distinct-gone_in, distinct-join_known, distinct-add_member_and_rebalance, distinct-replace_static_member, distinct-leave_taken, distinct-new_group, distinct-sync_taken, distinct-ticked, free-new_group}
+use Rattle.cg_group_table.proofs.KeptLists.{each-found, each-put}
+use Rattle.cg_group_table.proofs.Recalled.{distinct-revived_members}
+use Rattle.cg_group_table.proofs.Removing.{each-without}
 use Rattle.cg_group.proofs.Requests.{Fine, fine-beat, fine-commit, fine-join, fine-leave, fine-sync}
-use Rattle.std.proofs.Common.{Result, Ok, Err}
 use Rattle.cg_names.specs.declared.code.Code.{Code}
 
 abbrev AllDistinct : List Group → Type 0
@@ -64,14 +63,14 @@ unfolding dropped
 distinct-dropped s ticket partitions (Ok id) h = each-founded Distinct s.offsets (drop_command id (with_offset s.offsets id partitions)) id s.groups h
 distinct-dropped s ticket partitions (Err code) h = h
 
-distinct-met : (s : Machine) (e : Event) → AllDistinct s.groups → AllDistinct (met s e).after.groups
-unfolding met tick
+distinct-met : (s : Machine) (e : Event) → AllDistinct s.groups → AllDistinct (handled s e).after.groups
+unfolding handled tick
 distinct-met s (event.Join ticket r fresh) h =
     distinct-concluded s ticket (join s.last r fresh ticket s.groups)
     (fine-join After s.last r fresh ticket s.groups
-    (λ id new _ _. distinct-join_new s.last r new ticket (new_group id) (distinct-new_group id) (free-new_group id new) (apart-new_group id r.instance))
-    (λ id new g _ e free apart _. distinct-join_new s.last r new ticket g (each-found Distinct id s.groups g e h) free apart)
-    (λ id new g old _ e free _ _. distinct-join_replacing s.last r new ticket old g (each-found Distinct id s.groups g e h) free)
+    (λ id new _ _. distinct-add_member_and_rebalance s.last r new ticket (new_group id) (distinct-new_group id) (free-new_group id new) (apart-new_group id r.instance))
+    (λ id new g _ e free apart _. distinct-add_member_and_rebalance s.last r new ticket g (each-found Distinct id s.groups g e h) free apart)
+    (λ id new g old _ e free _ _. distinct-replace_static_member s.last r new ticket old g (each-found Distinct id s.groups g e h) free)
     (λ id own g m _ e _ _. distinct-join_known s.last r own ticket m g (each-found Distinct id s.groups g e h))) h
 distinct-met s (event.Sync ticket r) h =
     distinct-concluded s ticket (sync s.last r ticket s.groups)

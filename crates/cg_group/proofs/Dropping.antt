@@ -13,13 +13,13 @@ use Rattle.cg_record.specs.declared.expired.Expired.{Expired as Expiry}
 use Rattle.cg_record.specs.declared.topic_partition.TopicPartition.{TopicPartition}
 use Rattle.cg_record.specs.Partitions.{ArePartitions, are_one}
 use Rattle.cg_fold.specs.Durable.{State, after, effect, is_beside, is_of_other}
-use Rattle.cg_member.specs.declared.effects.Effects.{Effects}
-use Rattle.cg_member.specs.declared.group.Group.{Group}
-use Rattle.cg_member.specs.declared.reply.Reply.TheVariants as reply
-use Rattle.cg_member.specs.Offsets.{OffsetMap, offsets_after}
+use Rattle.cg_group_state.specs.declared.effects.Effects.{Effects}
+use Rattle.cg_group_state.specs.declared.group.Group.{Group}
+use Rattle.cg_group_state.specs.declared.reply.Reply.TheVariants as reply
+use Rattle.cg_group_state.specs.Offsets.{OffsetMap, offsets_after}
 use Rattle.cg_request.specs.declared.ticket.Ticket.{Ticket}
-use Rattle.cg_held.specs.Expiring.{are_takings, is_bare, is_taking, without_bare}
-use Rattle.cg_held.specs.Held.{Machine, Outcome, outcome, standing, without_group}
+use Rattle.cg_group_table.specs.Expiry.{are_takings, is_bare, is_taking, without_bare}
+use Rattle.cg_group_table.specs.GroupTable.{Machine, Outcome, outcome, standing, without_group}
 use Rattle.cg_group.specs.Machine.{drop_command, dropped, founded_after, is_unfounded, reply_alone, with_offset}
 use Rattle.cg_group.proofs.OffsetsKept.{IsQuiet, offsets-after, quiet-offsets}
 

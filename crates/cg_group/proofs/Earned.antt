@@ -7,57 +7,57 @@ use Rattle.std.specs.Ordering.{match_ordering, nat_cmp}
 use Rattle.std.specs.declared.cmp.Ordering.TheVariants.{Less, Equal, Greater}
 use Rattle.std.proofs.lemmas.Bool.{and_from, false≢true, or_left, or_right}
 use Rattle.cg_names.specs.declared.code.Code.{Code}
-use Rattle.cg_member.specs.declared.calls.Calls.TheVariants.{Syncs}
-use Rattle.cg_record.specs.declared.member.Member.{Member as KeptMember}
+use Rattle.cg_group_state.specs.declared.calls.Calls.TheVariants.{Syncs}
+use Rattle.cg_record.specs.declared.member_record.MemberRecord.{MemberRecord}
 use Rattle.cg_record.specs.Rosters.{RosterParts}
 use Rattle.cg_request.specs.declared.event.Event.{Event}
 use Rattle.cg_request.specs.declared.event.Event.TheVariants as event
-use Rattle.cg_fold.specs.declared.record.GroupRecord.{GroupRecord}
-use Rattle.cg_fold.specs.declared.record.RecordedMembers.{RecordedMembers}
-use Rattle.cg_fold.specs.declared.record.RecordedMembers.TheVariants as recorded
+use Rattle.cg_fold.specs.declared.group_record.GroupRecord.{GroupRecord}
+use Rattle.cg_fold.specs.declared.group_record.RecordedMembers.{RecordedMembers}
+use Rattle.cg_fold.specs.declared.group_record.RecordedMembers.TheVariants as recorded
 use Rattle.cg_fold.specs.Durable.{State, after}
-use Rattle.cg_member.specs.declared.group.Group.{Group}
-use Rattle.cg_member.specs.declared.group.Phase.{Phase}
-use Rattle.cg_member.specs.declared.group.Phase.TheVariants.{Empty, Preparing, Completing, Stable}
-use Rattle.cg_member.specs.declared.member.Member.{Member}
-use Rattle.cg_member.specs.declared.member.Waits.{Waits}
-use Rattle.cg_member.specs.declared.member.Waits.TheVariants.{Join, Sync, Nothing}
-use Rattle.cg_member.specs.declared.reply.Reply.{Reply}
-use Rattle.cg_member.specs.declared.reply.Reply.TheVariants as reply
-use Rattle.cg_request.specs.declared.request.JoinRequest.{JoinRequest}
-use Rattle.cg_request.specs.declared.request.SyncEntry.{SyncEntry}
-use Rattle.cg_request.specs.declared.request.SyncRequest.{SyncRequest}
+use Rattle.cg_group_state.specs.declared.group.Group.{Group}
+use Rattle.cg_group_state.specs.declared.group.Phase.{Phase}
+use Rattle.cg_group_state.specs.declared.group.Phase.TheVariants.{Empty, Preparing, Completing, Stable}
+use Rattle.cg_group_state.specs.declared.member.Member.{Member}
+use Rattle.cg_group_state.specs.declared.member.Waits.{Waits}
+use Rattle.cg_group_state.specs.declared.member.Waits.TheVariants.{Join, Sync, Nothing}
+use Rattle.cg_group_state.specs.declared.reply.Reply.{Reply}
+use Rattle.cg_group_state.specs.declared.reply.Reply.TheVariants as reply
+use Rattle.cg_request.specs.declared.request_fields.JoinRequest.{JoinRequest}
+use Rattle.cg_request.specs.declared.request_fields.SyncEntry.{SyncEntry}
+use Rattle.cg_request.specs.declared.request_fields.SyncRequest.{SyncRequest}
 use Rattle.cg_request.specs.declared.ticket.Ticket.{Ticket}
-use Rattle.cg_member.specs.declared.turn.Turn.{Turn}
-use Rattle.cg_member.specs.Joining.{admitted, is_current, join_again, join_current, join_known, join_new, new_group, new_member, rejoined, updating, waiting, waits_with}
-use Rattle.cg_held.specs.Kept.{Each, Kept, kept_in}
-use Rattle.cg_held.proofs.Kept.{kept-after, kept_after}
+use Rattle.cg_group_state.specs.declared.turn.Turn.{Turn}
+use Rattle.cg_group_rules.specs.Join.{admitted, is_current, update_member_and_rebalance, join_current, join_known, add_member_and_rebalance, new_group, new_member, rejoined, updating, waiting}
+use Rattle.cg_group_state.specs.Waiting.{waits_with, after_answers, answers, called}
+use Rattle.cg_group_table.specs.Kept.{Each, Kept, kept_in}
+use Rattle.cg_group_table.proofs.Kept.{kept-after, kept_after}
 use Rattle.cg_group.specs.Laws.{AreRequests, IsRecordedAs, TellsOf, after_all, state_after}
 use Rattle.cg_group.proofs.Asked.{has_named, is_earned, is_earned_in, is_in_roster, is_kept_for}
 use Rattle.cg_record.specs.declared.topic_partition.TopicPartition.{TopicPartition}
-use Rattle.cg_member.specs.Fetching.{fetched}
-use Rattle.cg_member.specs.Offsets.{OffsetMap}
-use Rattle.cg_member.specs.Leaving.{after_removal, gone_in, leave_taken, left}
+use Rattle.cg_group_rules.specs.OffsetFetch.{fetched}
+use Rattle.cg_group_state.specs.Offsets.{OffsetMap}
+use Rattle.cg_group_rules.specs.Leave.{after_removal, gone_in, leave_taken, left}
 use Rattle.cg_request.specs.declared.commit_entry.CommitEntry.{CommitEntry}
-use Rattle.cg_turn.specs.Committing.{committed, hearing_committer, keeping_entries}
-use Rattle.cg_held.specs.Expiring.{tick}
-use Rattle.cg_group.specs.Machine.{beat, commit, concluded, deleted, describe, dropped, join, leave, memberless, met, step, sync}
-use Rattle.cg_held.specs.Held.{Machine, Outcome, everywhere, with_group}
-use Rattle.cg_member.specs.Membership.{find_member, has_id, heard, hearing, is_preparing, is_same, keeping, leads, with_member}
-use Rattle.cg_member.specs.Rebalance.{completed, joined_reply, next_round, tried, turn_of}
-use Rattle.cg_member.specs.Replacing.{join_replacing, keeps_generation, replaced, replaced_in_place, replaced_reply, successor}
-use Rattle.cg_held.specs.Reviving.{revive}
-use Rattle.cg_member.specs.Syncing.{assigned_command, assigning, distributed, kept_member, sync_current, sync_taken, sync_waits, synced_reply, told_to_syncs}
-use Rattle.cg_member.specs.Ticking.{at_deadline, can_complete, ended, expired, is_due, outstays, ticked}
-use Rattle.cg_member.specs.Waiting.{after_answers, answers, called}
-use Rattle.cg_member.specs.Offsets.{OffsetMap}
+use Rattle.cg_group_rules.specs.OffsetCommit.{committed, hearing_committer, keeping_entries}
+use Rattle.cg_group_table.specs.Expiry.{tick}
+use Rattle.cg_group.specs.Machine.{beat, commit, concluded, deleted, describe, dropped, join, leave, memberless, handled, step, sync}
+use Rattle.cg_group_table.specs.GroupTable.{Machine, Outcome, everywhere, with_group}
+use Rattle.cg_group_state.specs.Membership.{find_member, has_id, heard, hearing, is_preparing, is_same, keeping, leads, with_member}
+use Rattle.cg_group_rules.specs.Rebalance.{complete_join, joined_reply, init_next_generation, try_complete_join, turn_of}
+use Rattle.cg_group_rules.specs.StaticMember.{replace_static_member, keeps_generation, replaced, replaced_in_place, replaced_reply, successor}
+use Rattle.cg_group_table.specs.Recovery.{revive}
+use Rattle.cg_group_rules.specs.Sync.{assigned_command, assigning, propagate_assignment, kept_member, sync_current, sync_taken, sync_waits, synced_reply, reply_to_syncs}
+use Rattle.cg_group_rules.specs.Tick.{at_deadline, can_complete, ended, expire_heartbeats, is_due, ticked}
+use Rattle.cg_group_state.specs.Staying.{outstays}
 use Rattle.cg_group.proofs.Agreeing.{Holds, IsCompleted, Whole, assigned_tells, empty_members}
 use Rattle.cg_group.proofs.AgreeingMachine.{WholeMachine, machine_more, sync_named, was_met_last, whole-all}
 use Rattle.cg_group.proofs.AgreeingTurns.{nothing_found, some_named}
 use Rattle.cg_group.proofs.Calling.{AllWaits, is_named_wait, waits-assigned, waits-with_member}
-use Rattle.cg_held.proofs.Framed.{each-append, framed-sync_taken}
-use Rattle.cg_member.proofs.Keeping.{keep-after_answers, keep-hearing}
-use Rattle.cg_held.proofs.KeptLists.{each-found, id-found, kept_after-append, same_names, same_self}
+use Rattle.cg_group_table.proofs.Framed.{each-append, framed-sync_taken}
+use Rattle.cg_group_state.proofs.Keeping.{keep-after_answers, keep-hearing}
+use Rattle.cg_group_table.proofs.KeptLists.{each-found, id-found, kept_after-append, same_names, same_self}
 use Rattle.cg_group.proofs.KeptMachine.{each-over}
 use Rattle.cg_group.proofs.Requests.{Fine, fine-beat, fine-commit, fine-join, fine-leave, fine-sync}
 use Rattle.cg_group.proofs.Telling.{Told, each-answers, expired_tried, told-beat_taken, told-completed, told-gone_in, told-in_join_phase, told-left, told-rejoined, told-removal, told-replaced, told-tried, told-waiting}
@@ -104,7 +104,7 @@ id-member own (x ∷ xs) m e =
 kept_recorded : (g : Group) (r : GroupRecord) (roster : RecordedMembers) → g.phase ≡ Stable → IsRecordedAs r roster g → Each (λ m. is_in_roster roster m.id m.assignment ≡ true) g.members
 kept_recorded g r (recorded.Empty moment) p h = let bad : Empty ≡ Stable = sym h.phase ∙ p in cc
 kept_recorded g r (recorded.Roster roster) p h =
-    let P : List KeptMember → Type 0 = λ ks. Each (λ m. list_any (λ k. is_same k.id m.id && is_same k.assignment m.assignment) ks ≡ true) g.members in
+    let P : List MemberRecord → Type 0 = λ ks. Each (λ m. list_any (λ k. is_same k.id m.id && is_same k.assignment m.assignment) ks ≡ true) g.members in
     subst P (sym h.members) (each-in (kept_member g.protocol) (λ k m. is_same k.id m.id && is_same k.assignment m.assignment) (λ m. and_from (is_same m.id m.id) (is_same m.assignment m.assignment) (same_self m.id) (same_self m.assignment)) g.members)
 
 kept_told : (g : Group) (o : Option GroupRecord) → g.phase ≡ Stable → TellsOf g o → Each (λ m. is_kept_for o m.id m.assignment ≡ true) g.members
@@ -178,22 +178,22 @@ module _ (events : List (Event × ℕ)) (kept : Kept) where
   abbrev EarnedBy : List ℕ → Turn → Type 0
   EarnedBy id t = Each (λ r. is_earned_in events t.group (kept_after kept t.commands id) r ≡ true) t.replies
 
-  earned-told_to_syncs : (now : ℕ) (id : List ℕ) (t : Turn) → Told Silent t → AllWaits (is_named_wait events t.group.id t.group.generation) t.group.members → Each (λ m. is_kept_for (kept_after kept t.commands id) m.id m.assignment ≡ true) t.group.members → EarnedBy id (told_to_syncs now t)
-  unfolding told_to_syncs
-  earned-told_to_syncs now id t told named own =
+  earned-reply_to_syncs : (now : ℕ) (id : List ℕ) (t : Turn) → Told Silent t → AllWaits (is_named_wait events t.group.id t.group.generation) t.group.members → Each (λ m. is_kept_for (kept_after kept t.commands id) m.id m.assignment ≡ true) t.group.members → EarnedBy id (reply_to_syncs now t)
+  unfolding reply_to_syncs
+  earned-reply_to_syncs now id t told named own =
       let after : Group = record t.group { members = after_answers Syncs now t.group.members } in
       let o : Option GroupRecord = kept_after kept t.commands id in
       each-append (λ r. is_earned_in events after o r ≡ true) t.replies (answers Syncs synced_reply t.group.members)
       (each-over (λ r. Silent r.1) (λ r. is_earned_in events after o r ≡ true) (λ r h. silent_in events after o r.0 r.1 h) t.replies told)
       (earned-answers events t.group o now named own)
 
-  earned-distributed : (now : ℕ) (id : List ℕ) (entries : List SyncEntry) (t : Turn) → Told Silent t → t.group.id ≡ id → is_some t.group.kind ≡ true → is_some t.group.protocol ≡ true → is_some t.group.leader ≡ true → IsCompleted t.group → AllWaits (is_named_wait events t.group.id t.group.generation) t.group.members → EarnedBy id (distributed now entries t)
-  unfolding distributed assigning
-  earned-distributed now id entries t told named kind protocol leader completed waits =
+  earned-distributed : (now : ℕ) (id : List ℕ) (entries : List SyncEntry) (t : Turn) → Told Silent t → t.group.id ≡ id → is_some t.group.kind ≡ true → is_some t.group.protocol ≡ true → is_some t.group.leader ≡ true → IsCompleted t.group → AllWaits (is_named_wait events t.group.id t.group.generation) t.group.members → EarnedBy id (propagate_assignment now entries t)
+  unfolding propagate_assignment assigning
+  earned-distributed now id entries t told named kind protocol leader complete_join waits =
       let g : Group = assigning entries t.group in
       let o : Option GroupRecord = kept_after kept (t.commands ++ assigned_command g) id in
-      let tells : TellsOf g o = let P : Kept → Type 0 = λ k. TellsOf g (k id) in subst P (sym (kept_after-append kept t.commands (assigned_command g))) (assigned_tells g (kept_after kept t.commands) id named refl kind protocol leader completed) in
-      earned-told_to_syncs now id (record { group = g; replies = t.replies; commands = t.commands ++ assigned_command g }) told
+      let tells : TellsOf g o = let P : Kept → Type 0 = λ k. TellsOf g (k id) in subst P (sym (kept_after-append kept t.commands (assigned_command g))) (assigned_tells g (kept_after kept t.commands) id named refl kind protocol leader complete_join) in
+      earned-reply_to_syncs now id (record { group = g; replies = t.replies; commands = t.commands ++ assigned_command g }) told
       (waits-assigned (is_named_wait events t.group.id t.group.generation) entries t.group.members waits) (kept_told g o refl tells)
 
   silent-waiting : (now : ℕ) (own : List ℕ) (ticket : Ticket) (g : Group) → Told Silent (waiting now own (Sync ticket) (turn_of (hearing now own g)))
@@ -210,7 +210,7 @@ module _ (events : List (Event × ℕ)) (kept : Kept) where
       let holds : Holds Completing g (kept g.id) = subst P phase h.holds in
       let at : (x : Member) → has_id own x ≡ true → q x.id (Sync ticket) ≡ true = λ x e. let Q : List ℕ → Type 0 = λ i. q i (Sync ticket) ≡ true in subst Q (sym (same_names x.id own e)) here in
       let named : AllWaits q t.group.members = waits-with_member q own (waits_with now (Sync ticket)) (λ x e _. at x e) first (waits-with_member q own (heard now) (λ x _ e. e) g.members h.named) in
-      (elim (leads g m) as (λ b. leads g m ≡ b → EarnedBy g.id (if b then distributed now r.entries t else t)) [
+      (elim (leads g m) as (λ b. leads g m ≡ b → EarnedBy g.id (if b then propagate_assignment now r.entries t else t)) [
         | true ↦ λ e. earned-distributed now g.id r.entries t told refl holds.0 holds.1 (some_named g.leader m.id e) holds.2 named
         | false ↦ λ e. each-over (λ x. Silent x.1) (λ x. is_earned_in events t.group (kept_after kept t.commands g.id) x ≡ true) (λ x s. silent_in events t.group (kept_after kept t.commands g.id) x.0 x.1 s) t.replies told
       ]) refl
@@ -237,24 +237,24 @@ silent_joined : (g : Group) (m : Member) → Silent (joined_reply g m)
 unfolding joined_reply
 silent_joined g m = tt
 
-silent-tried : (now : ℕ) (t : Turn) → Told Silent t → Told Silent (tried now t)
-silent-tried now t h = told-tried Silent (λ _. tt) now t (silent_joined (next_round t.group)) h
+silent-tried : (now : ℕ) (t : Turn) → Told Silent t → Told Silent (try_complete_join now t)
+silent-tried now t h = told-tried Silent (λ _. tt) now t (silent_joined (init_next_generation t.group)) h
 
-silent-join_new : (now : ℕ) (r : JoinRequest) (new : List ℕ) (ticket : Ticket) (g : Group) → Told Silent (join_new now r new ticket g)
-unfolding join_new
-silent-join_new now r new ticket g = silent-tried now _ (told-in_join_phase Silent (λ _. tt) now (turn_of (admitted (new_member now r new [] (Join ticket)) r.kind g)) tt)
+silent-add_member_and_rebalance : (now : ℕ) (r : JoinRequest) (new : List ℕ) (ticket : Ticket) (g : Group) → Told Silent (add_member_and_rebalance now r new ticket g)
+unfolding add_member_and_rebalance
+silent-add_member_and_rebalance now r new ticket g = silent-tried now _ (told-in_join_phase Silent (λ _. tt) now (turn_of (admitted (new_member now r new [] (Join ticket)) r.kind g)) tt)
 
 silent-rejoined : (now : ℕ) (own : List ℕ) (ticket : Ticket) (t : Turn) → Told Silent t → Told Silent (rejoined now own ticket t)
 unfolding rejoined
 silent-rejoined now own ticket t h = silent-tried now _ (told-rejoined Silent (λ _. tt) now own ticket t h)
 
-silent-join_again : (now : ℕ) (r : JoinRequest) (own : List ℕ) (ticket : Ticket) (g : Group) → Told Silent (join_again now r own ticket g)
-unfolding join_again
-silent-join_again now r own ticket g = silent-rejoined now own ticket (turn_of (updating r own g)) tt
+silent-update_member_and_rebalance : (now : ℕ) (r : JoinRequest) (own : List ℕ) (ticket : Ticket) (g : Group) → Told Silent (update_member_and_rebalance now r own ticket g)
+unfolding update_member_and_rebalance
+silent-update_member_and_rebalance now r own ticket g = silent-rejoined now own ticket (turn_of (updating r own g)) tt
 
-silent-join_replacing : (now : ℕ) (r : JoinRequest) (id : List ℕ) (ticket : Ticket) (old : Member) (g : Group) → Told Silent (join_replacing now r id ticket old g)
-unfolding join_replacing replaced_in_place
-silent-join_replacing now r id ticket old g =
+silent-replace_static_member : (now : ℕ) (r : JoinRequest) (id : List ℕ) (ticket : Ticket) (old : Member) (g : Group) → Told Silent (replace_static_member now r id ticket old g)
+unfolding replace_static_member replaced_in_place
+silent-replace_static_member now r id ticket old g =
     let new : Member = successor now r id old in
     let t : Turn = replaced new old g in
     let h : Told Silent t = told-replaced Silent (λ _. tt) new old g in
@@ -270,9 +270,9 @@ silent-join_current now own ticket m g = (silent_joined g m, tt)
 silent-join_known : (now : ℕ) (r : JoinRequest) (own : List ℕ) (ticket : Ticket) (m : Member) (g : Group) → Told Silent (join_known now r own ticket m g)
 unfolding join_known
 silent-join_known now r own ticket m g =
-    elim (is_current r m g g.phase) as (λ b. Told Silent (if b then join_current now own ticket m g else join_again now r own ticket g)) [
+    elim (is_current r m g g.phase) as (λ b. Told Silent (if b then join_current now own ticket m g else update_member_and_rebalance now r own ticket g)) [
       | true ↦ silent-join_current now own ticket m g
-      | false ↦ silent-join_again now r own ticket g
+      | false ↦ silent-update_member_and_rebalance now r own ticket g
     ]
 
 silent-leave_taken : (now : ℕ) (own : List ℕ) (ticket : Ticket) (m : Member) (g : Group) → Told Silent (leave_taken now own ticket m g)
@@ -282,7 +282,7 @@ silent-leave_taken now own ticket m g = silent-tried now _ (told-removal Silent 
 silent-ended : (now : ℕ) (t : Turn) → Told Silent t → Told Silent (ended now t)
 unfolding ended
 silent-ended now t h =
-    elim (can_complete t.group.members) as (λ b. Told Silent (if b then completed now t else record t { group = record t.group { started = now } })) [ true ↦ told-completed Silent (λ _. tt) now t (silent_joined (next_round t.group)) h | false ↦ h ]
+    elim (can_complete t.group.members) as (λ b. Told Silent (if b then complete_join now t else record t { group = record t.group { started = now } })) [ true ↦ told-completed Silent (λ _. tt) now t (silent_joined (init_next_generation t.group)) h | false ↦ h ]
 
 silent-at_deadline : (now : ℕ) (t : Turn) → Told Silent t → Told Silent (at_deadline now t)
 unfolding at_deadline
@@ -294,7 +294,7 @@ unfolding ticked
 silent-ticked now g =
     let x = expired_tried Silent (λ _. tt) now g in
     let P : Turn → Type 0 = λ t. Told Silent t in
-    silent-at_deadline now (expired now (turn_of g)) (subst P (sym x.is) (silent-tried now x.from x.told))
+    silent-at_deadline now (expire_heartbeats now (turn_of g)) (subst P (sym x.is) (silent-tried now x.from x.told))
 
 -- the machine
 
@@ -365,8 +365,8 @@ unfolding dropped
 earned-dropped events kept s ticket partitions (Ok id) = (refl, tt)
 earned-dropped events kept s ticket partitions (Err code) = (refl, tt)
 
-earned-met : (before : List (Event × ℕ)) (moment : ℕ) (kept : Kept) (s : Machine) (e : Event) → WholeMachine (before ++ (e, moment) ∷ []) s kept → Earned (before ++ (e, moment) ∷ []) kept (met s e)
-unfolding met everywhere tick
+earned-met : (before : List (Event × ℕ)) (moment : ℕ) (kept : Kept) (s : Machine) (e : Event) → WholeMachine (before ++ (e, moment) ∷ []) s kept → Earned (before ++ (e, moment) ∷ []) kept (handled s e)
+unfolding handled everywhere tick
 earned-met before moment kept s (event.Sync ticket r) v =
     let events : List (Event × ℕ) = before ++ (event.Sync ticket r, moment) ∷ [] in
     earned-concluded events kept s ticket (sync s.last r ticket s.groups)
@@ -380,9 +380,9 @@ earned-met before moment kept s (event.Sync ticket r) v =
 earned-met before moment kept s (event.Join ticket r fresh) v =
     silent-concluded (before ++ (event.Join ticket r fresh, moment) ∷ []) kept s ticket (join s.last r fresh ticket s.groups)
     (fine-join (Told Silent) s.last r fresh ticket s.groups
-    (λ id new _ _. silent-join_new s.last r new ticket (new_group id))
-    (λ id new g _ _ _ _ _. silent-join_new s.last r new ticket g)
-    (λ id new g old _ _ _ _ _. silent-join_replacing s.last r new ticket old g)
+    (λ id new _ _. silent-add_member_and_rebalance s.last r new ticket (new_group id))
+    (λ id new g _ _ _ _ _. silent-add_member_and_rebalance s.last r new ticket g)
+    (λ id new g old _ _ _ _ _. silent-replace_static_member s.last r new ticket old g)
     (λ id own g m _ _ _ _. silent-join_known s.last r own ticket m g))
 earned-met before moment kept s (event.Beat ticket r) v =
     silent-concluded (before ++ (event.Beat ticket r, moment) ∷ []) kept s ticket (beat s.last r ticket s.groups)

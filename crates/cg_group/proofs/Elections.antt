@@ -8,11 +8,11 @@ use Rattle.std.specs.List.{list_any, list_all}
 use Rattle.std.specs.Ordering.{nat_cmp, flip_args, is_gt, is_lt, on, ordering_reverse, ordering_then, then_cmp}
 use Rattle.std.specs.declared.cmp.Ordering.{Ordering}
 use Rattle.std.specs.declared.cmp.Ordering.TheVariants.{Less, Equal, Greater}
-use Rattle.cg_member.specs.declared.member.Member.{Member}
+use Rattle.cg_group_state.specs.declared.member.Member.{Member}
 use Rattle.cg_request.specs.declared.protocol.Protocol.{Protocol}
-use Rattle.cg_member.specs.Membership.{is_empty, is_same}
-use Rattle.cg_member.specs.Vote.{beats, candidates, elected, is_beaten, is_common, offers, votes}
-use Rattle.cg_held.proofs.KeptLists.{same_names, same_self}
+use Rattle.cg_group_state.specs.Membership.{is_empty, is_same}
+use Rattle.cg_group_state.specs.Vote.{beats, candidate_protocols, select_protocol, is_beaten, is_common, offers, votes}
+use Rattle.cg_group_table.proofs.KeptLists.{same_names, same_self}
 
 -- a protocol that every member supports
 abbrev pub HasCommon : List Member → Type 0
@@ -31,10 +31,10 @@ filled-filter p name (q ∷ qs) e h =
       | false ↦ λ _ k. elim (p q.name) as (λ b. is_filled (cond b (q.name ∷ filter p (map (λ q. q.name) qs)) (filter p (map (λ q. q.name) qs))) ≡ true) [ true ↦ refl | false ↦ filled-filter p name qs e k ]
     ]) refl h
 
-filled-candidates : (ms : List Member) → HasCommon ms → is_empty ms ≡ false → is_filled (candidates ms) ≡ true
-unfolding candidates is_common
-filled-candidates [] h e = cc
-filled-candidates (m ∷ ms) h e = filled-filter (is_common (m ∷ ms)) h.0 m.protocols h.1 (and_parts (offers h.0 m) (list_all (offers h.0) ms) h.1).0
+filled-candidate_protocols : (ms : List Member) → HasCommon ms → is_empty ms ≡ false → is_filled (candidate_protocols ms) ≡ true
+unfolding candidate_protocols is_common
+filled-candidate_protocols [] h e = cc
+filled-candidate_protocols (m ∷ ms) h e = filled-filter (is_common (m ∷ ms)) h.0 m.protocols h.1 (and_parts (offers h.0 m) (list_all (offers h.0) ms) h.1).0
 
 -- more votes first, then the lesser name
 module _ (names : List (List ℕ)) (members : List Member) where
@@ -121,6 +121,6 @@ unbeaten_found members (x ∷ xs) e =
     let best = best_of (x ∷ xs) members x xs in
     found_some (λ name. not (is_beaten (x ∷ xs) members name)) best.0 (x ∷ xs) (ap not (none_beats (x ∷ xs) members best.0 (x ∷ xs) best.2)) best.1
 
-pub elected_is : (ms : List Member) → HasCommon ms → is_empty ms ≡ false → is_some (elected ms) ≡ true
-unfolding elected
-elected_is ms h e = unbeaten_found ms (candidates ms) (filled-candidates ms h e)
+pub elected_is : (ms : List Member) → HasCommon ms → is_empty ms ≡ false → is_some (select_protocol ms) ≡ true
+unfolding select_protocol
+elected_is ms h e = unbeaten_found ms (candidate_protocols ms) (filled-candidate_protocols ms h e)

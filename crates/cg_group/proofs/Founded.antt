@@ -16,15 +16,15 @@ use Rattle.cg_fold.specs.Key.{key_cmp, kept_of}
 use Rattle.cg_fold.proofs.KeyOrder.{key_same, key_total}
 use Rattle.cg_request.specs.Commits.{kept_entry}
 use Rattle.cg_request.specs.declared.commit_entry.CommitEntry.{CommitEntry}
-use Rattle.cg_request.specs.declared.request.CommitRequest.{CommitRequest}
+use Rattle.cg_request.specs.declared.request_fields.CommitRequest.{CommitRequest}
 use Rattle.cg_request.specs.declared.ticket.Ticket.{Ticket}
-use Rattle.cg_member.specs.declared.group.Group.{Group}
-use Rattle.cg_member.specs.declared.turn.Turn.{Turn}
-use Rattle.cg_member.specs.Membership.{is_same}
-use Rattle.cg_member.specs.Offsets.{OffsetMap, offsets_after}
-use Rattle.cg_turn.specs.Committing.{keeping_entries}
-use Rattle.cg_held.specs.Held.{Machine}
-use Rattle.cg_held.specs.Kept.{HasOffset}
+use Rattle.cg_group_state.specs.declared.group.Group.{Group}
+use Rattle.cg_group_state.specs.declared.turn.Turn.{Turn}
+use Rattle.cg_group_state.specs.Membership.{is_same}
+use Rattle.cg_group_state.specs.Offsets.{OffsetMap, offsets_after}
+use Rattle.cg_group_rules.specs.OffsetCommit.{keeping_entries}
+use Rattle.cg_group_table.specs.GroupTable.{Machine}
+use Rattle.cg_group_table.specs.Kept.{HasOffset}
 use Rattle.cg_group.specs.Machine.{commit, concluded}
 use Rattle.cg_group.proofs.Requests.{Fine, fine-commit}
 

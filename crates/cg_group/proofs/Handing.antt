@@ -1,24 +1,24 @@
 -- The SYNC of a leader, which hands the assignments in.
 use Rattle.std.proofs.Common.{◌≡◌, ℕ, List, Some, Ok, refl, sym, ap, ◌∙◌}
-use Rattle.cg_member.specs.declared.effects.Effects.{Effects}
-use Rattle.cg_member.specs.declared.group.Group.{Group}
-use Rattle.cg_request.specs.declared.request.SyncRequest.{SyncRequest}
+use Rattle.cg_group_state.specs.declared.effects.Effects.{Effects}
+use Rattle.cg_group_state.specs.declared.group.Group.{Group}
+use Rattle.cg_request.specs.declared.request_fields.SyncRequest.{SyncRequest}
 use Rattle.cg_request.specs.declared.ticket.Ticket.{Ticket}
-use Rattle.cg_turn.specs.declared.syncing.SyncCase.TheVariants.{Leading}
-use Rattle.cg_turn.specs.Distributing.{distributing}
+use Rattle.cg_group_rules.specs.declared.sync.SyncCase.TheVariants.{Leading}
+use Rattle.cg_group_rules.specs.SyncSteps.{distributing}
 use Rattle.cg_group.specs.InPlace.{IsSync, StepParks}
 use Rattle.cg_group.specs.Machine.{concluded, sync}
-use Rattle.cg_held.specs.Changes.{KeepIds}
-use Rattle.cg_held.specs.Held.{at_moment, find_group, outcome}
-use Rattle.cg_member.specs.Joining.{waiting}
-use Rattle.cg_member.specs.Membership.{hearing}
-use Rattle.cg_member.specs.Syncing.{assigning, distributed, told_to_syncs}
-use Rattle.cg_request.specs.declared.request.SyncEntry.{SyncEntry}
+use Rattle.cg_group_table.specs.GroupChanges.{KeepIds}
+use Rattle.cg_group_table.specs.GroupTable.{at_moment, find_group, outcome}
+use Rattle.cg_group_rules.specs.Join.{waiting}
+use Rattle.cg_group_state.specs.Membership.{hearing}
+use Rattle.cg_group_rules.specs.Sync.{assigning, propagate_assignment, reply_to_syncs}
+use Rattle.cg_request.specs.declared.request_fields.SyncEntry.{SyncEntry}
 use Rattle.cg_group.proofs.InPlace.{sync_here}
 use Rattle.cg_group.proofs.Stepped.{sync_parks}
 
 pub keeps_leading : (now : ℕ) (id : List ℕ) (ticket : Ticket) (entries : List SyncEntry) → KeepIds (distributing now id ticket entries)
-unfolding distributed told_to_syncs assigning waiting hearing
+unfolding propagate_assignment reply_to_syncs assigning waiting hearing
 keeps_leading now id ticket entries g = refl
 
 module _ (r : SyncRequest) (groups : List Group) (own id : List ℕ) (at : IsSync r groups own id Leading) (g : Group) (found : find_group own groups ≡ Some g) where

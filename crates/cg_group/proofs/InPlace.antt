@@ -4,32 +4,33 @@ use Rattle.cg_names.specs.declared.code.Code.{Code}
 use Rattle.cg_names.specs.declared.code.Code.TheVariants.{InvalidGroupId, InvalidSessionTimeout, OffsetMetadataTooLarge, UnknownMemberId}
 use Rattle.cg_record.specs.declared.entry.Entry.{Entry}
 use Rattle.cg_request.specs.declared.commit_entry.CommitEntry.{CommitEntry}
-use Rattle.cg_member.specs.declared.effects.Effects.{Effects}
-use Rattle.cg_member.specs.declared.group.Group.{Group}
-use Rattle.cg_request.specs.declared.request.BeatRequest.{BeatRequest}
-use Rattle.cg_request.specs.declared.request.CommitRequest.{CommitRequest}
-use Rattle.cg_request.specs.declared.request.JoinRequest.{JoinRequest}
-use Rattle.cg_request.specs.declared.request.SyncRequest.{SyncRequest}
-use Rattle.cg_member.specs.declared.reply.Reply.{Reply}
-use Rattle.cg_member.specs.declared.reply.Reply.TheVariants as reply
+use Rattle.cg_group_state.specs.declared.effects.Effects.{Effects}
+use Rattle.cg_group_state.specs.declared.group.Group.{Group}
+use Rattle.cg_request.specs.declared.request_fields.BeatRequest.{BeatRequest}
+use Rattle.cg_request.specs.declared.request_fields.CommitRequest.{CommitRequest}
+use Rattle.cg_request.specs.declared.request_fields.JoinRequest.{JoinRequest}
+use Rattle.cg_request.specs.declared.request_fields.SyncRequest.{SyncRequest}
+use Rattle.cg_group_state.specs.declared.reply.Reply.{Reply}
+use Rattle.cg_group_state.specs.declared.reply.Reply.TheVariants as reply
 use Rattle.cg_request.specs.declared.ticket.Ticket.{Ticket}
-use Rattle.cg_member.specs.declared.turn.Turn.{Turn}
-use Rattle.cg_turn.specs.Admission.{join_held}
-use Rattle.cg_turn.specs.Beating.{IsBeat, beat_held, beat_reply, beat_taken}
-use Rattle.cg_turn.specs.declared.syncing.SyncCase.{SyncCase}
-use Rattle.cg_turn.specs.declared.syncing.SyncCase.TheVariants.{Current}
+use Rattle.cg_group_state.specs.declared.turn.Turn.{Turn}
+use Rattle.cg_group_rules.specs.JoinChecks.{join_held}
+use Rattle.cg_group_rules.specs.Heartbeat.{IsBeat, beat_held, beat_reply, beat_taken}
+use Rattle.cg_group_rules.specs.declared.sync.SyncCase.{SyncCase}
+use Rattle.cg_group_rules.specs.declared.sync.SyncCase.TheVariants.{Current}
 use Rattle.cg_request.specs.Commits.{is_too_large, kept_entry}
-use Rattle.cg_turn.specs.Committing.{commit_at, commit_by, commit_effects, commit_held, committed, committer, hearing_committer, keeping_entries}
+use Rattle.cg_group_rules.specs.OffsetCommit.{commit_at, commit_by, commit_effects, commit_held, committed, committer, hearing_committer, keeping_entries}
 use Rattle.cg_group.specs.InPlace.{IsBeatIn, IsJoinIn, IsNamed, IsSync}
 use Rattle.cg_group.specs.Machine.{beat, commit, commit_in, concluded, join, join_in, named_group, reply_alone, sync}
-use Rattle.cg_held.specs.Held.{at_moment, find_group, outcome, with_group}
-use Rattle.cg_member.specs.Joining.{is_session_refused, join_current}
-use Rattle.cg_member.specs.Membership.{hearing}
-use Rattle.cg_member.specs.Rebalance.{joined_reply}
-use Rattle.cg_member.specs.Refusing.{◌>>=◌, refused_if}
-use Rattle.cg_member.specs.Syncing.{sync_current, sync_held, sync_taken}
-use Rattle.cg_held.proofs.InOrder.{found_named}
-use Rattle.cg_held.proofs.Mapped.{id-hearing}
+use Rattle.cg_group_table.specs.GroupTable.{at_moment, find_group, outcome, with_group}
+use Rattle.cg_group_state.specs.JoinTerms.{is_session_refused}
+use Rattle.cg_group_rules.specs.Join.{join_current}
+use Rattle.cg_group_state.specs.Membership.{hearing}
+use Rattle.cg_group_rules.specs.Rebalance.{joined_reply}
+use Rattle.cg_group_state.specs.Checks.{◌>>=◌, refused_if}
+use Rattle.cg_group_rules.specs.Sync.{sync_current, sync_held, sync_taken}
+use Rattle.cg_group_table.proofs.InOrder.{found_named}
+use Rattle.cg_group_table.proofs.Mapped.{id-hearing}
 
 -- a fact that holds in any case holds of an error
 pub on_err : {A E : Type 0} (r : Result A E) (P : Type 0) → P → OnErr r P

@@ -3,16 +3,16 @@ use Rattle.std.proofs.Common.{◌≡◌, ℕ, true, List, Some, Result, Ok, Err,
 use Rattle.std.specs.Prelude.{is_ok}
 use Rattle.std.proofs.lemmas.Bool.{false≢true}
 use Rattle.cg_names.specs.declared.code.Code.{Code}
-use Rattle.cg_member.specs.declared.group.Group.{Group}
-use Rattle.cg_member.specs.declared.turn.Turn.{Turn}
-use Rattle.cg_member.specs.Rebalance.{turn_of}
-use Rattle.cg_request.specs.declared.request.JoinRequest.{JoinRequest}
+use Rattle.cg_group_state.specs.declared.group.Group.{Group}
+use Rattle.cg_group_state.specs.declared.turn.Turn.{Turn}
+use Rattle.cg_group_rules.specs.Rebalance.{turn_of}
+use Rattle.cg_request.specs.declared.request_fields.JoinRequest.{JoinRequest}
 use Rattle.cg_request.specs.declared.ticket.Ticket.{Ticket}
-use Rattle.cg_turn.specs.Admission.{join_held}
+use Rattle.cg_group_rules.specs.JoinChecks.{join_held}
 use Rattle.cg_group.specs.InPlace.{IsJoining, StepParks, turn_or}
 use Rattle.cg_group.specs.Machine.{join}
-use Rattle.cg_held.specs.Held.{find_group}
-use Rattle.cg_held.proofs.Framed.{framed-join_known, framed-join_new, framed-join_replacing}
+use Rattle.cg_group_table.specs.GroupTable.{find_group}
+use Rattle.cg_group_table.proofs.Framed.{framed-join_known, framed-add_member_and_rebalance, framed-replace_static_member}
 use Rattle.cg_group.proofs.InPlace.{join_here}
 use Rattle.cg_group.proofs.KnownSessions.{parks-join}
 use Rattle.cg_group.proofs.Requests.{Fine, fine-join_held}
@@ -32,8 +32,8 @@ module _ (now : ℕ) (r : JoinRequest) (fresh : List ℕ) (ticket : Ticket) wher
   keeps_joined g =
       fine_turn (λ t. t.group.id ≡ g.id) g (join_held now r fresh ticket r.member g)
       (fine-join_held (λ t. t.group.id ≡ g.id) now r fresh ticket r.member g
-      (λ new _ _ _. (framed-join_new now r new ticket g).0)
-      (λ new old _ _ _. (framed-join_replacing now r new ticket old g).0)
+      (λ new _ _ _. (framed-add_member_and_rebalance now r new ticket g).0)
+      (λ new old _ _ _. (framed-replace_static_member now r new ticket old g).0)
       (λ own m _ _. (framed-join_known now r own ticket m g).0))
       refl
 

@@ -4,19 +4,19 @@ use Rattle.std.specs.List.{flat_map}
 use Rattle.std.proofs.lemmas.Bool.{or_left, or_right, false≢true}
 use Rattle.cg_names.specs.declared.code.Code.{Code}
 use Rattle.cg_record.specs.declared.command.Command.{Command}
-use Rattle.cg_fold.specs.declared.record.GroupRecord.{GroupRecord}
-use Rattle.cg_member.specs.declared.group.Group.{Group}
+use Rattle.cg_fold.specs.declared.group_record.GroupRecord.{GroupRecord}
+use Rattle.cg_group_state.specs.declared.group.Group.{Group}
 use Rattle.cg_request.specs.declared.ticket.Ticket.{Ticket}
-use Rattle.cg_member.specs.declared.turn.Turn.{Turn}
-use Rattle.cg_held.specs.Kept.{Each, ComesBefore, Ascending, Kept}
-use Rattle.cg_held.proofs.Kept.{kept_after}
+use Rattle.cg_group_state.specs.declared.turn.Turn.{Turn}
+use Rattle.cg_group_table.specs.Kept.{Each, ComesBefore, Ascending, Kept}
+use Rattle.cg_group_table.proofs.Kept.{kept_after}
 use Rattle.cg_record.specs.declared.command.Command.TheVariants as command
 use Rattle.cg_group.specs.Machine.{concluded, deleted}
-use Rattle.cg_held.specs.Held.{Machine, everywhere, find_group, groups_after, with_group, without_group}
-use Rattle.cg_held.proofs.Removing.{ascending-without, each-without-over, found-without}
-use Rattle.cg_member.specs.Membership.{is_same}
-use Rattle.cg_held.proofs.Framed.{Framed, OfGroup}
-use Rattle.cg_held.proofs.KeptLists.{kept_after-append, kept_after-none, kept_after-one, kept_after-other, differs_from_order, same_names, group_ids, ascending-with_group, each-after, each-with_group, found-with_group}
+use Rattle.cg_group_table.specs.GroupTable.{Machine, everywhere, find_group, groups_after, with_group, without_group}
+use Rattle.cg_group_table.proofs.Removing.{ascending-without, each-without-over, found-without}
+use Rattle.cg_group_state.specs.Membership.{is_same}
+use Rattle.cg_group_table.proofs.Framed.{Framed, OfGroup}
+use Rattle.cg_group_table.proofs.KeptLists.{kept_after-append, kept_after-none, kept_after-one, kept_after-other, differs_from_order, same_names, group_ids, ascending-with_group, each-after, each-with_group, found-with_group}
 use Rattle.cg_group.proofs.Requests.{Fine}
 use Rattle.std.proofs.lemmas.Cmp.{nat_list_eq_equiv}
 use Rattle.std.specs.declared.cmp.Ordering.TheVariants.{Less}

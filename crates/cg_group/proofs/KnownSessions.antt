@@ -3,55 +3,57 @@ use Rattle.std.proofs.Common.{◌≡◌, ℕ, Bool, true, false, not, List, [], 
 use Rattle.std.specs.Prelude.{◌==◌, if◌then◌else◌, is_some}
 use Rattle.std.specs.List.{list_any}
 use Rattle.cg_names.specs.declared.code.Code.{Code}
-use Rattle.cg_member.specs.declared.calls.Calls.TheVariants.{Joins, OfSession, Syncs}
+use Rattle.cg_group_state.specs.declared.calls.Calls.TheVariants.{Joins, OfSession, Syncs}
 use Rattle.cg_request.specs.declared.event.Event.{Event}
 use Rattle.cg_request.specs.declared.event.Event.TheVariants as event
-use Rattle.cg_member.specs.declared.group.Group.{Group}
-use Rattle.cg_member.specs.declared.group.Phase.{Phase}
-use Rattle.cg_member.specs.declared.group.Phase.TheVariants.{Empty, Preparing, Completing, Stable}
-use Rattle.cg_member.specs.declared.member.Member.{Member}
-use Rattle.cg_member.specs.declared.member.Waits.{Waits}
-use Rattle.cg_member.specs.declared.member.Waits.TheVariants.{Nothing, Join, Sync}
-use Rattle.cg_request.specs.declared.request.DropRequest.{DropRequest}
-use Rattle.cg_request.specs.declared.request.JoinRequest.{JoinRequest}
-use Rattle.cg_request.specs.declared.request.SyncEntry.{SyncEntry}
-use Rattle.cg_request.specs.declared.request.SyncRequest.{SyncRequest}
+use Rattle.cg_group_state.specs.declared.group.Group.{Group}
+use Rattle.cg_group_state.specs.declared.group.Phase.{Phase}
+use Rattle.cg_group_state.specs.declared.group.Phase.TheVariants.{Empty, Preparing, Completing, Stable}
+use Rattle.cg_group_state.specs.declared.member.Member.{Member}
+use Rattle.cg_group_state.specs.declared.member.Waits.{Waits}
+use Rattle.cg_group_state.specs.declared.member.Waits.TheVariants.{Nothing, Join, Sync}
+use Rattle.cg_request.specs.declared.request_fields.DropRequest.{DropRequest}
+use Rattle.cg_request.specs.declared.request_fields.JoinRequest.{JoinRequest}
+use Rattle.cg_request.specs.declared.request_fields.SyncEntry.{SyncEntry}
+use Rattle.cg_request.specs.declared.request_fields.SyncRequest.{SyncRequest}
 use Rattle.cg_request.specs.declared.ticket.Ticket.{Ticket}
-use Rattle.cg_member.specs.declared.turn.Turn.{Turn}
-use Rattle.cg_turn.specs.Beating.{beat_taken}
-use Rattle.cg_turn.specs.Touching.{gone_touches}
-use Rattle.cg_member.specs.Joining.{admitted, in_join_phase, is_current, join_again, join_current, join_known, join_new, new_group, new_member, rejoined, updated, updating, waiting, waits_with}
-use Rattle.cg_held.specs.Kept.{Each, kept_in}
-use Rattle.cg_member.specs.Leaving.{after_removal, gone_in, has_joined, leave_taken, left}
+use Rattle.cg_group_state.specs.declared.turn.Turn.{Turn}
+use Rattle.cg_group_rules.specs.Heartbeat.{beat_taken}
+use Rattle.cg_group_rules.specs.TickDeadline.{gone_touches}
+use Rattle.cg_group_rules.specs.Join.{admitted, in_join_phase, is_current, update_member_and_rebalance, join_current, join_known, add_member_and_rebalance, new_group, new_member, rejoined, updating, waiting}
+use Rattle.cg_group_state.specs.JoinTerms.{updated}
+use Rattle.cg_group_state.specs.Waiting.{waits_with, after_answers, answered, called, is_waiting}
+use Rattle.cg_group_table.specs.Kept.{Each, kept_in}
+use Rattle.cg_group_rules.specs.Leave.{after_removal, gone_in, has_joined, leave_taken, left}
 use Rattle.cg_request.specs.declared.commit_entry.CommitEntry.{CommitEntry}
-use Rattle.cg_turn.specs.Committing.{committed, hearing_committer, keeping_entries}
-use Rattle.cg_member.specs.declared.effects.Effects.{Effects}
+use Rattle.cg_group_rules.specs.OffsetCommit.{committed, hearing_committer, keeping_entries}
+use Rattle.cg_group_state.specs.declared.effects.Effects.{Effects}
 use Rattle.cg_group.specs.InPlace.{ParksKnown, StepKnown}
 use Rattle.cg_record.specs.declared.topic_partition.TopicPartition.{TopicPartition}
-use Rattle.cg_held.specs.Expiring.{lasting, tick, tick_effects}
+use Rattle.cg_group_table.specs.Expiry.{lasting, tick, tick_effects}
 use Rattle.cg_group.proofs.Sweeping.{each-founded, each-lasting}
-use Rattle.cg_member.specs.Offsets.{OffsetMap, offsets_after}
-use Rattle.cg_group.specs.Machine.{beat, commit, concluded, deleted, drop_command, dropped, join, leave, memberless, met, sync, with_offset}
-use Rattle.cg_held.specs.Held.{at_moment, everywhere, find_group, groups_after, Machine, Outcome, outcome, standing, with_group}
-use Rattle.cg_member.specs.Membership.{has_id, heard, hearing, is_empty, is_preparing, keeping, leads}
-use Rattle.cg_member.specs.Replacing.{join_replacing, keeps_generation, replaced, replaced_in_place, replacing, seating, successor}
-use Rattle.cg_held.specs.Reviving.{revived, revived_from, revived_member, revived_with}
-use Rattle.cg_record.specs.declared.member.Member.{Member as KeptMember}
-use Rattle.cg_fold.specs.declared.record.GroupRecord.{GroupRecord}
-use Rattle.cg_fold.specs.declared.record.RecordedMembers.{RecordedMembers}
-use Rattle.cg_fold.specs.declared.record.RecordedMembers.TheVariants as recorded
+use Rattle.cg_group_state.specs.Offsets.{OffsetMap, offsets_after}
+use Rattle.cg_group.specs.Machine.{beat, commit, concluded, deleted, drop_command, dropped, join, leave, memberless, handled, sync, with_offset}
+use Rattle.cg_group_table.specs.GroupTable.{at_moment, everywhere, find_group, groups_after, Machine, Outcome, outcome, standing, with_group}
+use Rattle.cg_group_state.specs.Membership.{has_id, heard, hearing, is_empty, is_preparing, keeping, leads, seating}
+use Rattle.cg_group_rules.specs.StaticMember.{replace_static_member, keeps_generation, replaced, replaced_in_place, replacing, successor}
+use Rattle.cg_group_table.specs.Recovery.{revived, revived_from, revived_member, revived_with}
+use Rattle.cg_record.specs.declared.member_record.MemberRecord.{MemberRecord}
+use Rattle.cg_fold.specs.declared.group_record.GroupRecord.{GroupRecord}
+use Rattle.cg_fold.specs.declared.group_record.RecordedMembers.{RecordedMembers}
+use Rattle.cg_fold.specs.declared.group_record.RecordedMembers.TheVariants as recorded
 use Rattle.cg_fold.specs.Durable.{State}
-use Rattle.cg_member.specs.Rebalance.{completed, emptied, is_ready, next_round, prepared, told_to_joins, tried, turn_of}
-use Rattle.cg_held.specs.Sessions.{AreKnown, Known, Owns, is_known}
-use Rattle.cg_member.specs.Syncing.{assigning, distributed, kept_member, sync_current, sync_taken, sync_waits, told_to_syncs}
-use Rattle.cg_member.specs.Ticking.{at_deadline, can_complete, ended, expired, is_due, is_overdue, outstays, ticked}
-use Rattle.cg_member.specs.Waiting.{after_answers, answered, called, is_waiting}
+use Rattle.cg_group_rules.specs.Rebalance.{complete_join, emptied, is_ready, init_next_generation, prepare_rebalance, reply_to_joins, try_complete_join, turn_of}
+use Rattle.cg_group_table.specs.SessionIndex.{AreKnown, Known, Owns, is_known}
+use Rattle.cg_group_rules.specs.Sync.{assigning, propagate_assignment, kept_member, sync_current, sync_taken, sync_waits, reply_to_syncs}
+use Rattle.cg_group_rules.specs.Tick.{at_deadline, can_complete, ended, expire_heartbeats, is_due, ticked}
+use Rattle.cg_group_state.specs.Staying.{is_overdue, outstays}
 use Rattle.std.proofs.lemmas.Bool.{eqb-false, eqb-true, or_from}
-use Rattle.cg_held.proofs.Framed.{Framed, framed-beat_taken, framed-committed, framed-gone_in, framed-join_known, framed-join_new, framed-join_replacing, framed-leave_taken, framed-sync_taken, framed-ticked}
+use Rattle.cg_group_table.proofs.Framed.{Framed, framed-beat_taken, framed-committed, framed-gone_in, framed-join_known, framed-add_member_and_rebalance, framed-replace_static_member, framed-leave_taken, framed-sync_taken, framed-ticked}
 use Rattle.cg_group.proofs.Calling.{each-filter, waits-after_answers, waits-append, waits-assigned, waits-seated, waits-with_member}
-use Rattle.cg_held.proofs.KeptLists.{each-found, each-put}
-use Rattle.cg_held.proofs.Removing.{each-without}
-use Rattle.cg_held.proofs.InOrder.{found_named}
+use Rattle.cg_group_table.proofs.KeptLists.{each-found, each-put}
+use Rattle.cg_group_table.proofs.Removing.{each-without}
+use Rattle.cg_group_table.proofs.InOrder.{found_named}
 use Rattle.cg_group.proofs.Requests.{Fine, fine-beat, fine-commit, fine-join, fine-leave, fine-sync}
 use Rattle.cg_group.proofs.Made.{own_id_new}
 
@@ -62,36 +64,36 @@ module _ (sessions : ℕ → Bool) where
   abbrev K : Turn → Type 0
   K t = Known sessions t.group
 
-  known-prepared : (now : ℕ) (t : Turn) → K t → K (prepared now t)
-  unfolding prepared
+  known-prepared : (now : ℕ) (t : Turn) → K t → K (prepare_rebalance now t)
+  unfolding prepare_rebalance
   known-prepared now t h = waits-after_answers allowed (λ id. refl) Syncs now t.group.members h
 
   known-in_join_phase : (now : ℕ) (t : Turn) → K t → K (in_join_phase now t)
-  known-in_join_phase now t h = elim (is_preparing t.group.phase) as (λ b. K (if b then t else prepared now t)) [ true ↦ h | false ↦ known-prepared now t h ]
+  known-in_join_phase now t h = elim (is_preparing t.group.phase) as (λ b. K (if b then t else prepare_rebalance now t)) [ true ↦ h | false ↦ known-prepared now t h ]
 
-  known-next_round : (g : Group) → Known sessions g → Known sessions (next_round g)
-  unfolding next_round
-  known-next_round g h = h
+  known-init_next_generation : (g : Group) → Known sessions g → Known sessions (init_next_generation g)
+  unfolding init_next_generation
+  known-init_next_generation g h = h
 
-  known-told_to_joins : (now : ℕ) (t : Turn) → K t → K (told_to_joins now t)
-  unfolding told_to_joins
-  known-told_to_joins now t h = waits-after_answers allowed (λ id. refl) Joins now t.group.members h
+  known-reply_to_joins : (now : ℕ) (t : Turn) → K t → K (reply_to_joins now t)
+  unfolding reply_to_joins
+  known-reply_to_joins now t h = waits-after_answers allowed (λ id. refl) Joins now t.group.members h
 
   known-emptied : (now : ℕ) (t : Turn) → K t → K (emptied now t)
   unfolding emptied
   known-emptied now t h = h
 
-  known-completed : (now : ℕ) (t : Turn) → K t → K (completed now t)
-  unfolding completed
+  known-completed : (now : ℕ) (t : Turn) → K t → K (complete_join now t)
+  unfolding complete_join
   known-completed now t h =
-      elim (is_empty t.group.members) as (λ b. K (if b then emptied now t else told_to_joins now (record t { group = next_round t.group }))) [
+      elim (is_empty t.group.members) as (λ b. K (if b then emptied now t else reply_to_joins now (record t { group = init_next_generation t.group }))) [
         | true ↦ known-emptied now t h
-        | false ↦ known-told_to_joins now (record t { group = next_round t.group }) (known-next_round t.group h)
+        | false ↦ known-reply_to_joins now (record t { group = init_next_generation t.group }) (known-init_next_generation t.group h)
       ]
 
-  known-tried : (now : ℕ) (t : Turn) → K t → K (tried now t)
-  unfolding tried
-  known-tried now t h = elim (is_ready t.group) as (λ b. K (if b then completed now t else t)) [ true ↦ known-completed now t h | false ↦ h ]
+  known-tried : (now : ℕ) (t : Turn) → K t → K (try_complete_join now t)
+  unfolding try_complete_join
+  known-tried now t h = elim (is_ready t.group) as (λ b. K (if b then complete_join now t else t)) [ true ↦ known-completed now t h | false ↦ h ]
 
   known-waiting : (now : ℕ) (id : List ℕ) (w : Waits) (t : Turn) → is_known sessions w ≡ true → K t → K (waiting now id w t)
   unfolding waiting
@@ -117,9 +119,9 @@ module _ (sessions : ℕ → Bool) where
   unfolding keeping
   known-keeping stays g h = each-filter (λ (m : Member). is_known sessions m.waits ≡ true) stays g.members h
 
-  known-join_new : (now : ℕ) (r : JoinRequest) (id : List ℕ) (ticket : Ticket) (g : Group) → sessions ticket.session ≡ true → Known sessions g → K (join_new now r id ticket g)
-  unfolding join_new
-  known-join_new now r id ticket g own h =
+  known-add_member_and_rebalance : (now : ℕ) (r : JoinRequest) (id : List ℕ) (ticket : Ticket) (g : Group) → sessions ticket.session ≡ true → Known sessions g → K (add_member_and_rebalance now r id ticket g)
+  unfolding add_member_and_rebalance
+  known-add_member_and_rebalance now r id ticket g own h =
       known-tried now _ (known-in_join_phase now _ (known-admitted (new_member now r id [] (Join ticket)) r.kind g (known-new_member now r id ticket own) h))
 
   known-new_group : (id : List ℕ) → Known sessions (new_group id)
@@ -130,21 +132,21 @@ module _ (sessions : ℕ → Bool) where
   unfolding rejoined
   known-rejoined now id ticket t own h = known-tried now _ (known-waiting now id (Join ticket) _ own (known-in_join_phase now t h))
 
-  known-join_again : (now : ℕ) (r : JoinRequest) (id : List ℕ) (ticket : Ticket) (g : Group) → sessions ticket.session ≡ true → Known sessions g → K (join_again now r id ticket g)
-  unfolding join_again
-  known-join_again now r id ticket g own h = known-rejoined now id ticket (turn_of (updating r id g)) own (known-updating r id g h)
+  known-update_member_and_rebalance : (now : ℕ) (r : JoinRequest) (id : List ℕ) (ticket : Ticket) (g : Group) → sessions ticket.session ≡ true → Known sessions g → K (update_member_and_rebalance now r id ticket g)
+  unfolding update_member_and_rebalance
+  known-update_member_and_rebalance now r id ticket g own h = known-rejoined now id ticket (turn_of (updating r id g)) own (known-updating r id g h)
 
   known-replaced : (now : ℕ) (r : JoinRequest) (id : List ℕ) (old : Member) (g : Group) → Known sessions g → K (replaced (successor now r id old) old g)
   unfolding replaced replacing seating new_member
   known-replaced now r id old g h = waits-seated allowed (successor now r id old) g.members refl h
 
-  known-replaced_in_place : (ticket : Ticket) (new : KeptMember) (g : Group) (t : Turn) → K t → K (replaced_in_place ticket new g t)
+  known-replaced_in_place : (ticket : Ticket) (new : MemberRecord) (g : Group) (t : Turn) → K t → K (replaced_in_place ticket new g t)
   unfolding replaced_in_place
   known-replaced_in_place ticket new g t h = h
 
-  known-join_replacing : (now : ℕ) (r : JoinRequest) (id : List ℕ) (ticket : Ticket) (old : Member) (g : Group) → sessions ticket.session ≡ true → Known sessions g → K (join_replacing now r id ticket old g)
-  unfolding join_replacing
-  known-join_replacing now r id ticket old g own h =
+  known-replace_static_member : (now : ℕ) (r : JoinRequest) (id : List ℕ) (ticket : Ticket) (old : Member) (g : Group) → sessions ticket.session ≡ true → Known sessions g → K (replace_static_member now r id ticket old g)
+  unfolding replace_static_member
+  known-replace_static_member now r id ticket old g own h =
       let new : Member = successor now r id old in
       let t : Turn = replaced new old g in
       let u : K t = known-replaced now r id old g h in
@@ -160,29 +162,29 @@ module _ (sessions : ℕ → Bool) where
   known-join_known : (now : ℕ) (r : JoinRequest) (id : List ℕ) (ticket : Ticket) (m : Member) (g : Group) → sessions ticket.session ≡ true → Known sessions g → K (join_known now r id ticket m g)
   unfolding join_known
   known-join_known now r id ticket m g own h =
-      elim (is_current r m g g.phase) as (λ b. K (if b then join_current now id ticket m g else join_again now r id ticket g)) [
+      elim (is_current r m g g.phase) as (λ b. K (if b then join_current now id ticket m g else update_member_and_rebalance now r id ticket g)) [
         | true ↦ known-join_current now id ticket m g h
-        | false ↦ known-join_again now r id ticket g own h
+        | false ↦ known-update_member_and_rebalance now r id ticket g own h
       ]
 
   known-assigning : (entries : List SyncEntry) (g : Group) → Known sessions g → Known sessions (assigning entries g)
   unfolding assigning
   known-assigning entries g h = waits-assigned allowed entries g.members h
 
-  known-told_to_syncs : (now : ℕ) (t : Turn) → K t → K (told_to_syncs now t)
-  unfolding told_to_syncs
-  known-told_to_syncs now t h = waits-after_answers allowed (λ id. refl) Syncs now t.group.members h
+  known-reply_to_syncs : (now : ℕ) (t : Turn) → K t → K (reply_to_syncs now t)
+  unfolding reply_to_syncs
+  known-reply_to_syncs now t h = waits-after_answers allowed (λ id. refl) Syncs now t.group.members h
 
-  known-distributed : (now : ℕ) (entries : List SyncEntry) (t : Turn) → K t → K (distributed now entries t)
-  unfolding distributed
-  known-distributed now entries t h = known-told_to_syncs now _ (known-assigning entries t.group h)
+  known-distributed : (now : ℕ) (entries : List SyncEntry) (t : Turn) → K t → K (propagate_assignment now entries t)
+  unfolding propagate_assignment
+  known-distributed now entries t h = known-reply_to_syncs now _ (known-assigning entries t.group h)
 
   known-sync_waits : (now : ℕ) (r : SyncRequest) (id : List ℕ) (ticket : Ticket) (m : Member) (g : Group) → sessions ticket.session ≡ true → Known sessions g → K (sync_waits now r id ticket m g)
   unfolding sync_waits
   known-sync_waits now r id ticket m g own h =
       let t : Turn = waiting now id (Sync ticket) (turn_of (hearing now id g)) in
       let u : K t = known-waiting now id (Sync ticket) (turn_of (hearing now id g)) own (known-hearing now id g h) in
-      elim (leads g m) as (λ b. K (if b then distributed now r.entries t else t)) [ true ↦ known-distributed now r.entries t u | false ↦ u ]
+      elim (leads g m) as (λ b. K (if b then propagate_assignment now r.entries t else t)) [ true ↦ known-distributed now r.entries t u | false ↦ u ]
 
   known-sync_current : (now : ℕ) (id : List ℕ) (ticket : Ticket) (m : Member) (g : Group) → Known sessions g → K (sync_current now id ticket m g)
   unfolding sync_current
@@ -202,7 +204,7 @@ module _ (sessions : ℕ → Bool) where
   known-after_removal : (now : ℕ) (t : Turn) → K t → K (after_removal now t)
   unfolding after_removal
   known-after_removal now t h =
-      known-tried now _ (elim (has_joined t.group.phase) as (λ b. K (if b then prepared now t else t)) [ true ↦ known-prepared now t h | false ↦ h ])
+      known-tried now _ (elim (has_joined t.group.phase) as (λ b. K (if b then prepare_rebalance now t else t)) [ true ↦ known-prepared now t h | false ↦ h ])
 
   known-left : (id : List ℕ) (ticket : Ticket) (m : Member) (g : Group) → Known sessions g → K (left id ticket m g)
   unfolding left
@@ -216,10 +218,10 @@ module _ (sessions : ℕ → Bool) where
   unfolding gone_in
   known-gone_in now session g h = waits-after_answers allowed (λ id. refl) (OfSession session) now g.members h
 
-  known-expired : (now : ℕ) (t : Turn) → K t → K (expired now t)
-  unfolding expired
+  known-expired : (now : ℕ) (t : Turn) → K t → K (expire_heartbeats now t)
+  unfolding expire_heartbeats
   known-expired now t h =
-      elim (list_any (is_overdue now) t.group.members) as (λ b. K (if b then after_removal now (record t { group = keeping (λ m. not (is_overdue now m)) t.group }) else tried now t)) [
+      elim (list_any (is_overdue now) t.group.members) as (λ b. K (if b then after_removal now (record t { group = keeping (λ m. not (is_overdue now m)) t.group }) else try_complete_join now t)) [
         | true ↦ known-after_removal now (record t { group = keeping (λ m. not (is_overdue now m)) t.group }) (known-keeping (λ m. not (is_overdue now m)) t.group h)
         | false ↦ known-tried now t h
       ]
@@ -227,7 +229,7 @@ module _ (sessions : ℕ → Bool) where
   known-ended : (now : ℕ) (t : Turn) → K t → K (ended now t)
   unfolding ended
   known-ended now t h =
-      elim (can_complete t.group.members) as (λ b. K (if b then completed now t else record t { group = record t.group { started = now } })) [
+      elim (can_complete t.group.members) as (λ b. K (if b then complete_join now t else record t { group = record t.group { started = now } })) [
         | true ↦ known-completed now t h
         | false ↦ h
       ]
@@ -242,7 +244,7 @@ module _ (sessions : ℕ → Bool) where
 
   known-ticked : (now : ℕ) (g : Group) → Known sessions g → K (ticked now g)
   unfolding ticked
-  known-ticked now g h = known-at_deadline now (expired now (turn_of g)) (known-expired now (turn_of g) h)
+  known-ticked now g h = known-at_deadline now (expire_heartbeats now (turn_of g)) (known-expired now (turn_of g) h)
 
   known-committed : (now : ℕ) (entries : List CommitEntry) (ticket : Ticket) (who : Option (List ℕ)) (g : Group) → Known sessions g → K (committed now entries ticket (hearing_committer now who g))
   unfolding keeping_entries
@@ -289,18 +291,18 @@ module _ (homes : ℕ → List ℕ → Bool) where
   known-dropped s ticket partitions (Ok id) h = each-founded Home s.offsets (drop_command id (with_offset s.offsets id partitions)) id s.groups h
   known-dropped s ticket partitions (Err code) h = h
 
-  known-met : (s : Machine) (e : Event) → Owns homes e → AreKnown homes s.groups → AreKnown homes (met s e).after.groups
-  unfolding met tick
+  known-met : (s : Machine) (e : Event) → Owns homes e → AreKnown homes s.groups → AreKnown homes (handled s e).after.groups
+  unfolding handled tick
   known-met s (event.Join ticket r fresh) own h =
       known-concluded s ticket (join s.last r fresh ticket s.groups)
       (fine-join Stays s.last r fresh ticket s.groups
       (λ id new named _.
       let g : Group = new_group id in
-      stays g.id (join_new s.last r new ticket g) (framed-join_new s.last r new ticket g) (known-join_new (at g.id) s.last r new ticket g (its_own ticket.session r.group g.id id own named (own_id_new id)) (known-new_group (at g.id) id)))
+      stays g.id (add_member_and_rebalance s.last r new ticket g) (framed-add_member_and_rebalance s.last r new ticket g) (known-add_member_and_rebalance (at g.id) s.last r new ticket g (its_own ticket.session r.group g.id id own named (own_id_new id)) (known-new_group (at g.id) id)))
       (λ id new g named e _ _ _.
-      stays g.id (join_new s.last r new ticket g) (framed-join_new s.last r new ticket g) (known-join_new (at g.id) s.last r new ticket g (its_own ticket.session r.group g.id id own named (found_named id s.groups g e)) (each-found Home id s.groups g e h)))
+      stays g.id (add_member_and_rebalance s.last r new ticket g) (framed-add_member_and_rebalance s.last r new ticket g) (known-add_member_and_rebalance (at g.id) s.last r new ticket g (its_own ticket.session r.group g.id id own named (found_named id s.groups g e)) (each-found Home id s.groups g e h)))
       (λ id new g old named e _ _ _.
-      stays g.id (join_replacing s.last r new ticket old g) (framed-join_replacing s.last r new ticket old g) (known-join_replacing (at g.id) s.last r new ticket old g (its_own ticket.session r.group g.id id own named (found_named id s.groups g e)) (each-found Home id s.groups g e h)))
+      stays g.id (replace_static_member s.last r new ticket old g) (framed-replace_static_member s.last r new ticket old g) (known-replace_static_member (at g.id) s.last r new ticket old g (its_own ticket.session r.group g.id id own named (found_named id s.groups g e)) (each-found Home id s.groups g e h)))
       (λ id own_id g m named e _ _.
       stays g.id (join_known s.last r own_id ticket m g) (framed-join_known s.last r own_id ticket m g) (known-join_known (at g.id) s.last r own_id ticket m g (its_own ticket.session r.group g.id id own named (found_named id s.groups g e)) (each-found Home id s.groups g e h)))) h
   known-met s (event.Sync ticket r) own h =
@@ -377,7 +379,7 @@ module _ (sessions fewer : ℕ → Bool) (now session : ℕ) (kept : (q : ℕ) �
   left_group g h = left_members g.members h
 
 -- the session index after an event
-pub known-after : (homes : ℕ → List ℕ → Bool) (now : ℕ) (groups after : List Group) (e : Event) (made : Effects) → Owns homes e → met (at_moment now groups) e ≡ outcome (at_moment now after) made → AreKnown homes groups → AreKnown homes after
+pub known-after : (homes : ℕ → List ℕ → Bool) (now : ℕ) (groups after : List Group) (e : Event) (made : Effects) → Owns homes e → handled (at_moment now groups) e ≡ outcome (at_moment now after) made → AreKnown homes groups → AreKnown homes after
 known-after homes now groups after e made own is h =
     let P : List Group → Type 0 = λ gs. AreKnown homes gs in
     subst P (ap (λ (o : Outcome). o.after.groups) is) (known-met homes (at_moment now groups) e own h)
@@ -437,7 +439,7 @@ known-closed homes fewer now session kept (g ∷ gs) h = (left_group (at homes g
 
 -- after recovery no call is parked
 module _ (sessions : ℕ → Bool) (now : ℕ) where
-  known-revived_members : (protocol : List ℕ) (ms : List KeptMember) → Each (λ (m : Member). is_known sessions m.waits ≡ true) (map (revived_member now protocol) ms)
+  known-revived_members : (protocol : List ℕ) (ms : List MemberRecord) → Each (λ (m : Member). is_known sessions m.waits ≡ true) (map (revived_member now protocol) ms)
   unfolding revived_member
   known-revived_members protocol [] = tt
   known-revived_members protocol (m ∷ ms) = (refl, known-revived_members protocol ms)
@@ -466,9 +468,9 @@ one_name o x y e f = let same : Some x ≡ Some y = sym e ∙ f in cc
 named-join : (now : ℕ) (r : JoinRequest) (fresh : List ℕ) (ticket : Ticket) (groups : List Group) → Fine (λ t. (x : List ℕ) → r.group ≡ Some x → t.group.id ≡ x) (join now r fresh ticket groups)
 named-join now r fresh ticket groups =
     fine-join (λ t. (x : List ℕ) → r.group ≡ Some x → t.group.id ≡ x) now r fresh ticket groups
-    (λ id new named _ x k. (framed-join_new now r new ticket (new_group id)).0 ∙ own_id_new id ∙ one_name r.group id x named k)
-    (λ id new g named e _ _ _ x k. (framed-join_new now r new ticket g).0 ∙ found_named id groups g e ∙ one_name r.group id x named k)
-    (λ id new g old named e _ _ _ x k. (framed-join_replacing now r new ticket old g).0 ∙ found_named id groups g e ∙ one_name r.group id x named k)
+    (λ id new named _ x k. (framed-add_member_and_rebalance now r new ticket (new_group id)).0 ∙ own_id_new id ∙ one_name r.group id x named k)
+    (λ id new g named e _ _ _ x k. (framed-add_member_and_rebalance now r new ticket g).0 ∙ found_named id groups g e ∙ one_name r.group id x named k)
+    (λ id new g old named e _ _ _ x k. (framed-replace_static_member now r new ticket old g).0 ∙ found_named id groups g e ∙ one_name r.group id x named k)
     (λ id own g m named e _ _ x k. (framed-join_known now r own ticket m g).0 ∙ found_named id groups g e ∙ one_name r.group id x named k)
 
 named-sync : (now : ℕ) (r : SyncRequest) (ticket : Ticket) (groups : List Group) → Fine (λ t. (x : List ℕ) → r.group ≡ Some x → t.group.id ≡ x) (sync now r ticket groups)
@@ -489,9 +491,9 @@ module _ (now : ℕ) (groups : List Group) (ticket : Ticket) where
   parks group (Err code) known named homes after made noted is h = known-refused homes now groups after ticket code made is h
 
   pub parks-join : (r : JoinRequest) (fresh : List ℕ) → ParksKnown now groups ticket (join now r fresh ticket groups)
-  unfolding met
+  unfolding handled
   parks-join r fresh = parks r.group (join now r fresh ticket groups) (λ homes after made own is h. known-after homes now groups after (event.Join ticket r fresh) made own is h) (named-join now r fresh ticket groups)
 
   pub parks-sync : (r : SyncRequest) → ParksKnown now groups ticket (sync now r ticket groups)
-  unfolding met
+  unfolding handled
   parks-sync r = parks r.group (sync now r ticket groups) (λ homes after made own is h. known-after homes now groups after (event.Sync ticket r) made own is h) (named-sync now r ticket groups)

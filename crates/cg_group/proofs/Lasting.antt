@@ -6,16 +6,16 @@ use Rattle.std.proofs.lemmas.Bool.{and_parts, false≢true}
 use Rattle.cg_record.specs.declared.command.Command.{Command}
 use Rattle.cg_fold.specs.Key.{OffsetKey}
 use Rattle.cg_record.specs.declared.topic_partition.TopicPartition.{TopicPartition}
-use Rattle.cg_member.specs.declared.group.Group.{Group}
-use Rattle.cg_member.specs.Membership.{is_same}
-use Rattle.cg_member.specs.Offsets.{OffsetMap, offsets_after}
-use Rattle.cg_member.specs.Ticking.{ticked}
-use Rattle.cg_held.specs.Expiring.{expires, expiring, goes, is_bare, is_nil, lasting, tick, tick_effects}
-use Rattle.cg_held.specs.Held.{Machine, find_group, without_group}
-use Rattle.cg_held.specs.Kept.{Each}
-use Rattle.cg_held.proofs.Framed.{framed-ticked}
-use Rattle.cg_held.proofs.KeptLists.{same_names}
-use Rattle.cg_held.proofs.Removing.{found-without}
+use Rattle.cg_group_state.specs.declared.group.Group.{Group}
+use Rattle.cg_group_state.specs.Membership.{is_same}
+use Rattle.cg_group_state.specs.Offsets.{OffsetMap, offsets_after}
+use Rattle.cg_group_rules.specs.Tick.{ticked}
+use Rattle.cg_group_table.specs.Expiry.{expires, expiring, goes, is_bare, is_nil, lasting, tick, tick_effects}
+use Rattle.cg_group_table.specs.GroupTable.{Machine, find_group, without_group}
+use Rattle.cg_group_table.specs.Kept.{Each}
+use Rattle.cg_group_table.proofs.Framed.{framed-ticked}
+use Rattle.cg_group_table.proofs.KeptLists.{same_names}
+use Rattle.cg_group_table.proofs.Removing.{found-without}
 use Rattle.cg_group.specs.Machine.{drop_command, founded_after, is_unfounded, with_offset}
 use Rattle.cg_group.proofs.KeptMachine.{found-turns}
 use Rattle.cg_group.proofs.Making.{makes-ticked}

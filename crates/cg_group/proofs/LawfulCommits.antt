@@ -5,30 +5,30 @@ use Rattle.std.specs.Ordering.{int_eq}
 use Rattle.std.proofs.lemmas.Bool.{not-false}
 use Rattle.cg_names.specs.declared.code.Code.{Code}
 use Rattle.cg_names.specs.declared.code.Code.TheVariants.{CoordinatorNotAvailable, IllegalGeneration, InvalidGroupId, OffsetMetadataTooLarge, RebalanceInProgress, UnknownMemberId}
-use Rattle.cg_turn.specs.declared.bounds.TheConstants.{GROUPS_MAX}
-use Rattle.cg_member.specs.declared.group.Group.{Group}
-use Rattle.cg_member.specs.declared.group.Phase.{Phase}
-use Rattle.cg_member.specs.declared.group.Phase.TheVariants.{Empty, Preparing, Completing, Stable}
-use Rattle.cg_member.specs.declared.member.Member.{Member}
-use Rattle.cg_request.specs.declared.request.CommitRequest.{CommitRequest}
+use Rattle.cg_group_rules.specs.declared.group_limit.TheConstants.{GROUPS_MAX}
+use Rattle.cg_group_state.specs.declared.group.Group.{Group}
+use Rattle.cg_group_state.specs.declared.group.Phase.{Phase}
+use Rattle.cg_group_state.specs.declared.group.Phase.TheVariants.{Empty, Preparing, Completing, Stable}
+use Rattle.cg_group_state.specs.declared.member.Member.{Member}
+use Rattle.cg_request.specs.declared.request_fields.CommitRequest.{CommitRequest}
 use Rattle.cg_request.specs.declared.ticket.Ticket.{Ticket}
-use Rattle.cg_member.specs.declared.turn.Turn.{Turn}
+use Rattle.cg_group_state.specs.declared.turn.Turn.{Turn}
 use Rattle.cg_request.specs.Commits.{is_too_large}
-use Rattle.cg_turn.specs.Committing.{commit_held, commit_of_member, commit_of_none, commit_unheld, committed, committer, hearing_committer, is_completing, is_negative}
-use Rattle.cg_member.specs.Fencing.{member_check}
-use Rattle.cg_member.specs.Joining.{new_group}
-use Rattle.cg_held.specs.Kept.{kept_in}
+use Rattle.cg_group_rules.specs.OffsetCommit.{commit_held, commit_of_member, commit_of_none, commit_unheld, committed, committer, hearing_committer, is_completing, is_negative}
+use Rattle.cg_group_state.specs.MemberCheck.{validate_current_member}
+use Rattle.cg_group_rules.specs.Join.{new_group}
+use Rattle.cg_group_table.specs.Kept.{kept_in}
 use Rattle.cg_request.specs.declared.event.Event.{Event}
 use Rattle.cg_request.specs.declared.event.Event.TheVariants as event
 use Rattle.cg_group.specs.Laws.{AreRequests, CommitsAreLawful, IsLawfulCommit, IsOfMember, IsOfNobody, IsRefused, after_all, state_after}
-use Rattle.cg_group.specs.Machine.{commit, commit_in, concluded, met, step, with_offsets}
-use Rattle.cg_held.specs.Held.{Machine, find_group}
-use Rattle.cg_member.specs.Membership.{find_member, is_empty}
-use Rattle.cg_member.specs.Refusing.{◌>>=◌, refused_if}
-use Rattle.cg_held.specs.Reviving.{revive}
+use Rattle.cg_group.specs.Machine.{commit, commit_in, concluded, handled, step, with_offsets}
+use Rattle.cg_group_table.specs.GroupTable.{Machine, find_group}
+use Rattle.cg_group_state.specs.Membership.{find_member, is_empty}
+use Rattle.cg_group_state.specs.Checks.{◌>>=◌, refused_if}
+use Rattle.cg_group_table.specs.Recovery.{revive}
 use Rattle.cg_group.proofs.Agreeing.{Whole, empty_members, empty_is}
 use Rattle.cg_group.proofs.AgreeingMachine.{whole-all}
-use Rattle.cg_held.proofs.KeptLists.{each-found}
+use Rattle.cg_group_table.proofs.KeptLists.{each-found}
 use Rattle.cg_group.proofs.Requests.{Fine, after_checked, after_given, after_test, check_parts, passed_by, tested, unfenced_by}
 
 -- a group in Empty has no members
@@ -54,7 +54,7 @@ unfolding commit_of_member
 of_member r g who sound e =
     let phase_test : List ℕ × Member → Unit {0} → Result (Option (List ℕ)) Code = λ own _. refused_if (is_completing g.phase) RebalanceInProgress >>= λ _. Ok (Some own.0) in
     let dates : List ℕ × Member → Result (Option (List ℕ)) Code = λ own. refused_if (not (int_eq r.generation (pos g.generation))) IllegalGeneration >>= phase_test own in
-    let own = passed_by (member_check r.instance r.member g.members) dates who e in
+    let own = passed_by (validate_current_member r.instance r.member g.members) dates who e in
     let parts = check_parts r.instance r.member g.members own.0 own.1 in
     let dated = tested (not (int_eq r.generation (pos g.generation))) IllegalGeneration (phase_test own.0) who own.2 in
     let phased = tested (is_completing g.phase) RebalanceInProgress (λ _. Ok (Some own.0.0)) who dated.1 in
@@ -114,7 +114,7 @@ refused_or G s ticket (Ok t) h = inr h
 refused_or G s ticket (Err code) h = inl (record { code = code; effects = refl; groups = refl; offsets = refl })
 
 pub commits_are_lawful : (events : List (Event × ℕ)) → AreRequests events → CommitsAreLawful events
-unfolding step met
+unfolding step handled
 commits_are_lawful events asked state now ticket r m =
     let s : Machine = after_all events (revive state now) in
     let kept = kept_in (state_after state now events) in

@@ -16,9 +16,9 @@ use Rattle.cg_record.specs.declared.command.Command.{Command}
 use Rattle.cg_record.specs.declared.command.Command.TheVariants as command
 use Rattle.cg_record.specs.declared.entries.TheConstants.{ENTRIES_MAX}
 use Rattle.cg_record.specs.declared.topic_partition.TopicPartition.{TopicPartition}
-use Rattle.cg_fold.specs.declared.record.GroupRecord.{GroupRecord}
-use Rattle.cg_fold.specs.declared.record.RecordedMembers.{RecordedMembers}
-use Rattle.cg_fold.specs.declared.record.RecordedMembers.TheVariants as recorded
+use Rattle.cg_fold.specs.declared.group_record.GroupRecord.{GroupRecord}
+use Rattle.cg_fold.specs.declared.group_record.RecordedMembers.{RecordedMembers}
+use Rattle.cg_fold.specs.declared.group_record.RecordedMembers.TheVariants as recorded
 use Rattle.cg_fold.specs.Durable.{State}
 use Rattle.cg_fold.specs.Key.{KeptOffset, KeptRow, key_cmp, key_of, without_group_id}
 use Rattle.cg_fold.specs.Snapshot.{is_of_group, offsets_in}
@@ -27,21 +27,21 @@ use Rattle.cg_fold.proofs.Place.{both, less}
 use Rattle.cg_request.specs.declared.event.Event.{Event}
 use Rattle.cg_request.specs.declared.event.Event.TheVariants as event
 use Rattle.cg_request.specs.declared.ticket.Ticket.{Ticket}
-use Rattle.cg_member.specs.declared.group.Group.{Group}
-use Rattle.cg_member.specs.declared.group.Phase.{Phase}
-use Rattle.cg_member.specs.declared.group.Phase.TheVariants.{Empty, Preparing, Completing, Stable}
-use Rattle.cg_member.specs.declared.turn.Turn.{Turn}
-use Rattle.cg_member.specs.Offsets.{OffsetMap}
-use Rattle.cg_member.specs.Ticking.{ticked}
-use Rattle.cg_held.specs.Expiring.{expiries, expiring, expiring_as, expiring_if, is_idle, is_stale, is_stale_row, is_vacant, stale_of, swept, tick}
-use Rattle.cg_held.specs.Held.{Machine, everywhere}
-use Rattle.cg_held.specs.Kept.{Each, kept_in}
-use Rattle.cg_held.specs.Reviving.{revive}
-use Rattle.cg_held.specs.declared.expiring.TheConstants.{EXPIRED_COMMANDS_MAX}
-use Rattle.cg_held.proofs.Framed.{each-append}
+use Rattle.cg_group_state.specs.declared.group.Group.{Group}
+use Rattle.cg_group_state.specs.declared.group.Phase.{Phase}
+use Rattle.cg_group_state.specs.declared.group.Phase.TheVariants.{Empty, Preparing, Completing, Stable}
+use Rattle.cg_group_state.specs.declared.turn.Turn.{Turn}
+use Rattle.cg_group_state.specs.Offsets.{OffsetMap}
+use Rattle.cg_group_rules.specs.Tick.{ticked}
+use Rattle.cg_group_table.specs.Expiry.{expiries, expiring, expiring_as, expiring_if, is_idle, is_stale, is_stale_row, is_vacant, stale_of, swept, tick}
+use Rattle.cg_group_table.specs.GroupTable.{Machine, everywhere}
+use Rattle.cg_group_table.specs.Kept.{Each, kept_in}
+use Rattle.cg_group_table.specs.Recovery.{revive}
+use Rattle.cg_group_table.specs.declared.expiry.TheConstants.{EXPIRED_COMMANDS_MAX}
+use Rattle.cg_group_table.proofs.Framed.{each-append}
 use Rattle.cg_group.specs.Laws.{AgreesIn, AreRequests, ExpiryIsLawful, IsDueIn, IsRecordedAs, IsStaleOffset, IsStaleRecord, TellsOf, after_all, state_after}
-use Rattle.cg_group.specs.Machine.{beat, commit, concluded, deleted, dropped, join, leave, memberless, met, step, sync}
-use Rattle.cg_member.specs.Membership.{is_empty}
+use Rattle.cg_group.specs.Machine.{beat, commit, concluded, deleted, dropped, join, leave, memberless, handled, step, sync}
+use Rattle.cg_group_state.specs.Membership.{is_empty}
 use Rattle.cg_group.proofs.AgreeingMachine.{machine_and_commands_agree}
 use Rattle.cg_group.proofs.AgreeingTick.{idle_is}
 use Rattle.cg_group.proofs.Making.{makes-ticked}
@@ -63,8 +63,8 @@ unfolding dropped
 loaded-dropped s ticket partitions (Ok id) = refl
 loaded-dropped s ticket partitions (Err code) = refl
 
-loaded-met : (s : Machine) (e : Event) → (met s e).after.loaded ≡ s.loaded
-unfolding met everywhere tick
+loaded-met : (s : Machine) (e : Event) → (handled s e).after.loaded ≡ s.loaded
+unfolding handled everywhere tick
 loaded-met s (event.Join ticket r fresh) = loaded-concluded s ticket (join s.last r fresh ticket s.groups)
 loaded-met s (event.Sync ticket r) = loaded-concluded s ticket (sync s.last r ticket s.groups)
 loaded-met s (event.Beat ticket r) = loaded-concluded s ticket (beat s.last r ticket s.groups)
@@ -211,7 +211,7 @@ module _ (state : State) (loaded now : ℕ) where
       subst P (sym offsets) (subst Q (sym load) (subst R (sym last) (due-all s.groups told)))
 
 pub expiry_is_lawful : (events : List (Event × ℕ)) → AreRequests events → ExpiryIsLawful events
-unfolding step met
+unfolding step handled
 expiry_is_lawful events asked state now m =
     let s : Machine = after_all events (revive state now) in
     let agrees = (machine_and_commands_agree events asked state now).agrees in

@@ -2,15 +2,15 @@
 use Rattle.std.proofs.Common.{◌≡◌, ℕ, true, is_some, List, Some, Ok, Err, refl, ap, sym, subst, ◌∙◌}
 use Rattle.std.specs.Prelude.{is_ok}
 use Rattle.cg_names.specs.declared.code.Code.{Code}
-use Rattle.cg_member.specs.declared.group.Group.{Group}
-use Rattle.cg_member.specs.Leaving.{leave_held}
-use Rattle.cg_request.specs.declared.request.LeaveRequest.{LeaveRequest}
+use Rattle.cg_group_state.specs.declared.group.Group.{Group}
+use Rattle.cg_group_rules.specs.Leave.{leave_held}
+use Rattle.cg_request.specs.declared.request_fields.LeaveRequest.{LeaveRequest}
 use Rattle.cg_request.specs.declared.ticket.Ticket.{Ticket}
 use Rattle.cg_group.specs.InPlace.{IsLeaving, IsNamed, StepKnown, turn_or}
 use Rattle.cg_group.specs.Machine.{leave, named_group}
-use Rattle.cg_held.specs.Held.{find_group}
-use Rattle.cg_held.proofs.Framed.{framed-leave_taken}
-use Rattle.cg_member.specs.Refusing.{◌>>=◌}
+use Rattle.cg_group_table.specs.GroupTable.{find_group}
+use Rattle.cg_group_table.proofs.Framed.{framed-leave_taken}
+use Rattle.cg_group_state.specs.Checks.{◌>>=◌}
 use Rattle.cg_group.proofs.Departures.{leave_here}
 use Rattle.cg_group.proofs.JoinSteps.{fine_turn, ok_turn}
 use Rattle.cg_group.proofs.Requests.{fine-leave_held}

@@ -2,16 +2,16 @@
 use Rattle.std.proofs.Common.{◌≡◌, ℕ, List, length, refl, sym, ap, ◌∙◌, Some, None, Ok, Err, ok_or}
 use Rattle.cg_names.specs.declared.code.Code.TheVariants.{InvalidGroupId}
 use Rattle.cg_record.specs.declared.entry.Entry.{Entry}
-use Rattle.cg_member.specs.declared.effects.Effects.{Effects}
-use Rattle.cg_member.specs.declared.group.Group.{Group}
-use Rattle.cg_request.specs.declared.request.CommitRequest.{CommitRequest}
+use Rattle.cg_group_state.specs.declared.effects.Effects.{Effects}
+use Rattle.cg_group_state.specs.declared.group.Group.{Group}
+use Rattle.cg_request.specs.declared.request_fields.CommitRequest.{CommitRequest}
 use Rattle.cg_request.specs.declared.ticket.Ticket.{Ticket}
-use Rattle.cg_turn.specs.Committing.{commit_at, commit_effects, commit_unheld, keeping_entries}
-use Rattle.cg_member.specs.Joining.{new_group}
+use Rattle.cg_group_rules.specs.OffsetCommit.{commit_at, commit_effects, commit_unheld, keeping_entries}
+use Rattle.cg_group_rules.specs.Join.{new_group}
 use Rattle.cg_group.specs.Machine.{commit, commit_in, concluded}
-use Rattle.cg_held.specs.Held.{at_moment, find_group, outcome, with_group, without_group}
-use Rattle.cg_member.specs.Refusing.{◌>>=◌}
-use Rattle.cg_held.proofs.Removing.{without_with}
+use Rattle.cg_group_table.specs.GroupTable.{at_moment, find_group, outcome, with_group, without_group}
+use Rattle.cg_group_state.specs.Checks.{◌>>=◌}
+use Rattle.cg_group_table.proofs.Removing.{without_with}
 
 pub commit_made : (now : ℕ) (groups after : List Group) (ticket : Ticket) (entries : List Entry) (id : List ℕ) (e : Effects) → after ≡ with_group (new_group id) groups → e ≡ commit_effects (commit_at now entries id) ticket → concluded (at_moment now groups) ticket (Ok (keeping_entries now entries ticket (new_group id))) ≡ outcome (at_moment now after) e
 unfolding concluded keeping_entries new_group

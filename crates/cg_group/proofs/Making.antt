@@ -8,26 +8,27 @@ use Rattle.cg_record.specs.declared.assigned.Assigned.{Assigned}
 use Rattle.cg_record.specs.declared.command.Command.{Command}
 use Rattle.cg_record.specs.declared.command.Command.TheVariants as command
 use Rattle.cg_record.specs.declared.emptied.Emptied.{Emptied}
-use Rattle.cg_member.specs.declared.group.Group.{Group}
-use Rattle.cg_member.specs.declared.group.Phase.{Phase}
-use Rattle.cg_member.specs.declared.group.Phase.TheVariants.{Empty, Preparing, Completing, Stable}
-use Rattle.cg_member.specs.declared.member.Member.{Member}
-use Rattle.cg_member.specs.declared.member.Waits.{Waits}
-use Rattle.cg_member.specs.declared.member.Waits.TheVariants.{Join, Sync}
-use Rattle.cg_request.specs.declared.request.JoinRequest.{JoinRequest}
-use Rattle.cg_request.specs.declared.request.SyncEntry.{SyncEntry}
-use Rattle.cg_request.specs.declared.request.SyncRequest.{SyncRequest}
+use Rattle.cg_group_state.specs.declared.group.Group.{Group}
+use Rattle.cg_group_state.specs.declared.group.Phase.{Phase}
+use Rattle.cg_group_state.specs.declared.group.Phase.TheVariants.{Empty, Preparing, Completing, Stable}
+use Rattle.cg_group_state.specs.declared.member.Member.{Member}
+use Rattle.cg_group_state.specs.declared.member.Waits.{Waits}
+use Rattle.cg_group_state.specs.declared.member.Waits.TheVariants.{Join, Sync}
+use Rattle.cg_request.specs.declared.request_fields.JoinRequest.{JoinRequest}
+use Rattle.cg_request.specs.declared.request_fields.SyncEntry.{SyncEntry}
+use Rattle.cg_request.specs.declared.request_fields.SyncRequest.{SyncRequest}
 use Rattle.cg_request.specs.declared.ticket.Ticket.{Ticket}
-use Rattle.cg_member.specs.declared.turn.Turn.{Turn}
-use Rattle.cg_turn.specs.Beating.{beat_taken}
-use Rattle.cg_member.specs.Joining.{admitted, in_join_phase, is_current, join_again, join_current, join_known, join_new, new_member, rejoined, updating, waiting}
-use Rattle.cg_held.specs.Kept.{Each}
-use Rattle.cg_member.specs.Leaving.{after_removal, gone_in, has_joined, leave_taken, left}
-use Rattle.cg_member.specs.Membership.{hearing, is_empty, is_preparing, keeping, leads}
-use Rattle.cg_member.specs.Rebalance.{completed, completed_generation, emptied, emptied_command, is_ready, next_round, prepared, told_to_joins, tried, turn_of}
-use Rattle.cg_member.specs.Syncing.{assigned_command, assigning, distributed, kept_roster, sync_current, sync_taken, sync_waits, told_to_syncs}
-use Rattle.cg_member.specs.Ticking.{at_deadline, can_complete, ended, expired, is_due, is_overdue, outstays, ticked}
-use Rattle.cg_held.proofs.Framed.{each-append}
+use Rattle.cg_group_state.specs.declared.turn.Turn.{Turn}
+use Rattle.cg_group_rules.specs.Heartbeat.{beat_taken}
+use Rattle.cg_group_rules.specs.Join.{admitted, in_join_phase, is_current, update_member_and_rebalance, join_current, join_known, add_member_and_rebalance, new_member, rejoined, updating, waiting}
+use Rattle.cg_group_table.specs.Kept.{Each}
+use Rattle.cg_group_rules.specs.Leave.{after_removal, gone_in, has_joined, leave_taken, left}
+use Rattle.cg_group_state.specs.Membership.{hearing, is_empty, is_preparing, keeping, leads}
+use Rattle.cg_group_rules.specs.Rebalance.{complete_join, completed_generation, emptied, emptied_command, is_ready, init_next_generation, prepare_rebalance, reply_to_joins, try_complete_join, turn_of}
+use Rattle.cg_group_rules.specs.Sync.{assigned_command, assigning, propagate_assignment, kept_roster, sync_current, sync_taken, sync_waits, reply_to_syncs}
+use Rattle.cg_group_rules.specs.Tick.{at_deadline, can_complete, ended, expire_heartbeats, is_due, ticked}
+use Rattle.cg_group_state.specs.Staying.{is_overdue, outstays}
+use Rattle.cg_group_table.proofs.Framed.{each-append}
 
 -- the generation in a command is a completed one
 completed_from : (g n : ℕ) → completed_generation g ≡ Some n → 1 ≤ n
@@ -41,20 +42,20 @@ module _ (P : Command → Type 0) (assigned_is : (a : Assigned) → 1 ≤ a.gene
   abbrev Makes : Turn → Type 0
   Makes t = Each P t.commands
 
-  makes-prepared : (now : ℕ) (t : Turn) → Makes t → Makes (prepared now t)
-  unfolding prepared
+  makes-prepared : (now : ℕ) (t : Turn) → Makes t → Makes (prepare_rebalance now t)
+  unfolding prepare_rebalance
   makes-prepared now t h = h
 
   makes-in_join_phase : (now : ℕ) (t : Turn) → Makes t → Makes (in_join_phase now t)
-  makes-in_join_phase now t h = elim (is_preparing t.group.phase) as (λ b. Makes (if b then t else prepared now t)) [ true ↦ h | false ↦ makes-prepared now t h ]
+  makes-in_join_phase now t h = elim (is_preparing t.group.phase) as (λ b. Makes (if b then t else prepare_rebalance now t)) [ true ↦ h | false ↦ makes-prepared now t h ]
 
   makes-waiting : (now : ℕ) (own : List ℕ) (waits : Waits) (t : Turn) → Makes t → Makes (waiting now own waits t)
   unfolding waiting
   makes-waiting now own waits t h = h
 
-  makes-told_to_joins : (now : ℕ) (t : Turn) → Makes t → Makes (told_to_joins now t)
-  unfolding told_to_joins
-  makes-told_to_joins now t h = h
+  makes-reply_to_joins : (now : ℕ) (t : Turn) → Makes t → Makes (reply_to_joins now t)
+  unfolding reply_to_joins
+  makes-reply_to_joins now t h = h
 
   makes-one_emptied : (now : ℕ) (g : Group) → Each P (emptied_command now g)
   unfolding emptied_command
@@ -69,29 +70,29 @@ module _ (P : Command → Type 0) (assigned_is : (a : Assigned) → 1 ≤ a.gene
   unfolding emptied
   makes-emptied now t h = each-append P t.commands (emptied_command now (emptied now t).group) h (makes-one_emptied now (emptied now t).group)
 
-  makes-completed : (now : ℕ) (t : Turn) → Makes t → Makes (completed now t)
-  unfolding completed
+  makes-completed : (now : ℕ) (t : Turn) → Makes t → Makes (complete_join now t)
+  unfolding complete_join
   makes-completed now t h =
-      elim (is_empty t.group.members) as (λ b. Makes (if b then emptied now t else told_to_joins now (record t { group = next_round t.group }))) [
+      elim (is_empty t.group.members) as (λ b. Makes (if b then emptied now t else reply_to_joins now (record t { group = init_next_generation t.group }))) [
         | true ↦ makes-emptied now t h
-        | false ↦ makes-told_to_joins now (record t { group = next_round t.group }) h
+        | false ↦ makes-reply_to_joins now (record t { group = init_next_generation t.group }) h
       ]
 
-  makes-tried : (now : ℕ) (t : Turn) → Makes t → Makes (tried now t)
-  unfolding tried
-  makes-tried now t h = elim (is_ready t.group) as (λ b. Makes (if b then completed now t else t)) [ true ↦ makes-completed now t h | false ↦ h ]
+  makes-tried : (now : ℕ) (t : Turn) → Makes t → Makes (try_complete_join now t)
+  unfolding try_complete_join
+  makes-tried now t h = elim (is_ready t.group) as (λ b. Makes (if b then complete_join now t else t)) [ true ↦ makes-completed now t h | false ↦ h ]
 
-  pub makes-join_new : (now : ℕ) (r : JoinRequest) (id : List ℕ) (ticket : Ticket) (g : Group) → Makes (join_new now r id ticket g)
-  unfolding join_new
-  makes-join_new now r id ticket g = makes-tried now _ (makes-in_join_phase now (turn_of (admitted (new_member now r id [] (Join ticket)) r.kind g)) tt)
+  pub makes-add_member_and_rebalance : (now : ℕ) (r : JoinRequest) (id : List ℕ) (ticket : Ticket) (g : Group) → Makes (add_member_and_rebalance now r id ticket g)
+  unfolding add_member_and_rebalance
+  makes-add_member_and_rebalance now r id ticket g = makes-tried now _ (makes-in_join_phase now (turn_of (admitted (new_member now r id [] (Join ticket)) r.kind g)) tt)
 
   pub makes-rejoined : (now : ℕ) (own : List ℕ) (ticket : Ticket) (t : Turn) → Makes t → Makes (rejoined now own ticket t)
   unfolding rejoined
   makes-rejoined now own ticket t h = makes-tried now _ (makes-waiting now own _ _ (makes-in_join_phase now t h))
 
-  makes-join_again : (now : ℕ) (r : JoinRequest) (id : List ℕ) (ticket : Ticket) (g : Group) → Makes (join_again now r id ticket g)
-  unfolding join_again
-  makes-join_again now r id ticket g = makes-rejoined now id ticket (turn_of (updating r id g)) tt
+  makes-update_member_and_rebalance : (now : ℕ) (r : JoinRequest) (id : List ℕ) (ticket : Ticket) (g : Group) → Makes (update_member_and_rebalance now r id ticket g)
+  unfolding update_member_and_rebalance
+  makes-update_member_and_rebalance now r id ticket g = makes-rejoined now id ticket (turn_of (updating r id g)) tt
 
   makes-join_current : (now : ℕ) (id : List ℕ) (ticket : Ticket) (m : Member) (g : Group) → Makes (join_current now id ticket m g)
   unfolding join_current
@@ -100,9 +101,9 @@ module _ (P : Command → Type 0) (assigned_is : (a : Assigned) → 1 ≤ a.gene
   pub makes-join_known : (now : ℕ) (r : JoinRequest) (id : List ℕ) (ticket : Ticket) (m : Member) (g : Group) → Makes (join_known now r id ticket m g)
   unfolding join_known
   makes-join_known now r id ticket m g =
-      elim (is_current r m g g.phase) as (λ b. Makes (if b then join_current now id ticket m g else join_again now r id ticket g)) [
+      elim (is_current r m g g.phase) as (λ b. Makes (if b then join_current now id ticket m g else update_member_and_rebalance now r id ticket g)) [
         | true ↦ makes-join_current now id ticket m g
-        | false ↦ makes-join_again now r id ticket g
+        | false ↦ makes-update_member_and_rebalance now r id ticket g
       ]
 
   makes-one_assigned : (g : Group) → Each P (assigned_command g)
@@ -116,8 +117,8 @@ module _ (P : Command → Type 0) (assigned_is : (a : Assigned) → 1 ≤ a.gene
       go (Some n) (Some k) (Some p) None dated = tt
       go (Some n) (Some k) (Some p) (Some l) dated = (assigned_is (record { group = g.id; generation = n; kind = k; roster = kept_roster p l g }) (dated n refl), tt)
 
-  makes-distributed : (now : ℕ) (entries : List SyncEntry) (t : Turn) → Makes t → Makes (distributed now entries t)
-  unfolding distributed told_to_syncs
+  makes-distributed : (now : ℕ) (entries : List SyncEntry) (t : Turn) → Makes t → Makes (propagate_assignment now entries t)
+  unfolding propagate_assignment reply_to_syncs
   makes-distributed now entries t h = each-append P t.commands (assigned_command (assigning entries t.group)) h (makes-one_assigned (assigning entries t.group))
 
   makes-sync_waits : (now : ℕ) (r : SyncRequest) (id : List ℕ) (ticket : Ticket) (m : Member) (g : Group) → Makes (sync_waits now r id ticket m g)
@@ -125,7 +126,7 @@ module _ (P : Command → Type 0) (assigned_is : (a : Assigned) → 1 ≤ a.gene
   makes-sync_waits now r id ticket m g =
       let t : Turn = waiting now id (Sync ticket) (turn_of (hearing now id g)) in
       let h : Makes t = makes-waiting now id (Sync ticket) (turn_of (hearing now id g)) tt in
-      elim (leads g m) as (λ b. Makes (if b then distributed now r.entries t else t)) [ true ↦ makes-distributed now r.entries t h | false ↦ h ]
+      elim (leads g m) as (λ b. Makes (if b then propagate_assignment now r.entries t else t)) [ true ↦ makes-distributed now r.entries t h | false ↦ h ]
 
   makes-sync_current : (now : ℕ) (id : List ℕ) (ticket : Ticket) (m : Member) (g : Group) → Makes (sync_current now id ticket m g)
   unfolding sync_current
@@ -145,7 +146,7 @@ module _ (P : Command → Type 0) (assigned_is : (a : Assigned) → 1 ≤ a.gene
   makes-after_removal : (now : ℕ) (t : Turn) → Makes t → Makes (after_removal now t)
   unfolding after_removal
   makes-after_removal now t h =
-      makes-tried now _ (elim (has_joined t.group.phase) as (λ b. Makes (if b then prepared now t else t)) [ true ↦ makes-prepared now t h | false ↦ h ])
+      makes-tried now _ (elim (has_joined t.group.phase) as (λ b. Makes (if b then prepare_rebalance now t else t)) [ true ↦ makes-prepared now t h | false ↦ h ])
 
   makes-left : (id : List ℕ) (ticket : Ticket) (m : Member) (g : Group) → Makes (left id ticket m g)
   unfolding left
@@ -159,10 +160,10 @@ module _ (P : Command → Type 0) (assigned_is : (a : Assigned) → 1 ≤ a.gene
   unfolding gone_in
   makes-gone_in now session g = tt
 
-  makes-expired : (now : ℕ) (t : Turn) → Makes t → Makes (expired now t)
-  unfolding expired
+  makes-expired : (now : ℕ) (t : Turn) → Makes t → Makes (expire_heartbeats now t)
+  unfolding expire_heartbeats
   makes-expired now t h =
-      elim (list_any (is_overdue now) t.group.members) as (λ b. Makes (if b then after_removal now (record t { group = keeping (λ m. not (is_overdue now m)) t.group }) else tried now t)) [
+      elim (list_any (is_overdue now) t.group.members) as (λ b. Makes (if b then after_removal now (record t { group = keeping (λ m. not (is_overdue now m)) t.group }) else try_complete_join now t)) [
         | true ↦ makes-after_removal now _ h
         | false ↦ makes-tried now t h
       ]
@@ -170,7 +171,7 @@ module _ (P : Command → Type 0) (assigned_is : (a : Assigned) → 1 ≤ a.gene
   makes-ended : (now : ℕ) (t : Turn) → Makes t → Makes (ended now t)
   unfolding ended
   makes-ended now t h =
-      elim (can_complete t.group.members) as (λ b. Makes (if b then completed now t else record t { group = record t.group { started = now } })) [ true ↦ makes-completed now t h | false ↦ h ]
+      elim (can_complete t.group.members) as (λ b. Makes (if b then complete_join now t else record t { group = record t.group { started = now } })) [ true ↦ makes-completed now t h | false ↦ h ]
 
   makes-at_deadline : (now : ℕ) (t : Turn) → Makes t → Makes (at_deadline now t)
   unfolding at_deadline
@@ -179,7 +180,7 @@ module _ (P : Command → Type 0) (assigned_is : (a : Assigned) → 1 ≤ a.gene
 
   pub makes-ticked : (now : ℕ) (g : Group) → Makes (ticked now g)
   unfolding ticked
-  makes-ticked now g = makes-at_deadline now (expired now (turn_of g)) (makes-expired now (turn_of g) tt)
+  makes-ticked now g = makes-at_deadline now (expire_heartbeats now (turn_of g)) (makes-expired now (turn_of g) tt)
 
   pub makes-all : (turn : Group → Turn) → ((g : Group) → Makes (turn g)) → (groups : List Group) → Each P (flat_map (λ g. (turn g).commands) groups)
   makes-all turn h [] = tt

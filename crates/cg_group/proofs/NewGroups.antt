@@ -3,22 +3,24 @@ use Rattle.std.proofs.Common.{◌≡◌, ℕ, Bool, true, false, List, length, r
 use Rattle.std.specs.Prelude.{is_some, nat_le}
 use Rattle.cg_names.specs.declared.code.Code.{Code}
 use Rattle.cg_names.specs.declared.code.Code.TheVariants.{CoordinatorNotAvailable, InvalidGroupId, InvalidSessionTimeout, UnknownMemberId}
-use Rattle.cg_member.specs.declared.group.Group.{Group}
-use Rattle.cg_member.specs.declared.turn.Turn.{Turn}
-use Rattle.cg_member.specs.Joining.{admitted, drawn, is_session_refused, join_new, new_group, new_member, own_name}
-use Rattle.cg_member.specs.Rebalance.{completed, is_ready, next_round, prepared, told_to_joins, tried}
-use Rattle.cg_member.specs.Refusing.{◌>>=◌, refused_if}
-use Rattle.cg_member.specs.Waiting.{after_answers}
-use Rattle.cg_request.specs.declared.request.JoinRequest.{JoinRequest}
+use Rattle.cg_group_state.specs.declared.group.Group.{Group}
+use Rattle.cg_group_state.specs.declared.turn.Turn.{Turn}
+use Rattle.cg_group_rules.specs.Join.{admitted, add_member_and_rebalance, new_group, new_member}
+use Rattle.cg_group_state.specs.MemberId.{drawn, own_name}
+use Rattle.cg_group_state.specs.JoinTerms.{is_session_refused}
+use Rattle.cg_group_rules.specs.Rebalance.{complete_join, is_ready, init_next_generation, prepare_rebalance, reply_to_joins, try_complete_join}
+use Rattle.cg_group_state.specs.Checks.{◌>>=◌, refused_if}
+use Rattle.cg_group_state.specs.Waiting.{after_answers}
+use Rattle.cg_request.specs.declared.request_fields.JoinRequest.{JoinRequest}
 use Rattle.cg_request.specs.declared.ticket.Ticket.{Ticket}
-use Rattle.cg_turn.specs.Admission.{join_unheld}
-use Rattle.cg_turn.specs.declared.bounds.TheConstants.{GROUPS_MAX}
+use Rattle.cg_group_rules.specs.JoinChecks.{join_unheld}
+use Rattle.cg_group_rules.specs.declared.group_limit.TheConstants.{GROUPS_MAX}
 use Rattle.cg_group.specs.InPlace.{groups_of}
 use Rattle.cg_group.specs.Machine.{join, join_in}
-use Rattle.cg_held.specs.Held.{find_group}
-use Rattle.cg_held.specs.Sessions.{AreKnown, Known, StayParked}
-use Rattle.cg_held.proofs.KeptLists.{each-put}
-use Rattle.cg_held.proofs.Tight.{stay_added}
+use Rattle.cg_group_table.specs.GroupTable.{find_group}
+use Rattle.cg_group_table.specs.SessionIndex.{AreKnown, Known, StayParked}
+use Rattle.cg_group_table.proofs.KeptLists.{each-put}
+use Rattle.cg_group_table.proofs.Tight.{stay_added}
 
 -- a JOIN in a group that is not loaded
 pub join_absent : (now : ℕ) (r : JoinRequest) (fresh : List ℕ) (ticket : Ticket) (groups : List Group) (id : List ℕ) → r.group ≡ Some id → find_group id groups ≡ None → is_session_refused r ≡ false → join now r fresh ticket groups ≡ join_unheld now r fresh ticket (length groups) id
@@ -30,24 +32,24 @@ join_absent now r fresh ticket groups id named none lawful =
 
 module _ (now : ℕ) (r : JoinRequest) (fresh : List ℕ) (ticket : Ticket) (loaded : ℕ) (id : List ℕ) where
   made : Turn
-  made = join_new now r (drawn (own_name r) fresh) ticket (new_group id)
+  made = add_member_and_rebalance now r (drawn (own_name r) fresh) ticket (new_group id)
 
   -- the only member has no parked call
   known_alone : (sessions : ℕ → Bool) → Known sessions made.group
-  unfolding made join_new tried is_ready completed told_to_joins next_round prepared admitted new_member new_group after_answers
+  unfolding made add_member_and_rebalance try_complete_join is_ready complete_join reply_to_joins init_next_generation prepare_rebalance admitted new_member new_group after_answers
   known_alone sessions = (refl, tt)
 
   own_id : made.group.id ≡ id
-  unfolding made join_new tried is_ready completed told_to_joins next_round prepared admitted new_member new_group after_answers
+  unfolding made add_member_and_rebalance try_complete_join is_ready complete_join reply_to_joins init_next_generation prepare_rebalance admitted new_member new_group after_answers
   own_id = refl
 
   -- the JOIN is refused, or makes the group
   refused_or_made : (P : Result Turn Code → Type 0) → ((code : Code) → P (Err code)) → P (Ok made) → P (join_unheld now r fresh ticket loaded id)
   unfolding made join_unheld
   refused_or_made P e h =
-      elim (is_some r.member) as (λ b. P (refused_if b UnknownMemberId >>= λ _. refused_if (nat_le GROUPS_MAX loaded) CoordinatorNotAvailable >>= λ _. Ok (join_new now r (drawn (own_name r) fresh) ticket (new_group id)))) [
+      elim (is_some r.member) as (λ b. P (refused_if b UnknownMemberId >>= λ _. refused_if (nat_le GROUPS_MAX loaded) CoordinatorNotAvailable >>= λ _. Ok (add_member_and_rebalance now r (drawn (own_name r) fresh) ticket (new_group id)))) [
         | true ↦ e UnknownMemberId
-        | false ↦ elim (nat_le GROUPS_MAX loaded) as (λ b. P (refused_if b CoordinatorNotAvailable >>= λ _. Ok (join_new now r (drawn (own_name r) fresh) ticket (new_group id)))) [
+        | false ↦ elim (nat_le GROUPS_MAX loaded) as (λ b. P (refused_if b CoordinatorNotAvailable >>= λ _. Ok (add_member_and_rebalance now r (drawn (own_name r) fresh) ticket (new_group id)))) [
           | true ↦ e CoordinatorNotAvailable
           | false ↦ h
         ]

@@ -4,21 +4,22 @@ use Rattle.std.specs.Prelude.{is_ok}
 use Rattle.std.specs.List.{list_any}
 use Rattle.std.proofs.lemmas.Bool.{or_left, or_right}
 use Rattle.std.proofs.lemmas.List.Folds.{list_any-append}
-use Rattle.cg_member.specs.declared.calls.Calls.TheVariants.{OfSession}
-use Rattle.cg_member.specs.declared.effects.Effects.{Effects}
-use Rattle.cg_member.specs.declared.group.Group.{Group}
-use Rattle.cg_member.specs.declared.member.Member.{Member}
-use Rattle.cg_member.specs.declared.member.Waits.TheVariants.{Join}
-use Rattle.cg_request.specs.declared.request.JoinRequest.{JoinRequest}
+use Rattle.cg_group_state.specs.declared.calls.Calls.TheVariants.{OfSession}
+use Rattle.cg_group_state.specs.declared.effects.Effects.{Effects}
+use Rattle.cg_group_state.specs.declared.group.Group.{Group}
+use Rattle.cg_group_state.specs.declared.member.Member.{Member}
+use Rattle.cg_group_state.specs.declared.member.Waits.TheVariants.{Join}
+use Rattle.cg_request.specs.declared.request_fields.JoinRequest.{JoinRequest}
 use Rattle.cg_request.specs.declared.ticket.Ticket.{Ticket}
 use Rattle.cg_group.specs.InPlace.{IsEntering, Parks, parking_effects}
 use Rattle.cg_group.specs.Machine.{concluded, join}
-use Rattle.cg_held.specs.Held.{at_moment, find_group, outcome, with_group}
-use Rattle.cg_held.specs.Sessions.{is_known}
-use Rattle.cg_held.proofs.Framed.{each-append}
-use Rattle.cg_member.specs.Joining.{drawn, new_member, own_name}
-use Rattle.cg_member.specs.Waiting.{is_waiting}
-use Rattle.cg_turn.specs.Entering.{entered}
+use Rattle.cg_group_table.specs.GroupTable.{at_moment, find_group, outcome, with_group}
+use Rattle.cg_group_table.specs.SessionIndex.{is_known}
+use Rattle.cg_group_table.proofs.Framed.{each-append}
+use Rattle.cg_group_state.specs.MemberId.{drawn, own_name}
+use Rattle.cg_group_rules.specs.Join.{new_member}
+use Rattle.cg_group_state.specs.Waiting.{is_waiting}
+use Rattle.cg_group_rules.specs.ParkedJoin.{entered}
 use Rattle.cg_group.proofs.Displacing.{asked_join}
 use Rattle.cg_group.proofs.InPlace.{join_here}
 

@@ -5,11 +5,11 @@ use Rattle.std.specs.FinMap as finmap
 use Rattle.std.proofs.lemmas.Bool.{false≢true}
 use Rattle.cg_record.specs.declared.command.Command.{Command}
 use Rattle.cg_record.specs.declared.command.Command.TheVariants.{Assigned, Emptied, Replaced, Committed, Deleted, Dropped, Expired}
-use Rattle.cg_record.specs.declared.member.Member.{Member as KeptMember}
-use Rattle.cg_fold.specs.declared.record.GroupRecord.{GroupRecord}
+use Rattle.cg_record.specs.declared.member_record.MemberRecord.{MemberRecord}
+use Rattle.cg_fold.specs.declared.group_record.GroupRecord.{GroupRecord}
 use Rattle.cg_fold.specs.Durable.{State, after, effect, is_beside, is_of_other, with_entry, with_member}
-use Rattle.cg_held.specs.Kept.{Each}
-use Rattle.cg_member.specs.Offsets.{OffsetMap, offsets_after}
+use Rattle.cg_group_table.specs.Kept.{Each}
+use Rattle.cg_group_state.specs.Offsets.{OffsetMap, offsets_after}
 
 -- a command that does not change the offsets
 abbrev pub is_quiet : Command → Bool
@@ -27,7 +27,7 @@ IsQuiet c = is_quiet c ≡ true
 abbrev pub AreQuiet : List Command → Type 0
 AreQuiet commands = Each IsQuiet commands
 
-offsets-with_member : (state : State) (group : List ℕ) (new : KeptMember) (held : Option GroupRecord) → (with_member state group new held).offsets ≡ state.offsets
+offsets-with_member : (state : State) (group : List ℕ) (new : MemberRecord) (held : Option GroupRecord) → (with_member state group new held).offsets ≡ state.offsets
 offsets-with_member state group new None = refl
 offsets-with_member state group new (Some r) = refl
 

@@ -9,37 +9,37 @@ use Rattle.cg_record.specs.declared.command.Command.TheVariants as command
 use Rattle.cg_request.specs.declared.commit_entry.CommitEntry.{CommitEntry}
 use Rattle.cg_request.specs.declared.event.Event.{Event}
 use Rattle.cg_request.specs.declared.event.Event.TheVariants as event
-use Rattle.cg_member.specs.declared.group.Group.{Group}
-use Rattle.cg_member.specs.declared.member.Member.{Member}
-use Rattle.cg_request.specs.declared.request.JoinRequest.{JoinRequest}
+use Rattle.cg_group_state.specs.declared.group.Group.{Group}
+use Rattle.cg_group_state.specs.declared.member.Member.{Member}
+use Rattle.cg_request.specs.declared.request_fields.JoinRequest.{JoinRequest}
 use Rattle.cg_request.specs.declared.ticket.Ticket.{Ticket}
-use Rattle.cg_member.specs.declared.turn.Turn.{Turn}
-use Rattle.cg_turn.specs.Committing.{committed, hearing_committer, keeping_entries}
-use Rattle.cg_member.specs.Joining.{new_group, new_member, rejoined}
+use Rattle.cg_group_state.specs.declared.turn.Turn.{Turn}
+use Rattle.cg_group_rules.specs.OffsetCommit.{committed, hearing_committer, keeping_entries}
+use Rattle.cg_group_rules.specs.Join.{new_group, new_member, rejoined}
 use Rattle.cg_record.specs.declared.replaced.Replaced.{Replaced}
 use Rattle.cg_fold.specs.Durable.{after}
-use Rattle.cg_member.specs.declared.reply.Reply.{Reply}
-use Rattle.cg_member.specs.declared.reply.Reply.TheVariants as reply
-use Rattle.cg_held.specs.Kept.{Each, Kept, kept_in}
+use Rattle.cg_group_state.specs.declared.reply.Reply.{Reply}
+use Rattle.cg_group_state.specs.declared.reply.Reply.TheVariants as reply
+use Rattle.cg_group_table.specs.Kept.{Each, Kept, kept_in}
 use Rattle.cg_group.specs.Laws.{AreRequests, AssignmentsAreEarned, IsEarnedAssignment, IsPassedOn, after_all, state_after}
 use Rattle.cg_group.proofs.Asked.{earned_is, is_earned, is_passed_on, passed_is, passes_assignment}
-use Rattle.cg_member.specs.Leaving.{gone_in}
+use Rattle.cg_group_rules.specs.Leave.{gone_in}
 use Rattle.cg_record.specs.declared.topic_partition.TopicPartition.{TopicPartition}
-use Rattle.cg_held.specs.Expiring.{tick}
+use Rattle.cg_group_table.specs.Expiry.{tick}
 use Rattle.cg_group.proofs.Sweeping.{each-drop, each-tick}
-use Rattle.cg_group.specs.Machine.{beat, commit, concluded, deleted, dropped, join, leave, memberless, met, step, sync, with_offset}
-use Rattle.cg_held.specs.Held.{Machine, Outcome, everywhere, find_group}
-use Rattle.cg_member.specs.Membership.{find_instance, has_instance, is_same}
-use Rattle.cg_member.specs.Replacing.{join_replacing, keeps_generation, replaced, replaced_command, replaced_in_place, successor}
-use Rattle.cg_held.specs.Reviving.{revive}
-use Rattle.cg_member.specs.Syncing.{kept_member}
-use Rattle.cg_member.specs.Ticking.{ticked}
+use Rattle.cg_group.specs.Machine.{beat, commit, concluded, deleted, dropped, join, leave, memberless, handled, step, sync, with_offset}
+use Rattle.cg_group_table.specs.GroupTable.{Machine, Outcome, everywhere, find_group}
+use Rattle.cg_group_state.specs.Membership.{find_instance, has_instance, is_same}
+use Rattle.cg_group_rules.specs.StaticMember.{replace_static_member, keeps_generation, replaced, replaced_command, replaced_in_place, successor}
+use Rattle.cg_group_table.specs.Recovery.{revive}
+use Rattle.cg_group_rules.specs.Sync.{kept_member}
+use Rattle.cg_group_rules.specs.Tick.{ticked}
 use Rattle.cg_group.proofs.Earned.{replies_are_earned}
-use Rattle.cg_held.proofs.Framed.{each-append}
-use Rattle.cg_held.proofs.Finding.{any_found}
-use Rattle.cg_held.proofs.KeptLists.{same_self}
+use Rattle.cg_group_table.proofs.Framed.{each-append}
+use Rattle.cg_group_table.proofs.Finding.{any_found}
+use Rattle.cg_group_table.proofs.KeptLists.{same_self}
 use Rattle.cg_group.proofs.KeptMachine.{each-over}
-use Rattle.cg_group.proofs.Making.{makes-beat_taken, makes-gone_in, makes-join_known, makes-join_new, makes-leave_taken, makes-rejoined, makes-sync_taken, makes-ticked}
+use Rattle.cg_group.proofs.Making.{makes-beat_taken, makes-gone_in, makes-join_known, makes-add_member_and_rebalance, makes-leave_taken, makes-rejoined, makes-sync_taken, makes-ticked}
 use Rattle.cg_group.proofs.Requests.{Fine, fine-beat, fine-commit, fine-join, fine-leave, fine-sync}
 use Rattle.cg_group.proofs.Succeeding.{found_passes}
 
@@ -102,9 +102,9 @@ module _ (groups : List Group) where
       any_found (has_instance r.instance) (passes_assignment (kept_member g.protocol (successor now r new old))) g.members old found
       (and_from (has_instance r.instance old) (is_same old.assignment old.assignment) (found_passes (has_instance r.instance) g.members old found) (same_self old.assignment))
 
-  passed-join_replacing : (now : ℕ) (r : JoinRequest) (id new : List ℕ) (ticket : Ticket) (old : Member) (g : Group) → find_group id groups ≡ Some g → find_instance r.instance g.members ≡ Some old → Passed (join_replacing now r new ticket old g)
-  unfolding join_replacing replaced replaced_in_place
-  passed-join_replacing now r id new ticket old g held found =
+  passed-replace_static_member : (now : ℕ) (r : JoinRequest) (id new : List ℕ) (ticket : Ticket) (old : Member) (g : Group) → find_group id groups ≡ Some g → find_instance r.instance g.members ≡ Some old → Passed (replace_static_member now r new ticket old g)
+  unfolding replace_static_member replaced replaced_in_place
+  passed-replace_static_member now r id new ticket old g held found =
       let m : Member = successor now r new old in
       let t : Turn = replaced m old g in
       let here : is_passed_on groups (replaced_command (kept_member g.protocol m) g) ≡ true =
@@ -134,14 +134,14 @@ unfolding dropped
 passed-dropped s ticket partitions (Ok id) = each-drop (λ c. is_passed_on s.groups c ≡ true) (λ _. refl) id (with_offset s.offsets id partitions)
 passed-dropped s ticket partitions (Err code) = tt
 
-passed-met : (s : Machine) (e : Event) → ArePassed s.groups (met s e).effects.commands
-unfolding met everywhere
+passed-met : (s : Machine) (e : Event) → ArePassed s.groups (handled s e).effects.commands
+unfolding handled everywhere
 passed-met s (event.Join ticket r fresh) =
     passed-concluded s ticket (join s.last r fresh ticket s.groups)
     (fine-join (Passed s.groups) s.last r fresh ticket s.groups
-    (λ id new _ _. all_passed s.groups _ (makes-join_new IsPlain (λ _ _. refl) (λ _ _. refl) s.last r new ticket (new_group id)))
-    (λ id new g _ _ _ _ _. all_passed s.groups _ (makes-join_new IsPlain (λ _ _. refl) (λ _ _. refl) s.last r new ticket g))
-    (λ id new g old _ e _ found _. passed-join_replacing s.groups s.last r id new ticket old g e found)
+    (λ id new _ _. all_passed s.groups _ (makes-add_member_and_rebalance IsPlain (λ _ _. refl) (λ _ _. refl) s.last r new ticket (new_group id)))
+    (λ id new g _ _ _ _ _. all_passed s.groups _ (makes-add_member_and_rebalance IsPlain (λ _ _. refl) (λ _ _. refl) s.last r new ticket g))
+    (λ id new g old _ e _ found _. passed-replace_static_member s.groups s.last r id new ticket old g e found)
     (λ id own g m _ _ _ _. all_passed s.groups _ (makes-join_known IsPlain (λ _ _. refl) (λ _ _. refl) s.last r own ticket m g)))
 passed-met s (event.Sync ticket r) =
     passed-concluded s ticket (sync s.last r ticket s.groups)

@@ -3,22 +3,22 @@ use Rattle.std.proofs.Common.{ℕ, true, false, List, refl, Result, Ok, Err}
 use Rattle.std.specs.Prelude.{if◌then◌else◌}
 use Rattle.std.specs.List.{flat_map}
 use Rattle.cg_names.specs.declared.code.Code.{Code}
-use Rattle.cg_member.specs.declared.group.Group.{Group}
-use Rattle.cg_member.specs.declared.member.Member.{Member}
-use Rattle.cg_request.specs.declared.request.BeatRequest.{BeatRequest}
-use Rattle.cg_request.specs.declared.request.JoinRequest.{JoinRequest}
-use Rattle.cg_request.specs.declared.request.LeaveRequest.{LeaveRequest}
-use Rattle.cg_request.specs.declared.request.SyncRequest.{SyncRequest}
+use Rattle.cg_group_state.specs.declared.group.Group.{Group}
+use Rattle.cg_group_state.specs.declared.member.Member.{Member}
+use Rattle.cg_request.specs.declared.request_fields.BeatRequest.{BeatRequest}
+use Rattle.cg_request.specs.declared.request_fields.JoinRequest.{JoinRequest}
+use Rattle.cg_request.specs.declared.request_fields.LeaveRequest.{LeaveRequest}
+use Rattle.cg_request.specs.declared.request_fields.SyncRequest.{SyncRequest}
 use Rattle.cg_request.specs.declared.ticket.Ticket.{Ticket}
-use Rattle.cg_member.specs.declared.turn.Turn.{Turn}
-use Rattle.cg_member.specs.Joining.{new_group, rejoined}
-use Rattle.cg_member.specs.Leaving.{gone_in}
+use Rattle.cg_group_state.specs.declared.turn.Turn.{Turn}
+use Rattle.cg_group_rules.specs.Join.{new_group, rejoined}
+use Rattle.cg_group_rules.specs.Leave.{gone_in}
 use Rattle.cg_group.specs.Machine.{beat, concluded, join, leave, sync}
-use Rattle.cg_held.specs.Held.{Machine}
-use Rattle.cg_member.specs.Replacing.{join_replacing, keeps_generation, replaced, replaced_in_place, successor}
-use Rattle.cg_member.specs.Syncing.{kept_member}
-use Rattle.cg_member.specs.Ticking.{ticked}
-use Rattle.cg_group.proofs.Making.{makes-all, makes-beat_taken, makes-gone_in, makes-join_known, makes-join_new, makes-leave_taken, makes-rejoined, makes-sync_taken, makes-ticked}
+use Rattle.cg_group_table.specs.GroupTable.{Machine}
+use Rattle.cg_group_rules.specs.StaticMember.{replace_static_member, keeps_generation, replaced, replaced_in_place, successor}
+use Rattle.cg_group_rules.specs.Sync.{kept_member}
+use Rattle.cg_group_rules.specs.Tick.{ticked}
+use Rattle.cg_group.proofs.Making.{makes-all, makes-beat_taken, makes-gone_in, makes-join_known, makes-add_member_and_rebalance, makes-leave_taken, makes-rejoined, makes-sync_taken, makes-ticked}
 use Rattle.cg_group.proofs.OffsetsKept.{AreQuiet, IsQuiet}
 use Rattle.cg_group.proofs.Requests.{Fine, fine-beat, fine-join, fine-leave, fine-sync}
 
@@ -26,9 +26,9 @@ use Rattle.cg_group.proofs.Requests.{Fine, fine-beat, fine-join, fine-leave, fin
 abbrev pub Quiet : Turn → Type 0
 Quiet t = AreQuiet t.commands
 
-quiet-join_replacing : (now : ℕ) (r : JoinRequest) (id : List ℕ) (ticket : Ticket) (old : Member) (g : Group) → Quiet (join_replacing now r id ticket old g)
-unfolding join_replacing replaced replaced_in_place
-quiet-join_replacing now r id ticket old g =
+quiet-replace_static_member : (now : ℕ) (r : JoinRequest) (id : List ℕ) (ticket : Ticket) (old : Member) (g : Group) → Quiet (replace_static_member now r id ticket old g)
+unfolding replace_static_member replaced replaced_in_place
+quiet-replace_static_member now r id ticket old g =
     let m : Member = successor now r id old in
     let t : Turn = replaced m old g in
     elim (keeps_generation t.group) as (λ b. Quiet (if b then replaced_in_place ticket (kept_member g.protocol m) g t else rejoined now id ticket t)) [
@@ -39,9 +39,9 @@ quiet-join_replacing now r id ticket old g =
 pub quiet-join : (now : ℕ) (r : JoinRequest) (fresh : List ℕ) (ticket : Ticket) (groups : List Group) → Fine Quiet (join now r fresh ticket groups)
 quiet-join now r fresh ticket groups =
     fine-join Quiet now r fresh ticket groups
-    (λ id new _ _. makes-join_new IsQuiet (λ _ _. refl) (λ _ _. refl) now r new ticket (new_group id))
-    (λ id new g _ _ _ _ _. makes-join_new IsQuiet (λ _ _. refl) (λ _ _. refl) now r new ticket g)
-    (λ id new g old _ _ _ _ _. quiet-join_replacing now r new ticket old g)
+    (λ id new _ _. makes-add_member_and_rebalance IsQuiet (λ _ _. refl) (λ _ _. refl) now r new ticket (new_group id))
+    (λ id new g _ _ _ _ _. makes-add_member_and_rebalance IsQuiet (λ _ _. refl) (λ _ _. refl) now r new ticket g)
+    (λ id new g old _ _ _ _ _. quiet-replace_static_member now r new ticket old g)
     (λ id own g m _ _ _ _. makes-join_known IsQuiet (λ _ _. refl) (λ _ _. refl) now r own ticket m g)
 
 pub quiet-sync : (now : ℕ) (r : SyncRequest) (ticket : Ticket) (groups : List Group) → Fine Quiet (sync now r ticket groups)

@@ -4,29 +4,31 @@ use Rattle.std.proofs.lemmas.Bool.{not-false}
 use Rattle.std.specs.Ordering.{int_eq}
 use Rattle.cg_names.specs.declared.code.Code.{Code}
 use Rattle.cg_names.specs.declared.code.Code.TheVariants.{CoordinatorNotAvailable, GroupMaxSizeReached, IllegalGeneration, InconsistentGroupProtocol, InvalidGroupId, InvalidSessionTimeout, OffsetMetadataTooLarge, RebalanceInProgress, UnknownMemberId}
-use Rattle.cg_turn.specs.declared.bounds.TheConstants.{GROUPS_MAX}
-use Rattle.cg_member.specs.declared.member.Member.{Member}
-use Rattle.cg_member.specs.declared.group.Group.{Group}
-use Rattle.cg_request.specs.declared.request.BeatRequest.{BeatRequest}
-use Rattle.cg_request.specs.declared.request.CommitRequest.{CommitRequest}
-use Rattle.cg_request.specs.declared.request.JoinRequest.{JoinRequest}
-use Rattle.cg_request.specs.declared.request.LeaveRequest.{LeaveRequest}
-use Rattle.cg_request.specs.declared.request.SyncRequest.{SyncRequest}
+use Rattle.cg_group_rules.specs.declared.group_limit.TheConstants.{GROUPS_MAX}
+use Rattle.cg_group_state.specs.declared.member.Member.{Member}
+use Rattle.cg_group_state.specs.declared.group.Group.{Group}
+use Rattle.cg_request.specs.declared.request_fields.BeatRequest.{BeatRequest}
+use Rattle.cg_request.specs.declared.request_fields.CommitRequest.{CommitRequest}
+use Rattle.cg_request.specs.declared.request_fields.JoinRequest.{JoinRequest}
+use Rattle.cg_request.specs.declared.request_fields.LeaveRequest.{LeaveRequest}
+use Rattle.cg_request.specs.declared.request_fields.SyncRequest.{SyncRequest}
 use Rattle.cg_request.specs.declared.ticket.Ticket.{Ticket}
-use Rattle.cg_member.specs.declared.turn.Turn.{Turn}
-use Rattle.cg_turn.specs.Beating.{beat_held, beat_taken}
-use Rattle.cg_turn.specs.Admission.{is_full, join_drawn, join_held, join_placed, join_unheld}
-use Rattle.cg_member.specs.Fencing.{fencing, member_check}
-use Rattle.cg_member.specs.Joining.{drawn, is_inconsistent, is_session_refused, join_known, join_new, new_group, own_name}
-use Rattle.cg_member.specs.Leaving.{leave_held, leave_taken, leaver}
-use Rattle.cg_member.specs.Replacing.{join_replacing}
+use Rattle.cg_group_state.specs.declared.turn.Turn.{Turn}
+use Rattle.cg_group_rules.specs.Heartbeat.{beat_held, beat_taken}
+use Rattle.cg_group_rules.specs.JoinChecks.{is_full, join_drawn, join_held, join_placed, join_unheld}
+use Rattle.cg_group_state.specs.MemberCheck.{fencing, validate_current_member}
+use Rattle.cg_group_state.specs.MemberId.{drawn, own_name}
+use Rattle.cg_group_rules.specs.Join.{is_inconsistent, join_known, add_member_and_rebalance, new_group}
+use Rattle.cg_group_state.specs.JoinTerms.{is_session_refused}
+use Rattle.cg_group_rules.specs.Leave.{leave_held, leave_taken, leaver}
+use Rattle.cg_group_rules.specs.StaticMember.{replace_static_member}
 use Rattle.cg_request.specs.Commits.{is_too_large}
-use Rattle.cg_turn.specs.Committing.{commit_held, commit_unheld, committed, committer, hearing_committer, is_negative}
+use Rattle.cg_group_rules.specs.OffsetCommit.{commit_held, commit_unheld, committed, committer, hearing_committer, is_negative}
 use Rattle.cg_group.specs.Machine.{commit, commit_in, join, join_in, named_group, sync, beat, leave}
-use Rattle.cg_held.specs.Held.{find_group}
-use Rattle.cg_member.specs.Membership.{find_instance, find_member, is_empty, is_preparing}
-use Rattle.cg_member.specs.Refusing.{◌>>=◌, refused_if}
-use Rattle.cg_member.specs.Syncing.{sync_held, sync_taken}
+use Rattle.cg_group_table.specs.GroupTable.{find_group}
+use Rattle.cg_group_state.specs.Membership.{find_instance, find_member, is_empty, is_preparing}
+use Rattle.cg_group_state.specs.Checks.{◌>>=◌, refused_if}
+use Rattle.cg_group_rules.specs.Sync.{sync_held, sync_taken}
 
 -- a refusal, or a step with this property
 abbrev pub Fine : (Turn → Type 0) → Result Turn Code → Type 0
@@ -60,8 +62,8 @@ passed_by (Ok y) rest x e = (y, refl, e)
 passed_by (Err code) rest x e = cc
 
 -- a caller that passes the member check is the member with the given id
-pub check_parts : (instance member : Option (List ℕ)) (ms : List Member) (who : List ℕ × Member) → member_check instance member ms ≡ Ok who → (member ≡ Some who.0) × (find_member who.0 ms ≡ Some who.1)
-unfolding member_check
+pub check_parts : (instance member : Option (List ℕ)) (ms : List Member) (who : List ℕ × Member) → validate_current_member instance member ms ≡ Ok who → (member ≡ Some who.0) × (find_member who.0 ms ≡ Some who.1)
+unfolding validate_current_member
 check_parts instance member ms who e =
     let from = passed_by (fencing instance member ms) (λ _. ok_or member UnknownMemberId >>= λ id. ok_or (find_member id ms) UnknownMemberId >>= λ m. Ok (id, m)) who e in
     let named = given_by member UnknownMemberId (λ id. ok_or (find_member id ms) UnknownMemberId >>= λ m. Ok (id, m)) who from.2 in
@@ -71,8 +73,8 @@ check_parts instance member ms who e =
     subst Q same (named.1, found.1)
 
 -- no other member has the given instance
-pub unfenced_by : (instance member : Option (List ℕ)) (ms : List Member) (who : List ℕ × Member) → member_check instance member ms ≡ Ok who → fencing instance member ms ≡ Ok tt
-unfolding member_check
+pub unfenced_by : (instance member : Option (List ℕ)) (ms : List Member) (who : List ℕ × Member) → validate_current_member instance member ms ≡ Ok who → fencing instance member ms ≡ Ok tt
+unfolding validate_current_member
 unfenced_by instance member ms who e =
     (passed_by (fencing instance member ms) (λ _. ok_or member UnknownMemberId >>= λ id. ok_or (find_member id ms) UnknownMemberId >>= λ m. Ok (id, m)) who e).1
 
@@ -86,13 +88,13 @@ leaver_is_there instance member (x ∷ xs) m e = refl
 
 module _ (P : Turn → Type 0) where
   after_check : (instance member : Option (List ℕ)) (ms : List Member) (rest : List ℕ × Member → Result Turn Code)
-      → ((who : List ℕ × Member) → member ≡ Some who.0 → find_member who.0 ms ≡ Some who.1 → Fine P (rest who)) → Fine P (member_check instance member ms >>= rest)
+      → ((who : List ℕ × Member) → member ≡ Some who.0 → find_member who.0 ms ≡ Some who.1 → Fine P (rest who)) → Fine P (validate_current_member instance member ms >>= rest)
   after_check instance member ms rest k =
-      after_checked P (member_check instance member ms) rest (λ who e. let parts = check_parts instance member ms who e in k who parts.0 parts.1)
+      after_checked P (validate_current_member instance member ms) rest (λ who e. let parts = check_parts instance member ms who e in k who parts.0 parts.1)
 
   fine-join_drawn : (now : ℕ) (r : JoinRequest) (id : List ℕ) (ticket : Ticket) (g : Group)
-      → (is_some (find_member id g.members) ≡ false → is_some (find_instance r.instance g.members) ≡ false → P (join_new now r id ticket g))
-      → ((old : Member) → is_some (find_member id g.members) ≡ false → find_instance r.instance g.members ≡ Some old → P (join_replacing now r id ticket old g))
+      → (is_some (find_member id g.members) ≡ false → is_some (find_instance r.instance g.members) ≡ false → P (add_member_and_rebalance now r id ticket g))
+      → ((old : Member) → is_some (find_member id g.members) ≡ false → find_instance r.instance g.members ≡ Some old → P (replace_static_member now r id ticket old g))
       → Fine P (join_drawn now r id ticket g)
   unfolding join_drawn
   fine-join_drawn now r id ticket g new replacing =
@@ -104,8 +106,8 @@ module _ (P : Turn → Type 0) where
       placed (Some old) e free = replacing old free e
 
   pub fine-join_held : (now : ℕ) (r : JoinRequest) (fresh : List ℕ) (ticket : Ticket) (member : Option (List ℕ)) (g : Group)
-      → ((new : List ℕ) → is_some (find_member new g.members) ≡ false → is_some (find_instance r.instance g.members) ≡ false → is_inconsistent r g ≡ false → P (join_new now r new ticket g))
-      → ((new : List ℕ) (old : Member) → is_some (find_member new g.members) ≡ false → find_instance r.instance g.members ≡ Some old → is_inconsistent r g ≡ false → P (join_replacing now r new ticket old g))
+      → ((new : List ℕ) → is_some (find_member new g.members) ≡ false → is_some (find_instance r.instance g.members) ≡ false → is_inconsistent r g ≡ false → P (add_member_and_rebalance now r new ticket g))
+      → ((new : List ℕ) (old : Member) → is_some (find_member new g.members) ≡ false → find_instance r.instance g.members ≡ Some old → is_inconsistent r g ≡ false → P (replace_static_member now r new ticket old g))
       → ((own : List ℕ) (m : Member) → find_member own g.members ≡ Some m → is_inconsistent r g ≡ false → P (join_known now r own ticket m g))
       → Fine P (join_held now r fresh ticket member g)
   unfolding join_held
@@ -119,18 +121,18 @@ module _ (P : Turn → Type 0) where
       (λ who _ found. after_test P (is_inconsistent r g) InconsistentGroupProtocol (λ _. Ok (join_known now r who.0 ticket who.1 g)) (λ fits. known who.0 who.1 found fits))
 
   fine-join_unheld : (now : ℕ) (r : JoinRequest) (fresh : List ℕ) (ticket : Ticket) (held : ℕ) (id : List ℕ)
-      → ((new : List ℕ) → P (join_new now r new ticket (new_group id))) → Fine P (join_unheld now r fresh ticket held id)
+      → ((new : List ℕ) → P (add_member_and_rebalance now r new ticket (new_group id))) → Fine P (join_unheld now r fresh ticket held id)
   unfolding join_unheld
   fine-join_unheld now r fresh ticket held id made =
       let new : List ℕ = drawn (own_name r) fresh in
-      after_test P (is_some r.member) UnknownMemberId (λ _. refused_if (nat_le GROUPS_MAX held) CoordinatorNotAvailable >>= λ _. Ok (join_new now r new ticket (new_group id)))
-      (λ _. after_test P (nat_le GROUPS_MAX held) CoordinatorNotAvailable (λ _. Ok (join_new now r new ticket (new_group id)))
+      after_test P (is_some r.member) UnknownMemberId (λ _. refused_if (nat_le GROUPS_MAX held) CoordinatorNotAvailable >>= λ _. Ok (add_member_and_rebalance now r new ticket (new_group id)))
+      (λ _. after_test P (nat_le GROUPS_MAX held) CoordinatorNotAvailable (λ _. Ok (add_member_and_rebalance now r new ticket (new_group id)))
       (λ _. made new))
 
   fine-join_in : (now : ℕ) (r : JoinRequest) (fresh : List ℕ) (ticket : Ticket) (groups : List Group) (id : List ℕ) (o : Option Group)
-      → (o ≡ None → (new : List ℕ) → P (join_new now r new ticket (new_group id)))
-      → ((g : Group) → o ≡ Some g → (new : List ℕ) → is_some (find_member new g.members) ≡ false → is_some (find_instance r.instance g.members) ≡ false → is_inconsistent r g ≡ false → P (join_new now r new ticket g))
-      → ((g : Group) → o ≡ Some g → (new : List ℕ) (old : Member) → is_some (find_member new g.members) ≡ false → find_instance r.instance g.members ≡ Some old → is_inconsistent r g ≡ false → P (join_replacing now r new ticket old g))
+      → (o ≡ None → (new : List ℕ) → P (add_member_and_rebalance now r new ticket (new_group id)))
+      → ((g : Group) → o ≡ Some g → (new : List ℕ) → is_some (find_member new g.members) ≡ false → is_some (find_instance r.instance g.members) ≡ false → is_inconsistent r g ≡ false → P (add_member_and_rebalance now r new ticket g))
+      → ((g : Group) → o ≡ Some g → (new : List ℕ) (old : Member) → is_some (find_member new g.members) ≡ false → find_instance r.instance g.members ≡ Some old → is_inconsistent r g ≡ false → P (replace_static_member now r new ticket old g))
       → ((g : Group) → o ≡ Some g → (own : List ℕ) (m : Member) → find_member own g.members ≡ Some m → is_inconsistent r g ≡ false → P (join_known now r own ticket m g))
       → Fine P (join_in now r fresh ticket groups id o)
   fine-join_in now r fresh ticket groups id None made new replacing known = fine-join_unheld now r fresh ticket (length groups) id (made refl)
@@ -138,9 +140,9 @@ module _ (P : Turn → Type 0) where
 
   -- JOIN: the group is new, or the member is new, a replacement, or known
   pub fine-join : (now : ℕ) (r : JoinRequest) (fresh : List ℕ) (ticket : Ticket) (groups : List Group)
-      → ((id new : List ℕ) → r.group ≡ Some id → find_group id groups ≡ None → P (join_new now r new ticket (new_group id)))
-      → ((id new : List ℕ) (g : Group) → r.group ≡ Some id → find_group id groups ≡ Some g → is_some (find_member new g.members) ≡ false → is_some (find_instance r.instance g.members) ≡ false → is_inconsistent r g ≡ false → P (join_new now r new ticket g))
-      → ((id new : List ℕ) (g : Group) (old : Member) → r.group ≡ Some id → find_group id groups ≡ Some g → is_some (find_member new g.members) ≡ false → find_instance r.instance g.members ≡ Some old → is_inconsistent r g ≡ false → P (join_replacing now r new ticket old g))
+      → ((id new : List ℕ) → r.group ≡ Some id → find_group id groups ≡ None → P (add_member_and_rebalance now r new ticket (new_group id)))
+      → ((id new : List ℕ) (g : Group) → r.group ≡ Some id → find_group id groups ≡ Some g → is_some (find_member new g.members) ≡ false → is_some (find_instance r.instance g.members) ≡ false → is_inconsistent r g ≡ false → P (add_member_and_rebalance now r new ticket g))
+      → ((id new : List ℕ) (g : Group) (old : Member) → r.group ≡ Some id → find_group id groups ≡ Some g → is_some (find_member new g.members) ≡ false → find_instance r.instance g.members ≡ Some old → is_inconsistent r g ≡ false → P (replace_static_member now r new ticket old g))
       → ((id own : List ℕ) (g : Group) (m : Member) → r.group ≡ Some id → find_group id groups ≡ Some g → find_member own g.members ≡ Some m → is_inconsistent r g ≡ false → P (join_known now r own ticket m g))
       → Fine P (join now r fresh ticket groups)
   unfolding join

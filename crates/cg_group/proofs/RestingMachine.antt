@@ -17,32 +17,32 @@ use Rattle.cg_fold.proofs.KeyOrder.{key_total}
 use Rattle.cg_request.specs.declared.event.Event.{Event}
 use Rattle.cg_request.specs.declared.event.Event.TheVariants as event
 use Rattle.cg_request.specs.declared.ticket.Ticket.{Ticket}
-use Rattle.cg_member.specs.declared.group.Group.{Group}
-use Rattle.cg_member.specs.declared.turn.Turn.{Turn}
-use Rattle.cg_member.specs.Joining.{new_group}
-use Rattle.cg_member.specs.Leaving.{gone_in}
-use Rattle.cg_member.specs.declared.effects.Effects.{Effects}
-use Rattle.cg_member.specs.Membership.{is_empty, is_same}
-use Rattle.cg_member.specs.Offsets.{OffsetMap, offsets_after}
-use Rattle.cg_member.specs.Rebalance.{turn_of}
-use Rattle.cg_member.specs.Ticking.{ticked}
-use Rattle.cg_turn.specs.Committing.{keeping_entries}
-use Rattle.cg_held.specs.declared.expiring.TheConstants.{RETENTION_MS}
-use Rattle.cg_held.specs.Expiring.{expires, is_idle, is_stale, is_stale_row, is_vacant, lasting, tick, tick_effects}
-use Rattle.cg_held.specs.Held.{Machine, Outcome, everywhere, find_group, groups_after, outcome, standing, with_group}
-use Rattle.cg_held.specs.Kept.{Each}
-use Rattle.cg_held.proofs.Framed.{framed-beat_taken, framed-committed, framed-gone_in, framed-join_known, framed-join_new, framed-join_replacing, framed-leave_taken, framed-sync_taken, framed-ticked}
-use Rattle.cg_held.proofs.KeptLists.{each-found, each-put, same_names, same_self}
-use Rattle.cg_held.proofs.Removing.{each-without}
-use Rattle.cg_held.proofs.Stale.{expires_not, expires_recorded, expires_rows}
-use Rattle.cg_group.specs.Machine.{beat, commit, concluded, deleted, drop_command, dropped, join, leave, memberless, met, sync, with_offset}
-use Rattle.cg_held.specs.Resting.{AreFresh, AreResting, Covered, IsFresh, Rests}
+use Rattle.cg_group_state.specs.declared.group.Group.{Group}
+use Rattle.cg_group_state.specs.declared.turn.Turn.{Turn}
+use Rattle.cg_group_rules.specs.Join.{new_group}
+use Rattle.cg_group_rules.specs.Leave.{gone_in}
+use Rattle.cg_group_state.specs.declared.effects.Effects.{Effects}
+use Rattle.cg_group_state.specs.Membership.{is_empty, is_same}
+use Rattle.cg_group_state.specs.Offsets.{OffsetMap, offsets_after}
+use Rattle.cg_group_rules.specs.Rebalance.{turn_of}
+use Rattle.cg_group_rules.specs.Tick.{ticked}
+use Rattle.cg_group_rules.specs.OffsetCommit.{keeping_entries}
+use Rattle.cg_group_table.specs.declared.expiry.TheConstants.{RETENTION_MS}
+use Rattle.cg_group_table.specs.Expiry.{expires, is_idle, is_stale, is_stale_row, is_vacant, lasting, tick, tick_effects}
+use Rattle.cg_group_table.specs.GroupTable.{Machine, Outcome, everywhere, find_group, groups_after, outcome, standing, with_group}
+use Rattle.cg_group_table.specs.Kept.{Each}
+use Rattle.cg_group_table.proofs.Framed.{framed-beat_taken, framed-committed, framed-gone_in, framed-join_known, framed-add_member_and_rebalance, framed-replace_static_member, framed-leave_taken, framed-sync_taken, framed-ticked}
+use Rattle.cg_group_table.proofs.KeptLists.{each-found, each-put, same_names, same_self}
+use Rattle.cg_group_table.proofs.Removing.{each-without}
+use Rattle.cg_group_table.proofs.Stale.{expires_not, expires_recorded, expires_rows}
+use Rattle.cg_group.specs.Machine.{beat, commit, concluded, deleted, drop_command, dropped, join, leave, memberless, handled, sync, with_offset}
+use Rattle.cg_group_table.specs.Resting.{AreFresh, AreResting, Covered, IsFresh, Rests}
 use Rattle.cg_group.proofs.LawfulExpiry.{found-offsets_in}
 use Rattle.cg_group.proofs.Lasting.{takes-drop, takes-tick}
 use Rattle.cg_group.proofs.OffsetsKept.{quiet-offsets}
 use Rattle.cg_group.proofs.Quiet.{Quiet, quiet-all, quiet-beat, quiet-gone_in, quiet-join, quiet-leave, quiet-sync}
 use Rattle.cg_group.proofs.Requests.{Fine, fine-beat, fine-commit, fine-join, fine-leave, fine-sync}
-use Rattle.cg_group.proofs.Resting.{Still, still-beat_taken, still-committed, still-gone_in, still-join_known, still-join_new, still-join_replacing, still-leave_taken, still-sync_taken, still-ticked}
+use Rattle.cg_group.proofs.Resting.{Still, still-beat_taken, still-committed, still-gone_in, still-join_known, still-add_member_and_rebalance, still-replace_static_member, still-leave_taken, still-sync_taken, still-ticked}
 use Rattle.cg_group.proofs.Sparing.{IsTaking, get-taken, spares}
 use Rattle.cg_group.proofs.Sweeping.{each-founded, each-lasting}
 
@@ -209,14 +209,14 @@ module _ (until : ℕ) (s : Machine) (early : until ≤ s.last + RETENTION_MS) w
       resting-turns until s.loaded s.last early later (ticked s.last) (λ g. (framed-ticked s.last g).0) (λ g h. still-ticked until s.loaded s.last early (is_some g.kind) g h) kept
       (each-lasting (λ g. Rests until s.loaded g × AreFresh until s.loaded later g) s.loaded s.last s.offsets later s.groups (resting-over until s.loaded s.last early s.offsets later s.groups (from_taking cs (takes-tick s)) r))
 
-  pub resting-met : (e : Event) → Covered s.offsets s.groups → AreResting until s.loaded s.offsets s.groups → After (met s e).effects.commands (met s e).after.groups
-  unfolding met
+  pub resting-met : (e : Event) → Covered s.offsets s.groups → AreResting until s.loaded s.offsets s.groups → After (handled s e).effects.commands (handled s e).after.groups
+  unfolding handled
   resting-met (event.Join ticket r fresh) c h =
       resting-quietly until s.loaded s.last early s ticket (join s.last r fresh ticket s.groups)
       (fine-join (KeepsRest until s.loaded s.last early s.offsets) s.last r fresh ticket s.groups
-      (λ id new _ none. starts until s.loaded s.last early s.offsets s.groups id _ c none ((framed-join_new s.last r new ticket (new_group id)).0 ∙ new_id until s.loaded s.last early id) (still-join_new until s.loaded s.last early false r new ticket (new_group id) (λ typed. absurd (false≢true typed))))
-      (λ id new g _ found _ _ _. keeps until s.loaded s.last early s.offsets s.groups id g _ h found (framed-join_new s.last r new ticket g).0 (still-join_new until s.loaded s.last early (is_some g.kind) r new ticket g (λ typed. typed)))
-      (λ id new g old _ found _ _ _. keeps until s.loaded s.last early s.offsets s.groups id g _ h found (framed-join_replacing s.last r new ticket old g).0 (still-join_replacing until s.loaded s.last early (is_some g.kind) r new ticket old g (rests_of until s.loaded s.last early s.offsets s.groups id g h found)))
+      (λ id new _ none. starts until s.loaded s.last early s.offsets s.groups id _ c none ((framed-add_member_and_rebalance s.last r new ticket (new_group id)).0 ∙ new_id until s.loaded s.last early id) (still-add_member_and_rebalance until s.loaded s.last early false r new ticket (new_group id) (λ typed. absurd (false≢true typed))))
+      (λ id new g _ found _ _ _. keeps until s.loaded s.last early s.offsets s.groups id g _ h found (framed-add_member_and_rebalance s.last r new ticket g).0 (still-add_member_and_rebalance until s.loaded s.last early (is_some g.kind) r new ticket g (λ typed. typed)))
+      (λ id new g old _ found _ _ _. keeps until s.loaded s.last early s.offsets s.groups id g _ h found (framed-replace_static_member s.last r new ticket old g).0 (still-replace_static_member until s.loaded s.last early (is_some g.kind) r new ticket old g (rests_of until s.loaded s.last early s.offsets s.groups id g h found)))
       (λ id own g m _ found _ _. keeps until s.loaded s.last early s.offsets s.groups id g _ h found (framed-join_known s.last r own ticket m g).0 (still-join_known until s.loaded s.last early (is_some g.kind) r own ticket m g (rests_of until s.loaded s.last early s.offsets s.groups id g h found))))
       (quiet-join s.last r fresh ticket s.groups) h
   resting-met (event.Sync ticket r) c h =
@@ -249,7 +249,7 @@ module _ (until : ℕ) (s : Machine) (early : until ≤ s.last + RETENTION_MS) w
   resting-met event.Tick c h = resting-tick h
 
 -- in the form of a call that processes an event
-pub resting-call : (until loaded now : ℕ) (held held' : List Group) (offsets offsets' : OffsetMap) (e : Event) (effects : Effects) → until ≤ now + RETENTION_MS → met (standing loaded now held offsets) e ≡ outcome (standing loaded now held' offsets) effects
+pub resting-call : (until loaded now : ℕ) (held held' : List Group) (offsets offsets' : OffsetMap) (e : Event) (effects : Effects) → until ≤ now + RETENTION_MS → handled (standing loaded now held offsets) e ≡ outcome (standing loaded now held' offsets) effects
     → offsets' ≡ offsets_after offsets effects.commands → Covered offsets held → AreResting until loaded offsets held → AreResting until loaded offsets' held'
 resting-call until loaded now held held' offsets offsets' e effects early is moved covered rest =
     subst (λ o. AreResting until loaded o held') (sym moved)

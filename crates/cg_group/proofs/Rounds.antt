@@ -5,41 +5,42 @@ use Rattle.std.specs.Prelude.{if◌then◌else◌}
 use Rattle.std.specs.List.{flat_map}
 use Rattle.std.proofs.lemmas.Bool.{and_parts, false≢true}
 use Rattle.cg_names.specs.declared.code.Code.{Code}
-use Rattle.cg_record.specs.declared.member.Member.{Member as KeptMember}
+use Rattle.cg_record.specs.declared.member_record.MemberRecord.{MemberRecord}
 use Rattle.cg_request.specs.declared.event.Event.{Event}
 use Rattle.cg_request.specs.declared.event.Event.TheVariants as event
-use Rattle.cg_member.specs.declared.group.Group.{Group}
-use Rattle.cg_member.specs.declared.group.Phase.{Phase}
-use Rattle.cg_member.specs.declared.group.Phase.TheVariants.{Empty, Preparing, Completing, Stable}
-use Rattle.cg_member.specs.declared.member.Member.{Member}
-use Rattle.cg_member.specs.declared.member.Waits.TheVariants.{Join, Sync}
-use Rattle.cg_member.specs.declared.reply.Reply.{Reply}
-use Rattle.cg_member.specs.declared.reply.Reply.TheVariants as reply
-use Rattle.cg_request.specs.declared.request.JoinRequest.{JoinRequest}
-use Rattle.cg_request.specs.declared.request.SyncRequest.{SyncRequest}
-use Rattle.cg_request.specs.declared.request.SyncEntry.{SyncEntry}
+use Rattle.cg_group_state.specs.declared.group.Group.{Group}
+use Rattle.cg_group_state.specs.declared.group.Phase.{Phase}
+use Rattle.cg_group_state.specs.declared.group.Phase.TheVariants.{Empty, Preparing, Completing, Stable}
+use Rattle.cg_group_state.specs.declared.member.Member.{Member}
+use Rattle.cg_group_state.specs.declared.member.Waits.TheVariants.{Join, Sync}
+use Rattle.cg_group_state.specs.declared.reply.Reply.{Reply}
+use Rattle.cg_group_state.specs.declared.reply.Reply.TheVariants as reply
+use Rattle.cg_request.specs.declared.request_fields.JoinRequest.{JoinRequest}
+use Rattle.cg_request.specs.declared.request_fields.SyncRequest.{SyncRequest}
+use Rattle.cg_request.specs.declared.request_fields.SyncEntry.{SyncEntry}
 use Rattle.cg_request.specs.declared.ticket.Ticket.{Ticket}
-use Rattle.cg_member.specs.declared.turn.Turn.{Turn}
-use Rattle.cg_turn.specs.Beating.{beat_taken}
-use Rattle.cg_member.specs.Joining.{admitted, is_current, join_again, join_current, join_known, join_new, new_group, new_member, rejoined, updating, waiting}
-use Rattle.cg_held.specs.Kept.{Each}
+use Rattle.cg_group_state.specs.declared.turn.Turn.{Turn}
+use Rattle.cg_group_rules.specs.Heartbeat.{beat_taken}
+use Rattle.cg_group_rules.specs.Join.{admitted, is_current, update_member_and_rebalance, join_current, join_known, add_member_and_rebalance, new_group, new_member, rejoined, updating, waiting}
+use Rattle.cg_group_table.specs.Kept.{Each}
 use Rattle.cg_group.specs.Laws.{IsInRounds, IsOneRound, Names, RoundsAreOne, replies_by_group}
 use Rattle.cg_record.specs.declared.topic_partition.TopicPartition.{TopicPartition}
-use Rattle.cg_member.specs.Fetching.{fetched}
-use Rattle.cg_member.specs.Offsets.{OffsetMap}
-use Rattle.cg_member.specs.Leaving.{after_removal, gone_in, leave_taken, left}
+use Rattle.cg_group_rules.specs.OffsetFetch.{fetched}
+use Rattle.cg_group_state.specs.Offsets.{OffsetMap}
+use Rattle.cg_group_rules.specs.Leave.{after_removal, gone_in, leave_taken, left}
 use Rattle.cg_request.specs.declared.commit_entry.CommitEntry.{CommitEntry}
-use Rattle.cg_turn.specs.Committing.{committed, hearing_committer, keeping_entries}
-use Rattle.cg_held.specs.Expiring.{tick}
-use Rattle.cg_group.specs.Machine.{at_event, beat, commit, concluded, deleted, describe, dropped, join, leave, memberless, met, step, sync}
-use Rattle.cg_held.specs.Held.{Machine, everywhere}
-use Rattle.cg_member.specs.Membership.{hearing, is_empty, is_preparing, keeping, leads}
-use Rattle.cg_member.specs.Rebalance.{completed, emptied, is_ready, joined_reply, next_round, told_to_joins, tried, turn_of}
-use Rattle.cg_member.specs.Syncing.{distributed, kept_member, sync_current, sync_taken, sync_waits, synced_reply, told_to_syncs}
-use Rattle.cg_member.specs.Ticking.{at_deadline, can_complete, ended, is_due, outstays, ticked}
-use Rattle.cg_member.specs.Replacing.{join_replacing, keeps_generation, replaced, replaced_in_place, replaced_reply, successor}
-use Rattle.cg_member.proofs.Together.{flat_map-map}
-use Rattle.cg_held.proofs.Framed.{each-append}
+use Rattle.cg_group_rules.specs.OffsetCommit.{committed, hearing_committer, keeping_entries}
+use Rattle.cg_group_table.specs.Expiry.{tick}
+use Rattle.cg_group.specs.Machine.{at_event, beat, commit, concluded, deleted, describe, dropped, join, leave, memberless, handled, step, sync}
+use Rattle.cg_group_table.specs.GroupTable.{Machine, everywhere}
+use Rattle.cg_group_state.specs.Membership.{hearing, is_empty, is_preparing, keeping, leads}
+use Rattle.cg_group_rules.specs.Rebalance.{complete_join, emptied, is_ready, joined_reply, init_next_generation, reply_to_joins, try_complete_join, turn_of}
+use Rattle.cg_group_rules.specs.Sync.{propagate_assignment, kept_member, sync_current, sync_taken, sync_waits, synced_reply, reply_to_syncs}
+use Rattle.cg_group_rules.specs.Tick.{at_deadline, can_complete, ended, is_due, ticked}
+use Rattle.cg_group_state.specs.Staying.{outstays}
+use Rattle.cg_group_rules.specs.StaticMember.{replace_static_member, keeps_generation, replaced, replaced_in_place, replaced_reply, successor}
+use Rattle.cg_group_state.proofs.Together.{flat_map-map}
+use Rattle.cg_group_table.proofs.Framed.{each-append}
 use Rattle.cg_group.proofs.KeptMachine.{each-over}
 use Rattle.cg_group.proofs.Requests.{Fine, fine-beat, fine-commit, fine-join, fine-leave, fine-sync}
 use Rattle.cg_group.proofs.Telling.{Told, each-answers, each-any, expired_tried, told-beat_taken, told-completed, told-gone_in, told-in_join_phase, told-left, told-rejoined, told-removal, told-replaced, told-tried, told-waiting}
@@ -77,15 +78,15 @@ own_round : (g : Group) (m : Member) → OfRound g (joined_reply g m)
 unfolding joined_reply
 own_round g m = (refl, refl, refl)
 
-round-tried : (now : ℕ) (t : Turn) → Told Bare t → IsOneRound (tried now t).replies
+round-tried : (now : ℕ) (t : Turn) → Told Bare t → IsOneRound (try_complete_join now t).replies
 round-tried now t h =
-    let g : Group = next_round t.group in
-    round_of g (tried now t).replies (told-tried (OfRound g) (λ _. tt) now t (own_round g) (each-over (λ r. Bare r.1) (λ r. OfRound g r.1) (λ r k. bare_of g r.1 k) t.replies h))
+    let g : Group = init_next_generation t.group in
+    round_of g (try_complete_join now t).replies (told-tried (OfRound g) (λ _. tt) now t (own_round g) (each-over (λ r. Bare r.1) (λ r. OfRound g r.1) (λ r k. bare_of g r.1 k) t.replies h))
 
-round-completed : (now : ℕ) (t : Turn) → Told Bare t → IsOneRound (completed now t).replies
+round-completed : (now : ℕ) (t : Turn) → Told Bare t → IsOneRound (complete_join now t).replies
 round-completed now t h =
-    let g : Group = next_round t.group in
-    round_of g (completed now t).replies (told-completed (OfRound g) (λ _. tt) now t (own_round g) (each-over (λ r. Bare r.1) (λ r. OfRound g r.1) (λ r k. bare_of g r.1 k) t.replies h))
+    let g : Group = init_next_generation t.group in
+    round_of g (complete_join now t).replies (told-completed (OfRound g) (λ _. tt) now t (own_round g) (each-over (λ r. Bare r.1) (λ r. OfRound g r.1) (λ r k. bare_of g r.1 k) t.replies h))
 
 -- while the rebalance is under way, no JOIN got its reply
 
@@ -96,46 +97,46 @@ joins-emptied : (now : ℕ) (t : Turn) → Joins (emptied now t) ≡ false
 unfolding emptied
 joins-emptied now t = refl
 
-joins-round : (now : ℕ) (t : Turn) → Joins (told_to_joins now (record t { group = next_round t.group })) ≡ false
-unfolding told_to_joins next_round
+joins-round : (now : ℕ) (t : Turn) → Joins (reply_to_joins now (record t { group = init_next_generation t.group })) ≡ false
+unfolding reply_to_joins init_next_generation
 joins-round now t = refl
 
-joins-completed : (now : ℕ) (t : Turn) → Joins (completed now t) ≡ false
-unfolding completed
+joins-completed : (now : ℕ) (t : Turn) → Joins (complete_join now t) ≡ false
+unfolding complete_join
 joins-completed now t =
-    elim (is_empty t.group.members) as (λ b. Joins (if b then emptied now t else told_to_joins now (record t { group = next_round t.group })) ≡ false) [ true ↦ joins-emptied now t | false ↦ joins-round now t ]
+    elim (is_empty t.group.members) as (λ b. Joins (if b then emptied now t else reply_to_joins now (record t { group = init_next_generation t.group })) ≡ false) [ true ↦ joins-emptied now t | false ↦ joins-round now t ]
 
-bare-tried : (now : ℕ) (t : Turn) → Told Bare t → Joins (tried now t) ≡ true → Told Bare (tried now t)
-unfolding tried
+bare-tried : (now : ℕ) (t : Turn) → Told Bare t → Joins (try_complete_join now t) ≡ true → Told Bare (try_complete_join now t)
+unfolding try_complete_join
 bare-tried now t h =
-    elim (is_ready t.group) as (λ b. Joins (if b then completed now t else t) ≡ true → Told Bare (if b then completed now t else t)) [
+    elim (is_ready t.group) as (λ b. Joins (if b then complete_join now t else t) ≡ true → Told Bare (if b then complete_join now t else t)) [
       | true ↦ λ e. absurd (false≢true (sym (joins-completed now t) ∙ e))
       | false ↦ λ e. h
     ]
 
 -- each event
 
-round-join_new : (now : ℕ) (r : JoinRequest) (new : List ℕ) (ticket : Ticket) (g : Group) → IsOneRound (join_new now r new ticket g).replies
-unfolding join_new
-round-join_new now r new ticket g = round-tried now _ (told-in_join_phase Bare (λ _. tt) now (turn_of (admitted (new_member now r new [] (Join ticket)) r.kind g)) tt)
+round-add_member_and_rebalance : (now : ℕ) (r : JoinRequest) (new : List ℕ) (ticket : Ticket) (g : Group) → IsOneRound (add_member_and_rebalance now r new ticket g).replies
+unfolding add_member_and_rebalance
+round-add_member_and_rebalance now r new ticket g = round-tried now _ (told-in_join_phase Bare (λ _. tt) now (turn_of (admitted (new_member now r new [] (Join ticket)) r.kind g)) tt)
 
 round-rejoined : (now : ℕ) (own : List ℕ) (ticket : Ticket) (t : Turn) → Told Bare t → IsOneRound (rejoined now own ticket t).replies
 unfolding rejoined
 round-rejoined now own ticket t h = round-tried now _ (told-rejoined Bare (λ _. tt) now own ticket t h)
 
-round-join_again : (now : ℕ) (r : JoinRequest) (own : List ℕ) (ticket : Ticket) (g : Group) → IsOneRound (join_again now r own ticket g).replies
-unfolding join_again
-round-join_again now r own ticket g = round-rejoined now own ticket (turn_of (updating r own g)) tt
+round-update_member_and_rebalance : (now : ℕ) (r : JoinRequest) (own : List ℕ) (ticket : Ticket) (g : Group) → IsOneRound (update_member_and_rebalance now r own ticket g).replies
+unfolding update_member_and_rebalance
+round-update_member_and_rebalance now r own ticket g = round-rejoined now own ticket (turn_of (updating r own g)) tt
 
-round-replaced_in_place : (ticket : Ticket) (new : KeptMember) (g : Group) (t : Turn) → Told Bare t → IsOneRound (replaced_in_place ticket new g t).replies
+round-replaced_in_place : (ticket : Ticket) (new : MemberRecord) (g : Group) (t : Turn) → Told Bare t → IsOneRound (replaced_in_place ticket new g t).replies
 unfolding replaced_in_place
 round-replaced_in_place ticket new g t h =
     round_of g (t.replies ++ (ticket, replaced_reply new.id g) ∷ [])
     (each-append (λ r. OfRound g r.1) t.replies ((ticket, replaced_reply new.id g) ∷ []) (each-over (λ r. Bare r.1) (λ r. OfRound g r.1) (λ r k. bare_of g r.1 k) t.replies h) ((refl, refl, refl), tt))
 
-round-join_replacing : (now : ℕ) (r : JoinRequest) (id : List ℕ) (ticket : Ticket) (old : Member) (g : Group) → IsOneRound (join_replacing now r id ticket old g).replies
-unfolding join_replacing
-round-join_replacing now r id ticket old g =
+round-replace_static_member : (now : ℕ) (r : JoinRequest) (id : List ℕ) (ticket : Ticket) (old : Member) (g : Group) → IsOneRound (replace_static_member now r id ticket old g).replies
+unfolding replace_static_member
+round-replace_static_member now r id ticket old g =
     let new : Member = successor now r id old in
     let t : Turn = replaced new old g in
     let h : Told Bare t = told-replaced Bare (λ _. tt) new old g in
@@ -151,25 +152,25 @@ round-join_current now own ticket m g = round_of g ((ticket, joined_reply g m) �
 round-join_known : (now : ℕ) (r : JoinRequest) (own : List ℕ) (ticket : Ticket) (m : Member) (g : Group) → IsOneRound (join_known now r own ticket m g).replies
 unfolding join_known
 round-join_known now r own ticket m g =
-    elim (is_current r m g g.phase) as (λ b. IsOneRound (if b then join_current now own ticket m g else join_again now r own ticket g).replies) [
+    elim (is_current r m g g.phase) as (λ b. IsOneRound (if b then join_current now own ticket m g else update_member_and_rebalance now r own ticket g).replies) [
       | true ↦ round-join_current now own ticket m g
-      | false ↦ round-join_again now r own ticket g
+      | false ↦ round-update_member_and_rebalance now r own ticket g
     ]
 
-bare-told_to_syncs : (now : ℕ) (t : Turn) → Told Bare t → Told Bare (told_to_syncs now t)
-unfolding told_to_syncs
-bare-told_to_syncs now t h = each-append (λ r. Bare r.1) t.replies _ h (each-answers (λ r. Bare r.1) _ synced_reply t.group.members (each-any _ (λ m t e. tt) t.group.members))
+bare-reply_to_syncs : (now : ℕ) (t : Turn) → Told Bare t → Told Bare (reply_to_syncs now t)
+unfolding reply_to_syncs
+bare-reply_to_syncs now t h = each-append (λ r. Bare r.1) t.replies _ h (each-answers (λ r. Bare r.1) _ synced_reply t.group.members (each-any _ (λ m t e. tt) t.group.members))
 
-bare-distributed : (now : ℕ) (entries : List SyncEntry) (t : Turn) → Told Bare t → Told Bare (distributed now entries t)
-unfolding distributed
-bare-distributed now entries t h = bare-told_to_syncs now _ h
+bare-distributed : (now : ℕ) (entries : List SyncEntry) (t : Turn) → Told Bare t → Told Bare (propagate_assignment now entries t)
+unfolding propagate_assignment
+bare-distributed now entries t h = bare-reply_to_syncs now _ h
 
 bare-sync_waits : (now : ℕ) (r : SyncRequest) (own : List ℕ) (ticket : Ticket) (m : Member) (g : Group) → Told Bare (sync_waits now r own ticket m g)
 unfolding sync_waits
 bare-sync_waits now r own ticket m g =
     let t : Turn = waiting now own (Sync ticket) (turn_of (hearing now own g)) in
     let h : Told Bare t = told-waiting Bare (λ _. tt) now own (Sync ticket) (turn_of (hearing now own g)) tt in
-    elim (leads g m) as (λ b. Told Bare (if b then distributed now r.entries t else t)) [ true ↦ bare-distributed now r.entries t h | false ↦ h ]
+    elim (leads g m) as (λ b. Told Bare (if b then propagate_assignment now r.entries t else t)) [ true ↦ bare-distributed now r.entries t h | false ↦ h ]
 
 bare-sync_current : (now : ℕ) (own : List ℕ) (ticket : Ticket) (m : Member) (g : Group) → Told Bare (sync_current now own ticket m g)
 unfolding sync_current
@@ -189,15 +190,15 @@ round-leave_taken now own ticket m g = round-tried now _ (told-removal Bare (λ 
 round-ended : (now : ℕ) (t : Turn) → Told Bare t → IsOneRound (ended now t).replies
 unfolding ended
 round-ended now t h =
-    elim (can_complete t.group.members) as (λ b. IsOneRound (if b then completed now t else record t { group = record t.group { started = now } }).replies) [
+    elim (can_complete t.group.members) as (λ b. IsOneRound (if b then complete_join now t else record t { group = record t.group { started = now } }).replies) [
       | true ↦ round-completed now t h
       | false ↦ bare_round t.group t.replies h
     ]
 
-round-at_deadline : (now : ℕ) (from : Turn) → Told Bare from → IsOneRound (at_deadline now (tried now from)).replies
+round-at_deadline : (now : ℕ) (from : Turn) → Told Bare from → IsOneRound (at_deadline now (try_complete_join now from)).replies
 unfolding at_deadline
 round-at_deadline now from h =
-    let t : Turn = tried now from in
+    let t : Turn = try_complete_join now from in
     (elim (is_due now t.group) as (λ b. is_due now t.group ≡ b → IsOneRound (if b then ended now (record t { group = keeping outstays t.group }) else t).replies) [
       | true ↦ λ e. round-ended now (record t { group = keeping outstays t.group }) (bare-tried now from h (and_parts (is_preparing t.group.phase) _ e).0)
       | false ↦ λ e. round-tried now from h
@@ -254,14 +255,14 @@ round-groups turn k [] = tt
 round-groups turn k (g ∷ gs) = (k g, round-groups turn k gs)
 
 in_rounds : (s : Machine) (e : Event) → IsInRounds s e
-unfolding replies_by_group met everywhere tick
+unfolding replies_by_group handled everywhere tick
 in_rounds s (event.Join ticket r fresh) = record {
   whole = whole-one _;
   rounds = (
     round-concluded s ticket (join s.last r fresh ticket s.groups) (fine-join InRound s.last r fresh ticket s.groups
-        (λ id new _ _. round-join_new s.last r new ticket _)
-        (λ id new g _ _ _ _ _. round-join_new s.last r new ticket g)
-        (λ id new g old _ _ _ _ _. round-join_replacing s.last r new ticket old g)
+        (λ id new _ _. round-add_member_and_rebalance s.last r new ticket _)
+        (λ id new g _ _ _ _ _. round-add_member_and_rebalance s.last r new ticket g)
+        (λ id new g old _ _ _ _ _. round-replace_static_member s.last r new ticket old g)
         (λ id own g m _ _ _ _. round-join_known s.last r own ticket m g)),
     tt,
   );

@@ -7,21 +7,21 @@ use Rattle.std.proofs.lemmas.Bool.{and_from, false≢true}
 use Rattle.std.proofs.lemmas.Cmp.{nat_list_eq_equiv}
 use Rattle.cg_record.specs.declared.command.Command.{Command}
 use Rattle.cg_record.specs.declared.command.Command.TheVariants.{Assigned, Emptied, Replaced, Committed, Deleted, Dropped, Expired}
-use Rattle.cg_record.specs.declared.member.Member.{Member as KeptMember}
+use Rattle.cg_record.specs.declared.member_record.MemberRecord.{MemberRecord}
 use Rattle.cg_record.specs.Partitions.{partition_cmp}
-use Rattle.cg_fold.specs.declared.record.GroupRecord.{GroupRecord}
+use Rattle.cg_fold.specs.declared.group_record.GroupRecord.{GroupRecord}
 use Rattle.cg_fold.specs.declared.stored_offset.StoredOffset.{StoredOffset}
 use Rattle.cg_fold.specs.Durable.{State, after, effect, is_beside, is_of_other, with_member}
 use Rattle.cg_fold.specs.Key.{KeptRow, OffsetKey, is_among}
 use Rattle.cg_fold.specs.Snapshot.{offsets_in}
 use Rattle.cg_fold.proofs.KeyOrder.{key_same}
 use Rattle.cg_fold.proofs.Stock.{find-offsets_in}
-use Rattle.cg_held.specs.Expiring.{is_bare, is_nil, is_taking}
-use Rattle.cg_held.specs.Kept.{Each}
-use Rattle.cg_held.proofs.Framed.{OfGroup}
-use Rattle.cg_held.proofs.Kept.{group_of}
-use Rattle.cg_member.specs.Membership.{is_same}
-use Rattle.cg_member.specs.Offsets.{OffsetMap, offsets_after}
+use Rattle.cg_group_table.specs.Expiry.{is_bare, is_nil, is_taking}
+use Rattle.cg_group_table.specs.Kept.{Each}
+use Rattle.cg_group_table.proofs.Framed.{OfGroup}
+use Rattle.cg_group_table.proofs.Kept.{group_of}
+use Rattle.cg_group_state.specs.Membership.{is_same}
+use Rattle.cg_group_state.specs.Offsets.{OffsetMap, offsets_after}
 
 -- the command leaves the offset with this key
 abbrev pub spares : OffsetKey → Command → Bool
@@ -39,7 +39,7 @@ IsTaking c = is_taking c ≡ true
 abbrev left : Bool → Option StoredOffset → Option StoredOffset
 left spared held = cond spared held None
 
-same-member : (state : State) (group : List ℕ) (new : KeptMember) (held : Option GroupRecord) → (with_member state group new held).offsets ≡ state.offsets
+same-member : (state : State) (group : List ℕ) (new : MemberRecord) (held : Option GroupRecord) → (with_member state group new held).offsets ≡ state.offsets
 same-member state group new None = refl
 same-member state group new (Some r) = refl
 

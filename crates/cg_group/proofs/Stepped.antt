@@ -5,22 +5,22 @@ use Rattle.std.proofs.lemmas.Bool.{false≢true}
 use Rattle.std.specs.BTreeMap.{BTreeMap, get}
 use Rattle.std.specs.Ordering.{nat_cmp}
 use Rattle.cg_names.specs.declared.code.Code.{Code}
-use Rattle.cg_member.specs.declared.effects.Effects.{Effects}
-use Rattle.cg_member.specs.declared.group.Group.{Group}
-use Rattle.cg_member.specs.declared.turn.Turn.{Turn}
+use Rattle.cg_group_state.specs.declared.effects.Effects.{Effects}
+use Rattle.cg_group_state.specs.declared.group.Group.{Group}
+use Rattle.cg_group_state.specs.declared.turn.Turn.{Turn}
 use Rattle.cg_request.specs.declared.event.Event.TheVariants as event
-use Rattle.cg_request.specs.declared.request.LeaveRequest.{LeaveRequest}
-use Rattle.cg_request.specs.declared.request.SyncRequest.{SyncRequest}
+use Rattle.cg_request.specs.declared.request_fields.LeaveRequest.{LeaveRequest}
+use Rattle.cg_request.specs.declared.request_fields.SyncRequest.{SyncRequest}
 use Rattle.cg_request.specs.declared.ticket.Ticket.{Ticket}
 use Rattle.cg_group.specs.InPlace.{ParksKnown, StepKnown, StepParks}
-use Rattle.cg_group.specs.Machine.{concluded, leave, met, sync}
-use Rattle.cg_held.specs.declared.sessions.Home.{Home}
-use Rattle.cg_held.specs.Changes.{KeepIds, effects_in}
-use Rattle.cg_held.specs.Held.{IsHeld, at_moment, find_group, outcome, with_group}
-use Rattle.cg_held.specs.Kept.{Each}
-use Rattle.cg_held.specs.Sessions.{AreKnown, IsFilled, IsLetGo, IsTight, is_home, is_parked, parked_calls}
-use Rattle.cg_held.proofs.InOrder.{found_named}
-use Rattle.cg_held.proofs.Tight.{at_parked}
+use Rattle.cg_group.specs.Machine.{concluded, leave, handled, sync}
+use Rattle.cg_group_table.specs.declared.session_index.Home.{Home}
+use Rattle.cg_group_table.specs.GroupChanges.{KeepIds, effects_in}
+use Rattle.cg_group_table.specs.GroupTable.{IsHeld, at_moment, find_group, outcome, with_group}
+use Rattle.cg_group_table.specs.Kept.{Each}
+use Rattle.cg_group_table.specs.SessionIndex.{AreKnown, IsFilled, IsLetGo, IsTight, is_home, is_parked, parked_calls}
+use Rattle.cg_group_table.proofs.InOrder.{found_named}
+use Rattle.cg_group_table.proofs.Tight.{at_parked}
 use Rattle.cg_group.proofs.KnownSessions.{known-after, parks-sync}
 use Rattle.cg_group.proofs.TightIndex.{tight_left, tight_parked, tight_unchanged}
 
@@ -48,7 +48,7 @@ sync_parks now r ticket groups t is = step_parks now groups ticket (sync now r t
 
 -- a request that parks no call: LEAVE
 pub leave_known : (now : ℕ) (r : LeaveRequest) (ticket : Ticket) (groups : List Group) (t : Turn) → leave now r ticket groups ≡ Ok t → StepKnown groups t
-unfolding met
+unfolding handled
 leave_known now r ticket groups t is homes h =
     known-after homes now groups (with_group t.group groups) (event.Leave ticket r) (effects_in t) tt
     (ap (concluded (at_moment now groups) ticket) is ∙ concluded_step now groups (with_group t.group groups) ticket t (effects_in t) refl refl) h

@@ -5,24 +5,24 @@ use Rattle.std.specs.List.{list_any}
 use Rattle.std.specs.Option.{option_map}
 use Rattle.std.proofs.lemmas.Bool.{and_from, or_from, or_parts}
 use Rattle.std.proofs.lemmas.Cmp.{nat_list_eq_equiv}
-use Rattle.cg_record.specs.declared.member.Member.{Member as KeptMember}
+use Rattle.cg_record.specs.declared.member_record.MemberRecord.{MemberRecord}
 use Rattle.cg_record.specs.Rosters.{RosterParts, has_id_of_other, is_one_instance, leader_after, leads_and_goes as record_goes, may_replace, replaced_in, roster_of, seated as record_seated, takes_place_of}
-use Rattle.cg_fold.specs.declared.record.GroupRecord.{GroupRecord}
-use Rattle.cg_fold.specs.declared.record.RecordedMembers.{RecordedMembers}
-use Rattle.cg_fold.specs.declared.record.RecordedMembers.TheVariants as recorded
+use Rattle.cg_fold.specs.declared.group_record.GroupRecord.{GroupRecord}
+use Rattle.cg_fold.specs.declared.group_record.RecordedMembers.{RecordedMembers}
+use Rattle.cg_fold.specs.declared.group_record.RecordedMembers.TheVariants as recorded
 use Rattle.cg_fold.specs.Record.{replaced_members, replaced_record}
-use Rattle.cg_member.specs.declared.group.Group.{Group}
-use Rattle.cg_member.specs.declared.group.Phase.TheVariants.{Empty, Stable}
-use Rattle.cg_member.specs.declared.member.Member.{Member}
-use Rattle.cg_request.specs.declared.request.JoinRequest.{JoinRequest}
-use Rattle.cg_member.specs.Joining.{new_member}
+use Rattle.cg_group_state.specs.declared.group.Group.{Group}
+use Rattle.cg_group_state.specs.declared.group.Phase.TheVariants.{Empty, Stable}
+use Rattle.cg_group_state.specs.declared.member.Member.{Member}
+use Rattle.cg_request.specs.declared.request_fields.JoinRequest.{JoinRequest}
+use Rattle.cg_group_rules.specs.Join.{new_member}
 use Rattle.cg_group.specs.Laws.{IsAssignedAs, IsRecordedAs, TellsOf}
-use Rattle.cg_member.specs.Members.{ids}
-use Rattle.cg_member.specs.Membership.{find_instance, find_member, has_instance, is_named, is_same}
-use Rattle.cg_member.specs.Replacing.{leads_and_goes, replacing, seated, seating, successor}
-use Rattle.cg_member.specs.Syncing.{kept_member}
-use Rattle.cg_member.proofs.Together.{fresh_from_find}
-use Rattle.cg_held.proofs.Finding.{any_found}
+use Rattle.cg_group_state.specs.Members.{ids}
+use Rattle.cg_group_state.specs.Membership.{find_instance, find_member, has_instance, is_named, is_same, seated, seating}
+use Rattle.cg_group_rules.specs.StaticMember.{leads_and_goes, replacing, successor}
+use Rattle.cg_group_rules.specs.Sync.{kept_member}
+use Rattle.cg_group_state.proofs.Together.{fresh_from_find}
+use Rattle.cg_group_table.proofs.Finding.{any_found}
 
 -- a found element passes the test
 pub found_passes : (p : Member → Bool) (ms : List Member) (m : Member) → find p ms ≡ Some m → p m ≡ true
@@ -47,7 +47,7 @@ takes_same (Some i) m = some_at m.instance
     some_at (Some j) = refl
 
 module _ (p : Option (List ℕ)) (new : Member) where
-  abbrev kept : Member → KeptMember
+  abbrev kept : Member → MemberRecord
   kept m = kept_member p m
 
   kept_seated : (m : Member) → record_seated (kept new) (kept m) ≡ kept (seated new m)
@@ -76,7 +76,7 @@ module _ (p : Option (List ℕ)) (new : Member) where
       ∙ ap (λ b. (has_instance new.instance m && b) || list_any (record_goes (kept new) leader) (map kept ms)) (nat_list_eq_equiv.symm m.id leader ∙ ap (λ o. is_named o m.id) e)
       ∙ ap (λ b. leads_and_goes new g m || b) (any_goes g leader e ms)
 
-replaced_is : (new : KeptMember) (roster : RosterParts) → may_replace new roster.members ≡ true → replaced_in new roster ≡ roster_of roster.protocol (leader_after new roster) (map (record_seated new) roster.members)
+replaced_is : (new : MemberRecord) (roster : RosterParts) → may_replace new roster.members ≡ true → replaced_in new roster ≡ roster_of roster.protocol (leader_after new roster) (map (record_seated new) roster.members)
 unfolding replaced_in
 replaced_is new roster may = ap (λ b. if b then roster_of roster.protocol (leader_after new roster) (map (record_seated new) roster.members) else roster) may
 
@@ -88,7 +88,7 @@ leader_same new g roster e members =
 assigned-replacing : (new : Member) (g : Group) (r : GroupRecord) (roster : RosterParts) → may_replace (kept_member g.protocol new) (map (kept_member g.protocol) g.members) ≡ true → IsAssignedAs r roster g → IsAssignedAs (replaced_record (kept_member g.protocol new) r) (replaced_in (kept_member g.protocol new) roster) (replacing new g)
 unfolding replacing seating
 assigned-replacing new g r roster may h =
-    let k : KeptMember = kept_member g.protocol new in
+    let k : MemberRecord = kept_member g.protocol new in
     let Q : RosterParts → Type 0 = λ x. IsAssignedAs (replaced_record k r) x (replacing new g) in
     subst Q (sym (replaced_is k roster (ap (may_replace k) h.members ∙ may))) record {
       phase = h.phase;
@@ -113,7 +113,7 @@ pub successor_may : (now : ℕ) (r : JoinRequest) (id : List ℕ) (old : Member)
 unfolding find_instance new_member
 successor_may now r id old g own found =
     let new : Member = successor now r id old in
-    let k : KeptMember = kept_member g.protocol new in
+    let k : MemberRecord = kept_member g.protocol new in
     and_from (list_any (takes_place_of k) (map (kept_member g.protocol) g.members)) (not (list_any (has_id_of_other k) (map (kept_member g.protocol) g.members)))
     (any_takes g.protocol new g.members ∙ any_found (has_instance r.instance) (has_instance r.instance) g.members old found (found_passes (has_instance r.instance) g.members old found))
     (ap not (no_other g.protocol new g.members (fresh_from_find id g.members own)))

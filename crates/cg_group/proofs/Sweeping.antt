@@ -9,15 +9,15 @@ use Rattle.cg_record.specs.declared.dropped.Dropped.{Dropped}
 use Rattle.cg_record.specs.declared.entries.TheConstants.{ENTRIES_MAX}
 use Rattle.cg_record.specs.declared.topic_partition.TopicPartition.{TopicPartition}
 use Rattle.cg_fold.specs.Snapshot.{offsets_in}
-use Rattle.cg_member.specs.declared.group.Group.{Group}
-use Rattle.cg_member.specs.Offsets.{OffsetMap, offsets_after}
-use Rattle.cg_member.specs.Ticking.{ticked}
-use Rattle.cg_held.specs.Expiring.{expiries, expiring, expiring_as, expiring_if, goes, is_nil, is_stale, is_vacant, lasting, stale_of, swept, tick}
-use Rattle.cg_held.specs.Held.{Machine, without_group}
-use Rattle.cg_held.specs.Kept.{Each}
-use Rattle.cg_held.specs.declared.expiring.TheConstants.{EXPIRED_COMMANDS_MAX}
-use Rattle.cg_held.proofs.Framed.{each-append}
-use Rattle.cg_held.proofs.Removing.{each-without}
+use Rattle.cg_group_state.specs.declared.group.Group.{Group}
+use Rattle.cg_group_state.specs.Offsets.{OffsetMap, offsets_after}
+use Rattle.cg_group_rules.specs.Tick.{ticked}
+use Rattle.cg_group_table.specs.Expiry.{expiries, expiring, expiring_as, expiring_if, goes, is_nil, is_stale, is_vacant, lasting, stale_of, swept, tick}
+use Rattle.cg_group_table.specs.GroupTable.{Machine, without_group}
+use Rattle.cg_group_table.specs.Kept.{Each}
+use Rattle.cg_group_table.specs.declared.expiry.TheConstants.{EXPIRED_COMMANDS_MAX}
+use Rattle.cg_group_table.proofs.Framed.{each-append}
+use Rattle.cg_group_table.proofs.Removing.{each-without}
 use Rattle.cg_group.specs.Machine.{drop_command, founded_after, is_unfounded}
 
 -- a fact about each element of a list holds for those of them that pass a test

@@ -5,25 +5,25 @@ use Rattle.std.specs.Prelude.{if◌then◌else◌}
 use Rattle.std.specs.declared.cmp.Ordering.TheVariants.{Less}
 use Rattle.std.proofs.lemmas.Bool.{and_from, and_parts, false≢true, or_parts}
 use Rattle.cg_record.specs.declared.command.Command.{Command}
-use Rattle.cg_member.specs.declared.calls.Calls.TheVariants.{OfSession}
-use Rattle.cg_member.specs.declared.effects.Effects.{Effects}
-use Rattle.cg_member.specs.declared.group.Group.{Group}
-use Rattle.cg_member.specs.declared.member.Member.{Member}
-use Rattle.cg_member.specs.declared.turn.Turn.{Turn}
-use Rattle.cg_member.specs.Membership.{is_empty, is_same}
-use Rattle.cg_member.specs.Offsets.{OffsetMap, offsets_after}
-use Rattle.cg_member.specs.Ticking.{ticked}
-use Rattle.cg_member.specs.Waiting.{is_waiting}
-use Rattle.cg_turn.specs.Touching.{gone_touches}
-use Rattle.cg_held.specs.DueGroups.{id_if, ids_of}
-use Rattle.cg_held.specs.Expiring.{are_takings, expires, expiring, goes, is_bare, is_idle, is_taking, is_vacant, lasting, swept, tick, tick_effects, without_bare}
-use Rattle.cg_held.specs.Held.{InOrder, Machine, Outcome, at_moment, effects_of, everywhere, find_group, groups_after, outcome, standing, without_group}
-use Rattle.cg_held.specs.Kept.{ComesBefore, Each}
-use Rattle.cg_held.specs.Sessions.{StayParked, is_parked}
-use Rattle.cg_held.proofs.Framed.{framed-ticked}
-use Rattle.cg_held.proofs.KeptLists.{differs_from_order, group_ids, same_self}
-use Rattle.cg_held.proofs.Stale.{expires_not}
-use Rattle.cg_held.proofs.SweptGroups.{nothing_there}
+use Rattle.cg_group_state.specs.declared.calls.Calls.TheVariants.{OfSession}
+use Rattle.cg_group_state.specs.declared.effects.Effects.{Effects}
+use Rattle.cg_group_state.specs.declared.group.Group.{Group}
+use Rattle.cg_group_state.specs.declared.member.Member.{Member}
+use Rattle.cg_group_state.specs.declared.turn.Turn.{Turn}
+use Rattle.cg_group_state.specs.Membership.{is_empty, is_same}
+use Rattle.cg_group_state.specs.Offsets.{OffsetMap, offsets_after}
+use Rattle.cg_group_rules.specs.Tick.{ticked}
+use Rattle.cg_group_state.specs.Waiting.{is_waiting}
+use Rattle.cg_group_rules.specs.TickDeadline.{gone_touches}
+use Rattle.cg_group_table.specs.DueGroups.{id_if, ids_of}
+use Rattle.cg_group_table.specs.Expiry.{are_takings, expires, expiring, goes, is_bare, is_idle, is_taking, is_vacant, lasting, swept, tick, tick_effects, without_bare}
+use Rattle.cg_group_table.specs.GroupTable.{InOrder, Machine, Outcome, at_moment, effects_of, everywhere, find_group, groups_after, outcome, standing, without_group}
+use Rattle.cg_group_table.specs.Kept.{ComesBefore, Each}
+use Rattle.cg_group_table.specs.SessionIndex.{StayParked, is_parked}
+use Rattle.cg_group_table.proofs.Framed.{framed-ticked}
+use Rattle.cg_group_table.proofs.KeptLists.{differs_from_order, group_ids, same_self}
+use Rattle.cg_group_table.proofs.Stale.{expires_not}
+use Rattle.cg_group_table.proofs.SweptGroups.{nothing_there}
 use Rattle.cg_group.proofs.AgreeingTick.{calm_empty, idle_is}
 use Rattle.cg_group.proofs.Lasting.{takes-tick}
 use Rattle.cg_group.proofs.Sparing.{IsTaking}

@@ -6,21 +6,21 @@ use Rattle.std.proofs.lemmas.Bool.{eqb-false, eqb-true, false≢true, or_left, o
 use Rattle.std.specs.BTreeMap.{BTreeMap, get}
 use Rattle.std.specs.Ordering.{nat_cmp}
 use Rattle.cg_names.specs.declared.code.Code.{Code}
-use Rattle.cg_member.specs.declared.calls.Calls.TheVariants.{OfSession}
-use Rattle.cg_member.specs.declared.group.Group.{Group}
-use Rattle.cg_member.specs.declared.member.Member.{Member}
-use Rattle.cg_member.specs.declared.member.Waits.{Waits}
-use Rattle.cg_member.specs.declared.member.Waits.TheVariants.{Nothing, Join, Sync}
-use Rattle.cg_member.specs.declared.turn.Turn.{Turn}
-use Rattle.cg_member.specs.Leaving.{gone_in}
-use Rattle.cg_member.specs.Membership.{is_same}
-use Rattle.cg_member.specs.Waiting.{after_answer, after_answers, answered, called, is_waiting}
+use Rattle.cg_group_state.specs.declared.calls.Calls.TheVariants.{OfSession}
+use Rattle.cg_group_state.specs.declared.group.Group.{Group}
+use Rattle.cg_group_state.specs.declared.member.Member.{Member}
+use Rattle.cg_group_state.specs.declared.member.Waits.{Waits}
+use Rattle.cg_group_state.specs.declared.member.Waits.TheVariants.{Nothing, Join, Sync}
+use Rattle.cg_group_state.specs.declared.turn.Turn.{Turn}
+use Rattle.cg_group_rules.specs.Leave.{gone_in}
+use Rattle.cg_group_state.specs.Membership.{is_same}
+use Rattle.cg_group_state.specs.Waiting.{after_answer, after_answers, answered, called, is_waiting}
 use Rattle.cg_group.specs.InPlace.{group_of, groups_of, replaced_by}
-use Rattle.cg_held.specs.declared.sessions.Home.{Home}
-use Rattle.cg_held.specs.Held.{find_group, groups_after, with_group}
-use Rattle.cg_held.specs.Sessions.{IsFilled, IsLetGo, IsTight, is_home, is_noted, is_parked}
-use Rattle.cg_held.proofs.InOrder.{found_named}
-use Rattle.cg_held.proofs.Tight.{at_call, tight_put}
+use Rattle.cg_group_table.specs.declared.session_index.Home.{Home}
+use Rattle.cg_group_table.specs.GroupTable.{find_group, groups_after, with_group}
+use Rattle.cg_group_table.specs.SessionIndex.{IsFilled, IsLetGo, IsTight, is_home, is_noted, is_parked}
+use Rattle.cg_group_table.proofs.InOrder.{found_named}
+use Rattle.cg_group_table.proofs.Tight.{at_call, tight_put}
 
 -- an index that got one session with a group got it with the group of this id
 pub noted_named : (homes0 homes1 : BTreeMap ℕ (BTreeMap (List ℕ) Home)) (session : ℕ) (id own : List ℕ) → id ≡ own

@@ -3,35 +3,37 @@ use Rattle.std.specs.Prelude.{◌≡◌, ◌⊎◌, ℕ, Bool, true, false, not,
 use Rattle.std.specs.Option.{option_to_list}
 use Rattle.cg_names.specs.declared.code.Code.{Code}
 use Rattle.cg_names.specs.declared.code.Code.TheVariants.{RebalanceInProgress, UnknownMemberId}
-use Rattle.cg_member.specs.declared.calls.Calls.TheVariants.{Any, OfSession}
-use Rattle.cg_member.specs.declared.group.Group.{Group}
-use Rattle.cg_member.specs.declared.member.Member.{Member}
-use Rattle.cg_member.specs.declared.member.Waits.TheVariants.{Join}
-use Rattle.cg_member.specs.declared.reply.Reply.{Reply}
-use Rattle.cg_member.specs.declared.reply.Reply.TheVariants.{Done, Refused}
-use Rattle.cg_request.specs.declared.request.BeatRequest.{BeatRequest}
-use Rattle.cg_request.specs.declared.request.JoinRequest.{JoinRequest}
-use Rattle.cg_request.specs.declared.request.LeaveRequest.{LeaveRequest}
-use Rattle.cg_request.specs.declared.request.SyncRequest.{SyncRequest}
+use Rattle.cg_group_state.specs.declared.calls.Calls.TheVariants.{Any, OfSession}
+use Rattle.cg_group_state.specs.declared.group.Group.{Group}
+use Rattle.cg_group_state.specs.declared.member.Member.{Member}
+use Rattle.cg_group_state.specs.declared.member.Waits.TheVariants.{Join}
+use Rattle.cg_group_state.specs.declared.reply.Reply.{Reply}
+use Rattle.cg_group_state.specs.declared.reply.Reply.TheVariants.{Done, Refused}
+use Rattle.cg_request.specs.declared.request_fields.BeatRequest.{BeatRequest}
+use Rattle.cg_request.specs.declared.request_fields.JoinRequest.{JoinRequest}
+use Rattle.cg_request.specs.declared.request_fields.LeaveRequest.{LeaveRequest}
+use Rattle.cg_request.specs.declared.request_fields.SyncRequest.{SyncRequest}
 use Rattle.cg_request.specs.declared.ticket.Ticket.{Ticket}
-use Rattle.cg_member.specs.declared.turn.Turn.{Turn}
-use Rattle.cg_group.specs.declared.ways.Way.{Way}
-use Rattle.cg_group.specs.declared.ways.Way.TheVariants.{Makes, Finds}
-use Rattle.cg_turn.specs.Admission.{join_held, join_unheld}
-use Rattle.cg_turn.specs.Entering.{HasPlace, entered}
-use Rattle.cg_turn.specs.Beating.{IsBeat}
-use Rattle.cg_turn.specs.Distributing.{IsSyncCase}
-use Rattle.cg_turn.specs.declared.syncing.SyncCase.{SyncCase}
+use Rattle.cg_group_state.specs.declared.turn.Turn.{Turn}
+use Rattle.cg_group.specs.declared.join.Way.{Way}
+use Rattle.cg_group.specs.declared.join.Way.TheVariants.{Makes, Finds}
+use Rattle.cg_group_rules.specs.JoinChecks.{join_held, join_unheld}
+use Rattle.cg_group_rules.specs.ParkedJoin.{HasPlace, entered}
+use Rattle.cg_group_rules.specs.Heartbeat.{IsBeat}
+use Rattle.cg_group_rules.specs.SyncSteps.{IsSyncCase}
+use Rattle.cg_group_rules.specs.declared.sync.SyncCase.{SyncCase}
 use Rattle.cg_group.specs.Machine.{concluded}
-use Rattle.cg_held.specs.Held.{at_moment, find_group, outcome, with_group}
-use Rattle.cg_held.specs.Sessions.{AreKnown, Known, is_parked}
-use Rattle.cg_member.specs.declared.effects.Effects.{Effects}
-use Rattle.cg_member.specs.Joining.{drawn, is_session_refused, join_current, own_name, updating, waiting}
-use Rattle.cg_member.specs.Leaving.{leave_held, left}
-use Rattle.cg_member.specs.Membership.{find_member, has_id, hearing, keeping}
-use Rattle.cg_member.specs.Rebalance.{joined_reply, turn_of}
-use Rattle.cg_member.specs.Syncing.{sync_held, sync_taken}
-use Rattle.cg_member.specs.Waiting.{called, is_waiting}
+use Rattle.cg_group_table.specs.GroupTable.{at_moment, find_group, outcome, with_group}
+use Rattle.cg_group_table.specs.SessionIndex.{AreKnown, Known, is_parked}
+use Rattle.cg_group_state.specs.declared.effects.Effects.{Effects}
+use Rattle.cg_group_state.specs.MemberId.{drawn, own_name}
+use Rattle.cg_group_state.specs.JoinTerms.{is_session_refused}
+use Rattle.cg_group_rules.specs.Join.{join_current, updating, waiting}
+use Rattle.cg_group_rules.specs.Leave.{leave_held, left}
+use Rattle.cg_group_state.specs.Membership.{find_member, has_id, hearing, keeping}
+use Rattle.cg_group_rules.specs.Rebalance.{joined_reply, turn_of}
+use Rattle.cg_group_rules.specs.Sync.{sync_held, sync_taken}
+use Rattle.cg_group_state.specs.Waiting.{called, is_waiting}
 
 -- the request names this group, and it is loaded
 pub record IsNamed (given : Option (List ℕ)) (groups : List Group) (own : List ℕ) (group : Group) : Type 0 where

@@ -6,40 +6,40 @@ use Rattle.std.specs.FinMap as finmap
 use Rattle.cg_names.specs.declared.code.Code.{Code}
 use Rattle.cg_record.specs.declared.command.Command.{Command}
 use Rattle.cg_record.specs.declared.command.Command.TheVariants as command
-use Rattle.cg_record.specs.declared.member.Member.{Member as KeptMember}
+use Rattle.cg_record.specs.declared.member_record.MemberRecord.{MemberRecord}
 use Rattle.cg_record.specs.declared.replaced.Replaced.{Replaced}
 use Rattle.cg_record.specs.Rosters.{RosterParts}
-use Rattle.cg_fold.specs.declared.record.GroupRecord.{GroupRecord}
-use Rattle.cg_fold.specs.declared.record.RecordedMembers.{RecordedMembers}
-use Rattle.cg_fold.specs.declared.record.RecordedMembers.TheVariants as recorded
+use Rattle.cg_fold.specs.declared.group_record.GroupRecord.{GroupRecord}
+use Rattle.cg_fold.specs.declared.group_record.RecordedMembers.{RecordedMembers}
+use Rattle.cg_fold.specs.declared.group_record.RecordedMembers.TheVariants as recorded
 use Rattle.cg_fold.specs.Durable.{State, after}
 use Rattle.cg_fold.specs.Key.{OffsetKey, key_of}
 use Rattle.cg_fold.specs.declared.stored_offset.StoredOffset.{StoredOffset}
 use Rattle.cg_record.specs.declared.topic_partition.TopicPartition.{TopicPartition}
-use Rattle.cg_held.specs.Expiring.{is_stale}
+use Rattle.cg_group_table.specs.Expiry.{is_stale}
 use Rattle.cg_request.specs.declared.event.Event.{Event}
 use Rattle.cg_request.specs.declared.event.Event.TheVariants as event
-use Rattle.cg_member.specs.declared.group.Group.{Group}
-use Rattle.cg_member.specs.declared.group.Phase.{Phase}
-use Rattle.cg_member.specs.declared.group.Phase.TheVariants.{Empty, Preparing, Completing, Stable}
-use Rattle.cg_member.specs.declared.member.Member.{Member}
-use Rattle.cg_member.specs.declared.reply.Reply.{Reply}
-use Rattle.cg_request.specs.declared.request.CommitRequest.{CommitRequest}
-use Rattle.cg_request.specs.declared.request.SyncRequest.{SyncRequest}
-use Rattle.cg_member.specs.declared.reply.Reply.TheVariants as reply
+use Rattle.cg_group_state.specs.declared.group.Group.{Group}
+use Rattle.cg_group_state.specs.declared.group.Phase.{Phase}
+use Rattle.cg_group_state.specs.declared.group.Phase.TheVariants.{Empty, Preparing, Completing, Stable}
+use Rattle.cg_group_state.specs.declared.member.Member.{Member}
+use Rattle.cg_group_state.specs.declared.reply.Reply.{Reply}
+use Rattle.cg_request.specs.declared.request_fields.CommitRequest.{CommitRequest}
+use Rattle.cg_request.specs.declared.request_fields.SyncRequest.{SyncRequest}
+use Rattle.cg_group_state.specs.declared.reply.Reply.TheVariants as reply
 use Rattle.cg_request.specs.declared.ticket.Ticket.{Ticket}
-use Rattle.cg_turn.specs.Committing.{is_negative}
-use Rattle.cg_member.specs.Fencing.{fencing}
-use Rattle.cg_held.specs.Kept.{AreRecords, Each, HasOffset, Kept, kept_in}
-use Rattle.cg_member.specs.Leaving.{gone_in}
-use Rattle.cg_member.specs.Members.{AreDistinct}
-use Rattle.cg_member.specs.Offsets.{OffsetMap}
-use Rattle.cg_group.specs.Machine.{at_event, met, reply_alone, step}
-use Rattle.cg_held.specs.Held.{Machine, Outcome, find_group}
-use Rattle.cg_member.specs.Membership.{find_member, has_instance}
-use Rattle.cg_held.specs.Reviving.{revive}
-use Rattle.cg_member.specs.Syncing.{kept_member}
-use Rattle.cg_member.specs.Ticking.{ticked}
+use Rattle.cg_group_rules.specs.OffsetCommit.{is_negative}
+use Rattle.cg_group_state.specs.MemberCheck.{fencing}
+use Rattle.cg_group_table.specs.Kept.{AreRecords, Each, HasOffset, Kept, kept_in}
+use Rattle.cg_group_rules.specs.Leave.{gone_in}
+use Rattle.cg_group_state.specs.Members.{AreDistinct}
+use Rattle.cg_group_state.specs.Offsets.{OffsetMap}
+use Rattle.cg_group.specs.Machine.{at_event, handled, reply_alone, step}
+use Rattle.cg_group_table.specs.GroupTable.{Machine, Outcome, find_group}
+use Rattle.cg_group_state.specs.Membership.{find_member, has_instance}
+use Rattle.cg_group_table.specs.Recovery.{revive}
+use Rattle.cg_group_rules.specs.Sync.{kept_member}
+use Rattle.cg_group_rules.specs.Tick.{ticked}
 
 -- the state of the machine after these events, each at its moment
 unfoldable pub after_all : List (Event × ℕ) → Machine → Machine
@@ -82,16 +82,16 @@ MembersStayDistinct =
 unfoldable pub replies_by_group : Machine → Event → List (List (Ticket × Reply))
 replies_by_group s (event.Gone session) = map (λ g. (gone_in s.last session g).replies) s.groups
 replies_by_group s event.Tick = map (λ g. (ticked s.last g).replies) s.groups
-replies_by_group s (event.Join ticket r fresh) = (met s (event.Join ticket r fresh)).effects.replies ∷ []
-replies_by_group s (event.Sync ticket r) = (met s (event.Sync ticket r)).effects.replies ∷ []
-replies_by_group s (event.Beat ticket r) = (met s (event.Beat ticket r)).effects.replies ∷ []
-replies_by_group s (event.Leave ticket r) = (met s (event.Leave ticket r)).effects.replies ∷ []
-replies_by_group s (event.Commit ticket r) = (met s (event.Commit ticket r)).effects.replies ∷ []
-replies_by_group s (event.Fetch ticket r) = (met s (event.Fetch ticket r)).effects.replies ∷ []
-replies_by_group s (event.Delete ticket id) = (met s (event.Delete ticket id)).effects.replies ∷ []
-replies_by_group s (event.Drop ticket r) = (met s (event.Drop ticket r)).effects.replies ∷ []
-replies_by_group s (event.Describe ticket id) = (met s (event.Describe ticket id)).effects.replies ∷ []
-replies_by_group s (event.List ticket) = (met s (event.List ticket)).effects.replies ∷ []
+replies_by_group s (event.Join ticket r fresh) = (handled s (event.Join ticket r fresh)).effects.replies ∷ []
+replies_by_group s (event.Sync ticket r) = (handled s (event.Sync ticket r)).effects.replies ∷ []
+replies_by_group s (event.Beat ticket r) = (handled s (event.Beat ticket r)).effects.replies ∷ []
+replies_by_group s (event.Leave ticket r) = (handled s (event.Leave ticket r)).effects.replies ∷ []
+replies_by_group s (event.Commit ticket r) = (handled s (event.Commit ticket r)).effects.replies ∷ []
+replies_by_group s (event.Fetch ticket r) = (handled s (event.Fetch ticket r)).effects.replies ∷ []
+replies_by_group s (event.Delete ticket id) = (handled s (event.Delete ticket id)).effects.replies ∷ []
+replies_by_group s (event.Drop ticket r) = (handled s (event.Drop ticket r)).effects.replies ∷ []
+replies_by_group s (event.Describe ticket id) = (handled s (event.Describe ticket id)).effects.replies ∷ []
+replies_by_group s (event.List ticket) = (handled s (event.List ticket)).effects.replies ∷ []
 
 -- a JOIN reply names this generation, protocol and leader; other replies name nothing
 abbrev pub Names : ℕ → Option (List ℕ) → Option (List ℕ) → Reply → Type 0
@@ -113,7 +113,7 @@ pub record IsOneRound (replies : List (Ticket × Reply)) : Type 0 where
 -- the replies of an event are those of its groups, in order, and those of each group name the same generation, protocol
 -- and leader
 pub record IsInRounds (s : Machine) (e : Event) : Type 0 where
-  pub whole : (met s e).effects.replies ≡ flat_map (λ replies. replies) (replies_by_group s e)
+  pub whole : (handled s e).effects.replies ≡ flat_map (λ replies. replies) (replies_by_group s e)
   pub rounds : Each IsOneRound (replies_by_group s e)
 
 -- the same for each event of a list, in the state that the events before it left
@@ -235,7 +235,7 @@ pub record IsEarnedAssignment (events : List (Event × ℕ)) (groups : List Grou
   pub entry_is : kept group.id ≡ Some entry
   pub roster : RosterParts
   pub roster_is : entry.members ≡ recorded.Roster roster
-  pub stored : KeptMember
+  pub stored : MemberRecord
   pub listed : Contains roster.members stored
   pub own : stored.id ≡ member.id
   pub assigned : stored.assignment ≡ bytes

@@ -9,34 +9,34 @@ use Rattle.cg_record.specs.declared.command.Command.{Command}
 use Rattle.cg_record.specs.declared.command.Command.TheVariants as command
 use Rattle.cg_record.specs.declared.topic_partition.TopicPartition.{TopicPartition}
 use Rattle.cg_fold.specs.Key.{key_of}
-use Rattle.cg_member.specs.declared.effects.Effects.{Effects}
+use Rattle.cg_group_state.specs.declared.effects.Effects.{Effects}
 use Rattle.cg_request.specs.declared.event.Event.{Event}
 use Rattle.cg_request.specs.declared.event.Event.TheVariants.{Join, Sync, Beat, Leave, Commit, Fetch, Delete, Drop, Describe, Gone, Tick}
 use Rattle.cg_request.specs.declared.event.Event.TheVariants as event
-use Rattle.cg_member.specs.declared.group.Group.{Group}
-use Rattle.cg_member.specs.declared.reply.Reply.{Reply}
-use Rattle.cg_member.specs.declared.reply.Reply.TheVariants as reply
-use Rattle.cg_request.specs.declared.request.BeatRequest.{BeatRequest}
-use Rattle.cg_request.specs.declared.request.CommitRequest.{CommitRequest}
-use Rattle.cg_request.specs.declared.request.JoinRequest.{JoinRequest}
-use Rattle.cg_request.specs.declared.request.LeaveRequest.{LeaveRequest}
-use Rattle.cg_request.specs.declared.request.SyncRequest.{SyncRequest}
+use Rattle.cg_group_state.specs.declared.group.Group.{Group}
+use Rattle.cg_group_state.specs.declared.reply.Reply.{Reply}
+use Rattle.cg_group_state.specs.declared.reply.Reply.TheVariants as reply
+use Rattle.cg_request.specs.declared.request_fields.BeatRequest.{BeatRequest}
+use Rattle.cg_request.specs.declared.request_fields.CommitRequest.{CommitRequest}
+use Rattle.cg_request.specs.declared.request_fields.JoinRequest.{JoinRequest}
+use Rattle.cg_request.specs.declared.request_fields.LeaveRequest.{LeaveRequest}
+use Rattle.cg_request.specs.declared.request_fields.SyncRequest.{SyncRequest}
 use Rattle.cg_request.specs.declared.ticket.Ticket.{Ticket}
-use Rattle.cg_member.specs.declared.turn.Turn.{Turn}
-use Rattle.cg_turn.specs.Admission.{join_held, join_unheld}
-use Rattle.cg_turn.specs.Beating.{beat_held}
-use Rattle.cg_turn.specs.Committing.{commit_held, commit_unheld}
-use Rattle.cg_turn.specs.Touching.{gone_touches, tick_touches}
-use Rattle.cg_held.specs.Describing.{description, listing}
-use Rattle.cg_held.specs.Expiring.{expires, is_bare, is_nil, tick}
-use Rattle.cg_member.specs.Fetching.{fetched}
-use Rattle.cg_held.specs.Held.{Machine, Outcome, find_group, with_group, without_group, everywhere}
-use Rattle.cg_member.specs.Joining.{is_session_refused}
-use Rattle.cg_member.specs.Leaving.{gone_in, leave_held}
-use Rattle.cg_member.specs.Membership.{is_empty}
-use Rattle.cg_member.specs.Offsets.{OffsetMap, offsets_after}
-use Rattle.cg_member.specs.Refusing.{◌>>=◌, refused_if}
-use Rattle.cg_member.specs.Syncing.{sync_held}
+use Rattle.cg_group_state.specs.declared.turn.Turn.{Turn}
+use Rattle.cg_group_rules.specs.JoinChecks.{join_held, join_unheld}
+use Rattle.cg_group_rules.specs.Heartbeat.{beat_held}
+use Rattle.cg_group_rules.specs.OffsetCommit.{commit_held, commit_unheld}
+use Rattle.cg_group_rules.specs.TickDeadline.{gone_touches, tick_touches}
+use Rattle.cg_group_table.specs.Describe.{description, listing}
+use Rattle.cg_group_table.specs.Expiry.{expires, is_bare, is_nil, tick}
+use Rattle.cg_group_rules.specs.OffsetFetch.{fetched}
+use Rattle.cg_group_table.specs.GroupTable.{Machine, Outcome, find_group, with_group, without_group, everywhere}
+use Rattle.cg_group_state.specs.JoinTerms.{is_session_refused}
+use Rattle.cg_group_rules.specs.Leave.{gone_in, leave_held}
+use Rattle.cg_group_state.specs.Membership.{is_empty}
+use Rattle.cg_group_state.specs.Offsets.{OffsetMap, offsets_after}
+use Rattle.cg_group_state.specs.Checks.{◌>>=◌, refused_if}
+use Rattle.cg_group_rules.specs.Sync.{sync_held}
 
 -- one reply, and no command
 abbrev pub reply_alone : Ticket → Reply → Effects
@@ -159,19 +159,19 @@ describe None groups = reply.Refused InvalidGroupId
 describe (Some id) groups = reply.Described (option_map description (find_group id groups))
 
 -- an event at the last moment
-unfoldable pub met : Machine → Event → Outcome
-met s (Join ticket r fresh) = concluded s ticket (join s.last r fresh ticket s.groups)
-met s (Sync ticket r) = concluded s ticket (sync s.last r ticket s.groups)
-met s (Beat ticket r) = concluded s ticket (beat s.last r ticket s.groups)
-met s (Leave ticket r) = concluded s ticket (leave s.last r ticket s.groups)
-met s (Commit ticket r) = concluded s ticket (commit s.last r ticket s.groups)
-met s (Fetch ticket r) = replying s ticket (fetched s.offsets r.group r.partitions)
-met s (Delete ticket id) = deleted s ticket (memberless id s.groups)
-met s (Drop ticket r) = dropped s ticket r.partitions (memberless r.group s.groups)
-met s (Describe ticket id) = replying s ticket (describe id s.groups)
-met s (event.List ticket) = replying s ticket (reply.Groups (map listing s.groups))
-met s (Gone session) = everywhere (gone_in s.last session) s
-met s Tick = tick s
+unfoldable pub handled : Machine → Event → Outcome
+handled s (Join ticket r fresh) = concluded s ticket (join s.last r fresh ticket s.groups)
+handled s (Sync ticket r) = concluded s ticket (sync s.last r ticket s.groups)
+handled s (Beat ticket r) = concluded s ticket (beat s.last r ticket s.groups)
+handled s (Leave ticket r) = concluded s ticket (leave s.last r ticket s.groups)
+handled s (Commit ticket r) = concluded s ticket (commit s.last r ticket s.groups)
+handled s (Fetch ticket r) = replying s ticket (fetched s.offsets r.group r.partitions)
+handled s (Delete ticket id) = deleted s ticket (memberless id s.groups)
+handled s (Drop ticket r) = dropped s ticket r.partitions (memberless r.group s.groups)
+handled s (Describe ticket id) = replying s ticket (describe id s.groups)
+handled s (event.List ticket) = replying s ticket (reply.Groups (map listing s.groups))
+handled s (Gone session) = everywhere (gone_in s.last session) s
+handled s Tick = tick s
 
 -- the event may need memory: a request only if it is not refused, and a BEAT never; a DROP only if it makes a command; a DESCRIBE
 -- and a LIST only if there is a group to show, the end of a session only if a call of it is parked, and a tick only if it changes
@@ -200,7 +200,7 @@ at_event s now = record s { last = max s.last now }
 
 -- the step: an event at a moment
 unfoldable pub step : Machine → Event → ℕ → Outcome
-step s event now = with_offsets (met (at_event s now) event)
+step s event now = with_offsets (handled (at_event s now) event)
 
 -- the number of members of all groups, as far as 64 bits hold it
 abbrev pub member_count : List Group → ℕ

@@ -2,24 +2,24 @@
 ghost use Rattle.std.specs.Prelude.{◌≡◌, ◌≤◌, ◌+◌, IfOk, IfErr, OnErr, length, slice_get};
 ghost use Rattle.std.specs.FinMap as finmap;
 ghost use Rattle.std.specs.Map.Iter.{ShowsInOrder, deref};
-ghost use Rattle.cg_member.specs.declared.group.Group.{Group};
-ghost use Rattle.cg_held.specs.Props.{AreKnown-prop, IsTight-prop};
-ghost use Rattle.cg_held.specs.Sessions.{AreKnown, IsTight, is_home};
-ghost use Rattle.cg_member.specs.Waiting.{waiting_calls};
-ghost use Rattle.cg_held.specs.Held.{outcome};
-ghost use Rattle.cg_held.specs.Resting.{AreResting, AreResting-prop, Covered, Covered-prop};
-ghost use Rattle.cg_held.specs.declared.expiring.TheConstants.{RETENTION_MS};
+ghost use Rattle.cg_group_state.specs.declared.group.Group.{Group};
+ghost use Rattle.cg_group_table.specs.Props.{AreKnown-prop, IsTight-prop};
+ghost use Rattle.cg_group_table.specs.SessionIndex.{AreKnown, IsTight, is_home};
+ghost use Rattle.cg_group_state.specs.Waiting.{waiting_calls};
+ghost use Rattle.cg_group_table.specs.GroupTable.{outcome};
+ghost use Rattle.cg_group_table.specs.Resting.{AreResting, AreResting-prop, Covered, Covered-prop};
+ghost use Rattle.cg_group_table.specs.declared.expiry.TheConstants.{RETENTION_MS};
 ghost use Rattle.cg_group.specs.Machine.{MayNeedMemory, at_event, member_count, step};
-ghost use Rattle.cg_held.specs.Reviving.{revive};
+ghost use Rattle.cg_group_table.specs.Recovery.{revive};
 
-use crate::meeting::met;
+use crate::dispatch::handle;
 use cg_fold::{Durable, Offsets};
-use cg_held::expiring::Clock;
-use cg_held::held::Held;
-use cg_held::reviving::revived_all;
-use cg_held::sessions::Homes;
-use cg_member::effects::Effects;
-use cg_member::group::Group;
+use cg_group_state::effects::Effects;
+use cg_group_state::group::Group;
+use cg_group_table::expiry::Clock;
+use cg_group_table::group_recovery::revived_all;
+use cg_group_table::group_table::GroupTable;
+use cg_group_table::session_index::SessionIndex;
 use cg_names::{GroupId, Moment};
 use cg_request::event::Event;
 use cg_request::ticket::Ticket;
@@ -32,7 +32,7 @@ use std::marker::Model;
 /// Contracts see the groups by the bytes of their ids.
 #[derive(Drop)]
 pub struct Groups {
-    held: Held,
+    held: GroupTable,
     offsets: Offsets,
     last: Moment,
     /// The moment of loading; an unknown moment counts as this one.
@@ -40,7 +40,7 @@ pub struct Groups {
     /// Before this moment nothing expires.
     until: Moment,
     /// Session index: the groups in which the calls of each session may be parked.
-    homes: Homes,
+    homes: SessionIndex,
     // The index has every parked call, and no more.
     ghost known: { AreKnown (is_home homes) held } by { AreKnown-prop (is_home homes) held },
     ghost tight: { IsTight homes held } by { IsTight-prop homes held },
@@ -53,7 +53,7 @@ pub struct Groups {
 impl Model for Groups {
     ghost use Rattle.std.specs.Coded.{codes};
     ghost use Rattle.cg_fold.specs.Key.{offsets_code};
-    ghost use Rattle.cg_held.specs.Held.{Machine};
+    ghost use Rattle.cg_group_table.specs.GroupTable.{Machine};
 
     ghost Value = { Machine };
 
@@ -65,7 +65,7 @@ impl Model for Groups {
 impl Groups {
     /// Loads the groups that have a record or an offset, at this moment. Costs a copy of the records; the offsets are
     /// moved. If an allocation fails, returns the durable state unchanged.
-    #[tactic(auto, unfolding(cg_held::specs::Reviving::revive))]
+    #[tactic(auto, unfolding(cg_group_table::specs::Recovery::revive))]
     pub fn revive(
         alloc: Global,
         durable: Durable,
@@ -137,7 +137,7 @@ impl Groups {
         ensures memory { OnErr result (MayNeedMemory (at_event self.old now) event) }
     {
         let now = self.last.max(now);
-        let effects = met(
+        let effects = handle(
             &Clock {
                 loaded: self.loaded,
                 moment: now,

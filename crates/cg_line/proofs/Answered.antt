@@ -1,10 +1,10 @@
 -- What is parsed from the words of a line, and what the line is the spelling of.
 use Rattle.std.proofs.Common.{◌≡◌, ℕ, ◌<◌, ◌⊎◌, inl, inr, List, length, refl, arith, Option, Some, None, Result, Ok, Err}
 use Rattle.std.specs.Prelude.{IsSome, IfOk}
-use Rattle.cg_request.specs.declared.asking.Request.{Request}
+use Rattle.cg_request.specs.declared.request.Request.{Request}
 use Rattle.cg_line.specs.declared.line_fault.LineFault.{LineFault}
 use Rattle.cg_line.specs.declared.line_fault.LineFault.TheVariants.{Memory, Malformed, TooLong}
-use Rattle.cg_line.specs.declared.parsing.splitting.TheConstants.{WORDS_MAX}
+use Rattle.cg_line.specs.declared.parser.word_split.TheConstants.{WORDS_MAX}
 use Rattle.cg_line.specs.Parsing.{Reads, request_of}
 use Rattle.cg_line.specs.Requests.{Spells}
 use Rattle.cg_line.specs.Splitting.{words_of}

@@ -11,17 +11,17 @@ use Rattle.cg_record.specs.declared.millis.TheConstants.{REBALANCE_MS_MAX}
 use Rattle.cg_record.specs.declared.topic_partition.TopicPartition.{TopicPartition}
 use Rattle.cg_record.specs.Lawful.{IsKey}
 use Rattle.cg_record.specs.Partitions.{ArePartitions}
-use Rattle.cg_request.specs.declared.asking.Request.{Request}
-use Rattle.cg_request.specs.declared.asking.Request.TheVariants as request
-use Rattle.cg_request.specs.declared.request.JoinRequest.{JoinRequest}
-use Rattle.cg_request.specs.declared.request.SyncRequest.{SyncRequest}
-use Rattle.cg_request.specs.declared.request.BeatRequest.{BeatRequest}
-use Rattle.cg_request.specs.declared.request.LeaveRequest.{LeaveRequest}
-use Rattle.cg_request.specs.declared.request.CommitRequest.{CommitRequest}
-use Rattle.cg_request.specs.declared.request.FetchRequest.{FetchRequest}
-use Rattle.cg_request.specs.declared.request.DropRequest.{DropRequest}
-use Rattle.cg_line.specs.declared.parsing.TheConstants.{SESSION_LINE_MS_MAX}
-use Rattle.cg_line.specs.declared.parsing.splitting.TheConstants.{WORDS_MAX}
+use Rattle.cg_request.specs.declared.request.Request.{Request}
+use Rattle.cg_request.specs.declared.request.Request.TheVariants as request
+use Rattle.cg_request.specs.declared.request_fields.JoinRequest.{JoinRequest}
+use Rattle.cg_request.specs.declared.request_fields.SyncRequest.{SyncRequest}
+use Rattle.cg_request.specs.declared.request_fields.BeatRequest.{BeatRequest}
+use Rattle.cg_request.specs.declared.request_fields.LeaveRequest.{LeaveRequest}
+use Rattle.cg_request.specs.declared.request_fields.CommitRequest.{CommitRequest}
+use Rattle.cg_request.specs.declared.request_fields.FetchRequest.{FetchRequest}
+use Rattle.cg_request.specs.declared.request_fields.DropRequest.{DropRequest}
+use Rattle.cg_line.specs.declared.parser.TheConstants.{SESSION_LINE_MS_MAX}
+use Rattle.cg_line.specs.declared.parser.word_split.TheConstants.{WORDS_MAX}
 use Rattle.cg_line.specs.Parsing.{are_terms, beat_of, commit_in, commit_of, drop_of, fetch_of, group_and_partitions_of, group_call_of, group_of, is_call, is_caller, join_of, leave_of, member_call_of, partition_in, protocol_in, request_of, sync_entry_in, sync_of}
 use Rattle.cg_line.specs.Requests.{IsBeat, IsCommit, IsCommitEntry, IsDrop, IsFetch, IsGeneration, IsJoin, IsLeave, IsOptional, IsProtocol, IsRequest, IsSync, IsSyncEntry, Spells, commit_word, partition_word, protocol_word, request_line, request_words, sync_entry_word}
 use Rattle.cg_line.specs.Splitting.{words_of}

@@ -1,11 +1,11 @@
 -- One iteration of a run: a flush, a read, and the lines that end in the bytes read.
 use Rattle.std.proofs.Common.{◌≡◌, ◌<◌, ◌≤◌, ℕ, ◌+◌, List, [], ◌∷◌, ◌++◌, length, take, Option, None, Some, Result, Ok, Err, IfOk, IfSome, ap, ◌∙◌, arith}
-use Rattle.cg_request.specs.declared.asking.Request.{Request}
-use Rattle.cg_member.specs.declared.reply.Reply.{Reply}
-use Rattle.cg_line.specs.declared.ending.RunFault.{RunFault}
-use Rattle.cg_line.specs.declared.running.begun.BegunLine.{BegunLine}
-use Rattle.cg_line.specs.declared.running.TheConstants.{READS_MAX}
-use Rattle.cg_line.specs.declared.running.stop.Stop.TheVariants.{Fault}
+use Rattle.cg_request.specs.declared.request.Request.{Request}
+use Rattle.cg_group_state.specs.declared.reply.Reply.{Reply}
+use Rattle.cg_line.specs.declared.stream_end.RunFault.{RunFault}
+use Rattle.cg_line.specs.declared.stream.begun.BegunLine.{BegunLine}
+use Rattle.cg_line.specs.declared.stream.TheConstants.{READS_MAX}
+use Rattle.cg_line.specs.declared.stream.stop.Stop.TheVariants.{Fault}
 use Rattle.cg_line.specs.declared.transport_fault.TransportFault.{TransportFault}
 use Rattle.cg_line.specs.Calls.{Flushes, Made, Reads, TransportCall, reads_in}
 use Rattle.cg_line.specs.Stream.{Far, Gives, Stopped}

@@ -12,10 +12,10 @@ use Rattle.cg_record.specs.declared.opaque.TheConstants.{SUBSCRIPTION_BYTES_MAX,
 use Rattle.cg_record.specs.declared.roster.TheConstants.{MEMBERS_MAX}
 use Rattle.cg_request.specs.declared.protocol.Protocol.{Protocol}
 use Rattle.cg_request.specs.declared.protocol.TheConstants.{PROTOCOLS_MAX}
-use Rattle.cg_request.specs.declared.request.SyncEntry.{SyncEntry}
-use Rattle.cg_request.specs.Handing.{AreSyncEntries}
+use Rattle.cg_request.specs.declared.request_fields.SyncEntry.{SyncEntry}
+use Rattle.cg_request.specs.SyncEntries.{AreSyncEntries}
 use Rattle.cg_request.specs.Names.{are_distinct}
-use Rattle.cg_request.specs.Offers.{AreProtocols}
+use Rattle.cg_request.specs.Protocols.{AreProtocols}
 use Rattle.cg_line.specs.Fields.{bytes_in, is_bytes, is_name, is_opaque}
 use Rattle.cg_line.specs.Parsing.{are_protocols, are_sync_entries, given_to, is_protocol, is_sync_entry, key_of, protocol_in, sync_entry_in}
 use Rattle.cg_line.specs.Requests.{IsOpaque, IsProtocol, IsSyncEntry, protocol_word, sync_entry_word}

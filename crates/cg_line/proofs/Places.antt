@@ -2,7 +2,7 @@
 use Rattle.std.proofs.Common.{◌≡◌, ℕ, Bool, true, not, List, [], ◌∷◌, map, refl, sym, ap, ◌∙◌}
 use Rattle.std.specs.Prelude.{◌&&◌}
 use Rattle.std.specs.List.{list_any}
-use Rattle.cg_line.specs.declared.parsing.places.Place.{Place}
+use Rattle.cg_line.specs.declared.parser.places.Place.{Place}
 use Rattle.cg_line.specs.Parsing.{have_own_places, share_place}
 use Rattle.cg_line.specs.Places.{are_apart, are_one_place, place_of, texts_of}
 use Rattle.cg_line.proofs.Each.{any_seen}

@@ -11,16 +11,16 @@ use Rattle.cg_record.specs.declared.millis.TheConstants.{REBALANCE_MS_MAX}
 use Rattle.cg_record.specs.declared.topic_partition.TopicPartition.{TopicPartition}
 use Rattle.cg_record.specs.Lawful.{IsKey}
 use Rattle.cg_record.specs.Partitions.{ArePartitions}
-use Rattle.cg_request.specs.declared.asking.Request.{Request}
-use Rattle.cg_request.specs.declared.asking.Request.TheVariants as request
-use Rattle.cg_request.specs.declared.request.JoinRequest.{JoinRequest}
-use Rattle.cg_request.specs.declared.request.SyncRequest.{SyncRequest}
-use Rattle.cg_request.specs.declared.request.BeatRequest.{BeatRequest}
-use Rattle.cg_request.specs.declared.request.LeaveRequest.{LeaveRequest}
-use Rattle.cg_request.specs.declared.request.CommitRequest.{CommitRequest}
-use Rattle.cg_request.specs.declared.request.FetchRequest.{FetchRequest}
-use Rattle.cg_request.specs.declared.request.DropRequest.{DropRequest}
-use Rattle.cg_line.specs.declared.parsing.TheConstants.{SESSION_LINE_MS_MAX}
+use Rattle.cg_request.specs.declared.request.Request.{Request}
+use Rattle.cg_request.specs.declared.request.Request.TheVariants as request
+use Rattle.cg_request.specs.declared.request_fields.JoinRequest.{JoinRequest}
+use Rattle.cg_request.specs.declared.request_fields.SyncRequest.{SyncRequest}
+use Rattle.cg_request.specs.declared.request_fields.BeatRequest.{BeatRequest}
+use Rattle.cg_request.specs.declared.request_fields.LeaveRequest.{LeaveRequest}
+use Rattle.cg_request.specs.declared.request_fields.CommitRequest.{CommitRequest}
+use Rattle.cg_request.specs.declared.request_fields.FetchRequest.{FetchRequest}
+use Rattle.cg_request.specs.declared.request_fields.DropRequest.{DropRequest}
+use Rattle.cg_line.specs.declared.parser.TheConstants.{SESSION_LINE_MS_MAX}
 use Rattle.cg_line.specs.Fields.{is_name, is_optional, optional_in}
 use Rattle.cg_line.specs.Numbers.{generation_in, is_generation, is_number}
 use Rattle.cg_line.specs.Parsing.{are_commits, are_partitions, are_protocols, are_sync_entries, are_terms, beat_of, commit_in, commit_of, drop_of, fetch_of, group_and_partitions_of, group_call_of, group_of, is_call, is_caller, is_commit, is_member_call, is_partition, is_protocol, is_sync_entry, join_of, leave_of, member_call_of, nothing_of, partition_in, protocol_in, request_of, sync_entry_in, sync_of}

@@ -6,23 +6,23 @@ use Rattle.memchr.specs.Find.{Passes, is_byte}
 use Rattle.std.specs.List.{flat_map, list_all}
 use Rattle.std.proofs.lemmas.Grind.{flat_map-append}
 use Rattle.std.proofs.lemmas.List.Folds.{list_all-append}
-use Rattle.cg_request.specs.declared.asking.Request.{Request}
-use Rattle.cg_member.specs.declared.reply.Reply.{Reply}
-use Rattle.cg_line.specs.declared.ending.RunEnd.TheVariants as ends
-use Rattle.cg_line.specs.declared.ending.RunFault.{RunFault}
-use Rattle.cg_line.specs.declared.ending.RunFault.TheVariants as faults
-use Rattle.cg_line.specs.declared.running.begun.BegunLine.{BegunLine}
-use Rattle.cg_line.specs.declared.running.begun.BegunLine.TheVariants.{Kept, Lost}
-use Rattle.cg_line.specs.declared.running.stop.Stop.{Stop}
-use Rattle.cg_line.specs.declared.running.stop.Stop.TheVariants.{TooLong, Fault}
+use Rattle.cg_request.specs.declared.request.Request.{Request}
+use Rattle.cg_group_state.specs.declared.reply.Reply.{Reply}
+use Rattle.cg_line.specs.declared.stream_end.RunEnd.TheVariants as ends
+use Rattle.cg_line.specs.declared.stream_end.RunFault.{RunFault}
+use Rattle.cg_line.specs.declared.stream_end.RunFault.TheVariants as faults
+use Rattle.cg_line.specs.declared.stream.begun.BegunLine.{BegunLine}
+use Rattle.cg_line.specs.declared.stream.begun.BegunLine.TheVariants.{Kept, Lost}
+use Rattle.cg_line.specs.declared.stream.stop.Stop.{Stop}
+use Rattle.cg_line.specs.declared.stream.stop.Stop.TheVariants.{TooLong, Fault}
 use Rattle.cg_line.specs.declared.words.TheConstants.{LINE_BYTES_MAX}
-use Rattle.cg_line.specs.declared.running.asking.Asked.{Asked}
-use Rattle.cg_line.specs.declared.running.asking.Refusal.{Refusal}
-use Rattle.cg_line.specs.declared.running.asking.Refusal.TheVariants as refused
+use Rattle.cg_line.specs.declared.stream.asked_line.Asked.{Asked}
+use Rattle.cg_line.specs.declared.stream.asked_line.Refusal.{Refusal}
+use Rattle.cg_line.specs.declared.stream.asked_line.Refusal.TheVariants as refused
 use Rattle.cg_line.specs.Replies.{reply_line}
 use Rattle.cg_line.specs.Requests.{IsRequest, request_line}
 use Rattle.cg_line.specs.Lines.{Ended, GoesOn, IsBegun, begun_len}
-use Rattle.cg_line.specs.declared.running.TheConstants.{READS_MAX}
+use Rattle.cg_line.specs.declared.stream.TheConstants.{READS_MAX}
 use Rattle.cg_line.specs.declared.transport_fault.TransportFault.{TransportFault}
 use Rattle.cg_line.specs.declared.transport_fault.TransportFault.TheVariants.{Failed, Interrupted}
 use Rattle.cg_line.specs.Calls.{EndedBy, Flushes, GoOn, Reads, TransportCall, bytes_read, bytes_written, goes_on, read_by, reads_in, written_by}

@@ -1,11 +1,11 @@
 -- What a run keeps of a line whose line feed has not been read yet, and what a whole line asks for.
 use Rattle.std.specs.Prelude.{◌≡◌, ℕ, ◌+◌, List, [], ◌∷◌, ◌++◌, length}
-use Rattle.cg_request.specs.declared.asking.Request.{Request}
-use Rattle.cg_line.specs.declared.running.asking.Asked.{Asked}
-use Rattle.cg_line.specs.declared.running.asking.Asked.TheVariants as asked
-use Rattle.cg_line.specs.declared.running.asking.Refusal.TheVariants.{Malformed, Memory}
-use Rattle.cg_line.specs.declared.running.begun.BegunLine.{BegunLine}
-use Rattle.cg_line.specs.declared.running.begun.BegunLine.TheVariants.{Kept, Lost}
+use Rattle.cg_request.specs.declared.request.Request.{Request}
+use Rattle.cg_line.specs.declared.stream.asked_line.Asked.{Asked}
+use Rattle.cg_line.specs.declared.stream.asked_line.Asked.TheVariants as asked
+use Rattle.cg_line.specs.declared.stream.asked_line.Refusal.TheVariants.{Malformed, Memory}
+use Rattle.cg_line.specs.declared.stream.begun.BegunLine.{BegunLine}
+use Rattle.cg_line.specs.declared.stream.begun.BegunLine.TheVariants.{Kept, Lost}
 use Rattle.cg_line.specs.Requests.{Spells}
 use Rattle.cg_line.specs.Running.{HasNoEnd, IsLine, line_feed}
 

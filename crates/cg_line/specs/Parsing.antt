@@ -12,23 +12,23 @@ use Rattle.cg_record.specs.declared.partition.TheConstants.{PARTITION_MAX}
 use Rattle.cg_record.specs.declared.roster.TheConstants.{MEMBERS_MAX}
 use Rattle.cg_record.specs.declared.topic_partition.TopicPartition.{TopicPartition}
 use Rattle.cg_record.specs.Partitions.{topic_partition}
-use Rattle.cg_request.specs.declared.asking.Request.{Request}
-use Rattle.cg_request.specs.declared.asking.Request.TheVariants as request
+use Rattle.cg_request.specs.declared.request.Request.{Request}
+use Rattle.cg_request.specs.declared.request.Request.TheVariants as request
 use Rattle.cg_request.specs.declared.commit_entry.CommitEntry.{CommitEntry}
 use Rattle.cg_request.specs.declared.protocol.Protocol.{Protocol}
 use Rattle.cg_request.specs.declared.protocol.TheConstants.{PROTOCOLS_MAX}
-use Rattle.cg_request.specs.declared.request.JoinRequest.{JoinRequest}
-use Rattle.cg_request.specs.declared.request.SyncRequest.{SyncRequest}
-use Rattle.cg_request.specs.declared.request.SyncEntry.{SyncEntry}
-use Rattle.cg_request.specs.declared.request.BeatRequest.{BeatRequest}
-use Rattle.cg_request.specs.declared.request.LeaveRequest.{LeaveRequest}
-use Rattle.cg_request.specs.declared.request.CommitRequest.{CommitRequest}
-use Rattle.cg_request.specs.declared.request.FetchRequest.{FetchRequest}
-use Rattle.cg_request.specs.declared.request.DropRequest.{DropRequest}
+use Rattle.cg_request.specs.declared.request_fields.JoinRequest.{JoinRequest}
+use Rattle.cg_request.specs.declared.request_fields.SyncRequest.{SyncRequest}
+use Rattle.cg_request.specs.declared.request_fields.SyncEntry.{SyncEntry}
+use Rattle.cg_request.specs.declared.request_fields.BeatRequest.{BeatRequest}
+use Rattle.cg_request.specs.declared.request_fields.LeaveRequest.{LeaveRequest}
+use Rattle.cg_request.specs.declared.request_fields.CommitRequest.{CommitRequest}
+use Rattle.cg_request.specs.declared.request_fields.FetchRequest.{FetchRequest}
+use Rattle.cg_request.specs.declared.request_fields.DropRequest.{DropRequest}
 use Rattle.cg_request.specs.Names.{are_distinct}
 use Rattle.cg_line.specs.declared.line_fault.LineFault.{LineFault}
 use Rattle.cg_line.specs.declared.line_fault.LineFault.TheVariants.{Memory, Malformed, TooLong}
-use Rattle.cg_line.specs.declared.parsing.TheConstants.{SESSION_LINE_MS_MAX}
+use Rattle.cg_line.specs.declared.parser.TheConstants.{SESSION_LINE_MS_MAX}
 use Rattle.cg_line.specs.Splitting.{before, behind, colon, equals}
 use Rattle.cg_line.specs.Numbers.{is_number, value_of, is_generation, generation_in}
 use Rattle.cg_line.specs.Fields.{is_name, is_optional, optional_in, is_bytes, is_opaque, bytes_in}

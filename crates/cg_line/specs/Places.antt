@@ -2,7 +2,7 @@
 use Rattle.std.specs.Prelude.{ℕ, Bool, true, not, ◌&&◌, List, [], ◌∷◌}
 use Rattle.std.specs.List.{list_any}
 use Rattle.std.specs.Str.{bytes_eq}
-use Rattle.cg_line.specs.declared.parsing.places.Place.{Place}
+use Rattle.cg_line.specs.declared.parser.places.Place.{Place}
 use Rattle.cg_line.specs.Parsing.{partition_field, topic_field}
 
 -- the texts of the topic and of the partition

@@ -4,16 +4,16 @@ use Rattle.std.specs.Fmt.{decimal, signed_decimal}
 use Rattle.cg_names.specs.declared.code.Code.{Code}
 use Rattle.cg_names.specs.Codes.{name_of, number_of}
 use Rattle.cg_fold.specs.declared.stored_offset.StoredOffset.{StoredOffset}
-use Rattle.cg_member.specs.declared.group.Phase.{Phase}
-use Rattle.cg_member.specs.declared.group.Phase.TheVariants.{Empty, Preparing, Completing, Stable}
-use Rattle.cg_member.specs.declared.reply.Joined.{Joined}
-use Rattle.cg_member.specs.declared.reply.JoinedMember.{JoinedMember}
-use Rattle.cg_member.specs.declared.reply.FetchedPartition.{FetchedPartition}
-use Rattle.cg_member.specs.declared.reply.Described.{Described}
-use Rattle.cg_member.specs.declared.reply.DescribedMember.{DescribedMember}
-use Rattle.cg_member.specs.declared.reply.Listing.{Listing}
-use Rattle.cg_member.specs.declared.reply.Reply.{Reply}
-use Rattle.cg_member.specs.declared.reply.Reply.TheVariants as kinds
+use Rattle.cg_group_state.specs.declared.group.Phase.{Phase}
+use Rattle.cg_group_state.specs.declared.group.Phase.TheVariants.{Empty, Preparing, Completing, Stable}
+use Rattle.cg_group_state.specs.declared.reply.Joined.{Joined}
+use Rattle.cg_group_state.specs.declared.reply.JoinedMember.{JoinedMember}
+use Rattle.cg_group_state.specs.declared.reply.FetchedPartition.{FetchedPartition}
+use Rattle.cg_group_state.specs.declared.reply.Described.{Described}
+use Rattle.cg_group_state.specs.declared.reply.DescribedMember.{DescribedMember}
+use Rattle.cg_group_state.specs.declared.reply.Listing.{Listing}
+use Rattle.cg_group_state.specs.declared.reply.Reply.{Reply}
+use Rattle.cg_group_state.specs.declared.reply.Reply.TheVariants as kinds
 use Rattle.cg_line.specs.Words.{bytes_word, name_word, spaced}
 
 -- Kafka's name for the state of a loaded group

@@ -11,22 +11,22 @@ use Rattle.cg_record.specs.declared.opaque.TheConstants.{SUBSCRIPTION_BYTES_MAX,
 use Rattle.cg_record.specs.declared.topic_partition.TopicPartition.{TopicPartition}
 use Rattle.cg_record.specs.Lawful.{IsKey}
 use Rattle.cg_record.specs.Partitions.{ArePartitions}
-use Rattle.cg_request.specs.declared.asking.Request.{Request}
-use Rattle.cg_request.specs.declared.asking.Request.TheVariants as request
+use Rattle.cg_request.specs.declared.request.Request.{Request}
+use Rattle.cg_request.specs.declared.request.Request.TheVariants as request
 use Rattle.cg_request.specs.declared.commit_entry.CommitEntry.{CommitEntry}
 use Rattle.cg_request.specs.declared.protocol.Protocol.{Protocol}
-use Rattle.cg_request.specs.declared.request.JoinRequest.{JoinRequest}
-use Rattle.cg_request.specs.declared.request.SyncRequest.{SyncRequest}
-use Rattle.cg_request.specs.declared.request.SyncEntry.{SyncEntry}
-use Rattle.cg_request.specs.declared.request.BeatRequest.{BeatRequest}
-use Rattle.cg_request.specs.declared.request.LeaveRequest.{LeaveRequest}
-use Rattle.cg_request.specs.declared.request.CommitRequest.{CommitRequest}
-use Rattle.cg_request.specs.declared.request.FetchRequest.{FetchRequest}
-use Rattle.cg_request.specs.declared.request.DropRequest.{DropRequest}
+use Rattle.cg_request.specs.declared.request_fields.JoinRequest.{JoinRequest}
+use Rattle.cg_request.specs.declared.request_fields.SyncRequest.{SyncRequest}
+use Rattle.cg_request.specs.declared.request_fields.SyncEntry.{SyncEntry}
+use Rattle.cg_request.specs.declared.request_fields.BeatRequest.{BeatRequest}
+use Rattle.cg_request.specs.declared.request_fields.LeaveRequest.{LeaveRequest}
+use Rattle.cg_request.specs.declared.request_fields.CommitRequest.{CommitRequest}
+use Rattle.cg_request.specs.declared.request_fields.FetchRequest.{FetchRequest}
+use Rattle.cg_request.specs.declared.request_fields.DropRequest.{DropRequest}
 use Rattle.cg_request.specs.Commits.{AreCommits}
-use Rattle.cg_request.specs.Handing.{AreSyncEntries}
-use Rattle.cg_request.specs.Offers.{AreProtocols}
-use Rattle.cg_line.specs.declared.parsing.TheConstants.{SESSION_LINE_MS_MAX}
+use Rattle.cg_request.specs.SyncEntries.{AreSyncEntries}
+use Rattle.cg_request.specs.Protocols.{AreProtocols}
+use Rattle.cg_line.specs.declared.parser.TheConstants.{SESSION_LINE_MS_MAX}
 use Rattle.cg_line.specs.Splitting.{colon, equals, joined}
 use Rattle.cg_line.specs.Words.{spaced, bytes_word, name_word}
 

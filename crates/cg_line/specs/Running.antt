@@ -1,17 +1,17 @@
 -- What a run over a stream of request lines reads and writes, and by which calls.
 use Rattle.std.specs.Prelude.{◌≡◌, ◌⊎◌, ℕ, ◌<◌, ◌≤◌, ◌==◌, true, not, List, [], ◌∷◌, ◌++◌, length, codes, Option, None, Some, Result, Ok, Err}
 use Rattle.std.specs.List.{flat_map, list_all}
-use Rattle.cg_request.specs.declared.asking.Request.{Request}
-use Rattle.cg_member.specs.declared.reply.Reply.{Reply}
+use Rattle.cg_request.specs.declared.request.Request.{Request}
+use Rattle.cg_group_state.specs.declared.reply.Reply.{Reply}
 use Rattle.cg_line.specs.Calls.{EndedBy, Flushes, GoOn, Reads, TransportCall, bytes_read, bytes_written, fails_to_write, is_write, reads_in}
 use Rattle.cg_line.specs.Replies.{reply_line}
 use Rattle.cg_line.specs.Requests.{IsRequest, request_line}
-use Rattle.cg_line.specs.declared.ending.RunEnd.{RunEnd}
-use Rattle.cg_line.specs.declared.ending.RunEnd.TheVariants.{End, TooLong}
-use Rattle.cg_line.specs.declared.ending.RunFault.{RunFault}
-use Rattle.cg_line.specs.declared.ending.RunFault.TheVariants.{Memory, Read, Write}
-use Rattle.cg_line.specs.declared.running.TheConstants.{READS_MAX}
-use Rattle.cg_line.specs.declared.running.writing.TheConstants.{WRITES_MAX}
+use Rattle.cg_line.specs.declared.stream_end.RunEnd.{RunEnd}
+use Rattle.cg_line.specs.declared.stream_end.RunEnd.TheVariants.{End, TooLong}
+use Rattle.cg_line.specs.declared.stream_end.RunFault.{RunFault}
+use Rattle.cg_line.specs.declared.stream_end.RunFault.TheVariants.{Memory, Read, Write}
+use Rattle.cg_line.specs.declared.stream.TheConstants.{READS_MAX}
+use Rattle.cg_line.specs.declared.stream.writer.TheConstants.{WRITES_MAX}
 use Rattle.cg_line.specs.declared.transport_fault.TransportFault.{TransportFault}
 use Rattle.cg_line.specs.declared.transport_fault.TransportFault.TheVariants.{Failed}
 use Rattle.cg_line.specs.declared.words.TheConstants.{LINE_BYTES_MAX}

@@ -1,16 +1,16 @@
 -- The progress of a run.
 use Rattle.std.specs.Prelude.{◌≡◌, ℕ, true, List, ◌++◌, take, Option, None, Some, Result, Ok, Err, MatchResult}
 use Rattle.std.specs.List.{list_all}
-use Rattle.cg_request.specs.declared.asking.Request.{Request}
-use Rattle.cg_member.specs.declared.reply.Reply.{Reply}
-use Rattle.cg_line.specs.declared.ending.RunEnd.TheVariants.{End}
-use Rattle.cg_line.specs.declared.ending.RunFault.{RunFault}
-use Rattle.cg_line.specs.declared.ending.RunFault.TheVariants.{Read, Write}
-use Rattle.cg_line.specs.declared.running.begun.BegunLine.{BegunLine}
-use Rattle.cg_line.specs.declared.running.asking.Refusal.{Refusal}
-use Rattle.cg_line.specs.declared.running.asking.Refusal.TheVariants as refused
-use Rattle.cg_line.specs.declared.running.stop.Stop.{Stop}
-use Rattle.cg_line.specs.declared.running.stop.Stop.TheVariants.{TooLong, Fault}
+use Rattle.cg_request.specs.declared.request.Request.{Request}
+use Rattle.cg_group_state.specs.declared.reply.Reply.{Reply}
+use Rattle.cg_line.specs.declared.stream_end.RunEnd.TheVariants.{End}
+use Rattle.cg_line.specs.declared.stream_end.RunFault.{RunFault}
+use Rattle.cg_line.specs.declared.stream_end.RunFault.TheVariants.{Read, Write}
+use Rattle.cg_line.specs.declared.stream.begun.BegunLine.{BegunLine}
+use Rattle.cg_line.specs.declared.stream.asked_line.Refusal.{Refusal}
+use Rattle.cg_line.specs.declared.stream.asked_line.Refusal.TheVariants as refused
+use Rattle.cg_line.specs.declared.stream.stop.Stop.{Stop}
+use Rattle.cg_line.specs.declared.stream.stop.Stop.TheVariants.{TooLong, Fault}
 use Rattle.cg_line.specs.declared.transport_fault.TransportFault.{TransportFault}
 use Rattle.cg_line.specs.declared.transport_fault.TransportFault.TheVariants.{Failed, Interrupted}
 use Rattle.cg_line.specs.Calls.{EndedBy, Flushes, GoOn, TransportCall, bytes_read, bytes_written, is_write, reads_in}

@@ -1,6 +1,6 @@
 //! The backend of a stream: it returns a reply for each request.
-ghost use Rattle.cg_request.specs.declared.asking.Request.{Request};
-ghost use Rattle.cg_member.specs.declared.reply.Reply.{Reply};
+ghost use Rattle.cg_request.specs.declared.request.Request.{Request};
+ghost use Rattle.cg_group_state.specs.declared.reply.Reply.{Reply};
 
 use cg_group::{Reply, Request};
 

@@ -4,25 +4,25 @@
 
 mod backend;
 pub mod decimal;
-mod ending;
 mod line_fault;
-mod parsing;
-mod printing;
-mod running;
+mod parser;
+mod printer;
 mod std_calls;
 mod std_transport;
+mod stream;
+mod stream_end;
 mod transport;
 mod transport_fault;
 mod words;
 
 pub use backend::Backend;
-pub use ending::{RunEnd, RunFault};
 pub use line_fault::LineFault;
-pub use parsing::{bytes_in, is_opaque, parse};
-pub use printing::{print, print_into, put_reply};
-pub use running::{Asked, BegunLine, READS_MAX, Refusal, TooLong, run};
+pub use parser::{bytes_in, is_opaque, parse};
+pub use printer::{print, print_into, put_reply};
 pub use std_calls::std_calls_move_known_bytes;
 pub use std_transport::StdTransport;
+pub use stream::{Asked, BegunLine, READS_MAX, Refusal, TooLong, run};
+pub use stream_end::{RunEnd, RunFault};
 pub use transport::Transport;
 pub use transport_fault::TransportFault;
 pub use words::LINE_BYTES_MAX;

@@ -9,7 +9,7 @@ use Rattle.cg_frame.specs.Frames.{next_gate}
 use Rattle.cg_gate.specs.Layout.{segment_count}
 use Rattle.cg_gate.specs.declared.layout.TheConstants.{SEGMENT_SECTORS}
 use Rattle.cg_root.specs.Roots.{root_ids}
-use Rattle.cg_root.specs.declared.format.TheConstants.{EPOCH_MAX}
+use Rattle.cg_root.specs.declared.root_layout.TheConstants.{EPOCH_MAX}
 use Rattle.cg_root.specs.declared.root.Root.{Root}
 use Rattle.cg_log.specs.Free.{free_below, free_count_of, is_among}
 use Rattle.cg_log.specs.Rolled.{IsFullFor, IsNextTail}

@@ -2,7 +2,7 @@
 use Rattle.std.specs.Prelude.{◌≡◌, ◌≢◌, ◌⊎◌, ℕ, ◌+◌, List, [], ◌∷◌, ◌++◌}
 use Rattle.cg_disk.specs.Disk.{Image}
 use Rattle.cg_root.specs.Roots.{IsLawful}
-use Rattle.cg_root.specs.declared.format.TheConstants.{EPOCH_MAX}
+use Rattle.cg_root.specs.declared.root_layout.TheConstants.{EPOCH_MAX}
 use Rattle.cg_root.specs.Slots.{other_slot}
 use Rattle.cg_root.specs.declared.root.Root.{Root}
 use Rattle.cg_log.specs.Free.{IsLeastFree, NoneIsFree}

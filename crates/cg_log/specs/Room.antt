@@ -2,7 +2,7 @@
 use Rattle.std.specs.Prelude.{ℕ, ◌-◌, ◌<◌, List, Bool, ◌&&◌, ◌||◌, nat_lt, if◌then◌else◌}
 use Rattle.cg_frame.specs.Frames.{next_gate}
 use Rattle.cg_gate.specs.declared.layout.TheConstants.{SEGMENT_SECTORS}
-use Rattle.cg_root.specs.declared.format.TheConstants.{EPOCH_MAX}
+use Rattle.cg_root.specs.declared.root_layout.TheConstants.{EPOCH_MAX}
 use Rattle.cg_root.specs.declared.root.Root.{Root}
 use Rattle.cg_log.specs.Free.{free_count_of, IsLeastFree}
 

@@ -15,7 +15,7 @@ ghost use Rattle.cg_log.specs.Segments.{Filled, Frames, end_of_frames, frames_of
 use crate::LogFault;
 use crate::free::least_free;
 use crate::log::Log;
-use crate::segment::{last_id, segment};
+use crate::segment_layout::{last_id, segment};
 use cg_disk::{DiskFault, SectorDisk};
 use cg_frame::{StagedFrame, append_staged, fits, stage};
 use cg_gate::{close_gate, first_sector};

@@ -3,28 +3,28 @@
 //! It uses `cg_frame` for frames in one segment, and `cg_root` for the root.
 #![tactic(auto)]
 
-mod appending;
 mod cursor;
 mod fault;
-mod formatted;
+mod frame_append;
 mod free;
 mod fresh;
-mod fusing;
+mod fused_log;
 mod laws;
-mod loading;
 mod log;
+mod log_root;
+mod new_log;
 mod numbers;
 mod opening;
-mod rolling;
-mod scanning;
+mod roll;
+mod scan;
 mod sealed_read;
-mod segment;
+mod segment_layout;
 mod switch;
 
 pub use cursor::Cursor;
 pub use fault::LogFault;
-pub use formatted::format;
 pub use laws::log_laws;
 pub use log::Log;
+pub use new_log::format;
 pub use numbers::{COMMAND_NUMBER_MAX, log_numbers};
 pub use opening::Opening;

@@ -10,10 +10,10 @@ ghost use Rattle.cg_log.specs.ReadTo.{id_at, number_with};
 ghost use Rattle.cg_log.specs.Segments.{Frames, segment_of};
 ghost use Rattle.cg_log.specs.declared.numbers.TheConstants.{COMMAND_NUMBER_MAX};
 
-use crate::loading::{Roots, read_roots};
 use crate::log::Log;
-use crate::scanning::{id_at, read_on};
-use crate::segment::segment;
+use crate::log_root::{Roots, read_roots};
+use crate::scan::{id_at, read_on};
+use crate::segment_layout::segment;
 use crate::{COMMAND_NUMBER_MAX, LogFault};
 use cg_disk::SectorDisk;
 use cg_frame::SegmentReader;

@@ -10,7 +10,7 @@ ghost use Rattle.cg_log.specs.Segments.{Filled, Frames, ids_of, AreStored};
 ghost use Rattle.cg_root.specs.Roots.{root_ids};
 
 use crate::log::Log;
-use crate::scanning::{id_at, next_frame};
+use crate::scan::{id_at, next_frame};
 use crate::{Cursor, LogFault};
 use cg_disk::SectorDisk;
 use cg_frame::Frame;

@@ -3,7 +3,7 @@ ghost use Rattle.std.specs.Prelude.{◌≡◌, ◌≢◌, ◌⊎◌, ◌+◌, �
 ghost use Rattle.cg_disk.specs.Disk.{Changes, Counts, LeavesOnly, present};
 ghost use Rattle.cg_root.specs.Roots.{IsLawful, IsOldOrNew, KeepsRoot};
 ghost use Rattle.cg_root.specs.Slots.{gate_of, other_slot};
-ghost use Rattle.cg_root.specs.declared.format.TheConstants.{EPOCH_MAX};
+ghost use Rattle.cg_root.specs.declared.root_layout.TheConstants.{EPOCH_MAX};
 ghost use Rattle.cg_log.specs.Carried.{AllCarry, Content};
 ghost use Rattle.cg_log.specs.Cursors.{tails_from};
 ghost use Rattle.cg_log.specs.Faults.{IsWritingFault, is_device_failure};
@@ -15,7 +15,7 @@ ghost use Rattle.cg_log.specs.declared.numbers.TheConstants.{COMMAND_NUMBER_MAX}
 
 use crate::LogFault;
 use crate::log::Log;
-use crate::rolling::close_other_if_open;
+use crate::roll::close_other_if_open;
 use crate::sealed_read::index_of;
 use cg_disk::{DiskFault, SectorDisk};
 use cg_root::{EPOCH_MAX, Root, SegmentId, SegmentIds, publish};

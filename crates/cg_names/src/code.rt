@@ -9,7 +9,7 @@ pub enum Code {
     UnknownServerError,
     /// 0: no error.
     NoError,
-    /// 12: the metadata of a committed offset is longer than 4,096 bytes.
+    /// 12: the metadata of an offset is longer than 4,096 bytes, or that of a COMMIT together longer than 262,144.
     OffsetMetadataTooLarge,
     /// 14: the coordinator is loading its log.
     CoordinatorLoadInProgress,

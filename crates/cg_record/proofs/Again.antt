@@ -11,7 +11,7 @@ use Rattle.cg_record.specs.declared.fault.RecordFault.{RecordFault}
 use Rattle.cg_record.specs.declared.command.Command.{Command}
 use Rattle.cg_record.specs.declared.entry.Entry.{Entry}
 use Rattle.cg_record.specs.declared.topic_partition.TopicPartition.{TopicPartition}
-use Rattle.cg_record.specs.declared.member.Member.{Member}
+use Rattle.cg_record.specs.declared.member_record.MemberRecord.{MemberRecord}
 use Rattle.cg_names.specs.declared.name.TheConstants.{NAME_BYTES_MAX, MEMBER_ID_BYTES_MAX}
 use Rattle.cg_record.specs.declared.entries.TheConstants.{COMMIT_METADATA_BYTES_MAX}
 use Rattle.cg_record.specs.declared.metadata.TheConstants.{METADATA_BYTES_MAX}
@@ -208,7 +208,7 @@ summed_end count i whole end rest room s le =
     rw same s.room_is
 
 -- a member, from its parts
-pub member_reads : (front : List Member) (bytes id rest : List ℕ) (instance : Option (List ℕ)) (more : List ℕ) (profile : Profile) (after : List ℕ)
+pub member_reads : (front : List MemberRecord) (bytes id rest : List ℕ) (instance : Option (List ℕ)) (more : List ℕ) (profile : Profile) (after : List ℕ)
     → name_at MEMBER_ID_BYTES_MAX bytes ≡ Ok (id, rest) → list_any (has_id id) front ≡ false → optional_name_at NAME_BYTES_MAX rest ≡ Ok (instance, more) → list_any (has_instance instance) front ≡ false → profile_at more ≡ Ok (profile, after)
     → member_at front bytes ≡ Ok (member_of id instance profile, after)
 unfolding member_at

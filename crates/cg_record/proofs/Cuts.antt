@@ -20,7 +20,7 @@ use Rattle.cg_record.specs.declared.fault.RecordFault.TheVariants.{Short, BadKin
 use Rattle.cg_record.specs.declared.command.Command.{Command}
 use Rattle.cg_record.specs.declared.command.Command.TheVariants as kinds
 use Rattle.cg_record.specs.declared.entry.Entry.{Entry}
-use Rattle.cg_record.specs.declared.member.Member.{Member}
+use Rattle.cg_record.specs.declared.member_record.MemberRecord.{MemberRecord}
 use Rattle.cg_record.specs.declared.topic_partition.TopicPartition.{TopicPartition}
 use Rattle.cg_record.specs.Counts.{number_of_count_at, count_at}
 use Rattle.cg_record.specs.Cutting.{IsCutShort}
@@ -207,7 +207,7 @@ cuts_profile =
     cuts_then (cuts_text SUBSCRIPTION_BYTES_MAX) (λ subscription.
     cuts_then (cuts_text ASSIGNMENT_BYTES_MAX) (λ assignment. cuts_end (profile_from client session rebalance subscription assignment))))))
 
-cuts_member : (front : List Member) → Cuts (member_at front)
+cuts_member : (front : List MemberRecord) → Cuts (member_at front)
 unfolding member_at
 cuts_member front =
     cuts_then (cuts_only (is_new_id front) Repeated (cuts_name MEMBER_ID_BYTES_MAX)) (λ id.

@@ -10,7 +10,7 @@ use Rattle.cg_names.specs.declared.name.TheConstants.{NAME_BYTES_MAX, MEMBER_ID_
 use Rattle.cg_record.specs.declared.millis.TheConstants.{SESSION_MS_MIN, SESSION_MS_MAX, REBALANCE_MS_MAX}
 use Rattle.cg_record.specs.declared.opaque.TheConstants.{SUBSCRIPTION_BYTES_MAX, ASSIGNMENT_BYTES_MAX}
 use Rattle.cg_record.specs.declared.fault.RecordFault.TheVariants.{BadName, BadLength, Repeated}
-use Rattle.cg_record.specs.declared.member.Member.{Member}
+use Rattle.cg_record.specs.declared.member_record.MemberRecord.{MemberRecord}
 use Rattle.cg_record.specs.declared.replaced.Replaced.{Replaced}
 use Rattle.cg_record.specs.Rosters.{has_id, has_instance, have_one_name}
 use Rattle.cg_record.specs.Texts.{four, name_text, optional_text, bytes_text}
@@ -114,15 +114,15 @@ reads_optional max below =
 -- ---- a member
 
 -- neither the id nor the instance is one of those before it
-abbrev pub IsNext : List Member → Member → Type 0
+abbrev pub IsNext : List MemberRecord → MemberRecord → Type 0
 IsNext front m = list_any (λ other. have_one_name other m) front ≡ false
 
-pub reads_member : (front : List Member) → Reads (member_at front) member_text (λ m. IsMember m × IsNext front m)
+pub reads_member : (front : List MemberRecord) → Reads (member_at front) member_text (λ m. IsMember m × IsNext front m)
 unfolding member_at member_text
 reads_member front =
     reads_as
-    (reads_then (λ (m : Member). m.id) (reads_only (is_new_id front) Repeated (reads_name MEMBER_ID_BYTES_MAX (omega arith))) (λ id is_id.
-    reads_then (λ (m : Member). m.instance) (reads_only (is_new_instance front) Repeated (reads_optional NAME_BYTES_MAX (omega arith))) (λ instance is_instance.
+    (reads_then (λ (m : MemberRecord). m.id) (reads_only (is_new_id front) Repeated (reads_name MEMBER_ID_BYTES_MAX (omega arith))) (λ id is_id.
+    reads_then (λ (m : MemberRecord). m.instance) (reads_only (is_new_instance front) Repeated (reads_optional NAME_BYTES_MAX (omega arith))) (λ instance is_instance.
     reads_then profile_of reads_profile (λ profile is_profile.
     reads_end (member_of id instance profile) (((tt, refl), refl), refl)
     (λ m known. sym (ap (λ (i : List ℕ). member_of i m.instance (profile_of m)) known.0.0.1 ∙ ap (λ (o : Option (List ℕ)). member_of id o (profile_of m)) known.0.1 ∙ ap (member_of id instance) known.1))))))
@@ -154,7 +154,7 @@ reads_required max below = record { takes = required_takes max below; again = λ
 grouped : (a b c d : List ℕ) → a ++ (b ++ (c ++ (d ++ []))) ≡ a ++ ((b ++ c) ++ d)
 grouped a b c d = simp (append-nil, append_assoc)
 
-abbrev pub replaced_of : List ℕ → Member → Replaced
+abbrev pub replaced_of : List ℕ → MemberRecord → Replaced
 replaced_of group member = record { group = group; member = member }
 
 pub reads_replaced : Reads replaced_at replaced_text IsReplaced

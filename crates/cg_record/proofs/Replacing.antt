@@ -8,7 +8,7 @@ use Rattle.std.proofs.lemmas.Slice.Eq.{bytes_eq-Decides}
 use Rattle.std.proofs.lemmas.List.{length-map}
 use Rattle.std.proofs.Math.Bool.{or-true}
 use Rattle.std.proofs.lemmas.List.Folds.{list_any_at}
-use Rattle.cg_record.specs.declared.member.Member.{Member}
+use Rattle.cg_record.specs.declared.member_record.MemberRecord.{MemberRecord}
 use Rattle.cg_record.specs.Rosters.{RosterParts, roster_of, has_id, has_instance, is_one_instance, have_one_name, is_led_by, AreApart, IsRoster, IsPlace, takes_place_of, has_id_of_other, may_replace, seated, leads_and_goes, leader_after, replaced_in}
 use Rattle.cg_record.proofs.Keys.{all_fail}
 
@@ -118,7 +118,7 @@ one_instance-join (Some a) (Some n) None is also = absurd cc
 one_instance-join (Some a) (Some n) (Some b) is also =
     (bytes_eq-Decides a b).1 ((bytes_eq-Decides a n).0 is ∙ sym ((bytes_eq-Decides b n).0 also))
 
-join_names : (new x y : Member) → takes_place_of new x ≡ true → takes_place_of new y ≡ true → have_one_name x y ≡ true
+join_names : (new x y : MemberRecord) → takes_place_of new x ≡ true → takes_place_of new y ≡ true → have_one_name x y ≡ true
 join_names new x y is also = right (has_id y.id x) (has_instance y.instance x) (one_instance-join x.instance new.instance y.instance is also)
   where
     right : (a b : Bool) → b ≡ true → (a || b) ≡ true
@@ -128,7 +128,7 @@ join_names new x y is also = right (has_id y.id x) (has_instance y.instance x) (
 -- ---- the members after the replacement
 
 -- a member that stays has neither the new one's id nor its instance
-stays_apart : (new x : Member) → has_id_of_other new x ≡ false → takes_place_of new x ≡ false → (have_one_name x new ≡ false) × (have_one_name new x ≡ false)
+stays_apart : (new x : MemberRecord) → has_id_of_other new x ≡ false → takes_place_of new x ≡ false → (have_one_name x new ≡ false) × (have_one_name new x ≡ false)
 stays_apart new x no_id no_instance =
     let id : has_id new.id x ≡ false = other_id (has_id new.id x) (takes_place_of new x) no_id no_instance in
     let back : has_id x.id new ≡ false = bytes_eq-sym new.id x.id ∙ id in
@@ -140,17 +140,17 @@ stays_apart new x no_id no_instance =
     other_id true false e is = absurd cc
     other_id false b e is = refl
 
-each_stays_apart : (new : Member) (xs : List Member) → AllByRecursion (λ x. has_id_of_other new x ≡ false) xs → AllByRecursion (IsApartFrom have_one_name (takes_place_of new) (join_names new) new) xs
+each_stays_apart : (new : MemberRecord) (xs : List MemberRecord) → AllByRecursion (λ x. has_id_of_other new x ≡ false) xs → AllByRecursion (IsApartFrom have_one_name (takes_place_of new) (join_names new) new) xs
 each_stays_apart new [] each = tt
 each_stays_apart new (x ∷ xs) each = ((λ no_instance. stays_apart new x each.0 no_instance), each_stays_apart new xs each.1)
 
-pub seated_apart : (new : Member) (xs : List Member) → AreApart xs → list_any (has_id_of_other new) xs ≡ false → AreApart (map (seated new) xs)
+pub seated_apart : (new : MemberRecord) (xs : List MemberRecord) → AreApart xs → list_any (has_id_of_other new) xs ≡ false → AreApart (map (seated new) xs)
 seated_apart new xs apart none = map-apart have_one_name (takes_place_of new) (join_names new) new xs apart (each_stays_apart new xs (all_fail (has_id_of_other new) xs none))
 
-pub seated_set : (new : Member) (xs : List Member) (i : ℕ) (d : Member) → AreApart xs → i < length xs → takes_place_of new (get_or xs i d) ≡ true → map (seated new) xs ≡ set xs i new
+pub seated_set : (new : MemberRecord) (xs : List MemberRecord) (i : ℕ) (d : MemberRecord) → AreApart xs → i < length xs → takes_place_of new (get_or xs i d) ≡ true → map (seated new) xs ≡ set xs i new
 seated_set new xs i d apart lt hit = map-set have_one_name (takes_place_of new) (join_names new) new xs i d apart lt hit
 
-pub leads_and_goes_at : (new : Member) (leader : List ℕ) (xs : List Member) (i : ℕ) (d : Member) → AreApart xs → i < length xs → takes_place_of new (get_or xs i d) ≡ true → list_any (leads_and_goes new leader) xs ≡ has_id leader (get_or xs i d)
+pub leads_and_goes_at : (new : MemberRecord) (leader : List ℕ) (xs : List MemberRecord) (i : ℕ) (d : MemberRecord) → AreApart xs → i < length xs → takes_place_of new (get_or xs i d) ≡ true → list_any (leads_and_goes new leader) xs ≡ has_id leader (get_or xs i d)
 leads_and_goes_at new leader xs i d apart lt hit = any-and have_one_name (takes_place_of new) (join_names new) new (has_id leader) xs i d apart lt hit
 
 -- ---- the leader after the replacement
@@ -158,7 +158,7 @@ leads_and_goes_at new leader xs i d apart lt hit = any-and have_one_name (takes_
 bytes_eq-same : (a : List ℕ) → bytes_eq a a ≡ true
 bytes_eq-same a = (bytes_eq-Decides a a).1 refl
 
-led_by_new : (new : Member) (xs : List Member) → list_any (takes_place_of new) xs ≡ true → is_led_by new.id (map (seated new) xs) ≡ true
+led_by_new : (new : MemberRecord) (xs : List MemberRecord) → list_any (takes_place_of new) xs ≡ true → is_led_by new.id (map (seated new) xs) ≡ true
 led_by_new new [] some = absurd cc
 led_by_new new (x ∷ xs) some = cases (takes_place_of new x) refl (led_by_new new xs)
   where
@@ -168,7 +168,7 @@ led_by_new new (x ∷ xs) some = cases (takes_place_of new x) refl (led_by_new n
         let rest : list_any (takes_place_of new) xs ≡ true = rw is at some in
         rw (later rest) (or-true (has_id new.id x))
 
-led_by_old : (new : Member) (leader : List ℕ) (xs : List Member) → list_any (leads_and_goes new leader) xs ≡ false → is_led_by leader xs ≡ true → is_led_by leader (map (seated new) xs) ≡ true
+led_by_old : (new : MemberRecord) (leader : List ℕ) (xs : List MemberRecord) → list_any (leads_and_goes new leader) xs ≡ false → is_led_by leader xs ≡ true → is_led_by leader (map (seated new) xs) ≡ true
 led_by_old new leader [] none led = absurd cc
 led_by_old new leader (x ∷ xs) none led = cases (has_id leader x) (takes_place_of new x) refl refl (led_by_old new leader xs)
   where
@@ -182,12 +182,12 @@ led_by_old new leader (x ∷ xs) none led = cases (has_id leader x) (takes_place
         let rest : is_led_by leader xs ≡ true = rw is at led in
         rw (later parts.1 rest) (or-true (has_id leader (cond p new x)))
 
-leads_then : (b : Bool) (new : Member) (leader : List ℕ) (xs : List Member) → list_any (leads_and_goes new leader) xs ≡ b → list_any (takes_place_of new) xs ≡ true → is_led_by leader xs ≡ true → is_led_by (cond b new.id leader) (map (seated new) xs) ≡ true
+leads_then : (b : Bool) (new : MemberRecord) (leader : List ℕ) (xs : List MemberRecord) → list_any (leads_and_goes new leader) xs ≡ b → list_any (takes_place_of new) xs ≡ true → is_led_by leader xs ≡ true → is_led_by (cond b new.id leader) (map (seated new) xs) ≡ true
 leads_then true new leader xs goes some led = led_by_new new xs some
 leads_then false new leader xs goes some led = led_by_old new leader xs goes led
 
 -- the members stay lawful, and one of them leads
-pub seated_roster : (new : Member) (roster : RosterParts) → IsRoster roster → list_any (takes_place_of new) roster.members ≡ true → list_any (has_id_of_other new) roster.members ≡ false
+pub seated_roster : (new : MemberRecord) (roster : RosterParts) → IsRoster roster → list_any (takes_place_of new) roster.members ≡ true → list_any (has_id_of_other new) roster.members ≡ false
     → IsRoster (roster_of roster.protocol (leader_after new roster) (map (seated new) roster.members))
 seated_roster new roster is some none = record {
   members = record {
@@ -200,7 +200,7 @@ seated_roster new roster is some none = record {
 
 -- ---- the index of the replaced member
 
-pub place_found : (new : Member) (members : List Member) (at : ℕ) → position (takes_place_of new) members ≡ Some at → list_any (has_id_of_other new) members ≡ false → IsPlace new members at
+pub place_found : (new : MemberRecord) (members : List MemberRecord) (at : ℕ) → position (takes_place_of new) members ≡ Some at → list_any (has_id_of_other new) members ≡ false → IsPlace new members at
 place_found new members at found none =
     let first = position-Some (takes_place_of new) members at new found in
     let some = list_any_at (takes_place_of new) members at new first.0 first.1 in
@@ -225,10 +225,10 @@ none_of_position p xs none = cases (nat_lt (position_or_len p xs) (length xs)) r
     cases true is e = absurd cc
     cases false is e = none_before_end p xs (ltb-false _ _ is)
 
-pub place_missed : (new : Member) (members : List Member) → position (takes_place_of new) members ≡ None → may_replace new members ≡ false
+pub place_missed : (new : MemberRecord) (members : List MemberRecord) → position (takes_place_of new) members ≡ None → may_replace new members ≡ false
 place_missed new members none = rw (none_of_position (takes_place_of new) members none) refl
 
-pub place_refused : (new : Member) (members : List Member) → list_any (has_id_of_other new) members ≡ true → may_replace new members ≡ false
+pub place_refused : (new : MemberRecord) (members : List MemberRecord) → list_any (has_id_of_other new) members ≡ true → may_replace new members ≡ false
 place_refused new members taken = cases (list_any (takes_place_of new) members) refl
   where
     cases : (b : Bool) → list_any (takes_place_of new) members ≡ b → (b && not (list_any (has_id_of_other new) members)) ≡ false
@@ -241,7 +241,7 @@ and_parts_not true false e = (refl, refl)
 and_parts_not false b e = absurd cc
 
 -- the members after the new one is written at the index
-pub placed : (new : Member) (roster : RosterParts) (at : ℕ) (old : Member) (leads : Bool) (leader : List ℕ) (members : List Member) → IsRoster roster → IsPlace new roster.members at
+pub placed : (new : MemberRecord) (roster : RosterParts) (at : ℕ) (old : MemberRecord) (leads : Bool) (leader : List ℕ) (members : List MemberRecord) → IsRoster roster → IsPlace new roster.members at
     → old ≡ get_or roster.members at old → leads ≡ has_id roster.leader old → leader ≡ cond leads new.id roster.leader → members ≡ set roster.members at new
     → IsRoster (roster_of roster.protocol leader members) × (roster_of roster.protocol leader members ≡ replaced_in new roster)
 unfolding replaced_in
@@ -255,6 +255,6 @@ placed new roster at old leads leader members is place old_is leads_is leader_is
     ap (λ l. roster_of roster.protocol l members) leader_then ∙ ap (roster_of roster.protocol (leader_after new roster)) members_then in
     (subst IsRoster (sym same) (seated_roster new roster is parts.0 parts.1), same ∙ sym (ap (λ b. cond b (roster_of roster.protocol (leader_after new roster) (map (seated new) roster.members)) roster) place.may))
 
-pub unplaced : (new : Member) (roster : RosterParts) → may_replace new roster.members ≡ false → roster ≡ replaced_in new roster
+pub unplaced : (new : MemberRecord) (roster : RosterParts) → may_replace new roster.members ≡ false → roster ≡ replaced_in new roster
 unfolding replaced_in
 unplaced new roster not_there = sym (ap (λ b. cond b (roster_of roster.protocol (leader_after new roster) (map (seated new) roster.members)) roster) not_there)

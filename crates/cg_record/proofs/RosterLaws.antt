@@ -6,7 +6,7 @@ use Rattle.cg_names.specs.declared.name.TheConstants.{NAME_BYTES_MAX, MEMBER_ID_
 use Rattle.cg_names.specs.declared.generation.TheConstants.{GENERATION_MAX}
 use Rattle.cg_record.specs.declared.roster.TheConstants.{MEMBERS_MAX}
 use Rattle.cg_record.specs.declared.fault.RecordFault.TheVariants.{BadName, BadLength}
-use Rattle.cg_record.specs.declared.member.Member.{Member}
+use Rattle.cg_record.specs.declared.member_record.MemberRecord.{MemberRecord}
 use Rattle.cg_record.specs.declared.assigned.Assigned.{Assigned}
 use Rattle.cg_record.specs.Rosters.{RosterParts, roster_of, have_one_name, is_led_by, AreApart, AreMembers}
 use Rattle.cg_record.specs.Members.{IsMember, member_text, member_at}
@@ -32,10 +32,10 @@ pub reads_members : (n : ℕ) → Reads (many_at member_at n []) (flat_map membe
 reads_members n = reads_many member_at member_text IsMember AreApart IsNext members_grow reads_member n
 
 -- the members of a group, each in range
-abbrev pub AreListed : List Member → Type 0
+abbrev pub AreListed : List MemberRecord → Type 0
 AreListed members = AreMembers members × AllByRecursion IsMember members
 
-abbrev listed_text : List Member → List ℕ
+abbrev listed_text : List MemberRecord → List ℕ
 listed_text members = length members ∷ flat_map member_text members
 
 pub reads_listed : Reads listed_at listed_text AreListed

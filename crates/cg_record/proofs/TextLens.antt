@@ -7,7 +7,7 @@ use Rattle.cg_record.specs.declared.topic_partition.TopicPartition.{TopicPartiti
 use Rattle.cg_record.specs.declared.emptied.Emptied.{Emptied}
 use Rattle.cg_record.specs.declared.committed.Committed.{Committed}
 use Rattle.cg_record.specs.declared.assigned.Assigned.{Assigned}
-use Rattle.cg_record.specs.declared.member.Member.{Member}
+use Rattle.cg_record.specs.declared.member_record.MemberRecord.{MemberRecord}
 use Rattle.cg_record.specs.declared.replaced.Replaced.{Replaced}
 use Rattle.cg_record.specs.Rosters.{RosterParts}
 use Rattle.cg_record.specs.Members.{Profile, profile_of, profile_text, member_text}
@@ -94,7 +94,7 @@ profile_len p =
       four_len (length p.assignment),
     )
 
-pub member_len : (m : Member) → length (member_text m) ≡ length m.id + length (optional_text m.instance) + length m.client + length m.subscription + length m.assignment + 18
+pub member_len : (m : MemberRecord) → length (member_text m) ≡ length m.id + length (optional_text m.instance) + length m.client + length m.subscription + length m.assignment + 18
 unfolding member_text
 member_len m =
     omega (

@@ -12,7 +12,7 @@ use Rattle.cg_record.specs.declared.fault.RecordFault.{RecordFault}
 use Rattle.cg_record.specs.declared.fault.RecordFault.TheVariants.{Memory, Short, BadName, BadLength, Repeated}
 use Rattle.cg_record.specs.declared.entry.Entry.{Entry}
 use Rattle.cg_record.specs.declared.topic_partition.TopicPartition.{TopicPartition}
-use Rattle.cg_record.specs.declared.member.Member.{Member}
+use Rattle.cg_record.specs.declared.member_record.MemberRecord.{MemberRecord}
 use Rattle.cg_record.specs.Keys.{metadata_room}
 use Rattle.cg_record.specs.Moments.{stamp_at, moment_at}
 use Rattle.cg_record.specs.Counts.{number_of_count_at, count_at}
@@ -165,7 +165,7 @@ told_profile bytes =
     told_then _ _ (told_text SUBSCRIPTION_BYTES_MAX rebalance.1) (λ subscription.
     told_then _ _ (told_text ASSIGNMENT_BYTES_MAX subscription.1) (λ assignment. tt)))))
 
-told_member : (front : List Member) (bytes : List ℕ) → Told (member_at front bytes)
+told_member : (front : List MemberRecord) (bytes : List ℕ) → Told (member_at front bytes)
 unfolding member_at
 told_member front bytes =
     told_then _ _ (told_only (is_new_id front) Repeated _ tt (told_name MEMBER_ID_BYTES_MAX bytes)) (λ id.

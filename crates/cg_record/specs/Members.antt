@@ -6,7 +6,7 @@ use Rattle.cg_names.specs.declared.name.TheConstants.{NAME_BYTES_MAX, MEMBER_ID_
 use Rattle.cg_record.specs.declared.millis.TheConstants.{SESSION_MS_MIN, SESSION_MS_MAX, REBALANCE_MS_MAX}
 use Rattle.cg_record.specs.declared.opaque.TheConstants.{SUBSCRIPTION_BYTES_MAX, ASSIGNMENT_BYTES_MAX}
 use Rattle.cg_record.specs.declared.fault.RecordFault.TheVariants.{BadLength, Repeated}
-use Rattle.cg_record.specs.declared.member.Member.{Member}
+use Rattle.cg_record.specs.declared.member_record.MemberRecord.{MemberRecord}
 use Rattle.cg_record.specs.Rosters.{has_id, has_instance}
 use Rattle.cg_record.specs.Texts.{four, name_text, optional_text, bytes_text}
 use Rattle.cg_record.specs.Fields.{Read, ◌>>=◌, only, at_most, is_from_to, four_at, name_at, optional_name_at, text_at}
@@ -29,11 +29,11 @@ pub record IsProfile (profile : Profile) : Type 0 where
   pub assignment : length profile.assignment ≤ ASSIGNMENT_BYTES_MAX
 
 -- the profile of a member
-abbrev pub profile_of : Member → Profile
+abbrev pub profile_of : MemberRecord → Profile
 profile_of m = record { client = m.client; session = m.session; rebalance = m.rebalance; subscription = m.subscription; assignment = m.assignment }
 
 -- each field of the member is in range
-pub record IsMember (member : Member) : Type 0 where
+pub record IsMember (member : MemberRecord) : Type 0 where
   pub id : IsName MEMBER_ID_BYTES_MAX member.id
   pub instance : IfSome member.instance (IsName NAME_BYTES_MAX)
   pub profile : IsProfile (profile_of member)
@@ -44,7 +44,7 @@ unfoldable pub profile_text : Profile → List ℕ
 profile_text p = name_text p.client ++ four p.session ++ four p.rebalance ++ bytes_text p.subscription ++ bytes_text p.assignment
 
 -- the encoding of a member: id, instance, client, session and rebalance timeout, subscription, assignment
-unfoldable pub member_text : Member → List ℕ
+unfoldable pub member_text : MemberRecord → List ℕ
 member_text m = name_text m.id ++ optional_text m.instance ++ profile_text (profile_of m)
 
 -- ---- decoding
@@ -59,19 +59,19 @@ profile_at bytes = do
   Ok (record { client = client.0; session = session.0; rebalance = rebalance.0; subscription = subscription.0; assignment = assignment.0 }, assignment.1)
 
 -- a member from its parts
-abbrev pub member_of : List ℕ → Option (List ℕ) → Profile → Member
+abbrev pub member_of : List ℕ → Option (List ℕ) → Profile → MemberRecord
 member_of id instance p = record { id = id; instance = instance; client = p.client; session = p.session; rebalance = p.rebalance; subscription = p.subscription; assignment = p.assignment }
 
 -- none of the members has this id
-abbrev pub is_new_id : List Member → List ℕ → Bool
+abbrev pub is_new_id : List MemberRecord → List ℕ → Bool
 is_new_id front id = not (list_any (has_id id) front)
 
 -- none of the members has this instance
-abbrev pub is_new_instance : List Member → Option (List ℕ) → Bool
+abbrev pub is_new_instance : List MemberRecord → Option (List ℕ) → Bool
 is_new_instance front instance = not (list_any (has_instance instance) front)
 
 -- the next member of a group, after those in front
-unfoldable pub member_at : List Member → List ℕ → Read Member
+unfoldable pub member_at : List MemberRecord → List ℕ → Read MemberRecord
 member_at front bytes = do
   id ← only (is_new_id front) Repeated (name_at MEMBER_ID_BYTES_MAX bytes)
   instance ← only (is_new_instance front) Repeated (optional_name_at NAME_BYTES_MAX id.1)

@@ -13,7 +13,7 @@ use Rattle.cg_record.specs.declared.fault.RecordFault.{RecordFault}
 use Rattle.cg_record.specs.declared.fault.RecordFault.TheVariants.{Memory, BadKind, BadName, BadLength, Repeated}
 use Rattle.cg_record.specs.declared.entry.Entry.{Entry}
 use Rattle.cg_record.specs.declared.topic_partition.TopicPartition.{TopicPartition}
-use Rattle.cg_record.specs.declared.member.Member.{Member}
+use Rattle.cg_record.specs.declared.member_record.MemberRecord.{MemberRecord}
 use Rattle.cg_record.specs.declared.committed.Committed.{Committed}
 use Rattle.cg_record.specs.declared.assigned.Assigned.{Assigned}
 use Rattle.cg_record.specs.declared.emptied.Emptied.{Emptied}
@@ -110,11 +110,11 @@ dropped_of removal = kinds.Dropped (record { group = removal.0; partitions = rem
 -- ---- groups
 
 -- n more members of a group, after those in front
-abbrev pub members_at : ℕ → List Member → List ℕ → Read (List Member)
+abbrev pub members_at : ℕ → List MemberRecord → List ℕ → Read (List MemberRecord)
 members_at n front bytes = many_at member_at n front bytes
 
 -- the number of members, and the members
-unfoldable pub listed_at : List ℕ → Read (List Member)
+unfoldable pub listed_at : List ℕ → Read (List MemberRecord)
 listed_at bytes = do
   count ← only (is_from_to 1 MEMBERS_MAX) BadLength (byte_at bytes)
   members_at count.0 [] count.1

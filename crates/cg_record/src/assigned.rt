@@ -1,5 +1,5 @@
 //! The command `Assigned`.
-use crate::generation::CompletedGeneration;
+use crate::completed_generation::CompletedGeneration;
 use crate::roster::Roster;
 use cg_names::{GroupId, ProtocolName};
 

@@ -6,8 +6,8 @@ ghost use Rattle.cg_record.specs.Decoding.{after_front};
 ghost use Rattle.cg_record.specs.Lawful.{IsCommand};
 ghost use Rattle.cg_record.specs.Reading.{Fails, commands_of};
 
-use crate::building::command_at;
 use crate::command::Command;
+use crate::command_decoder::command_at;
 use crate::fault::RecordFault;
 use crate::fields::byte_at;
 use crate::format::Version;

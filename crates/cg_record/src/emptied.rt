@@ -1,5 +1,5 @@
 //! The command `Emptied`.
-use crate::generation::CompletedGeneration;
+use crate::completed_generation::CompletedGeneration;
 use cg_names::{GroupId, Moment, ProtocolName};
 
 /// The group has no members in this generation.

@@ -1,21 +1,21 @@
 //! The command `Replaced`.
 ghost use Rattle.std.specs.Prelude.{◌≡◌, IsSome, MatchResult};
 
-use crate::member::Member;
+use crate::member_record::MemberRecord;
 use cg_names::GroupId;
 use std::marker::Model;
 
 /// A static member (KIP-345). Contracts see the member.
 #[derive(Debug, Drop)]
 pub struct StaticMember {
-    member: Member,
+    member: MemberRecord,
 }
 
 impl Model for StaticMember {
     ghost use Rattle.std.specs.Prelude.{IsSome};
-    ghost use Rattle.cg_record.specs.declared.member.Member.{Member};
+    ghost use Rattle.cg_record.specs.declared.member_record.MemberRecord.{MemberRecord};
 
-    ghost Value = { Member };
+    ghost Value = { MemberRecord };
 
     ghost view = { λ s. s.member };
 
@@ -24,7 +24,7 @@ impl Model for StaticMember {
 
 impl StaticMember {
     /// Checks that the member has an instance. Returns the member unchanged if it has none.
-    pub fn new(member: Member) -> Result<Self, Member>
+    pub fn new(member: MemberRecord) -> Result<Self, MemberRecord>
         ensures { MatchResult result
             (λ s. IsSome member.instance × (s ≡ member))
             (λ back. (¬ IsSome member.instance) × (back ≡ member)) }
@@ -37,7 +37,7 @@ impl StaticMember {
     }
 
     /// Wraps a member that the caller knows to have an instance.
-    pub fn from_lawful(member: Member) -> Self
+    pub fn from_lawful(member: MemberRecord) -> Self
         requires { IsSome member.instance }
         ensures { result ≡ member }
     {
@@ -45,7 +45,7 @@ impl StaticMember {
     }
 
     /// Returns the member, which has an instance.
-    pub fn member(&self) -> &Member
+    pub fn member(&self) -> &MemberRecord
         ensures value { result.now ≡ self.now }
         ensures instance { IsSome self.now.instance }
     {

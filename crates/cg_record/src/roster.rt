@@ -4,7 +4,7 @@ ghost use Rattle.std.specs.List.{list_any};
 ghost use Rattle.cg_record.specs.Rosters.{AreMembers, IsPlace, IsRoster, roster_of, has_id_of_other, is_led_by, may_replace, replaced_in, takes_place_of};
 
 use crate::distinct::{Keyed, are_distinct};
-use crate::member::Member;
+use crate::member_record::MemberRecord;
 use cg_names::{MemberId, ProtocolName};
 use std::alloc::{AllocError, Global};
 use std::marker::Model;
@@ -19,7 +19,7 @@ pub const MEMBERS_MAX: usize = 64;
 pub struct Roster {
     protocol: ProtocolName,
     leader: MemberId,
-    members: Vec<Member>,
+    members: Vec<MemberRecord>,
 }
 
 impl Model for Roster {
@@ -32,7 +32,7 @@ impl Model for Roster {
     ghost invariant = { λ r. IsRoster (roster_of r.protocol r.leader r.members.items) };
 }
 
-impl Keyed for Member {
+impl Keyed for MemberRecord {
     ghost use Rattle.cg_record.specs.Rosters.{have_one_name};
 
     ghost shares = { have_one_name };
@@ -43,26 +43,26 @@ impl Keyed for Member {
 }
 
 /// Returns whether one of the members has this id. Linear in the members.
-pub fn is_led_by(leader: &[u8], members: &[Member]) -> bool
+pub fn is_led_by(leader: &[u8], members: &[MemberRecord]) -> bool
     ensures { result ≡ is_led_by leader.now members.now }
 {
     members.iter().any(|member| member.id.as_bytes() == leader)
 }
 
-fn are_members(members: &[Member]) -> bool
+fn are_members(members: &[MemberRecord]) -> bool
     ensures { IsTrue result ↔ AreMembers members.now }
 {
     !members.is_empty() && members.len() <= MEMBERS_MAX && are_distinct(members)
 }
 
 // Returns whether a member that the new one does not replace has its id.
-fn is_id_taken(new: &Member, members: &[Member]) -> bool
+fn is_id_taken(new: &MemberRecord, members: &[MemberRecord]) -> bool
     ensures { result ≡ list_any (has_id_of_other new.now) members.now }
 {
     members.iter().any(|other| new.has_id_of_other(other))
 }
 
-fn seat_of(new: &Member, members: &[Member]) -> Option<usize>
+fn seat_of(new: &MemberRecord, members: &[MemberRecord]) -> Option<usize>
     ensures { result ≡ position (takes_place_of new.now) members.now }
 {
     members.iter().position(|old| new.takes_place_of(old))
@@ -70,7 +70,7 @@ fn seat_of(new: &Member, members: &[Member]) -> Option<usize>
 
 // Returns the index of the member that the new one may replace: it has the same instance, and no other has the new id.
 #[tactic(auto, using(crate::proofs::Replacing::place_found, crate::proofs::Replacing::place_missed, crate::proofs::Replacing::place_refused))]
-fn place_of(new: &Member, members: &[Member]) -> Option<usize>
+fn place_of(new: &MemberRecord, members: &[MemberRecord]) -> Option<usize>
     ensures { MatchOption result
         (may_replace new.now members.now ≡ false)
         (λ at. IsPlace new.now members.now at) }
@@ -83,7 +83,7 @@ fn place_of(new: &Member, members: &[Member]) -> Option<usize>
     }
 }
 
-fn seat(members: &mut Vec<Member>, at: usize, new: Member)
+fn seat(members: &mut Vec<MemberRecord>, at: usize, new: MemberRecord)
     requires { at < length members.old.items }
     ensures { members.new.items ≡ slice_set members.old.items at new }
 {
@@ -98,7 +98,7 @@ fn lead(leader: &mut MemberId, leads: bool, id: MemberId)
     }
 }
 
-fn copied(alloc: Global, members: &[Member]) -> Result<Vec<Member>, AllocError>
+fn copied(alloc: Global, members: &[MemberRecord]) -> Result<Vec<MemberRecord>, AllocError>
     ensures { IfOk result (λ copies. copies.items ≡ members.now) }
 {
     let mut copies = Vec::with_capacity(alloc, members.len())?;
@@ -113,8 +113,8 @@ impl Roster {
     pub fn new(
         protocol: ProtocolName,
         leader: MemberId,
-        members: Vec<Member>,
-    ) -> Result<Self, (ProtocolName, MemberId, Vec<Member>)>
+        members: Vec<MemberRecord>,
+    ) -> Result<Self, (ProtocolName, MemberId, Vec<MemberRecord>)>
         ensures cases { MatchResult result
             (λ roster. IsRoster (roster_of protocol leader members.items) × (roster ≡ roster_of protocol leader members.items))
             (λ back. (¬ IsRoster (roster_of protocol leader members.items)) × (back ≡ (protocol, leader, members))) }
@@ -131,7 +131,7 @@ impl Roster {
     }
 
     /// Builds a roster from parts that the caller knows to be lawful, in constant time.
-    pub fn from_lawful(protocol: ProtocolName, leader: MemberId, members: Vec<Member>) -> Self
+    pub fn from_lawful(protocol: ProtocolName, leader: MemberId, members: Vec<MemberRecord>) -> Self
         requires { IsRoster (roster_of protocol leader members.items) }
         ensures { result ≡ roster_of protocol leader members.items }
     {
@@ -145,7 +145,7 @@ impl Roster {
     /// Replaces the member with the new one's instance; the new member leads if the old one led (KIP-345). `id` is a
     /// copy of the new member's id. Nothing changes if no member has the instance, or another one has the id. No
     /// allocation.
-    pub fn replace(&mut self, new: Member, id: MemberId)
+    pub fn replace(&mut self, new: MemberRecord, id: MemberId)
         requires { id ≡ new.id }
         ensures { self.new ≡ replaced_in new self.old }
     {
@@ -174,7 +174,7 @@ impl Roster {
     }
 
     /// Returns the members in joining order.
-    pub fn members(&self) -> &[Member]
+    pub fn members(&self) -> &[MemberRecord]
         ensures value { result.now ≡ self.now.members }
         ensures lawful { IsRoster self.now }
     {

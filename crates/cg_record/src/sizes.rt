@@ -15,7 +15,7 @@ use crate::deleted::Deleted;
 use crate::emptied::Emptied;
 use crate::entries::{COMMIT_METADATA_BYTES_MAX, ENTRIES_MAX};
 use crate::entry::Entry;
-use crate::member::Member;
+use crate::member_record::MemberRecord;
 use crate::opaque::{ASSIGNMENT_BYTES_MAX, SUBSCRIPTION_BYTES_MAX};
 use crate::partitions::Partitions;
 use crate::replaced::Replaced;
@@ -191,7 +191,7 @@ fn name_size(name: &InstanceId) -> u64
 }
 
 #[tactic(auto, using(crate::proofs::TextLens::member_len, cg_names::proofs::Names::length_from_name))]
-fn member_size(member: &Member) -> u64
+fn member_size(member: &MemberRecord) -> u64
     ensures size { result ≡ length (member_text member.now) }
     ensures bound { result ≤ MEMBER_BYTES_MAX }
 {
@@ -204,7 +204,7 @@ fn member_size(member: &Member) -> u64
     MEMBER_FIXED_BYTES + names + texts
 }
 
-fn members_size(members: &[Member]) -> u64
+fn members_size(members: &[MemberRecord]) -> u64
     requires { length members.now ≤ MEMBERS_MAX }
     ensures size { result ≡ length (flat_map member_text members.now) }
     ensures bound { result ≤ MEMBERS_MAX * MEMBER_BYTES_MAX }

@@ -1,5 +1,5 @@
 pub mod Names
-pub mod Offers
-pub mod Handing
-pub mod Asking
+pub mod Protocols
+pub mod SyncEntries
+pub mod Request
 pub mod Commits

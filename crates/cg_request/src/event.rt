@@ -1,5 +1,5 @@
 //! The events of the group machine.
-use crate::request::{
+use crate::request_fields::{
     BeatRequest, CommitRequest, DropRequest, FetchRequest, JoinRequest, LeaveRequest, SyncRequest,
 };
 use crate::ticket::Ticket;

@@ -1,6 +1,6 @@
 //! The protocol list of a JOIN.
 ghost use Rattle.std.specs.Prelude.{◌≡◌, [], ◌∷◌, IfOk, MatchOption, OnErr};
-ghost use Rattle.cg_request.specs.Offers.{AreProtocols};
+ghost use Rattle.cg_request.specs.Protocols.{AreProtocols};
 
 use crate::protocol::{PROTOCOLS_MAX, Protocol};
 use cg_record::{Distinct, Keyed};
@@ -25,7 +25,7 @@ impl Model for Protocols {
 }
 
 impl Keyed for Protocol {
-    ghost use Rattle.cg_request.specs.Offers.{share_name};
+    ghost use Rattle.cg_request.specs.Protocols.{share_name};
 
     ghost shares = { share_name };
 

@@ -1,90 +1,51 @@
-//! The fields of each request.
-use crate::commits::Commits;
-use crate::protocols::Protocols;
-use crate::sync_entries::SyncEntries;
-use cg_names::{ClientId, GroupId, InstanceId, MemberId, ProtocolName};
-use cg_record::{Assignment, Partitions, RebalanceTimeout};
+//! The request enum: what a client sends, before it has a ticket.
+ghost use Rattle.std.specs.Prelude.{◌≡◌};
+ghost use Rattle.cg_request.specs.Request.{asked};
 
-/// JOIN (JoinGroup request).
+use crate::event::Event;
+use crate::request_fields::{
+    BeatRequest, CommitRequest, DropRequest, FetchRequest, JoinRequest, LeaveRequest, SyncRequest,
+};
+use crate::ticket::Ticket;
+use cg_names::GroupId;
+use uuid::Uuid;
+
+/// A request of a client: an event of the group machine without its ticket.
 #[derive(Debug, Drop)]
-pub struct JoinRequest {
-    pub group: Option<GroupId>,
-    /// Member id of the caller; `None` for a new member.
-    pub member: Option<MemberId>,
-    /// Instance id of a static member (KIP-345).
-    pub instance: Option<InstanceId>,
-    pub client: ClientId,
-    /// Session timeout in milliseconds, not yet checked against its limits (KIP-62).
-    pub session_ms: u32,
-    /// Rebalance timeout (KIP-62).
-    pub rebalance: RebalanceTimeout,
-    pub kind: ProtocolName,
-    /// Protocols that the member supports, the preferred one first.
-    pub protocols: Protocols,
+pub enum Request {
+    Join(JoinRequest),
+    Sync(SyncRequest),
+    Beat(BeatRequest),
+    Leave(LeaveRequest),
+    Commit(CommitRequest),
+    Fetch(FetchRequest),
+    /// DELETE (DeleteGroups request) of one group.
+    Delete(Option<GroupId>),
+    /// DROP (OffsetDelete request, KIP-496) of partitions of one group.
+    Drop(DropRequest),
+    /// DESCRIBE (DescribeGroups request) of one group.
+    Describe(Option<GroupId>),
+    /// LIST (ListGroups request).
+    List,
 }
 
-/// Assignment of one member, from the leader's SYNC.
-#[derive(Debug, Drop)]
-pub struct SyncEntry {
-    pub member: MemberId,
-    pub assignment: Assignment,
-}
-
-/// SYNC (SyncGroup request).
-#[derive(Debug, Drop)]
-pub struct SyncRequest {
-    pub group: Option<GroupId>,
-    pub generation: i32,
-    pub member: Option<MemberId>,
-    /// Instance id of a static member (KIP-345).
-    pub instance: Option<InstanceId>,
-    /// Assignments of the members, from the leader; otherwise empty.
-    pub entries: SyncEntries,
-}
-
-/// BEAT (Heartbeat request).
-#[derive(Debug, Drop)]
-pub struct BeatRequest {
-    pub group: Option<GroupId>,
-    pub generation: i32,
-    pub member: Option<MemberId>,
-    /// Instance id of a static member (KIP-345).
-    pub instance: Option<InstanceId>,
-}
-
-/// LEAVE (LeaveGroup request).
-#[derive(Debug, Drop)]
-pub struct LeaveRequest {
-    pub group: Option<GroupId>,
-    pub member: Option<MemberId>,
-    /// Instance id of the static member that leaves; the member id may then be left out (KIP-345).
-    pub instance: Option<InstanceId>,
-}
-
-/// COMMIT (OffsetCommit request).
-#[derive(Debug, Drop)]
-pub struct CommitRequest {
-    pub group: Option<GroupId>,
-    /// Generation of the caller; negative for a non-member (a simple consumer).
-    pub generation: i32,
-    pub member: Option<MemberId>,
-    /// Instance id of a static member (KIP-345).
-    pub instance: Option<InstanceId>,
-    pub entries: Commits,
-}
-
-/// FETCH (OffsetFetch request).
-#[derive(Debug, Drop)]
-pub struct FetchRequest {
-    pub group: Option<GroupId>,
-    /// Partitions whose offsets are asked for, in request order.
-    pub partitions: Partitions,
-}
-
-/// DROP (OffsetDelete request, KIP-496).
-#[derive(Debug, Drop)]
-pub struct DropRequest {
-    pub group: Option<GroupId>,
-    /// Partitions whose offsets are removed, in request order.
-    pub partitions: Partitions,
+impl Request {
+    /// Returns the event of this request under the ticket. A JOIN keeps the UUID, from which a member id may be drawn.
+    /// Moves the request and does not allocate.
+    pub fn into_event(self, ticket: Ticket, fresh: Uuid) -> Event
+        ensures { result ≡ asked self ticket fresh }
+    {
+        match self {
+            Request::Join(request) => Event::Join(ticket, request, fresh),
+            Request::Sync(request) => Event::Sync(ticket, request),
+            Request::Beat(request) => Event::Beat(ticket, request),
+            Request::Leave(request) => Event::Leave(ticket, request),
+            Request::Commit(request) => Event::Commit(ticket, request),
+            Request::Fetch(request) => Event::Fetch(ticket, request),
+            Request::Delete(group) => Event::Delete(ticket, group),
+            Request::Drop(request) => Event::Drop(ticket, request),
+            Request::Describe(group) => Event::Describe(ticket, group),
+            Request::List => Event::List(ticket),
+        }
+    }
 }

@@ -1,5 +1,5 @@
 //! The entries of a SYNC.
-use crate::request::SyncEntry;
+use crate::request_fields::SyncEntry;
 use cg_record::{Distinct, Keyed, MEMBERS_MAX};
 
 /// The entries of a leader's SYNC: at most `MEMBERS_MAX`, all for different members, in request order. A member that does
@@ -7,7 +7,7 @@ use cg_record::{Distinct, Keyed, MEMBERS_MAX};
 pub type SyncEntries = Distinct<SyncEntry, 0, MEMBERS_MAX>;
 
 impl Keyed for SyncEntry {
-    ghost use Rattle.cg_request.specs.Handing.{share_member};
+    ghost use Rattle.cg_request.specs.SyncEntries.{share_member};
 
     ghost shares = { share_member };
 

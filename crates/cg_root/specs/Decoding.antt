@@ -8,7 +8,7 @@ use Rattle.cg_gate.specs.Gates.{IsClosed}
 use Rattle.cg_gate.specs.Layout.{segment_count}
 use Rattle.cg_root.specs.Slots.{gate_of}
 use Rattle.cg_root.specs.Roots.{AreSegments, IsBroken, RootAt}
-use Rattle.cg_root.specs.declared.decoding.Head.{Head}
+use Rattle.cg_root.specs.declared.root_decoder.Head.{Head}
 use Rattle.cg_root.specs.declared.fault.RootFault.{RootFault}
 use Rattle.cg_root.specs.declared.fault.RootFault.TheVariants.{NoRoot, BadRoot}
 use Rattle.cg_root.specs.declared.root.Root.{Root}

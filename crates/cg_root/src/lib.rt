@@ -3,13 +3,14 @@
 //! It stands on `cg_disk`, and on `cg_gate` for the layout and the order of its writes.
 #![tactic(auto)]
 
-mod decoding;
-mod encoding;
 mod fault;
-mod format;
 mod laws;
-mod reading;
 mod root;
+mod root_decoder;
+mod root_encoder;
+mod root_layout;
+mod root_reader;
+mod root_writer;
 mod sector_builder;
 mod segment_id;
 mod segment_ids;
@@ -17,14 +18,13 @@ mod slot;
 mod slot_state;
 #[cfg(test)]
 mod tests;
-mod writing;
 
 pub use fault::RootFault;
-pub use format::{BASE_NUMBER_MAX, EPOCH_MAX, VERSION, root_numbers};
 pub use laws::root_laws;
-pub use reading::read_root;
 pub use root::Root;
+pub use root_layout::{BASE_NUMBER_MAX, EPOCH_MAX, VERSION, root_numbers};
+pub use root_reader::read_root;
+pub use root_writer::{close_other, publish};
 pub use segment_id::SegmentId;
 pub use segment_ids::SegmentIds;
 pub use slot::Slot;
-pub use writing::{close_other, publish};

@@ -6,7 +6,7 @@ ghost use Rattle.cg_disk.specs.Disk.{sector};
 ghost use Rattle.cg_root.specs.Decoding.{IsState, counting_slot, greater_epoch};
 ghost use Rattle.cg_root.specs.Slots.{gate_of};
 
-use crate::decoding::{head_of, is_root_body};
+use crate::root_decoder::{head_of, is_root_body};
 use crate::{RootFault, Slot};
 use cg_disk::SECTOR_BYTES;
 use cg_gate::OPEN;

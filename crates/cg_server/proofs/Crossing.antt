@@ -10,7 +10,7 @@ use Rattle.cg_disk.specs.declared.disk.SectorDisk as disk
 use Rattle.cg_engine.proofs.Crossing.{engine_shared}
 use Rattle.cg_server.specs.contracts.server.Server as Server
 use Rattle.cg_server.proofs.bell.Bell.TheSendSync as bell
-use Rattle.cg_server.proofs.moments.Moments.TheSendSync as moments
+use Rattle.cg_server.proofs.wall_clock.Moments.TheSendSync as moments
 use Rattle.cg_server.proofs.options.Options.TheSendSync as options
 use Rattle.cg_server.proofs.inbox.Inbox.TheSendSync as inbox
 use Rattle.cg_server.proofs.room.Room.TheSendSync as room

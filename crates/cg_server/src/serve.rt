@@ -3,18 +3,18 @@ ghost use Rattle.std.specs.Prelude.{◌≡◌, ◌≤◌, true, false, is_some, 
 ghost use Rattle.std.specs.Io.KnownBytes.{Appends};
 ghost use Rattle.std.specs.Net.Text.{socket_text};
 ghost use Rattle.std.specs.Thread.{IsSend, IsSync};
-ghost use Rattle.cg_engine.specs.declared.bounds.TheConstants.{PARTS};
+ghost use Rattle.cg_engine.specs.declared.engine_limits.TheConstants.{PARTS};
 ghost use Rattle.cg_server.specs.Ending.{Broke, Closes, Ends, Refuses, Reports, Serves, listening_text};
 
 use crate::crew::run_crew;
 use crate::inbox::Inbox;
-use crate::moments::{Moments, present};
 use crate::options::Options;
 use crate::output::{print_closed, print_listening, print_stop};
 use crate::reporter::{load_and_print, run_reports};
 use crate::server::Server;
 use crate::stop::{STATUS_CLOSED, STATUS_DISK, STATUS_NET, ServerEnd, Stop, say_cause};
 use crate::tally::Tally;
+use crate::wall_clock::{Moments, present};
 use cg_disk::SectorDisk;
 use cg_engine::{Engine, PARTS, SessionPass};
 use cg_gate::segment_count;

@@ -1,11 +1,11 @@
 //! What the threads of a server share.
 use crate::bell::Bell;
 use crate::inbox::Inbox;
-use crate::moments::Moments;
 use crate::options::Options;
 use crate::passes::Passes;
 use crate::room::Room;
 use crate::tally::Tally;
+use crate::wall_clock::Moments;
 use cg_disk::SectorDisk;
 use cg_engine::{Engine, RoundEnd, RoundFault, SessionPass, Taken};
 use std::alloc::Global;

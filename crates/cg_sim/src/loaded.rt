@@ -6,11 +6,11 @@ ghost use Rattle.cg_store.specs.Store.{disk_of};
 ghost use Rattle.cg_world.specs.Sights.{store_of};
 ghost use Rattle.cg_sim.specs.Disk.{IsInjected, sectors_of};
 
-use crate::call::Call;
 use crate::compaction::{CompactStep, Compaction};
+use crate::output_lines;
+use crate::session_request::Call;
 use crate::stage::Disk;
 use crate::stop::Stop;
-use crate::telling;
 use cg_desk::Outgoing;
 use cg_disk::MemDisk;
 use cg_world::{Step, StepNote, World};
@@ -48,7 +48,10 @@ impl Loaded {
     {
         let Loaded { world, sectors } = self;
         let (world, trace) = cg_world::run(alloc, world, steps);
-        (Loaded { world, sectors }, telling::put_trace(&trace, out))
+        (
+            Loaded { world, sectors },
+            output_lines::put_trace(&trace, out),
+        )
     }
 
     /// Takes a step that is not a request, and prints its trace.
@@ -108,7 +111,7 @@ impl Loaded {
         let (world, trace) = cg_world::run(alloc, world, steps);
         let note = trace.notes.as_slice().last().copied();
         let loaded = Loaded { world, sectors };
-        match telling::put_trace(&trace, out) {
+        match output_lines::put_trace(&trace, out) {
             Ok(()) => (loaded, Ok(note)),
             Err(stop) => (loaded, Err(stop)),
         }
@@ -161,7 +164,7 @@ impl Loaded {
         ensures same_size { sectors_of (loaded_disk result.0) ≡ sectors_of (loaded_disk self) }
     {
         let aborted = self.world.compact_abort();
-        (self, telling::put_abort(aborted, out))
+        (self, output_lines::put_abort(aborted, out))
     }
 
     /// Serves a request, or refuses it if an allocation fails.
@@ -177,7 +180,7 @@ impl Loaded {
         } = call;
         match vec![in alloc; Step::Request(ticket, request, now, fresh)] {
             Ok(steps) => self.run(alloc, steps, out),
-            Err(_) => (self, telling::put_refusal(ticket, out)),
+            Err(_) => (self, output_lines::put_refusal(ticket, out)),
         }
     }
 

@@ -6,13 +6,13 @@ ghost use Rattle.cg_sim.specs.Stages.{is_refused, size_of};
 ghost use Rattle.cg_sim.specs.declared.line.Line.{Line};
 ghost use Rattle.cg_sim.specs.declared.line.Line.TheVariants as form;
 
-use crate::call::Call;
 use crate::line::{Line, draws_uuid};
+use crate::output_lines;
 use crate::poke::Poke;
 use crate::sector_text::SectorText;
+use crate::session_request::Call;
 use crate::stage::Stage;
 use crate::stop::Stop;
-use crate::telling;
 use cg_disk::Crash;
 use cg_group::Ticket;
 use cg_line::LineFault;
@@ -218,7 +218,7 @@ impl Player {
                 };
                 stage.ask(self.alloc, call, out)
             }
-            Err(LineFault::Memory) => (stage, telling::put_refusal(ticket, out)),
+            Err(LineFault::Memory) => (stage, output_lines::put_refusal(ticket, out)),
             Err(LineFault::Malformed) | Err(LineFault::TooLong) => {
                 (stage, Err(Stop::BadLine(ticket.number)))
             }

@@ -9,15 +9,15 @@ ghost use Rattle.cg_sim.specs.Disk.{IsInjected, moment_of, sectors_of};
 ghost use Rattle.cg_sim.specs.Poking.{IsPoked, sector_of};
 ghost use Rattle.cg_sim.specs.Stages.{injected_disk, is_loaded, is_poked, is_refused, poked_disk, pokes_waiting, size_of, stage_disk, stage_pokes, taken_disk, taken_pokes, unloaded_disk};
 
-use crate::call::Call;
 use crate::compaction::Compaction;
 use crate::line::Line;
 use crate::loaded::Loaded;
+use crate::output_lines;
 use crate::poke::Poke;
 use crate::poked::Poked;
 use crate::poked_disk::PokedDisk;
+use crate::session_request::Call;
 use crate::stop::Stop;
-use crate::telling;
 use crate::unloaded::Unloaded;
 use cg_desk::Outgoing;
 use cg_disk::{Crash, FuseDisk, MemDisk, OnceDisk};
@@ -228,7 +228,7 @@ impl Stage {
         ensures same_size { size_of result.0 ≡ size_of self }
     {
         let (refused, disk) = self.end(alloc);
-        let printed = telling::put_all(refused.as_slice(), out);
+        let printed = output_lines::put_all(refused.as_slice(), out);
         let (disk, put) = disk.crash(Crash::Keep);
         let unloaded = Unloaded::new(alloc, disk);
         (Stage::Unloaded(unloaded), first_stop(printed, put))

@@ -7,12 +7,12 @@ ghost use Rattle.cg_disk.specs.Mem.{mem_failures};
 ghost use Rattle.cg_sim.specs.Disk.{IsInjected, moment_of, sectors_of};
 ghost use Rattle.cg_sim.specs.Poking.{IsPoked, sector_of};
 
-use crate::call::Call;
 use crate::loaded::Loaded;
+use crate::output_lines;
 use crate::poke::Poke;
+use crate::session_request::Call;
 use crate::stage::{Disk, Stage};
 use crate::stop::Stop;
-use crate::telling;
 use cg_desk::{Desk, ReplyToken};
 use cg_disk::{FuseDisk, MemDisk, OnceDisk, SectorDisk};
 use cg_names::{Code, Moment};
@@ -51,11 +51,11 @@ impl Unloaded {
         match World::open(alloc, disk, now) {
             Ok(world) => {
                 let _ = desk.close();
-                let printed = telling::put_opening(alloc, world.opening(), out);
+                let printed = output_lines::put_opening(alloc, world.opening(), out);
                 (Stage::Loaded(Loaded::new(world, sectors)), printed)
             }
             Err((fault, disk)) => {
-                let printed = telling::put_open_fault(fault, out);
+                let printed = output_lines::put_open_fault(fault, out);
                 (Stage::Unloaded(Unloaded { desk, disk }), printed)
             }
         }
@@ -74,8 +74,11 @@ impl Unloaded {
         } = call;
         let token = ReplyToken::new(ticket);
         match self.desk.request(token, request, now, fresh) {
-            Ok(replies) => telling::put_all(replies.as_slice(), out)?,
-            Err((_, token)) => telling::put_reply(&token.refuse(Code::UnknownServerError), out)?,
+            Ok(replies) => output_lines::put_all(replies.as_slice(), out)?,
+            Err((_, token)) => output_lines::put_reply(
+                &token.refuse(Code::UnknownServerError),
+                out,
+            )?,
         }
         Ok(())
     }

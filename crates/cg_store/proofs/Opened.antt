@@ -7,7 +7,7 @@ use Rattle.cg_log.proofs.Images as log
 use Rattle.cg_store.specs.Carried.{Carries, Spell}
 use Rattle.cg_store.specs.Faults.{HasBadRecord}
 use Rattle.cg_store.specs.Loading.{HasRead}
-use Rattle.cg_store.specs.declared.loading.Loading.{Loading}
+use Rattle.cg_store.specs.declared.recovery.Loading.{Loading}
 use Rattle.cg_store.proofs.Reading.{all-read, not-all-read}
 
 module _ (image : Image) (sectors number : ℕ) (base tail : Frames) (loading : Loading) (carried : LogCarries image sectors number base tail) (read : HasRead (base ++ tail) loading) where

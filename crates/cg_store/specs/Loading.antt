@@ -10,7 +10,7 @@ use Rattle.cg_record.specs.declared.command.Command.{Command}
 use Rattle.cg_store.specs.Carried.{AreFramesOf, IsFrameOf, Spell}
 use Rattle.cg_store.specs.Faults.{is_loading_failure}
 use Rattle.cg_store.specs.declared.fault.OpenFault.{OpenFault}
-use Rattle.cg_store.specs.declared.loading.Loading.{Loading}
+use Rattle.cg_store.specs.declared.recovery.Loading.{Loading}
 
 -- a recovery failed because of the disk
 abbrev pub failed_loading : {T : Type 0} → Result T OpenFault → Bool

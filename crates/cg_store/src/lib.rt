@@ -3,29 +3,29 @@
 //! It uses `cg_log` for the frames of a disk, and `cg_fold` for the state.
 #![tactic(auto)]
 
-mod appending;
 mod batch;
+mod batch_append;
 mod commands;
-mod compacting;
 mod compaction;
+mod compaction_calls;
+mod compaction_work;
 mod fault;
-mod formatted;
-mod fusing;
+mod fused_store;
 mod laws;
-mod loading;
-mod opening;
+mod new_store;
+mod open_store;
 mod phase;
 mod receipt;
+mod recovery;
 mod snapshot_frames;
-mod stepping;
 mod store;
 
 pub use batch::Batch;
 pub use cg_log::{COMMAND_NUMBER_MAX, LogFault};
 pub use commands::Commands;
 pub use fault::{CompactFault, OpenFault, StoreFault};
-pub use formatted::format;
 pub use laws::{images_carry_commands, images_carry_one_pair};
+pub use new_store::format;
 pub use phase::{Phase, Progress};
 pub use receipt::Receipt;
 pub use store::Store;

@@ -1,7 +1,7 @@
 //! Actors over one engine on a disk in memory: each plays a script in a thread of its own. A turn of one that waits is a look
 //! and a pause of a millisecond.
 ghost use Rattle.std.specs.Prelude.{◌≡◌, ◌≤◌};
-ghost use Rattle.cg_engine.specs.declared.bounds.TheConstants.{PARTS};
+ghost use Rattle.cg_engine.specs.declared.engine_limits.TheConstants.{PARTS};
 
 use super::storm::call_at_random;
 use cg_disk::{Gate, GateDisk, MemDisk, SectorDisk};

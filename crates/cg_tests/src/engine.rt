@@ -1,6 +1,6 @@
 //! What an engine answers to threads that wait for one another, and reports at its beginning and end.
 ghost use Rattle.std.specs.Prelude.{◌≡◌, ◌≤◌};
-ghost use Rattle.cg_engine.specs.declared.bounds.TheConstants.{PARTS};
+ghost use Rattle.cg_engine.specs.declared.engine_limits.TheConstants.{PARTS};
 
 use super::actor::{Outcome, Round, Step, formatted, outcome_of};
 use cg_disk::MemDisk;

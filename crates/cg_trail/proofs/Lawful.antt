@@ -2,11 +2,11 @@
 use Rattle.std.proofs.Common.{◌≡◌, ◌<◌, List, [], ◌∷◌, ◌++◌, length, refl, ap, sym, ◌∙◌, append_assoc, append-nil, arith}
 use Rattle.std.proofs.lemmas.List.{nil_from_length}
 use Rattle.cg_group.specs.Laws.{commands_of}
-use Rattle.cg_held.specs.Held.{Machine}
+use Rattle.cg_group_table.specs.GroupTable.{Machine}
 use Rattle.cg_record.specs.declared.command.Command.{Command}
 use Rattle.cg_trail.specs.Entries.{events_of, recorded, replies_of, step_of}
 use Rattle.cg_trail.specs.Trails.{AreLawful}
-use Rattle.cg_trail.specs.declared.entry.TrailEntry.{TrailEntry}
+use Rattle.cg_trail.specs.declared.trail_entry.TrailEntry.{TrailEntry}
 
 -- entries from a state are the first, from there, and the others after it
 pub record IsFirst (all : List TrailEntry) (s : Machine) (e : TrailEntry) (others : List TrailEntry) (next : Machine) : Type 0 where

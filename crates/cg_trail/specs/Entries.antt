@@ -2,14 +2,14 @@
 use Rattle.std.specs.Prelude.{ℕ, List, [], ◌∷◌, map}
 use Rattle.std.specs.List.{flat_map}
 use Rattle.cg_group.specs.Machine.{step}
-use Rattle.cg_held.specs.Held.{Machine, Outcome}
-use Rattle.cg_member.specs.declared.reply.Reply.{Reply}
-use Rattle.cg_request.specs.Asking.{asked}
+use Rattle.cg_group_table.specs.GroupTable.{Machine, Outcome}
+use Rattle.cg_group_state.specs.declared.reply.Reply.{Reply}
+use Rattle.cg_request.specs.Request.{asked}
 use Rattle.cg_request.specs.declared.event.Event.{Event}
 use Rattle.cg_request.specs.declared.event.Event.TheVariants as event
 use Rattle.cg_request.specs.declared.ticket.Ticket.{Ticket}
-use Rattle.cg_trail.specs.declared.entry.TrailEntry.{TrailEntry}
-use Rattle.cg_trail.specs.declared.entry.TrailEntry.TheVariants.{Request, Tick}
+use Rattle.cg_trail.specs.declared.trail_entry.TrailEntry.{TrailEntry}
+use Rattle.cg_trail.specs.declared.trail_entry.TrailEntry.TheVariants.{Request, Tick}
 
 -- a reply, with the ticket of its call
 abbrev pub Answer : Type 0

@@ -2,11 +2,11 @@
 use Rattle.std.specs.Prelude.{◌≡◌, ◌⊎◌, ℕ, List, [], ◌∷◌, map, length, take}
 use Rattle.cg_fold.specs.Durable.{folded}
 use Rattle.cg_group.specs.Laws.{commands_of}
-use Rattle.cg_held.specs.Held.{Machine}
-use Rattle.cg_held.specs.Reviving.{revive}
+use Rattle.cg_group_table.specs.GroupTable.{Machine}
+use Rattle.cg_group_table.specs.Recovery.{revive}
 use Rattle.cg_record.specs.declared.command.Command.{Command}
 use Rattle.cg_trail.specs.Entries.{Answer, all_recorded, events_of, recorded, replies_of}
-use Rattle.cg_trail.specs.declared.entry.TrailEntry.{TrailEntry}
+use Rattle.cg_trail.specs.declared.trail_entry.TrailEntry.{TrailEntry}
 
 -- the commands of the loaded state, the moment of loading, the entries, and the number of entries that have room
 pub record TrailParts : Type 0 where

@@ -3,9 +3,9 @@ ghost use Rattle.std.specs.Prelude.{◌↔◌, ◌++◌, ◌∷◌, [], IsTrue, 
 ghost use Rattle.cg_trail.specs.Entries.{Answer, all_recorded};
 ghost use Rattle.cg_trail.specs.Trails.{AreAnswers, ArePicked};
 
-use crate::entry::TrailEntry;
 use crate::same::Same;
 use crate::trail::Trail;
+use crate::trail_entry::TrailEntry;
 use cg_group::{Reply, Ticket};
 
 // Goes past the replies, and past each answer that is found among them in its turn. Returns the answers that are left.

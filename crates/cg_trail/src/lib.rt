@@ -4,15 +4,15 @@
 #![tactic(auto)]
 
 mod answers;
-mod copies;
-mod entry;
 mod replay;
+mod request_copies;
 mod same;
 mod same_command;
 mod same_reply;
 mod trail;
+mod trail_entry;
 
-pub use copies::copied_request;
-pub use entry::{Replies, RequestEntry, TickEntry, TrailEntry};
 pub use replay::begins_with;
+pub use request_copies::copied_request;
 pub use trail::Trail;
+pub use trail_entry::{Replies, RequestEntry, TickEntry, TrailEntry};

@@ -2,13 +2,13 @@
 ghost use Rattle.std.specs.Prelude.{◌≡◌, ◌↔◌, ◌++◌, IsTrue, IfOk, OnOk, MatchOption};
 ghost use Rattle.cg_fold.specs.Durable.{folded};
 ghost use Rattle.cg_group.specs.Laws.{commands_of};
-ghost use Rattle.cg_held.specs.Reviving.{revive};
+ghost use Rattle.cg_group_table.specs.Recovery.{revive};
 ghost use Rattle.cg_trail.specs.Entries.{events_of, recorded, step_of};
 ghost use Rattle.cg_trail.specs.Trails.{AreLawful, BeginsWith, IsLawful, made_by};
 
-use crate::entry::TrailEntry;
 use crate::same::are_same;
 use crate::trail::Trail;
+use crate::trail_entry::TrailEntry;
 use cg_fold::Durable;
 use cg_group::{Few, Groups};
 use cg_names::Moment;

@@ -1,7 +1,7 @@
 //! Equality of values as contracts see them.
 ghost use Rattle.std.specs.Prelude.{◌≡◌, ◌↔◌, IsTrue};
 
-use cg_member::few::Few;
+use cg_group_state::few::Few;
 use cg_names::{Code, Name, ShortName};
 use cg_record::{Metadata, Opaque};
 use cg_request::listed::Listed;

@@ -1,7 +1,7 @@
 //! A trail: what was loaded, and what was asked and replied since.
 ghost use Rattle.std.specs.Prelude.{◌≡◌, ◌<◌, ◌≤◌, ◌-◌, ◌++◌, ◌∷◌, [], OnErr, OnOk};
 
-use crate::entry::TrailEntry;
+use crate::trail_entry::TrailEntry;
 use cg_group::Listed;
 use cg_names::Moment;
 use cg_record::Command;

@@ -3,7 +3,7 @@ use Rattle.std.proofs.Common.{◌≡◌, ℕ, Bool, true, false, List, [], ◌�
 use Rattle.std.specs.Prelude.{if◌then◌else◌, Result, Ok, Err, IfOk, OnErr}
 use Rattle.cg_request.specs.declared.event.Event.{Event}
 use Rattle.cg_request.specs.declared.event.Event.TheVariants.{Gone, Tick}
-use Rattle.cg_member.specs.declared.reply.Reply.TheVariants.{Refused}
+use Rattle.cg_group_state.specs.declared.reply.Reply.TheVariants.{Refused}
 use Rattle.cg_names.specs.declared.code.Code.TheVariants.{CoordinatorNotAvailable}
 use Rattle.cg_desk.specs.Books.{Books, is_short, letting_go, served}
 use Rattle.cg_desk.specs.Desks.{Answer, State, Loading, Serving, Failed, at_rest, gone_on, request_on, serving, tick_on}

@@ -5,17 +5,17 @@ use Rattle.std.specs.Option.{option_to_list}
 use Rattle.std.proofs.lemmas.Bool.{false≢true}
 use Rattle.cg_request.specs.declared.event.Event.{Event}
 use Rattle.cg_request.specs.declared.event.Event.TheVariants as event
-use Rattle.cg_member.specs.declared.reply.Reply.TheVariants.{Refused}
-use Rattle.cg_request.specs.Asking.{asked}
+use Rattle.cg_group_state.specs.declared.reply.Reply.TheVariants.{Refused}
+use Rattle.cg_request.specs.Request.{asked}
 use Rattle.cg_group.specs.Laws.{after_all, commands_of}
 use Rattle.cg_group.specs.Machine.{step}
-use Rattle.cg_held.specs.Held.{Machine}
+use Rattle.cg_group_table.specs.GroupTable.{Machine}
 use Rattle.cg_names.specs.declared.code.Code.TheVariants.{CoordinatorNotAvailable}
 use Rattle.cg_record.specs.declared.command.Command.{Command}
 use Rattle.cg_desk.specs.Books.{Books, is_short, letting_go, returning, served, settling, taking}
 use Rattle.cg_desk.specs.Desks.{Answer, State, Loading, Serving, Failed, at_rest, gone_on, request_on, serving, settle_on, tick_on}
 use Rattle.cg_desk.specs.Outgoings.{answer}
-use Rattle.cg_desk.specs.declared.held.HeldStep.{HeldStep}
+use Rattle.cg_desk.specs.declared.pending_replies.HeldStep.{HeldStep}
 use Rattle.cg_desk.specs.declared.outgoing.Outgoing.{Outgoing}
 use Rattle.cg_desk.specs.declared.token.ReplyToken.{ReplyToken}
 use Rattle.cg_world.specs.Agreeing.{is_serving}

@@ -3,15 +3,15 @@ use Rattle.std.proofs.Common.{◌≡◌, ℕ, ◌+◌, ◌≤◌, Bool, true, fa
 use Rattle.std.specs.Prelude.{if◌then◌else◌, is_some, Result, Ok, Err, IfOk, OnOk, OnErr}
 use Rattle.std.proofs.lemmas.Bool.{false≢true}
 use Rattle.cg_fold.specs.Durable.{State as Durable}
-use Rattle.cg_request.specs.declared.asking.Request.{Request as Asked}
-use Rattle.cg_request.specs.declared.asking.Request.TheVariants as asking
+use Rattle.cg_request.specs.declared.request.Request.{Request as Asked}
+use Rattle.cg_request.specs.declared.request.Request.TheVariants as asking
 use Rattle.cg_request.specs.declared.event.Event.{Event}
 use Rattle.cg_request.specs.declared.event.Event.TheVariants as event
-use Rattle.cg_member.specs.declared.reply.Reply.TheVariants.{Refused}
+use Rattle.cg_group_state.specs.declared.reply.Reply.TheVariants.{Refused}
 use Rattle.cg_request.specs.declared.ticket.Ticket.{Ticket}
-use Rattle.cg_request.specs.Asking.{asked}
+use Rattle.cg_request.specs.Request.{asked}
 use Rattle.cg_group.specs.Machine.{step}
-use Rattle.cg_held.specs.Reviving.{revive}
+use Rattle.cg_group_table.specs.Recovery.{revive}
 use Rattle.cg_names.specs.declared.code.Code.TheVariants.{CoordinatorNotAvailable}
 use Rattle.cg_store.specs.Carried.{AreMade}
 use Rattle.cg_desk.specs.Balanced.{IsBalanced}
@@ -23,7 +23,7 @@ use Rattle.cg_desk.specs.Outgoings.{answer}
 use Rattle.cg_desk.specs.Owed.{KeepsCalls}
 use Rattle.cg_desk.specs.Tokens.{call_of}
 use Rattle.cg_store.specs.declared.batch.Batch.{Batch}
-use Rattle.cg_desk.specs.declared.held.HeldStep.{HeldStep}
+use Rattle.cg_desk.specs.declared.pending_replies.HeldStep.{HeldStep}
 use Rattle.cg_desk.specs.declared.outgoing.Outgoing.{Outgoing}
 use Rattle.cg_desk.specs.declared.token.ReplyToken.{ReplyToken}
 use Rattle.cg_desk.proofs.Balanced.{desks_stay_balanced}

@@ -8,7 +8,7 @@ use Rattle.cg_store.specs.Carried.{Carries}
 use Rattle.cg_store.specs.Store.{StandsAt, disk_of, sectors_of}
 use Rattle.cg_store.proofs.Whole.{Carries-same, Carries-unique}
 use Rattle.cg_desk.specs.Desks.{Serving, opened, settled_of}
-use Rattle.cg_held.specs.Reviving.{revive}
+use Rattle.cg_group_table.specs.Recovery.{revive}
 use Rattle.cg_world.specs.Agreeing.{is_serving}
 use Rattle.cg_world.specs.Carrying.{CarriesAtLeast, CarriesFront}
 use Rattle.cg_world.specs.Lives.{AreLives, AreRuns, IsLife, Life, LifeKeeps, LivesKeep, NeverFalls, NothingSettledIsLost, Ran, numbered_by, world_after}

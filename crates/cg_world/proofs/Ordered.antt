@@ -6,11 +6,11 @@ use Rattle.std.proofs.lemmas.Bool.{leb-false, leb-true, le-leb, lt-leb}
 use Rattle.std.proofs.lemmas.Grind.{flat_map-append}
 use Rattle.std.proofs.lemmas.List.Elements.{filter-append}
 use Rattle.std.proofs.Math.Numerals.{one-add}
-use Rattle.cg_member.specs.declared.reply.Reply.{Reply}
+use Rattle.cg_group_state.specs.declared.reply.Reply.{Reply}
 use Rattle.cg_request.specs.declared.ticket.Ticket.{Ticket}
 use Rattle.cg_desk.specs.Held.{holding, leaving_of, ready}
 use Rattle.cg_desk.specs.Origins.{sent}
-use Rattle.cg_desk.specs.declared.held.HeldStep.{HeldStep}
+use Rattle.cg_desk.specs.declared.pending_replies.HeldStep.{HeldStep}
 use Rattle.cg_desk.specs.declared.origin.Origin.{Origin}
 use Rattle.cg_world.specs.Orderly.{AreInOrder, due, is_due}
 

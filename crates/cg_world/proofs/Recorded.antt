@@ -1,8 +1,8 @@
 -- Lawful commands make lawful records, none of generation 0.
 use Rattle.std.proofs.Common.{◌≤◌, Option, None, Some, IfSome}
-use Rattle.cg_fold.specs.declared.record.GroupRecord.{GroupRecord}
+use Rattle.cg_fold.specs.declared.group_record.GroupRecord.{GroupRecord}
 use Rattle.cg_fold.specs.Durable.{State}
-use Rattle.cg_held.specs.Kept.{kept_in}
+use Rattle.cg_group_table.specs.Kept.{kept_in}
 use Rattle.cg_store.specs.Carried.{AreMade}
 use Rattle.cg_store.proofs.Whole.{Carries-commands}
 use Rattle.cg_desk.proofs.Recorded.{AreSound, IsSound, made-sound, sound-records}

@@ -3,12 +3,12 @@ use Rattle.std.proofs.Common.{ℕ, ◌++◌, List, [], ◌∷◌}
 use Rattle.std.specs.Prelude.{Option, None, Some}
 use Rattle.cg_request.specs.declared.event.Event.{Event}
 use Rattle.cg_group.specs.Machine.{step}
-use Rattle.cg_held.specs.Held.{Outcome}
+use Rattle.cg_group_table.specs.GroupTable.{Outcome}
 use Rattle.cg_desk.specs.Books.{Books}
 use Rattle.cg_desk.specs.Desks.{State, Loading, Serving, Failed}
 use Rattle.cg_desk.specs.Held.{holding}
 use Rattle.cg_desk.specs.Origins.{origin_of}
-use Rattle.cg_desk.specs.declared.held.HeldStep.{HeldStep}
+use Rattle.cg_desk.specs.declared.pending_replies.HeldStep.{HeldStep}
 use Rattle.cg_world.specs.Replying.{asker}
 use Rattle.cg_world.specs.Sights.{Sight}
 use Rattle.cg_world.specs.Turns.{event_of, turn}

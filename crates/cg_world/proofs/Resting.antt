@@ -2,7 +2,7 @@
 use Rattle.std.proofs.Common.{◌≡◌, ℕ, Bool, true, false, length, refl, sym}
 use Rattle.std.proofs.lemmas.Bool.{false≢true}
 use Rattle.std.specs.Prelude.{is_some}
-use Rattle.cg_request.specs.Asking.{asked}
+use Rattle.cg_request.specs.Request.{asked}
 use Rattle.cg_request.specs.declared.event.Event.{Event}
 use Rattle.cg_desk.specs.Desks.{Answer, State, Loading, Serving, Failed, gone_on, request_on, return_to, settle_on, tick_on}
 use Rattle.cg_desk.specs.declared.token.ReplyToken.{ReplyToken}

@@ -5,9 +5,9 @@ use Rattle.std.proofs.lemmas.Bool.{false≢true}
 use Rattle.cg_disk.specs.Disk.{History, Image, LeavesOnly}
 use Rattle.cg_disk.proofs.Moments.{LeavesOnly-present, LeavesOnly-weaker}
 use Rattle.cg_fold.specs.Durable.{State as Durable, after}
-use Rattle.cg_request.specs.declared.asking.Request.{Request as Asked}
+use Rattle.cg_request.specs.declared.request.Request.{Request as Asked}
 use Rattle.cg_request.specs.declared.ticket.Ticket.{Ticket}
-use Rattle.cg_request.specs.Asking.{asked}
+use Rattle.cg_request.specs.Request.{asked}
 use Rattle.cg_record.specs.declared.command.Command.{Command}
 use Rattle.cg_log.specs.Log as log_model
 use Rattle.cg_store.specs.Carried.{Carries, CarriesBeforeOrAfter}

@@ -4,11 +4,11 @@ use Rattle.std.specs.Prelude.{if◌then◌else◌, is_some}
 use Rattle.std.specs.Option.{option_to_list}
 use Rattle.std.proofs.lemmas.Bool.{false≢true}
 use Rattle.std.proofs.lemmas.List.{take-append-drop}
-use Rattle.cg_request.specs.declared.asking.Request.{Request as Asked}
+use Rattle.cg_request.specs.declared.request.Request.{Request as Asked}
 use Rattle.cg_request.specs.declared.event.Event.{Event}
 use Rattle.cg_request.specs.declared.event.Event.TheVariants as event
 use Rattle.cg_request.specs.declared.ticket.Ticket.{Ticket}
-use Rattle.cg_request.specs.Asking.{asked}
+use Rattle.cg_request.specs.Request.{asked}
 use Rattle.cg_group.specs.Laws.{commands_of}
 use Rattle.cg_group.specs.Machine.{step}
 use Rattle.cg_record.specs.declared.command.Command.{Command}
@@ -18,7 +18,7 @@ use Rattle.cg_desk.specs.Flights.{Course, Idle, Away, Returned, is_away, unsettl
 use Rattle.cg_desk.specs.Fronts.{in_frame}
 use Rattle.cg_desk.specs.Outgoings.{answer}
 use Rattle.cg_desk.specs.Tokens.{call_of}
-use Rattle.cg_member.specs.declared.reply.Reply.TheVariants.{Refused}
+use Rattle.cg_group_state.specs.declared.reply.Reply.TheVariants.{Refused}
 use Rattle.cg_names.specs.declared.code.Code.TheVariants.{CoordinatorNotAvailable}
 use Rattle.cg_desk.specs.declared.token.ReplyToken.{ReplyToken}
 use Rattle.cg_world.specs.Runs.{made_by, made_in, to_store, unstored, unstored_at, unstored_in}

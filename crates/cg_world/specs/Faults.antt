@@ -3,12 +3,12 @@ use Rattle.std.specs.Prelude.{Bool, true, false, Result, Ok, Err, Option, Some, 
 use Rattle.cg_world.specs.declared.step.StepNote.{StepNote}
 use Rattle.cg_world.specs.declared.step.StepNote.TheVariants as note
 use Rattle.cg_names.specs.declared.code.Code.TheVariants.{UnknownServerError}
-use Rattle.cg_member.specs.declared.reply.Reply.TheVariants.{Refused}
+use Rattle.cg_group_state.specs.declared.reply.Reply.TheVariants.{Refused}
 use Rattle.cg_desk.specs.Outgoings.{answer}
 use Rattle.cg_desk.specs.declared.outgoing.Outgoing.{Outgoing}
 use Rattle.cg_world.specs.declared.step.Step.{Step}
 use Rattle.cg_world.specs.declared.step.Step.TheVariants.{Request}
-use Rattle.cg_world.specs.declared.stepping.Taken.{Taken}
+use Rattle.cg_world.specs.declared.step_effect.Taken.{Taken}
 use Rattle.cg_world.specs.declared.step.StopCause.{StopCause}
 use Rattle.cg_world.specs.declared.step.StopCause.TheVariants as cause
 

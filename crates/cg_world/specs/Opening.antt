@@ -3,8 +3,8 @@ use Rattle.std.specs.Prelude.{◌≡◌, ◌≤◌, ℕ, Bool, true, false, Resu
 use Rattle.cg_disk.specs.Disk.{History, Image}
 use Rattle.cg_fold.specs.Durable.{State, counts_of}
 use Rattle.cg_group.specs.Laws.{AreCompleted}
-use Rattle.cg_held.specs.Kept.{AreRecords}
-use Rattle.cg_held.specs.Reviving.{revive}
+use Rattle.cg_group_table.specs.Kept.{AreRecords}
+use Rattle.cg_group_table.specs.Recovery.{revive}
 use Rattle.cg_log.specs.declared.numbers.TheConstants.{COMMAND_NUMBER_MAX}
 use Rattle.cg_store.specs.Carried.{AreMade, Carries}
 use Rattle.cg_store.specs.Store.{StandsAt, disk_of}

@@ -4,7 +4,7 @@ use Rattle.std.specs.List.{filter}
 use Rattle.cg_desk.specs.Balanced.{IsBalanced}
 use Rattle.cg_desk.specs.Books.{Books}
 use Rattle.cg_desk.specs.Desks.{State, Loading, Serving, Failed}
-use Rattle.cg_desk.specs.declared.held.HeldStep.{HeldStep}
+use Rattle.cg_desk.specs.declared.pending_replies.HeldStep.{HeldStep}
 
 -- the need of the replies is settled
 abbrev pub is_due : ℕ → HeldStep → Bool

@@ -6,14 +6,14 @@ use Rattle.cg_request.specs.declared.event.Event.TheVariants as event
 use Rattle.cg_request.specs.declared.ticket.Ticket.{Ticket}
 use Rattle.cg_group.specs.Laws.{after_all, commands_of}
 use Rattle.cg_group.specs.Machine.{step}
-use Rattle.cg_held.specs.Held.{Machine, Outcome}
-use Rattle.cg_held.specs.Reviving.{revive}
+use Rattle.cg_group_table.specs.GroupTable.{Machine, Outcome}
+use Rattle.cg_group_table.specs.Recovery.{revive}
 use Rattle.cg_store.specs.Carried.{AreMade}
 use Rattle.cg_desk.specs.Books.{Books}
 use Rattle.cg_desk.specs.Desks.{State, Loading, Serving, Failed, held_of, opened, settled_of}
 use Rattle.cg_desk.specs.Held.{holding, leaving_of}
 use Rattle.cg_desk.specs.Origins.{origin_of}
-use Rattle.cg_desk.specs.declared.held.HeldStep.{HeldStep}
+use Rattle.cg_desk.specs.declared.pending_replies.HeldStep.{HeldStep}
 use Rattle.cg_desk.specs.declared.outgoing.Outgoing.{Outgoing}
 use Rattle.cg_world.specs.Agreeing.{is_serving}
 pub use Rattle.cg_world.specs.Orderly.{due, AreInOrder, IsOrderlyDesk, IsOrderlyAt}

@@ -2,7 +2,7 @@
 use Rattle.std.specs.Prelude.{◌≡◌, ℕ, Bool, true, false, ◌++◌, List, [], length, Option, Some, None, is_some, if◌then◌else◌}
 use Rattle.cg_request.specs.declared.event.Event.{Event}
 use Rattle.cg_request.specs.declared.event.Event.TheVariants as event
-use Rattle.cg_request.specs.Asking.{asked}
+use Rattle.cg_request.specs.Request.{asked}
 use Rattle.cg_record.specs.declared.command.Command.{Command}
 use Rattle.cg_desk.specs.Books.{Books, is_short, taking}
 use Rattle.cg_desk.specs.Desks.{Answer, State, Loading, Serving, Failed, failing_on, gone_on, is_out, numbered_of, request_on, return_to, settle_on, settled_of, tick_on}

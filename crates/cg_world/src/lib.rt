@@ -3,18 +3,18 @@
 //! reply that left depends.
 #![tactic(auto)]
 
-mod compacting;
-mod fusing;
+mod client_steps;
+mod compaction_steps;
+mod fused_world;
 mod laws;
-mod recording;
+mod running_trace;
 mod schedule;
-mod serving;
 mod step;
-mod stepping;
-mod storing;
+mod step_effect;
+mod step_fault;
+mod storage_steps;
 mod trace;
 mod transit;
-mod wanting;
 mod world;
 
 pub use laws::{

@@ -6,7 +6,7 @@ ghost use Rattle.cg_world.specs.Faults.{stopped_by_device};
 ghost use Rattle.cg_world.specs.Running.{IsRun, refusal_of_first};
 ghost use Rattle.cg_world.specs.Sights.{opening_of, store_of};
 
-use crate::recording::Recording;
+use crate::running_trace::Recording;
 use crate::step::{Step, StopCause};
 use crate::trace::Trace;
 use crate::world::World;

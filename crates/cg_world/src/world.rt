@@ -2,8 +2,8 @@
 ghost use Rattle.std.specs.Prelude.{◌≡◌, ◌⊎◌, ℕ, true, IfOk, IfErr, MatchResult};
 ghost use Rattle.cg_disk.specs.Disk.{Counts, Stays, present};
 ghost use Rattle.cg_fold.specs.Durable.{State};
-ghost use Rattle.cg_held.specs.Kept.{AreRecords};
-ghost use Rattle.cg_held.specs.Reviving.{revive};
+ghost use Rattle.cg_group_table.specs.Kept.{AreRecords};
+ghost use Rattle.cg_group_table.specs.Recovery.{revive};
 ghost use Rattle.cg_store.specs.Carried.{Carries};
 ghost use Rattle.cg_store.specs.Faults.{Tells, failed_opening};
 ghost use Rattle.cg_store.specs.Store.{disk_of, front_of, has_failed, sectors_of};

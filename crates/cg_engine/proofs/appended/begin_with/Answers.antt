@@ -2,7 +2,7 @@ use Rattle.std.proofs.Common.{arith, rules}
 use Rattle.cg_store.specs.Carried.{joined}
 use Rattle.cg_trail.specs.Trails.{BeginsWith}
 use Rattle.cg_engine.proofs.Begins.{begins-past, begins-stop}
-use Rattle.cg_member.proofs.Exchanges.{rest_is}
+use Rattle.cg_group_state.proofs.Exchanges.{rest_is}
 use Rattle.cg_engine.proofs.appended.begin_with.Goals as goal
 
 pub returns-in_default-2 : goal.returns-in_default-2

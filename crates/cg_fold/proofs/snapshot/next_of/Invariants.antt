@@ -1,6 +1,5 @@
-use Rattle.std.proofs.Common.{◌≡◌, ◌+◌}
+use Rattle.std.proofs.Common.{◌≡◌, ◌+◌, length}
 use Rattle.std.specs.Vec.Iter.{into_iter_items}
-use Rattle.std.proofs.Common.{length}
 use Rattle.cg_fold.specs.Snapshot.{AreListed, left_of}
 use Rattle.cg_fold.proofs.snapshot.next_of.Given as goal
 

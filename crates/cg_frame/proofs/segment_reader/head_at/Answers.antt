@@ -7,7 +7,7 @@ use Rattle.cg_frame.specs.Frames.{IsFront}
 use Rattle.cg_frame.specs.Heads.{FindsHead}
 use Rattle.cg_frame.specs.declared.fault.ScanFault.{ScanFault}
 use Rattle.cg_frame.specs.declared.fault.ScanFault.TheVariants.{BadLength}
-use Rattle.cg_frame.specs.declared.reading.Head.{Head}
+use Rattle.cg_frame.specs.declared.frame_reader.Head.{Head}
 use Rattle.cg_frame.specs.declared.segment.Segment.{Segment}
 use Rattle.cg_frame.proofs.Buffered.{Holds-part, IsBadFrame-last, IsClosed-buffered}
 use Rattle.cg_frame.proofs.Read.{IsClosed-front, IsOpen-front, HeadAt-front, IsFront-frame}

@@ -1,6 +1,6 @@
 use Rattle.std.proofs.Common.{arith}
 use Rattle.cg_trail.proofs.Picked.{picked-past}
-use Rattle.cg_member.proofs.Exchanges.{rest_is}
+use Rattle.cg_group_state.proofs.Exchanges.{rest_is}
 use Rattle.cg_trail.proofs.answers.past_one.Goals as goal
 
 pub returns-in-len1-up : goal.returns-in-len1-up

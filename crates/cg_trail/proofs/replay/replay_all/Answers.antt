@@ -1,7 +1,7 @@
 use Rattle.std.proofs.Common.{arith, rules}
 use Rattle.cg_trail.specs.Trails.{AreLawful}
 use Rattle.cg_trail.proofs.Lawful.{lawful-differs, lawful-keeps, lawful-none, made-keeps, made-none}
-use Rattle.cg_member.proofs.Exchanges.{rest_is}
+use Rattle.cg_group_state.proofs.Exchanges.{rest_is}
 use Rattle.cg_trail.proofs.replay.replay_all.Goals as goal
 
 pub returns-then-not-branch : goal.returns-then-not-branch

@@ -3,7 +3,7 @@ use Rattle.std.proofs.lemmas.List.{nil_from_length}
 use Rattle.cg_desk.specs.Held.{calls_of, replies_of}
 use Rattle.cg_desk.specs.Laws.{AreRefusedOnce}
 use Rattle.cg_desk.specs.Serving.{books}
-use Rattle.cg_member.specs.Waiting.{waiting_calls}
+use Rattle.cg_group_state.specs.Waiting.{waiting_calls}
 use Rattle.cg_desk.proofs.Failing.{by_tokens-once, by_tokens-order}
 use Rattle.cg_desk.proofs.Leaving.{all_refused}
 use Rattle.cg_desk.proofs.Weights.{by_tokens}

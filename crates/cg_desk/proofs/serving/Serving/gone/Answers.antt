@@ -1,5 +1,5 @@
 use Rattle.std.proofs.Common.{◌≡◌, length, ap, sym, ◌∙◌, arith}
-use Rattle.cg_held.specs.Held.{Outcome}
+use Rattle.cg_group_table.specs.GroupTable.{Outcome}
 use Rattle.cg_desk.proofs.Parting.{gone_makes_none}
 use Rattle.cg_desk.proofs.serving.Serving.gone.Goals as goal
 

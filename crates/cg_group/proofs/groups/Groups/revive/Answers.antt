@@ -1,12 +1,12 @@
 use Rattle.std.proofs.Common.{◌≡◌, ◌≤◌, ◌+◌, List, sym, subst, arith}
-use Rattle.cg_member.specs.declared.group.Group.{Group}
+use Rattle.cg_group_state.specs.declared.group.Group.{Group}
 use Rattle.cg_fold.specs.Snapshot.{groups_in, in_order}
-use Rattle.cg_member.specs.Offsets.{OffsetMap}
-use Rattle.cg_held.specs.declared.expiring.TheConstants.{RETENTION_MS}
-use Rattle.cg_held.specs.Resting.{AreResting, Covered}
-use Rattle.cg_held.specs.Reviving.{revive}
-use Rattle.cg_held.specs.Sessions.{AreKnown, is_home}
-use Rattle.cg_held.proofs.Tight.{tight_empty}
+use Rattle.cg_group_state.specs.Offsets.{OffsetMap}
+use Rattle.cg_group_table.specs.declared.expiry.TheConstants.{RETENTION_MS}
+use Rattle.cg_group_table.specs.Resting.{AreResting, Covered}
+use Rattle.cg_group_table.specs.Recovery.{revive}
+use Rattle.cg_group_table.specs.SessionIndex.{AreKnown, is_home}
+use Rattle.cg_group_table.proofs.Tight.{tight_empty}
 use Rattle.cg_group.proofs.Covering.{covered-revive}
 use Rattle.cg_group.proofs.KnownSessions.{known-revived}
 use Rattle.cg_group.proofs.RestingMachine.{resting_first}

@@ -1,6 +1,6 @@
 use Rattle.std.proofs.Common.{◌≤◌, ◌+◌, sym, subst}
-use Rattle.cg_held.specs.declared.expiring.TheConstants.{RETENTION_MS}
-use Rattle.cg_held.specs.Resting.{AreResting, Covered}
+use Rattle.cg_group_table.specs.declared.expiry.TheConstants.{RETENTION_MS}
+use Rattle.cg_group_table.specs.Resting.{AreResting, Covered}
 use Rattle.cg_group.proofs.Covering.{covered-call}
 use Rattle.cg_group.proofs.RestingMachine.{resting-call}
 use Rattle.cg_group.proofs.groups.Groups.step.Goals as goal
@@ -17,12 +17,12 @@ invariant_of-self-inside c =
       (
         c.in_err-effects.ensures.tight,
         (
-          subst (λ o. Covered o c.met.new.held) offsets (subst (Covered was.offsets) held was.covered),
+          subst (λ o. Covered o c.handle.new.held) offsets (subst (Covered was.offsets) held was.covered),
           (
             subst (λ u. u ≤ was.last + RETENTION_MS) until was.early,
             (
-              subst (λ u. AreResting u was.loaded c.met.new.offsets c.met.new.held) until
-                  (subst (λ o. AreResting was.until was.loaded o c.met.new.held) offsets (subst (AreResting was.until was.loaded was.offsets) held was.resting)),
+              subst (λ u. AreResting u was.loaded c.handle.new.offsets c.handle.new.held) until
+                  (subst (λ o. AreResting was.until was.loaded o c.handle.new.held) offsets (subst (AreResting was.until was.loaded was.offsets) held was.resting)),
               tt,
             ),
           ),
@@ -40,11 +40,11 @@ invariant_of-self-inside-2 c =
       (
         done.tight,
         (
-          covered-call loaded now was.held c.met.new.held was.offsets c.met.new.offsets c.args.event c.in_ok-effects.effects done.ok done.offsets was.covered,
+          covered-call loaded now was.held c.handle.new.held was.offsets c.handle.new.offsets c.args.event c.in_ok-effects.effects done.ok done.offsets was.covered,
           (
             done.early,
             (
-              resting-call c.met.new.until loaded now was.held c.met.new.held was.offsets c.met.new.offsets c.args.event c.in_ok-effects.effects done.early done.ok done.offsets was.covered done.resting,
+              resting-call c.handle.new.until loaded now was.held c.handle.new.held was.offsets c.handle.new.offsets c.args.event c.in_ok-effects.effects done.early done.ok done.offsets was.covered done.resting,
               tt,
             ),
           ),

@@ -1,8 +1,7 @@
 use Rattle.std.proofs.Common.{◌≡◌, ◌∙◌, ap, sym, subst, ℕ, ◌+◌, ◌++◌, ◌⊎◌, arith, rules}
-use Rattle.cg_log.specs.Free.{is_among}
+use Rattle.cg_log.specs.Free.{is_among, free_count_of}
 use Rattle.cg_log.specs.Log as log_model
 use Rattle.cg_root.specs.declared.root.Root.{Root}
-use Rattle.cg_log.specs.Free.{free_count_of}
 use Rattle.cg_root.specs.Roots.{root_ids}
 use Rattle.cg_store.specs.Compacting.{IsTakenFrom}
 use Rattle.cg_store.specs.Store.{disk_of, fresh_of, front_of}

@@ -1,5 +1,5 @@
 use Rattle.std.proofs.Math.Logic.{∥∥₁_map}
-use Rattle.cg_request.specs.Asking.{asked}
+use Rattle.cg_request.specs.Request.{asked}
 use Rattle.cg_store.specs.Store.{front_of, has_failed}
 use Rattle.cg_desk.specs.Desks.{state_of}
 use Rattle.cg_desk.specs.Tokens.{call_of}

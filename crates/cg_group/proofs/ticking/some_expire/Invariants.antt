@@ -1,8 +1,0 @@
-use Rattle.std.proofs.Common.{◌≡◌}
-use Rattle.std.specs.List.{list_any}
-use Rattle.cg_held.specs.Expiring.{expires}
-use Rattle.cg_group.proofs.ticking.some_expire.Given as goal
-
--- nothing expires in the groups before
-abbrev pub invariant-loop-group : goal.invariant-loop-group
-invariant-loop-group l = list_any (expires l.clock.loaded l.clock.moment l.offsets) l.held ≡ list_any (expires l.clock.loaded l.clock.moment l.offsets) l.group-iterator

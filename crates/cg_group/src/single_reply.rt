@@ -1,0 +1,41 @@
+//! Effects of a single reply, and the end of a JOIN or a SYNC that gets its reply at once.
+ghost use Rattle.std.specs.Prelude.{◌≡◌, Some};
+ghost use Rattle.cg_group_state.specs.declared.group.Group.{Group};
+ghost use Rattle.cg_group.specs.Machine.{reply_alone};
+ghost use Rattle.cg_group_table.specs.GroupTable.{find_group, with_group};
+ghost use Rattle.cg_group_state.specs.Membership.{hearing};
+
+use cg_group_state::effects::Effects;
+use cg_group_state::few::Few;
+use cg_group_state::group::Group;
+use cg_group_state::reply::Reply;
+use cg_group_table::group_table::GroupTable;
+use cg_names::{GroupId, MemberId, Moment};
+use cg_request::ticket::Ticket;
+use std::alloc::Global;
+
+/// Builds effects of one reply and no command, without an allocation.
+pub fn reply_alone(alloc: Global, ticket: Ticket, reply: Reply) -> Effects
+    ensures { result ≡ reply_alone ticket reply }
+{
+    Effects {
+        commands: Few::new(alloc),
+        replies: Few::one(alloc, (ticket, reply)),
+    }
+}
+
+/// Marks the member as heard in the group with this id, and builds the reply.
+pub fn hear_in(
+    now: Moment,
+    held: &mut GroupTable,
+    own: &GroupId,
+    id: &MemberId,
+    ticket: Ticket,
+    reply: Reply,
+) -> Effects
+    ensures groups { (g : Group) → find_group own.now held.old ≡ Some g → held.new ≡ with_group (hearing now id.now g) held.old }
+    ensures effects { result ≡ reply_alone ticket reply }
+{
+    held.hear(own, id, now);
+    reply_alone(held.allocator(), ticket, reply)
+}

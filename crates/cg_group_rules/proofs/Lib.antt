@@ -1,0 +1,16 @@
+pub mod Departing
+pub mod Entering
+pub mod Leading
+pub mod Rostering
+pub mod Rounds
+pub mod Lagging
+pub mod Strangers
+pub mod Rejoining
+pub mod Entered
+pub mod Succession
+pub mod Distributing
+pub mod Without
+pub mod Ticks
+pub mod Alike
+pub mod Lasting
+pub mod KeptFields

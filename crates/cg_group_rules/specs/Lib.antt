@@ -1,0 +1,16 @@
+pub mod JoinChecks
+pub mod Heartbeat
+pub mod OffsetCommit
+pub mod SyncSteps
+pub mod ParkedJoin
+pub mod LeaveSteps
+pub mod RebalancePlan
+pub mod TickDeadline
+pub mod TickPlan
+pub mod OffsetFetch
+pub mod Rebalance
+pub mod Join
+pub mod Sync
+pub mod StaticMember
+pub mod Leave
+pub mod Tick

@@ -1,0 +1,15 @@
+use Rattle.std.proofs.Common.{◌≡◌, ℕ, List, filter, not, rules}
+use Rattle.indexmap.proofs.CallerLemmas.{filter-RetainsPairs}
+use Rattle.cg_group_state.specs.declared.member.Member.{Member}
+use Rattle.cg_group_state.specs.Membership.{has_id}
+use Rattle.cg_group_state.proofs.Keyed.{kept_keys, kept_values}
+use Rattle.cg_group_state.proofs.member_map.keep_others.Goals as goal
+
+kept : (c : goal.After-retain) → c.retain.new.self.entries ≡ filter (λ (e : List ℕ × Member). not (has_id c.args.id.now e.1)) c.args.members.now.entries
+kept c = filter-RetainsPairs _ (λ (e : List ℕ × Member). not (has_id c.args.id.now e.1)) _ (λ k v b w g call. search rules) _ _ c.retain.ensures.filtered
+
+pub returns-clause-keyed : goal.returns-clause-keyed
+returns-clause-keyed c = kept_keys (λ m. not (has_id c.args.id.now m)) c.args.members.now.entries c.retain.new.self.entries (kept c) c.requires.keyed
+
+pub returns-clause-kept : goal.returns-clause-kept
+returns-clause-kept c = kept_values (λ m. not (has_id c.args.id.now m)) c.args.members.now.entries c.retain.new.self.entries (kept c)

@@ -1,0 +1,14 @@
+pub mod Checks
+pub mod Offsets
+pub mod Waiting
+pub mod Members
+pub mod Membership
+pub mod MemberCheck
+pub mod Vote
+pub mod Tally
+pub mod MemberId
+pub mod JoinTerms
+pub mod Assignments
+pub mod Keyed
+pub mod Few
+pub mod Staying

@@ -1,0 +1,13 @@
+use Rattle.std.proofs.Common.{◌≡◌, ◌<◌, ℕ, List, true, false, get_or}
+use Rattle.std.specs.BTreeMap.{get}
+use Rattle.std.specs.Ordering.{nat_cmp}
+use Rattle.cg_group_table.specs.SessionIndex.{IfParked, IsFilled, is_certain, is_home}
+use Rattle.cg_group_table.proofs.index_cleanup.doubt_all.Given as goal
+
+abbrev pub invariant-loop-call : goal.invariant-loop-call
+invariant-loop-call g l =
+    ((q : ℕ) (x : List ℕ) → is_home l.initial.homes q x ≡ true → is_home l.homes q x ≡ true)
+    × ((k : ℕ) (d : g.row.P.Denot) → k < l.call-index → IfParked (λ q. is_certain l.homes q l.id ≡ false) (g.P.Calling.call (get_or l.parked k d)))
+    × ((q : ℕ) → is_certain l.initial.homes q l.id ≡ false → is_certain l.homes q l.id ≡ false)
+    × ((q : ℕ) (x : List ℕ) → is_home l.homes q x ≡ true → is_home l.initial.homes q x ≡ true)
+    × ((q : ℕ) → IsFilled (get nat_cmp l.initial.homes q) → IsFilled (get nat_cmp l.homes q))

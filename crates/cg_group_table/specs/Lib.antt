@@ -1,0 +1,11 @@
+pub mod Describe
+pub mod Kept
+pub mod SessionIndex
+pub mod GroupTable
+pub mod DeadlineIndex
+pub mod Expiry
+pub mod Resting
+pub mod GroupChanges
+pub mod DueGroups
+pub mod Recovery
+pub mod Props

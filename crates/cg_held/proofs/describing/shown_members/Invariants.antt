@@ -1,6 +1,0 @@
-use Rattle.std.proofs.Common.{◌≡◌, map, take}
-use Rattle.cg_held.specs.Describing.{shown_member}
-use Rattle.cg_held.proofs.describing.shown_members.Given as goal
-
-abbrev pub invariant-loop-member : goal.invariant-loop-member
-invariant-loop-member l = l.members ≡ map (shown_member l.group) (take l.member-index l.member-items)

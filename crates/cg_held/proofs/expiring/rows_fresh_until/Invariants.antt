@@ -1,9 +1,0 @@
-use Rattle.std.proofs.Common.{◌≤◌, take}
-use Rattle.cg_held.proofs.Fresh.{HaveFresh}
-use Rattle.cg_held.proofs.expiring.rows_fresh_until.Given as goal
-
-abbrev pub invariant-loop-row : goal.invariant-loop-row
-invariant-loop-row l = record {
-  earlier : l.until ≤ l.fn.until;
-  fresh : HaveFresh l.until l.clock.loaded (take l.row-index l.rows);
-}

@@ -1,5 +1,0 @@
-use Rattle.cg_held.proofs.held.Held.change.Goals as goal
-
-pub invariant_of-self : goal.invariant_of-self
-invariant_of-self g c =
-    c.renew_in_index.ensures (g.C.Changing.changes c.args.changing) c.self.inside.loaded c.requires.keeps c.change.ensures.changed c.change.ensures.absent c.self.invariant

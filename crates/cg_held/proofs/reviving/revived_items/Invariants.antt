@@ -1,6 +1,0 @@
-use Rattle.std.proofs.Common.{◌≡◌, map, take}
-use Rattle.cg_held.specs.Reviving.{revived_member}
-use Rattle.cg_held.proofs.reviving.revived_items.Given as goal
-
-abbrev pub invariant-loop-member : goal.invariant-loop-member
-invariant-loop-member l = l.revived.items ≡ map (revived_member l.now l.protocol) (take l.member-index l.members)

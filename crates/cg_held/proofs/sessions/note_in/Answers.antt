@@ -1,9 +1,0 @@
-use Rattle.std.specs.BTreeMap.{get}
-use Rattle.std.specs.Cmp.Lexicographic.{slice_cmp}
-use Rattle.std.specs.Ordering.{nat_cmp}
-use Rattle.cg_held.specs.declared.sessions.Home.TheVariants.{Certain}
-use Rattle.cg_held.proofs.Homing.{inserted_alone}
-use Rattle.cg_held.proofs.sessions.note_in.Goals as goal
-
-pub returns-clause-fewer : goal.returns-clause-fewer
-returns-clause-fewer c = λ x h. inserted_alone c.args.id x (get (slice_cmp nat_cmp) c.args.groups.now x) (get (slice_cmp nat_cmp) c.insert.new.self x) Certain (c.in_ok-insert.ensures.updates.0 x) h

@@ -1,7 +1,0 @@
-use Rattle.std.proofs.Common.{◌∙◌}
-use Rattle.cg_line.proofs.Each.{all_seen}
-use Rattle.cg_line.specs.Parsing.{is_partition}
-use Rattle.cg_line.proofs.parsing.partitions.are_each.Goals as goal
-
-pub returns : goal.returns
-returns c = c.pass_each.ensures ∙ all_seen is_partition (λ w. w.now) c.args.words.now

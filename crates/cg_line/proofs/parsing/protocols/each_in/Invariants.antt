@@ -1,6 +1,0 @@
-use Rattle.std.proofs.Common.{◌≡◌, map, take}
-use Rattle.cg_line.specs.Parsing.{protocol_in}
-use Rattle.cg_line.proofs.parsing.protocols.each_in.Given as goal
-
-abbrev pub invariant-loop-word : goal.invariant-loop-word
-invariant-loop-word l = l.protocols.items ≡ map protocol_in (map (λ w. w.now) (take l.word-index l.words))

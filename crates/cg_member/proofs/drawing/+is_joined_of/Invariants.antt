@@ -1,5 +1,0 @@
-use Rattle.std.proofs.Common.{length}
-use Rattle.cg_member.proofs.drawing.+is_joined_of.Given as goal
-
-abbrev pub decreases-is_joined_of : goal.decreases-is_joined_of
-decreases-is_joined_of l = length l.name.now

@@ -1,5 +1,0 @@
-use Rattle.std.proofs.Common.{length}
-use Rattle.cg_member.proofs.handing.+take_all.Given as goal
-
-abbrev pub decreases-take_all : goal.decreases-take_all
-decreases-take_all l = length l.members.now

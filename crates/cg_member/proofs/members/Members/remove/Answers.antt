@@ -1,8 +1,0 @@
-use Rattle.std.proofs.Common.{not}
-use Rattle.indexmap.specs.IndexMap.{values}
-use Rattle.cg_member.specs.Membership.{has_id}
-use Rattle.cg_member.proofs.Together.{after_removing}
-use Rattle.cg_member.proofs.members.Members.remove.Goals as goal
-
-pub invariant_of-self : goal.invariant_of-self
-invariant_of-self c = (after_removing (λ m. not (has_id c.args.id.now m)) (values c.self.inside.by_id) (values c.keep_others.new.members) c.keep_others.ensures.kept c.self.invariant.0, c.keep_others.ensures.keyed)

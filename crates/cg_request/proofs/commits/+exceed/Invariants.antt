@@ -1,5 +1,0 @@
-use Rattle.std.proofs.Common.{length}
-use Rattle.cg_request.proofs.commits.+exceed.Given as goal
-
-abbrev pub decreases-exceed : goal.decreases-exceed
-decreases-exceed l = length l.entries.now

@@ -1,7 +1,0 @@
-use Rattle.std.proofs.Common.{refl}
-use Rattle.cg_member.specs.Replacing.{seating}
-use Rattle.cg_member.proofs.Seats.{after_seating}
-use Rattle.cg_turn.proofs.replacing.replace_in.Goals as goal
-
-pub replace-requires : goal.replace-requires
-replace-requires c = after_seating c.args.new c.args.group.now.members (seating c.args.new c.args.group.now.members) refl c.requires.own_id c.as_slice-members.ensures.lawful

@@ -1,6 +1,0 @@
-use Rattle.std.proofs.Common.{◌≡◌, take, fold}
-use Rattle.cg_turn.proofs.Lasting.{raised}
-use Rattle.cg_turn.proofs.ticking.greatest_rebalance.Given as goal
-
-abbrev pub invariant-loop-member : goal.invariant-loop-member
-invariant-loop-member l = l.greatest ≡ fold (raised l.who) 0 (take l.member-index l.members)
