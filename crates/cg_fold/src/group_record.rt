@@ -3,7 +3,7 @@ ghost use Rattle.std.specs.Prelude.{◌≡◌, IfOk};
 ghost use Rattle.cg_fold.specs.Record.{assigned_record, emptied_record, replaced_record};
 
 use cg_names::{MemberId, Moment, ProtocolName};
-use cg_record::{Assigned, CompletedGeneration, Emptied, Member, Roster};
+use cg_record::{Assigned, CompletedGeneration, Emptied, MemberRecord, Roster};
 use std::alloc::AllocError;
 
 /// The members in the record of a group.
@@ -51,7 +51,7 @@ impl GroupRecord {
     }
 
     /// Replaces the member with the new one's instance (KIP-345). `id` is a copy of the new member's id. No allocation.
-    pub(crate) fn replace(&mut self, new: Member, id: MemberId)
+    pub(crate) fn replace(&mut self, new: MemberRecord, id: MemberId)
         requires { id ≡ new.id }
         ensures { self.new ≡ replaced_record new self.old }
     {
