@@ -1,11 +1,11 @@
 //! Equality of commands.
 use crate::same::{Same, are_same};
 use cg_record::{
-    Assigned, Command, Committed, Deleted, Dropped, Emptied, Entries, Entry, Expired, Member,
+    Assigned, Command, Committed, Deleted, Dropped, Emptied, Entries, Entry, Expired, MemberRecord,
     Partitions, Replaced, Roster, StaticMember, TopicPartition,
 };
 
-impl Same for Member {
+impl Same for MemberRecord {
     fn is_same(&self, other: &Self) -> bool {
         self.id.is_same(&other.id)
             && self.instance.is_same(&other.instance)
