@@ -13,7 +13,7 @@ use crate::pending_replies::HeldStep;
 use crate::released_replies::refuse_call;
 use crate::token::ReplyToken;
 use cg_group::{Few, Group, Groups, Items, Member, Reply, Ticket};
-use cg_group_state::calls::Calls;
+use cg_group_state::Calls;
 use cg_names::Code;
 use std::collections::VecDeque;
 

@@ -6,7 +6,7 @@ use cg_group::{
     Boxed, Described, DescribedMember, FetchedPartition, Few, Joined, JoinedMember, Listed,
     Listing, Reply, Ticket,
 };
-use cg_group_state::name_copy::copied_name;
+use cg_group_state::copied_name;
 use std::alloc::{AllocError, Global};
 
 // A type whose values can be copied.

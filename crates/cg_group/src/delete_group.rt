@@ -7,14 +7,11 @@ ghost use Rattle.cg_group_table.specs.GroupTable.{at_moment, find_group, outcome
 
 use crate::single_reply::reply_alone;
 use cg_fold::Offsets;
-use cg_group_state::effects::Effects;
-use cg_group_state::few::Few;
-use cg_group_state::reply::Reply;
-use cg_group_table::group_table::GroupTable;
-use cg_group_table::session_index::forget;
+use cg_group_state::{Effects, Few, Reply};
+use cg_group_table::{GroupTable, forget};
 use cg_names::{Code, GroupId, Moment};
 use cg_record::{Command, Deleted};
-use cg_request::ticket::Ticket;
+use cg_request::Ticket;
 use std::alloc::{AllocError, Global};
 
 /// Returns the group that a DELETE or a DROP names. Reports 69 if it is not loaded, and 68 if it has members.

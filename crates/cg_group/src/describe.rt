@@ -2,10 +2,8 @@
 ghost use Rattle.std.specs.Prelude.{◌≡◌, Ok, None, true, is_ok, IfOk, OnErr};
 ghost use Rattle.cg_group.specs.Machine.{describe, named_group};
 
-use cg_group_state::boxed::Boxed;
-use cg_group_state::reply::Reply;
-use cg_group_table::group_description::description;
-use cg_group_table::group_table::GroupTable;
+use cg_group_state::{Boxed, Reply};
+use cg_group_table::{GroupTable, description};
 use cg_names::{Code, GroupId};
 use std::alloc::{AllocError, Global};
 

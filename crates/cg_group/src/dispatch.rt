@@ -21,16 +21,11 @@ use crate::single_reply::reply_alone;
 use crate::sync::handle_sync;
 use crate::tick::handle_tick;
 use cg_fold::Offsets;
-use cg_group_rules::offset_fetch::fetched;
-use cg_group_state::effects::Effects;
-use cg_group_state::reply::Reply;
-use cg_group_table::expiry::Clock;
-use cg_group_table::group_list::listings;
-use cg_group_table::group_table::GroupTable;
-use cg_group_table::session_closed::end_session;
-use cg_group_table::session_index::{SessionIndex, forget};
+use cg_group_rules::fetched;
+use cg_group_state::{Effects, Reply};
+use cg_group_table::{Clock, GroupTable, SessionIndex, end_session, forget, listings};
 use cg_names::Moment;
-use cg_request::event::Event;
+use cg_request::Event;
 use std::alloc::AllocError;
 
 // Processes the end of a session in place. Visits only the groups that the session index has for it.

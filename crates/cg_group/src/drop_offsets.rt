@@ -9,15 +9,12 @@ ghost use Rattle.cg_group_table.specs.GroupTable.{find_group, outcome, standing}
 use crate::delete_group::memberless;
 use crate::single_reply::reply_alone;
 use cg_fold::Offsets;
-use cg_group_rules::request_context::RequestContext;
-use cg_group_state::effects::Effects;
-use cg_group_state::few::Few;
-use cg_group_state::reply::Reply;
-use cg_group_table::group_table::GroupTable;
+use cg_group_rules::RequestContext;
+use cg_group_state::{Effects, Few, Reply};
+use cg_group_table::GroupTable;
 use cg_names::{GroupId, Moment};
 use cg_record::{Command, Dropped, Partitions, TopicPartition};
-use cg_request::request_fields::DropRequest;
-use cg_request::ticket::Ticket;
+use cg_request::{DropRequest, Ticket};
 use std::alloc::AllocError;
 
 // Returns those of the partitions that have an offset in the group, in their order.

@@ -14,15 +14,10 @@ ghost use Rattle.cg_group_table.specs.Recovery.{revive};
 
 use crate::dispatch::handle;
 use cg_fold::{Durable, Offsets};
-use cg_group_state::effects::Effects;
-use cg_group_state::group::Group;
-use cg_group_table::expiry::Clock;
-use cg_group_table::group_recovery::revived_all;
-use cg_group_table::group_table::GroupTable;
-use cg_group_table::session_index::SessionIndex;
+use cg_group_state::{Effects, Group};
+use cg_group_table::{Clock, GroupTable, SessionIndex, revived_all};
 use cg_names::{GroupId, Moment};
-use cg_request::event::Event;
-use cg_request::ticket::Ticket;
+use cg_request::{Event, Ticket};
 use std::alloc::{AllocError, Global};
 use std::collections::BTreeMap;
 use std::collections::btree_map::Values;

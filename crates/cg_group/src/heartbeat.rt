@@ -6,12 +6,10 @@ ghost use Rattle.cg_group_table.specs.GroupTable.{at_moment, outcome};
 ghost use Rattle.cg_group_table.specs.SessionIndex.{StayParked};
 
 use crate::single_reply::reply_alone;
-use cg_group_state::effects::Effects;
-use cg_group_state::reply::Reply;
-use cg_group_table::group_table::GroupTable;
+use cg_group_state::{Effects, Reply};
+use cg_group_table::GroupTable;
 use cg_names::{Code, MemberId, Moment};
-use cg_request::request_fields::BeatRequest;
-use cg_request::ticket::Ticket;
+use cg_request::{BeatRequest, Ticket};
 
 // Processes a BEAT in the group that it names: marks the calling member as heard, and returns its id and the reply. Reports 24
 // for `-`, and 25 if the group is not loaded.

@@ -6,9 +6,7 @@ ghost use Rattle.std.specs.List.{list_any};
 ghost use Rattle.cg_group.specs.Laws.{AreRequests, ExpiryIsLawful, MembersStayDistinct, RoundsAreOne, CommitsAreLawful, AssignmentsAreEarned, MachineAndCommandsAgree, is_request};
 
 use cg_names::Moment;
-use cg_request::commit_entries::Commits;
-use cg_request::event::Event;
-use cg_request::protocols::Protocols;
+use cg_request::{Commits, Event, Protocols};
 
 /// States that no two members of a group share an id or an instance.
 pub fn members_stay_distinct()

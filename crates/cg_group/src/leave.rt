@@ -10,20 +10,11 @@ use crate::named_group::named;
 use crate::parked_call::settle_older;
 use crate::rebalance_step::step_leaving;
 use crate::single_reply::reply_alone;
-use cg_group_rules::leave::{departing, leave_in, leave_refusal, remove_member};
-use cg_group_rules::request_context::RequestContext;
-use cg_group_state::calls::Calls;
-use cg_group_state::effects::Effects;
-use cg_group_state::few::Few;
-use cg_group_state::group::Group;
-use cg_group_state::reply::Reply;
-use cg_group_table::group_change::Altering;
-use cg_group_table::group_step::Stepping;
-use cg_group_table::group_table::GroupTable;
-use cg_group_table::session_index::SessionIndex;
+use cg_group_rules::{RequestContext, departing, leave_in, leave_refusal, remove_member};
+use cg_group_state::{Calls, Effects, Few, Group, Reply};
+use cg_group_table::{Altering, GroupTable, SessionIndex, Stepping};
 use cg_names::{Code, GroupId, MemberId, Moment};
-use cg_request::request_fields::LeaveRequest;
-use cg_request::ticket::Ticket;
+use cg_request::{LeaveRequest, Ticket};
 use std::alloc::{AllocError, Global};
 
 /// The change of a group by a LEAVE that only removes its member.

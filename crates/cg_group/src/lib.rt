@@ -28,27 +28,13 @@ pub use laws::{
 };
 
 // The types of events, replies and groups, for the callers of `step`.
-pub use cg_group_rules::group_limit::GROUPS_MAX;
-pub use cg_group_state::boxed::Boxed;
-pub use cg_group_state::effects::Effects;
-pub use cg_group_state::few::{Few, Items};
-pub use cg_group_state::group::{Group, Phase};
-pub use cg_group_state::member::{Member, Waits};
-pub use cg_group_state::members::Members;
-pub use cg_group_state::reply::{
-    Described, DescribedMember, FetchedPartition, Joined, JoinedMember, Listing, Reply,
+pub use cg_group_rules::GROUPS_MAX;
+pub use cg_group_state::{
+    Boxed, Described, DescribedMember, Effects, FetchedPartition, Few, Group, Items, Joined,
+    JoinedMember, Listing, Member, Members, Phase, Reply, Turn, Waits,
 };
-pub use cg_group_state::turn::Turn;
-pub use cg_request::commit_entries::Commits;
-pub use cg_request::commit_entry::CommitEntry;
-pub use cg_request::event::Event;
-pub use cg_request::listed::Listed;
-pub use cg_request::protocol::{PROTOCOLS_MAX, Protocol};
-pub use cg_request::protocols::Protocols;
-pub use cg_request::request::Request;
-pub use cg_request::request_fields::{
-    BeatRequest, CommitRequest, DropRequest, FetchRequest, JoinRequest, LeaveRequest, SyncEntry,
-    SyncRequest,
+pub use cg_request::{
+    BeatRequest, CommitEntry, CommitRequest, Commits, DropRequest, Event, FetchRequest,
+    JoinRequest, LeaveRequest, Listed, PROTOCOLS_MAX, Protocol, Protocols, Request, SyncEntries,
+    SyncEntry, SyncRequest, Ticket,
 };
-pub use cg_request::sync_entries::SyncEntries;
-pub use cg_request::ticket::Ticket;

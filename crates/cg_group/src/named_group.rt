@@ -4,8 +4,8 @@ ghost use Rattle.cg_group.specs.InPlace.{IsNamed};
 ghost use Rattle.cg_group.specs.Machine.{named_group};
 ghost use Rattle.cg_group_table.specs.GroupTable.{InOrder};
 
-use cg_group_state::group::Group;
-use cg_group_table::group_table::GroupTable;
+use cg_group_state::Group;
+use cg_group_table::GroupTable;
 use cg_names::{Code, GroupId};
 
 /// Returns the id in the request and the loaded group. Reports 24 for `-`, and 25 if the group is not loaded. Costs one

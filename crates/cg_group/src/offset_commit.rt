@@ -11,18 +11,14 @@ ghost use Rattle.cg_group_rules.specs.Join.{new_group};
 
 use crate::single_reply::reply_alone;
 use cg_fold::Offsets;
-use cg_group_rules::member_join::new_group;
-use cg_group_rules::offset_commit::{commit_at, committer, kept, new_group_commit_refusal};
-use cg_group_rules::request_context::RequestContext;
-use cg_group_state::effects::Effects;
-use cg_group_state::group::Group;
-use cg_group_state::reply::Reply;
-use cg_group_table::group_table::GroupTable;
+use cg_group_rules::{
+    RequestContext, commit_at, committer, kept, new_group, new_group_commit_refusal,
+};
+use cg_group_state::{Effects, Group, Reply};
+use cg_group_table::GroupTable;
 use cg_names::{Code, GroupId, MemberId, Moment};
 use cg_record::Entries;
-use cg_request::commit_entries::{Commits, into_entries};
-use cg_request::request_fields::CommitRequest;
-use cg_request::ticket::Ticket;
+use cg_request::{CommitRequest, Commits, Ticket, into_entries};
 use std::alloc::AllocError;
 
 // Marks the committing member as heard, if the commit is from a member.

@@ -9,15 +9,10 @@ ghost use Rattle.cg_group_table.specs.GroupTable.{find_group, with_group};
 ghost use Rattle.cg_group_table.specs.SessionIndex.{AreKnown, IsFilled, IsLetGo, IsTight, is_home};
 ghost use Rattle.cg_group_state.specs.declared.group.Group.{Group};
 
-use cg_group_state::effects::Effects;
-use cg_group_state::few::Few;
-use cg_group_state::reply::Reply;
-use cg_group_table::group_change::Altering;
-use cg_group_table::group_table::GroupTable;
-use cg_group_table::index_cleanup::settle_request;
-use cg_group_table::session_index::{SessionIndex, note};
+use cg_group_state::{Effects, Few, Reply};
+use cg_group_table::{Altering, GroupTable, SessionIndex, note, settle_request};
 use cg_names::{Code, GroupId};
-use cg_request::ticket::Ticket;
+use cg_request::Ticket;
 use std::alloc::AllocError;
 
 /// Updates the session index for the session of the older call, if there is one. No allocation.

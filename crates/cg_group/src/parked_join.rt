@@ -11,24 +11,14 @@ ghost use Rattle.cg_request.specs.declared.request_fields.JoinRequest.{JoinReque
 use crate::named_group::named;
 use crate::parked_call::park_in;
 use crate::single_reply::hear_in;
-use cg_group_rules::join::current_joiner;
-use cg_group_rules::join_reply::joined_reply;
-use cg_group_rules::member_join::new_member;
-use cg_group_rules::parked_join::{is_entering, parking_joiner};
-use cg_group_rules::request_context::RequestContext;
-use cg_group_state::calls::Calls;
-use cg_group_state::checked_join::CheckedJoin;
-use cg_group_state::effects::Effects;
-use cg_group_state::group::Group;
-use cg_group_state::member::Waits;
-use cg_group_state::member_id::drawn;
-use cg_group_state::reply::Reply;
-use cg_group_table::group_change::Altering;
-use cg_group_table::group_table::GroupTable;
-use cg_group_table::session_index::SessionIndex;
+use cg_group_rules::{
+    RequestContext, current_joiner, is_entering, joined_reply, new_member, parking_joiner,
+};
+use cg_group_state::{Calls, CheckedJoin, Effects, Group, Reply, Waits, drawn};
+use cg_group_table::{Altering, GroupTable, SessionIndex};
 use cg_names::{GroupId, MemberId, Moment};
 use cg_record::Assignment;
-use cg_request::ticket::Ticket;
+use cg_request::Ticket;
 use std::alloc::{AllocError, Global};
 use uuid::Uuid;
 

@@ -8,14 +8,12 @@ ghost use Rattle.cg_group_table.specs.SessionIndex.{AreKnown, IsTight, is_home};
 ghost use Rattle.cg_group_state.specs.declared.group.Group.{Group};
 ghost use Rattle.cg_request.specs.declared.ticket.Ticket.{Ticket};
 
-use cg_group_state::effects::Effects;
-use cg_group_table::group_step::Stepping;
-use cg_group_table::group_table::GroupTable;
-use cg_group_table::index_cleanup::{settle, settle_request};
-use cg_group_table::parked_calls::parked_calls;
-use cg_group_table::session_index::{SessionIndex, note};
+use cg_group_state::Effects;
+use cg_group_table::{
+    GroupTable, SessionIndex, Stepping, note, parked_calls, settle, settle_request,
+};
 use cg_names::GroupId;
-use cg_request::ticket::Ticket;
+use cg_request::Ticket;
 use std::alloc::AllocError;
 
 /// Makes a step that may park the call of its request, in the loaded group with this id. If an allocation fails, no group

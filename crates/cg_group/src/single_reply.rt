@@ -5,13 +5,10 @@ ghost use Rattle.cg_group.specs.Machine.{reply_alone};
 ghost use Rattle.cg_group_table.specs.GroupTable.{find_group, with_group};
 ghost use Rattle.cg_group_state.specs.Membership.{hearing};
 
-use cg_group_state::effects::Effects;
-use cg_group_state::few::Few;
-use cg_group_state::group::Group;
-use cg_group_state::reply::Reply;
-use cg_group_table::group_table::GroupTable;
+use cg_group_state::{Effects, Few, Group, Reply};
+use cg_group_table::GroupTable;
 use cg_names::{GroupId, MemberId, Moment};
-use cg_request::ticket::Ticket;
+use cg_request::Ticket;
 use std::alloc::Global;
 
 /// Builds effects of one reply and no command, without an allocation.

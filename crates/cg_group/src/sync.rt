@@ -11,21 +11,12 @@ use crate::named_group::named;
 use crate::parked_call::park_in;
 use crate::rebalance_step::step_parking;
 use crate::single_reply::{hear_in, reply_alone};
-use cg_group_rules::request_context::RequestContext;
-use cg_group_rules::sync::{SyncCase, case_of, distribute_in, syncer};
-use cg_group_state::effects::Effects;
-use cg_group_state::group::Group;
-use cg_group_state::member::Waits;
-use cg_group_state::reply::Reply;
-use cg_group_table::group_change::Altering;
-use cg_group_table::group_step::Stepping;
-use cg_group_table::group_table::GroupTable;
-use cg_group_table::session_index::SessionIndex;
+use cg_group_rules::{RequestContext, SyncCase, case_of, distribute_in, syncer};
+use cg_group_state::{Effects, Group, Reply, Waits};
+use cg_group_table::{Altering, GroupTable, SessionIndex, Stepping};
 use cg_names::{Code, GroupId, MemberId, Moment};
 use cg_record::Assignment;
-use cg_request::request_fields::SyncRequest;
-use cg_request::sync_entries::SyncEntries;
-use cg_request::ticket::Ticket;
+use cg_request::{SyncEntries, SyncRequest, Ticket};
 use std::alloc::AllocError;
 
 // Returns the ids of the group and the member of a SYNC that is not refused, with the way in which it is processed, or its error

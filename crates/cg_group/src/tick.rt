@@ -13,15 +13,12 @@ ghost use Rattle.cg_group_rules.specs.Tick.{ticked};
 ghost use Rattle.cg_group_rules.specs.TickDeadline.{tick_touches};
 
 use cg_fold::Offsets;
-use cg_group_rules::tick::{TickPlan, carry_out_tick};
-use cg_group_state::effects::Effects;
-use cg_group_state::group::Group;
-use cg_group_table::due_groups::{Due, Sweep, plan_due, plan_sweep};
-use cg_group_table::expiry::{Clock, RETENTION_MS, expires, fresh_until};
-use cg_group_table::group_table::GroupTable;
-use cg_group_table::index_cleanup::settle;
-use cg_group_table::session_index::SessionIndex;
-use cg_group_table::sure_change::Changing;
+use cg_group_rules::{TickPlan, carry_out_tick};
+use cg_group_state::{Effects, Group};
+use cg_group_table::{
+    Changing, Clock, Due, GroupTable, RETENTION_MS, SessionIndex, Sweep, expires, fresh_until,
+    plan_due, plan_sweep, settle,
+};
 use cg_names::{GroupId, Moment};
 use cg_record::Command;
 use std::alloc::AllocError;

@@ -3,11 +3,9 @@ ghost use Rattle.std.specs.Prelude.{◌≡◌, MatchResult};
 ghost use Rattle.cg_group_state.specs.Membership.{hearing};
 ghost use Rattle.cg_group_rules.specs.Heartbeat.{IsBeat, IsBeatRefused, beat_reply};
 
-use cg_group_state::group::{Group, Phase};
-use cg_group_state::member_check::fenced_caller;
-use cg_group_state::reply::Reply;
+use cg_group_state::{Group, Phase, Reply, fenced_caller};
 use cg_names::{Code, MemberId, Moment};
-use cg_request::request_fields::BeatRequest;
+use cg_request::BeatRequest;
 
 // Returns the reply to a BEAT that passes the checks: 27 while a rebalance is under way, otherwise OK.
 #[tactic(auto, unfolding(crate::specs::Heartbeat::beat_reply))]

@@ -14,19 +14,13 @@ use crate::group_limit::GROUPS_MAX;
 use crate::member_join::{add_member_and_rebalance, is_current, join_known, new_group};
 use crate::request_context::RequestContext;
 use crate::static_member::replace_static_member;
-use cg_group_state::checked_join::CheckedJoin;
-use cg_group_state::effects::Effects;
-use cg_group_state::group::Group;
-use cg_group_state::member::Member;
-use cg_group_state::member_check::checked_member;
-use cg_group_state::member_id::{drawn, is_drawn_held};
-use cg_group_state::members::Members;
-use cg_group_state::protocol_vote::is_common;
-use cg_group_state::turn::Turn;
+use cg_group_state::{
+    CheckedJoin, Effects, Group, Member, Members, Turn, checked_member, drawn, is_common,
+    is_drawn_held,
+};
 use cg_names::{Code, GroupId, MemberId, ProtocolName};
 use cg_record::MEMBERS_MAX;
-use cg_request::request_fields::JoinRequest;
-use cg_request::ticket::Ticket;
+use cg_request::{JoinRequest, Ticket};
 use std::alloc::AllocError;
 use uuid::Uuid;
 

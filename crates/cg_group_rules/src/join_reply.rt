@@ -4,17 +4,12 @@ ghost use Rattle.cg_group_rules.specs.Rebalance.{subscription_for, joined_member
 ghost use Rattle.cg_group_state.specs.Membership.{is_named};
 ghost use Rattle.cg_group_rules.specs.RebalancePlan.{told_group};
 
-use cg_group_state::boxed::Boxed;
-use cg_group_state::group::Group;
-use cg_group_state::member::Member;
-use cg_group_state::name_copy::copied_name;
-use cg_group_state::parked_replies::Telling;
-use cg_group_state::reply::{Joined, JoinedMember, Reply};
-use cg_group_state::who_stays::Staying;
+use cg_group_state::{
+    Boxed, Group, Joined, JoinedMember, Member, Reply, Staying, Telling, copied_name,
+};
 use cg_names::{Generation, MemberId, ProtocolName};
 use cg_record::Subscription;
-use cg_request::listed::Listed;
-use cg_request::protocol::Protocol;
+use cg_request::{Listed, Protocol};
 use std::alloc::{AllocError, Global};
 
 fn is_chosen(protocol: &Option<ProtocolName>, name: &ProtocolName) -> bool

@@ -12,18 +12,11 @@ ghost use Rattle.cg_request.specs.declared.ticket.Ticket.{Ticket};
 use crate::parked_join::waits_for_others;
 use crate::rebalance::{Round, carry_out, is_preparing, leads, planned, refuse_syncs_of};
 use crate::request_context::RequestContext;
-use cg_group_state::calls::Calls;
-use cg_group_state::effects::Effects;
-use cg_group_state::few::Few;
-use cg_group_state::group::{Group, Phase};
-use cg_group_state::member::Member;
-use cg_group_state::members::Members;
-use cg_group_state::parked_replies::{Refusing, answer_one};
-use cg_group_state::reply::Reply;
-use cg_group_state::who_stays::Staying;
+use cg_group_state::{
+    Calls, Effects, Few, Group, Member, Members, Phase, Refusing, Reply, Staying, answer_one,
+};
 use cg_names::{Code, InstanceId, MemberId, Moment};
-use cg_request::request_fields::LeaveRequest;
-use cg_request::ticket::Ticket;
+use cg_request::{LeaveRequest, Ticket};
 use std::alloc::{AllocError, Global};
 
 fn has_leader(group: &Group) -> bool

@@ -2,18 +2,32 @@
 //! A function changes the group in place and returns the replies and commands, or returns what is to change.
 #![tactic(auto)]
 
-pub mod group_limit;
-pub mod heartbeat;
-pub mod join;
-pub mod join_reply;
-pub mod leave;
-pub mod member_join;
-pub mod offset_commit;
-pub mod offset_fetch;
-pub mod parked_join;
-pub mod rebalance;
-pub mod request_context;
-pub mod static_member;
-pub mod sync;
-pub mod tick;
-pub mod tick_deadline;
+mod group_limit;
+mod heartbeat;
+mod join;
+mod join_reply;
+mod leave;
+mod member_join;
+mod offset_commit;
+mod offset_fetch;
+mod parked_join;
+mod rebalance;
+mod request_context;
+mod static_member;
+mod sync;
+mod tick;
+mod tick_deadline;
+
+pub use group_limit::GROUPS_MAX;
+pub use heartbeat::beat_in;
+pub use join::{current_joiner, join_in, join_refusal, join_unheld, unheld_refusal};
+pub use join_reply::{joined_reply, subscription_for};
+pub use leave::{departing, leave_in, leave_refusal, remove_member};
+pub use member_join::{new_group, new_member};
+pub use offset_commit::{commit_at, committer, kept, new_group_commit_refusal};
+pub use offset_fetch::fetched;
+pub use parked_join::{is_entering, parking_joiner};
+pub use request_context::RequestContext;
+pub use sync::{SyncCase, case_of, distribute_in, syncer};
+pub use tick::{TickPlan, carry_out_tick, plan_tick};
+pub use tick_deadline::{next_deadline, tick_touches};

@@ -14,19 +14,13 @@ ghost use Rattle.cg_group_rules.specs.ParkedJoin.{refused_call, with_header};
 use crate::join_reply::joined_reply;
 use crate::rebalance::{advance, is_preparing, leads, refuse_syncs};
 use crate::request_context::RequestContext;
-use cg_group_state::calls::Calls;
-use cg_group_state::checked_join::CheckedJoin;
-use cg_group_state::effects::Effects;
-use cg_group_state::few::Few;
-use cg_group_state::group::{Group, Phase};
-use cg_group_state::member::{Member, Waits};
-use cg_group_state::members::Members;
-use cg_group_state::parked_replies::{Refusing, answer_one};
-use cg_group_state::reply::Reply;
+use cg_group_state::{
+    Calls, CheckedJoin, Effects, Few, Group, Member, Members, Phase, Refusing, Reply, Waits,
+    answer_one,
+};
 use cg_names::{Code, Generation, GroupId, MemberId, Moment, ProtocolName};
 use cg_record::{Assignment, MEMBERS_MAX};
-use cg_request::request_fields::JoinRequest;
-use cg_request::ticket::Ticket;
+use cg_request::{JoinRequest, Ticket};
 use std::alloc::{AllocError, Global};
 use std::mem;
 

@@ -6,15 +6,10 @@ ghost use Rattle.cg_request.specs.Commits.{is_too_large};
 ghost use Rattle.cg_group_rules.specs.Join.{new_group};
 
 use crate::group_limit::GROUPS_MAX;
-use cg_group_state::effects::Effects;
-use cg_group_state::few::Few;
-use cg_group_state::group::{Group, Phase};
-use cg_group_state::member_check::checked_member;
-use cg_group_state::reply::Reply;
+use cg_group_state::{Effects, Few, Group, Phase, Reply, checked_member};
 use cg_names::{Code, GroupId, InstanceId, MemberId, Moment};
 use cg_record::{Command, Committed, Entries};
-use cg_request::commit_entries::{Commits, is_too_large};
-use cg_request::ticket::Ticket;
+use cg_request::{Commits, Ticket, is_too_large};
 use std::alloc::Global;
 
 #[tactic(auto, unfolding(crate::specs::OffsetCommit::commit_of_member))]

@@ -4,11 +4,10 @@ ghost use Rattle.std.specs.Option.{option_copied};
 ghost use Rattle.cg_group_rules.specs.OffsetFetch.{fetched, fetched_partition};
 
 use cg_fold::{Offsets, StoredOffset};
-use cg_group_state::reply::{FetchedPartition, Reply};
+use cg_group_state::{FetchedPartition, Reply};
 use cg_names::{Code, GroupId};
 use cg_record::TopicPartition;
-use cg_request::listed::Listed;
-use cg_request::request_fields::FetchRequest;
+use cg_request::{FetchRequest, Listed};
 use std::alloc::{AllocError, Global};
 
 fn copied_offset(stored: Option<&StoredOffset>) -> Result<Option<StoredOffset>, AllocError>

@@ -14,11 +14,9 @@ ghost use Rattle.cg_group_rules.specs.ParkedJoin.{HasPlace, entered};
 
 use crate::join::{rejoiner, stranger_refusal};
 use crate::rebalance::is_preparing;
-use cg_group_state::calls::{Calls, is_waiting};
-use cg_group_state::group::{Group, Phase};
-use cg_group_state::member::Member;
+use cg_group_state::{Calls, Group, Member, Phase, is_waiting};
 use cg_names::MemberId;
-use cg_request::request_fields::JoinRequest;
+use cg_request::JoinRequest;
 use uuid::Uuid;
 
 /// Returns whether a member other than this one has not joined yet.

@@ -9,19 +9,13 @@ ghost use Rattle.cg_group_state.specs.Waiting.{answers, is_waiting, refusing};
 ghost use Rattle.cg_group_rules.specs.RebalancePlan.{IsPlan, among, in_round, rounded};
 
 use crate::join_reply::{TellingJoined, Told, is_leader};
-use cg_group_state::calls::{Calls, is_waiting};
-use cg_group_state::effects::Effects;
-use cg_group_state::few::Few;
-use cg_group_state::group::{Group, Phase};
-use cg_group_state::member::Member;
-use cg_group_state::name_copy::copied_name;
-use cg_group_state::parked_replies::{Refusing, answer_staying};
-use cg_group_state::protocol_vote::select_protocol;
-use cg_group_state::reply::Reply;
-use cg_group_state::who_stays::Staying;
+use cg_group_state::{
+    Calls, Effects, Few, Group, Member, Phase, Refusing, Reply, Staying, answer_staying,
+    copied_name, is_waiting, select_protocol,
+};
 use cg_names::{Code, Generation, MemberId, Moment, ProtocolName};
 use cg_record::{Command, CompletedGeneration, Emptied};
-use cg_request::ticket::Ticket;
+use cg_request::Ticket;
 use std::alloc::{AllocError, Global};
 
 /// Returns whether a rebalance is under way.

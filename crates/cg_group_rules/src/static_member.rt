@@ -17,23 +17,13 @@ use crate::member_join::{new_member, rejoin};
 use crate::rebalance::leads;
 use crate::request_context::RequestContext;
 use crate::sync::kept_member;
-use cg_group_state::boxed::Boxed;
-use cg_group_state::calls::Calls;
-use cg_group_state::checked_join::CheckedJoin;
-use cg_group_state::effects::Effects;
-use cg_group_state::few::Few;
-use cg_group_state::group::{Group, Phase};
-use cg_group_state::member::{Member, Waits};
-use cg_group_state::members::{Seat, has_instance};
-use cg_group_state::name_copy::copied_name;
-use cg_group_state::parked_replies::{Refusing, answer_one};
-use cg_group_state::protocol_vote::select_protocol;
-use cg_group_state::reply::{Joined, Reply};
-use cg_group_state::who_stays::Staying;
+use cg_group_state::{
+    Boxed, Calls, CheckedJoin, Effects, Few, Group, Joined, Member, Phase, Refusing, Reply, Seat,
+    Staying, Waits, answer_one, copied_name, has_instance, select_protocol,
+};
 use cg_names::{Code, MemberId, Moment, ProtocolName};
 use cg_record::{Command, Replaced, StaticMember};
-use cg_request::listed::Listed;
-use cg_request::ticket::Ticket;
+use cg_request::{Listed, Ticket};
 use std::alloc::{AllocError, Global};
 use std::mem;
 

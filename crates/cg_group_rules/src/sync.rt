@@ -11,21 +11,13 @@ ghost use Rattle.cg_group_rules.specs.SyncSteps.{IsLeader, IsSyncCase, displacin
 use crate::join_reply::subscription_for;
 use crate::rebalance::{is_preparing, leads};
 use crate::request_context::RequestContext;
-use cg_group_state::assignments::handed_out;
-use cg_group_state::calls::Calls;
-use cg_group_state::effects::Effects;
-use cg_group_state::few::Few;
-use cg_group_state::group::{Group, Phase};
-use cg_group_state::member::{Member, Waits};
-use cg_group_state::member_check::checked_member;
-use cg_group_state::name_copy::copied_name;
-use cg_group_state::parked_replies::{Telling, answer_all};
-use cg_group_state::reply::Reply;
+use cg_group_state::{
+    Calls, Effects, Few, Group, Member, Phase, Reply, Telling, Waits, answer_all, checked_member,
+    copied_name, handed_out,
+};
 use cg_names::{Code, MemberId, Moment, ProtocolName};
 use cg_record::{Assigned, Assignment, Command, CompletedGeneration, MemberRecord, Roster};
-use cg_request::request_fields::SyncRequest;
-use cg_request::sync_entries::SyncEntries;
-use cg_request::ticket::Ticket;
+use cg_request::{SyncEntries, SyncRequest, Ticket};
 use std::alloc::{AllocError, Global};
 
 /// Copies the member into the form that a command stores.

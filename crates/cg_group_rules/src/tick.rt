@@ -15,11 +15,7 @@ use crate::rebalance::{
     Round, carry_out, completion, enter, is_preparing, is_ready, is_under_way, none_stays, planned,
     refuse_syncs_of,
 };
-use cg_group_state::calls::{Calls, is_waiting};
-use cg_group_state::effects::Effects;
-use cg_group_state::group::Group;
-use cg_group_state::member::Member;
-use cg_group_state::who_stays::Staying;
+use cg_group_state::{Calls, Effects, Group, Member, Staying, is_waiting};
 use cg_names::Moment;
 use std::alloc::{AllocError, Global};
 

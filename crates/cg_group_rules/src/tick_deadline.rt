@@ -4,10 +4,7 @@ ghost use Rattle.cg_group_rules.specs.TickDeadline.{earliest_expiry, expiry, nex
 
 use crate::rebalance::{is_preparing, is_ready};
 use crate::tick::{greatest_rebalance, is_due};
-use cg_group_state::calls::{Calls, is_waiting};
-use cg_group_state::group::Group;
-use cg_group_state::member::Member;
-use cg_group_state::who_stays::Staying;
+use cg_group_state::{Calls, Group, Member, Staying, is_waiting};
 use cg_names::Moment;
 
 /// Returns whether a tick changes the group. Linear in the members, no allocation.

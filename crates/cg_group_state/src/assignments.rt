@@ -11,8 +11,7 @@ use crate::member::Member;
 use crate::members::Members;
 use cg_names::MemberId;
 use cg_record::Assignment;
-use cg_request::request_fields::SyncEntry;
-use cg_request::sync_entries::SyncEntries;
+use cg_request::{SyncEntries, SyncEntry};
 use indexmap::IndexMap;
 use std::alloc::{AllocError, Global};
 

@@ -3,7 +3,7 @@ ghost use Rattle.std.specs.Prelude.{◌≡◌};
 ghost use Rattle.cg_group_state.specs.Waiting.{on_session, called, is_waiting};
 
 use crate::member::{Member, Waits};
-use cg_request::ticket::Ticket;
+use cg_request::Ticket;
 
 /// A selection of parked calls.
 #[derive(Clone, Copy)]

@@ -3,7 +3,7 @@ ghost use Rattle.std.specs.Prelude.{◌≡◌, true, false, MatchOption};
 ghost use Rattle.cg_group_state.specs.JoinTerms.{is_session_refused};
 
 use cg_record::SessionTimeout;
-use cg_request::request_fields::JoinRequest;
+use cg_request::JoinRequest;
 use std::marker::Model;
 
 /// A JOIN whose session timeout is within the coordinator's limits (KIP-62). Contracts see the request.

@@ -4,7 +4,7 @@ ghost use Rattle.std.specs.Prelude.{◌≡◌, []};
 use crate::few::Few;
 use crate::reply::Reply;
 use cg_record::Command;
-use cg_request::ticket::Ticket;
+use cg_request::Ticket;
 use std::alloc::Global;
 
 /// The commands and the replies of an event, each in its order.

@@ -1,8 +1,7 @@
 //! A member and its parked call.
 use cg_names::{ClientId, InstanceId, MemberId, Moment};
 use cg_record::{Assignment, RebalanceTimeout, SessionTimeout};
-use cg_request::protocols::Protocols;
-use cg_request::ticket::Ticket;
+use cg_request::{Protocols, Ticket};
 
 /// The parked call of a member. A member has at most one.
 #[derive(Clone, Copy, Debug)]

@@ -9,7 +9,7 @@ ghost use Rattle.cg_group_state.specs.Membership.{find_member, is_same};
 use crate::member::Member;
 use crate::members::Members;
 use cg_names::{MemberId, NameFault};
-use cg_request::request_fields::JoinRequest;
+use cg_request::JoinRequest;
 use std::alloc::{AllocError, Global};
 use uuid::Uuid;
 

@@ -18,7 +18,7 @@ use crate::members::has_instance;
 use crate::shared_protocols::sharing_join;
 use cg_names::{InstanceId, MemberId, Moment};
 use cg_record::Assignment;
-use cg_request::request_fields::JoinRequest;
+use cg_request::JoinRequest;
 use indexmap::IndexMap;
 use std::alloc::AllocError;
 use std::mem;

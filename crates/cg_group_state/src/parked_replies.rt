@@ -9,7 +9,7 @@ use crate::member::Member;
 use crate::reply::Reply;
 use crate::who_stays::Staying;
 use cg_names::Code;
-use cg_request::ticket::Ticket;
+use cg_request::Ticket;
 use std::alloc::AllocError;
 
 /// A rule that gives the reply to a member's parked call.

@@ -10,8 +10,7 @@ ghost use Rattle.cg_group_state.specs.Staying.{remaining, stays};
 use crate::member::Member;
 use crate::who_stays::Staying;
 use cg_names::ProtocolName;
-use cg_request::listed::Listed;
-use cg_request::protocol::Protocol;
+use cg_request::{Listed, Protocol};
 use std::alloc::{AllocError, Global};
 use std::cmp::Ordering;
 

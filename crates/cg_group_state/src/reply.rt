@@ -4,7 +4,7 @@ use crate::group::Phase;
 use cg_fold::StoredOffset;
 use cg_names::{ClientId, Code, Generation, GroupId, InstanceId, MemberId, ProtocolName};
 use cg_record::{Assignment, Subscription, TopicPartition};
-use cg_request::listed::Listed;
+use cg_request::Listed;
 
 /// A member in the JOIN reply of the leader.
 #[derive(Debug, Drop)]

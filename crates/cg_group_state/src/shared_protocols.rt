@@ -3,8 +3,7 @@ ghost use Rattle.std.specs.Prelude.{◌≡◌, ◌↔◌, IsTrue, IfSome};
 
 use crate::checked_join::CheckedJoin;
 use crate::member::Member;
-use cg_request::protocols::Protocols;
-use cg_request::request_fields::JoinRequest;
+use cg_request::{JoinRequest, Protocols};
 
 fn are_same(a: &Protocols, b: &Protocols) -> bool
     ensures { IsTrue result ↔ (a.now ≡ b.now) }

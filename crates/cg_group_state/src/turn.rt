@@ -3,7 +3,7 @@ use crate::few::Few;
 use crate::group::Group;
 use crate::reply::Reply;
 use cg_record::Command;
-use cg_request::ticket::Ticket;
+use cg_request::Ticket;
 
 /// What an event has done so far in one group: the changed group, and the replies and commands in their order.
 #[derive(Debug, Drop)]

@@ -17,12 +17,10 @@ use crate::expiry::{Clock, expires, push_expiring};
 use crate::group_table::GroupTable;
 use crate::parked_calls::parked_calls;
 use cg_fold::Offsets;
-use cg_group_rules::tick::{TickPlan, plan_tick};
-use cg_group_rules::tick_deadline::tick_touches;
-use cg_group_state::effects::Effects;
-use cg_group_state::group::Group;
+use cg_group_rules::{TickPlan, plan_tick, tick_touches};
+use cg_group_state::{Effects, Group};
 use cg_names::{GroupId, Moment};
-use cg_request::ticket::Ticket;
+use cg_request::Ticket;
 use std::alloc::AllocError;
 
 /// A loaded group that a tick changes: its id, what the tick comes to, and the calls that were parked in the group before.

@@ -10,8 +10,7 @@ ghost use Rattle.cg_group_table.specs.Resting.{AreFresh, IsFresh, Rests};
 ghost use Rattle.cg_group_table.specs.Expiry.{expires, expiries, expiring, is_stale, is_stale_row, is_vacant, stale_of};
 
 use cg_fold::{Offsets, Row};
-use cg_group_state::few::Few;
-use cg_group_state::group::{Group, Phase};
+use cg_group_state::{Few, Group, Phase};
 use cg_names::{GroupId, Moment};
 use cg_record::{Command, Deleted, ENTRIES_MAX, Expired, Partitions, TopicPartition};
 use std::alloc::{AllocError, Global};

@@ -1,5 +1,5 @@
 //! A change of a loaded group, in place.
-use cg_group_state::group::Group;
+use cg_group_state::Group;
 use std::alloc::AllocError;
 
 /// A change of one group, made in place.

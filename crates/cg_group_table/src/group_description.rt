@@ -4,14 +4,11 @@ ghost use Rattle.cg_group_state.specs.Membership.{is_stable};
 ghost use Rattle.cg_group_table.specs.Describe.{shown_protocol, shown_member, description};
 ghost use Rattle.cg_group_rules.specs.Rebalance.{subscription_for};
 
-use cg_group_rules::join_reply::subscription_for;
-use cg_group_state::group::{Group, Phase};
-use cg_group_state::member::Member;
-use cg_group_state::name_copy::copied_name;
-use cg_group_state::reply::{Described, DescribedMember};
+use cg_group_rules::subscription_for;
+use cg_group_state::{Described, DescribedMember, Group, Member, Phase, copied_name};
 use cg_names::ProtocolName;
 use cg_record::{Assignment, Subscription};
-use cg_request::listed::Listed;
+use cg_request::Listed;
 use std::alloc::{AllocError, Global};
 
 fn shown_subscription(

@@ -3,10 +3,8 @@ ghost use Rattle.std.specs.Prelude.{◌≡◌, ◌≤◌, IfOk, OnErr, length, m
 ghost use Rattle.cg_group_table.specs.Describe.{listing};
 
 use crate::group_table::GroupTable;
-use cg_group_state::group::Group;
-use cg_group_state::name_copy::copied_name;
-use cg_group_state::reply::Listing;
-use cg_request::listed::Listed;
+use cg_group_state::{Group, Listing, copied_name};
+use cg_request::Listed;
 use std::alloc::{AllocError, Global};
 
 fn listing(group: &Group) -> Result<Listing, AllocError>

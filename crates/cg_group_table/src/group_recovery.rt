@@ -5,15 +5,11 @@ ghost use Rattle.cg_group_table.specs.Recovery.{revived_member, revived_with, re
 
 use crate::group_table::GroupTable;
 use cg_fold::{Durable, GroupRecord, RecordedMembers};
-use cg_group_rules::member_join::new_group;
-use cg_group_state::group::{Group, Phase};
-use cg_group_state::member::{Member, Waits};
-use cg_group_state::members::Members;
-use cg_group_state::shared_protocols::sharing;
+use cg_group_rules::new_group;
+use cg_group_state::{Group, Member, Members, Phase, Waits, sharing};
 use cg_names::{GroupId, Moment, ProtocolName};
 use cg_record::{MemberRecord, Roster};
-use cg_request::protocol::Protocol;
-use cg_request::protocols::Protocols;
+use cg_request::{Protocol, Protocols};
 use std::alloc::{AllocError, Global};
 
 #[tactic(auto, unfolding(crate::specs::Recovery::revived_member))]
@@ -29,7 +25,7 @@ fn revived_member(
     let subscription = member.subscription.clone()?;
     let protocols = Protocols::only(alloc, Protocol { name, subscription })?;
     let id = member.id.clone()?;
-    let instance = cg_group_state::name_copy::copied_name(&member.instance)?;
+    let instance = cg_group_state::copied_name(&member.instance)?;
     let client = member.client.clone()?;
     let assignment = member.assignment.clone()?;
     Ok(Member {

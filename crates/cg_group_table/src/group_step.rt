@@ -1,6 +1,5 @@
 //! A step of a loaded group, in place.
-use cg_group_state::effects::Effects;
-use cg_group_state::group::Group;
+use cg_group_state::{Effects, Group};
 use std::alloc::AllocError;
 
 /// A step of one group, made in place.

@@ -14,9 +14,7 @@ ghost use Rattle.cg_group_state.specs.Waiting.{is_waiting};
 use crate::group_table::GroupTable;
 use crate::parked_calls::Calling;
 use crate::session_index::{SessionIndex, affirm, doubt, leave};
-use cg_group_state::calls::Calls;
-use cg_group_state::group::Group;
-use cg_group_state::member::Member;
+use cg_group_state::{Calls, Group, Member};
 use cg_names::GroupId;
 
 // Marks the group as doubtful for the session of the parked call, if there is one.

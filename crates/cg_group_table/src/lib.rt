@@ -2,17 +2,31 @@
 //! durable state, expiry, and events that concern many groups.
 #![tactic(auto)]
 
-pub mod due_groups;
-pub mod expiry;
-pub mod group_change;
-pub mod group_description;
-pub mod group_list;
-pub mod group_recovery;
-pub mod group_step;
-pub mod group_table;
-pub mod index_cleanup;
-pub mod loaded_groups;
-pub mod parked_calls;
-pub mod session_closed;
-pub mod session_index;
-pub mod sure_change;
+mod due_groups;
+mod expiry;
+mod group_change;
+mod group_description;
+mod group_list;
+mod group_recovery;
+mod group_step;
+mod group_table;
+mod index_cleanup;
+mod loaded_groups;
+mod parked_calls;
+mod session_closed;
+mod session_index;
+mod sure_change;
+
+pub use due_groups::{Due, Sweep, plan_due, plan_sweep};
+pub use expiry::{Clock, RETENTION_MS, expires, fresh_until};
+pub use group_change::Altering;
+pub use group_description::description;
+pub use group_list::listings;
+pub use group_recovery::revived_all;
+pub use group_step::Stepping;
+pub use group_table::GroupTable;
+pub use index_cleanup::{settle, settle_request};
+pub use parked_calls::parked_calls;
+pub use session_closed::end_session;
+pub use session_index::{SessionIndex, forget, note};
+pub use sure_change::Changing;

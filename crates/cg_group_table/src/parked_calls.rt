@@ -7,10 +7,9 @@ ghost use Rattle.cg_group_state.specs.declared.group.Group.{Group};
 ghost use Rattle.cg_group_state.specs.Waiting.{called};
 
 use crate::group_table::GroupTable;
-use cg_group_state::calls::Calls;
-use cg_group_state::member::Member;
+use cg_group_state::{Calls, Member};
 use cg_names::GroupId;
-use cg_request::ticket::Ticket;
+use cg_request::Ticket;
 use std::alloc::{AllocError, Global};
 
 /// What may have a parked call: a member, or a call by itself.

@@ -13,14 +13,9 @@ ghost use Rattle.cg_group_rules.specs.TickDeadline.{gone_touches};
 use crate::group_table::GroupTable;
 use crate::session_index::{Home, SessionIndex};
 use crate::sure_change::Changing;
-use cg_group_state::calls::Calls;
-use cg_group_state::effects::Effects;
-use cg_group_state::few::Few;
-use cg_group_state::group::Group;
-use cg_group_state::parked_replies::{Refusing, answer_all};
-use cg_group_state::reply::Reply;
+use cg_group_state::{Calls, Effects, Few, Group, Refusing, Reply, answer_all};
 use cg_names::{Code, GroupId, Moment};
-use cg_request::ticket::Ticket;
+use cg_request::Ticket;
 use std::alloc::AllocError;
 use std::collections::BTreeMap;
 

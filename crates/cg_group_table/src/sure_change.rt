@@ -1,5 +1,5 @@
 //! A change of a loaded group that needs no allocation.
-use cg_group_state::group::Group;
+use cg_group_state::Group;
 
 /// A change of one group, made in place, that cannot fail.
 pub trait Changing {

@@ -2,13 +2,27 @@
 //! whose violation makes a request malformed; the machine refuses all others with an error code.
 #![tactic(auto)]
 
-pub mod commit_entries;
-pub mod commit_entry;
-pub mod event;
-pub mod listed;
-pub mod protocol;
-pub mod protocols;
-pub mod request;
-pub mod request_fields;
-pub mod sync_entries;
-pub mod ticket;
+mod commit_entries;
+mod commit_entry;
+mod event;
+mod listed;
+mod protocol;
+mod protocols;
+mod request;
+mod request_fields;
+mod sync_entries;
+mod ticket;
+
+pub use commit_entries::{Commits, into_entries, is_too_large};
+pub use commit_entry::CommitEntry;
+pub use event::Event;
+pub use listed::Listed;
+pub use protocol::{PROTOCOLS_MAX, Protocol};
+pub use protocols::Protocols;
+pub use request::Request;
+pub use request_fields::{
+    BeatRequest, CommitRequest, DropRequest, FetchRequest, JoinRequest, LeaveRequest, SyncEntry,
+    SyncRequest,
+};
+pub use sync_entries::SyncEntries;
+pub use ticket::Ticket;

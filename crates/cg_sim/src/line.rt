@@ -14,7 +14,7 @@ use cg_line::decimal::number;
 use cg_names::Moment;
 
 /// Longest script line, in bytes without its line feed: the longest request line, and room for the session before it.
-pub const SCRIPT_LINE_BYTES_MAX: usize = 1_048_640;
+pub const SCRIPT_LINE_BYTES_MAX: usize = LINE_BYTES_MAX + 64;
 
 /// Line of a script.
 #[derive(Drop)]

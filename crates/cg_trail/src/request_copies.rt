@@ -5,7 +5,7 @@ use cg_group::{
     BeatRequest, CommitEntry, CommitRequest, Commits, DropRequest, FetchRequest, JoinRequest,
     LeaveRequest, Listed, Request, SyncEntries, SyncEntry, SyncRequest,
 };
-use cg_group_state::name_copy::copied_name;
+use cg_group_state::copied_name;
 use cg_record::{Partitions, TopicPartition};
 use std::alloc::{AllocError, Global};
 

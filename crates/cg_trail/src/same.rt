@@ -1,11 +1,10 @@
 //! Equality of values as contracts see them.
 ghost use Rattle.std.specs.Prelude.{◌≡◌, ◌↔◌, IsTrue};
 
-use cg_group_state::few::Few;
+use cg_group_state::Few;
 use cg_names::{Code, Name, ShortName};
 use cg_record::{Metadata, Opaque};
-use cg_request::listed::Listed;
-use cg_request::ticket::Ticket;
+use cg_request::{Listed, Ticket};
 
 /// A type whose values can be compared.
 pub trait Same {
