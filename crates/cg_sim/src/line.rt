@@ -10,6 +10,7 @@ use crate::request_line::RequestLine;
 use crate::sector_text::SectorText;
 use crate::text::{self, NUMBER_MAX};
 use cg_disk::Crash;
+use cg_line::LINE_BYTES_MAX;
 use cg_line::decimal::number;
 use cg_names::Moment;
 
