@@ -1,4 +1,4 @@
-pub mod Departing
+pub mod Leavers
 pub mod Entering
 pub mod Leading
 pub mod Rostering

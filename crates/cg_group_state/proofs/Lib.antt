@@ -1,5 +1,5 @@
 pub mod Together
-pub mod Drawn
+pub mod DrawnIds
 pub mod Keeping
 pub mod Places
 pub mod Seats

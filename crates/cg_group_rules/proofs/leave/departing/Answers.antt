@@ -2,7 +2,7 @@ use Rattle.std.proofs.Common.{◌≡◌, true, Ok, rules, sym, ap, ◌∙◌}
 use Rattle.std.specs.List.{list_any}
 use Rattle.cg_group_rules.specs.Leave.{leave_held, leave_taken}
 use Rattle.cg_group_state.specs.Checks.{◌>>=◌}
-use Rattle.cg_group_rules.proofs.Departing.{leave_left, others_left}
+use Rattle.cg_group_rules.proofs.Leavers.{leave_left, others_left}
 use Rattle.cg_group_rules.proofs.Lagging.{lags}
 use Rattle.cg_group_rules.proofs.leave.departing.Goals as goal
 

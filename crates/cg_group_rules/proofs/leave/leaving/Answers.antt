@@ -1,5 +1,5 @@
 use Rattle.std.proofs.Common.{rules}
-use Rattle.cg_group_rules.proofs.Departing.{leave_refused, leaves_by}
+use Rattle.cg_group_rules.proofs.Leavers.{leave_refused, leaves_by}
 use Rattle.cg_group_rules.proofs.leave.leaving.Goals as goal
 
 pub returns-in-Err : goal.returns-in-Err

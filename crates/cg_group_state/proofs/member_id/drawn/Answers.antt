@@ -1,7 +1,7 @@
 use Rattle.std.proofs.Common.{ℕ, List, sym, ◌∙◌, subst}
 use Rattle.cg_names.specs.Grammar.{IsName}
 use Rattle.cg_names.specs.declared.name.TheConstants.{MEMBER_ID_BYTES_MAX}
-use Rattle.cg_group_state.proofs.Drawn.{drawn_is_name}
+use Rattle.cg_group_state.proofs.DrawnIds.{drawn_is_name}
 use Rattle.cg_group_state.proofs.member_id.drawn.Goals as goal
 
 pub member_id-requires : goal.member_id-requires
