@@ -1,5 +1,5 @@
 -- JOIN (protocol guide, "JoinGroup"; KIP-62), of a new member and of a known one.
-use Rattle.std.specs.Prelude.{ℕ, Bool, true, false, not, ◌&&◌, ◌||◌, List, ◌∷◌, ◌++◌, Option, Some, None, if◌then◌else◌}
+use Rattle.std.specs.Prelude.{ℕ, Bool, true, false, not, ◌&&◌, ◌||◌, List, [], ◌∷◌, ◌++◌, Option, Some, None, if◌then◌else◌}
 use Rattle.std.specs.List.{list_any}
 use Rattle.cg_names.specs.declared.code.Code.TheVariants.{RebalanceInProgress}
 use Rattle.cg_group_state.specs.declared.calls.Calls.TheVariants.{Any}

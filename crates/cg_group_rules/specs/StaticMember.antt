@@ -1,5 +1,5 @@
 -- JOIN that replaces the member with the same instance (KIP-345).
-use Rattle.std.specs.Prelude.{ℕ, Bool, false, ◌&&◌, List, ◌∷◌, ◌++◌, Option, Some, None, if◌then◌else◌}
+use Rattle.std.specs.Prelude.{ℕ, Bool, false, ◌&&◌, List, [], ◌∷◌, ◌++◌, Option, Some, None, if◌then◌else◌}
 use Rattle.std.specs.List.{list_any}
 use Rattle.cg_names.specs.declared.code.Code.TheVariants.{FencedInstanceId}
 use Rattle.cg_record.specs.declared.command.Command.{Command}

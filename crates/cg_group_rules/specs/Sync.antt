@@ -1,5 +1,6 @@
 -- SYNC (protocol guide, "SyncGroup"): the leader sends the assignments, and each member gets its own.
-use Rattle.std.specs.Prelude.{ℕ, pos, not, List, ◌∷◌, ◌++◌, map, Option, Result, Ok, option_map, option_and_then, option_to_list, if◌then◌else◌}
+use Rattle.std.specs.Prelude.{ℕ, pos, not, List, [], ◌∷◌, ◌++◌, map, Option, Result, Ok, option_map, option_and_then, option_to_list, if◌then◌else◌}
+use Rattle.cg_member.specs.Refusing.{◌>>=◌, refused_if}
 use Rattle.std.specs.Ordering.{int_eq}
 use Rattle.cg_names.specs.declared.code.Code.{Code}
 use Rattle.cg_names.specs.declared.code.Code.TheVariants.{IllegalGeneration, RebalanceInProgress}
