@@ -1,6 +1,5 @@
 -- SYNC (protocol guide, "SyncGroup"): the leader sends the assignments, and each member gets its own.
 use Rattle.std.specs.Prelude.{ℕ, pos, not, List, [], ◌∷◌, ◌++◌, map, Option, Result, Ok, option_map, option_and_then, option_to_list, if◌then◌else◌}
-use Rattle.cg_member.specs.Refusing.{◌>>=◌, refused_if}
 use Rattle.std.specs.Ordering.{int_eq}
 use Rattle.cg_names.specs.declared.code.Code.{Code}
 use Rattle.cg_names.specs.declared.code.Code.TheVariants.{IllegalGeneration, RebalanceInProgress}
@@ -24,7 +23,7 @@ use Rattle.cg_group_state.specs.MemberCheck.{validate_current_member}
 use Rattle.cg_group_rules.specs.Join.{waiting}
 use Rattle.cg_group_state.specs.Membership.{hearing, is_preparing, leads}
 use Rattle.cg_group_rules.specs.Rebalance.{completed_generation, subscription_for, turn_of}
-use Rattle.cg_group_state.specs.Checks.{refused_if}
+use Rattle.cg_group_state.specs.Checks.{◌>>=◌, refused_if}
 use Rattle.cg_group_state.specs.Waiting.{after_answers, answers}
 use Rattle.cg_group_state.specs.Assignments.{assigned}
 
