@@ -1,5 +1,5 @@
 //! The description of a group, as DESCRIBE (DescribeGroups request) returns it.
-ghost use Rattle.std.specs.Prelude.{◌≡◌, IfOk, map, if◌then◌else◌};
+ghost use Rattle.std.specs.Prelude.{◌≡◌, [], IfOk, map, if◌then◌else◌};
 ghost use Rattle.cg_group_state.specs.Membership.{is_stable};
 ghost use Rattle.cg_group_table.specs.Describe.{shown_protocol, shown_member, description};
 ghost use Rattle.cg_group_rules.specs.Rebalance.{subscription_for};
