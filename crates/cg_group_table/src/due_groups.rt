@@ -15,7 +15,7 @@ ghost use Rattle.cg_group_rules.specs.TickDeadline.{tick_touches};
 
 use crate::expiry::{Clock, expires, push_expiring};
 use crate::group_table::GroupTable;
-use crate::parked_calls::parked_calls;
+use crate::parked::parked_calls;
 use cg_fold::Offsets;
 use cg_group_rules::{TickPlan, plan_tick, tick_touches};
 use cg_group_state::{Effects, Group};

@@ -12,7 +12,7 @@ ghost use Rattle.cg_group_table.specs.SessionIndex.{AreKnown, IfParked, IsFilled
 ghost use Rattle.cg_group_state.specs.Waiting.{is_waiting};
 
 use crate::group_table::GroupTable;
-use crate::parked_calls::Calling;
+use crate::parked::Calling;
 use crate::session_index::{SessionIndex, affirm, doubt, leave};
 use cg_group_state::{Calls, Group, Member};
 use cg_names::GroupId;
