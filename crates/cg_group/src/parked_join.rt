@@ -1,6 +1,6 @@
 //! JOIN (JoinGroup request) while a rebalance waits for others: the member is appended or updated in place, and the call parked.
 //! A JOIN of a known member that changes nothing is answered at once.
-ghost use Rattle.std.specs.Prelude.{◌≡◌, true, false, is_ok, IfOk, OnErr, MatchOption, ℕ, Bool, List};
+ghost use Rattle.std.specs.Prelude.{◌≡◌, ⊤, true, false, is_ok, IfOk, OnErr, MatchOption, ℕ, Bool, List};
 ghost use Rattle.cg_group.specs.InPlace.{IsEntering, IsJoinIn, IsJoinParked};
 ghost use Rattle.cg_group.specs.Machine.{concluded, join};
 ghost use Rattle.cg_group_table.specs.GroupTable.{at_moment, outcome};
