@@ -14,8 +14,9 @@ import kit
 # Seconds between two lines that say that the build goes on.
 SAY_SECONDS = 10
 LOOK_SECONDS = 0.1
-# With these words a server waits for a connection until it is ended.
-WAITING = ["--listen", "127.0.0.1:0"]
+# What keeps each program running until it is found: its words, and its input. A server waits for a connection, and a script of two
+# million lines takes seconds.
+RUNNING = {"cg_server": (["--listen", "127.0.0.1:0"], b""), "cg_sim": ([], b"tick\n" * 2_000_000)}
 
 
 def _say(line):
@@ -62,9 +63,12 @@ def _keep(room, path):
 def _compile(crate, path):
     """Runs `rt try` until the program runs, and keeps that. Returns whether it came to that, and what `rt try` said."""
     begun = said = time.monotonic()
-    with tempfile.TemporaryDirectory(prefix="unproved-") as room, tempfile.TemporaryFile("w+") as errors:
-        words = ["rt", "try", "--", *WAITING]
-        trying = subprocess.Popen(words, cwd=crate.folder, env={**os.environ, "TMPDIR": room}, stdin=subprocess.DEVNULL,
+    words, text = RUNNING[crate.name]
+    with tempfile.TemporaryDirectory(prefix="unproved-") as room, tempfile.TemporaryFile("w+") as errors, \
+         tempfile.TemporaryFile() as given:
+        given.write(text)
+        given.seek(0)
+        trying = subprocess.Popen(["rt", "try", "--", *words], cwd=crate.folder, env={**os.environ, "TMPDIR": room}, stdin=given,
                                   stdout=errors, stderr=errors)
         try:
             while trying.poll() is None:
@@ -85,6 +89,8 @@ def build(name):
     """Returns the path of a program: proved, if it was proved of the files as they are, or else without proofs."""
     every = crates.every_crate()
     crate = next(it for it in every if it.name == name)
+    if name not in RUNNING:
+        sys.exit(f"gate: {name} is no program that can be built without proofs: {' and '.join(RUNNING)} are")
     stamp = f"{kit.version()} {crates.sum_of(crates.with_those_below(every, [name]))}\n"
     if _is_kept(crate.program, stamp):
         return crate.program

@@ -3,8 +3,9 @@
   python3 scripts/outside PROGRAM_SIM PROGRAM_SERVER [SUBJECT ..]
 
 PROGRAM_SIM is a built cg_sim, PROGRAM_SERVER a built cg_server. A SUBJECT is the name of a module of this folder with a
-function `check`; all are run by default. Each check that fails is printed, and so is each that is left out. The last line is
-`N passed, M failed`, and the status is 1 if one failed. How long each subject took is on standard error.
+function `check`; all are run by default, and `wakeups` runs neither program. Each check that fails is printed, and so is each that
+is left out. The last line is `N passed, M failed`, and the status is 1 if one failed. How long each subject took is on standard
+error.
 """
 import importlib
 import os
@@ -17,8 +18,8 @@ sys.path.insert(0, os.path.dirname(os.path.dirname(os.path.abspath(__file__))))
 
 from outside.report import Report  # noqa: E402
 
-SUBJECTS = ["command_lines", "log_files", "faults", "status", "written_log", "snapshots", "read_log", "damaged_logs", "stops",
-            "failing_disk", "lines", "loading", "drawn_logs", "drawn_lines", "refused_memory", "client", "runs"]
+SUBJECTS = ["wakeups", "command_lines", "log_files", "faults", "status", "written_log", "snapshots", "read_log", "damaged_logs",
+            "stops", "failing_disk", "lines", "loading", "drawn_logs", "drawn_lines", "refused_memory", "client", "runs"]
 
 
 @dataclass(frozen=True)
