@@ -226,8 +226,10 @@ class Model:
 MODELS = [
     Model("1. commands come while the flusher falls asleep", [FLUSHER, NOTIFIER, TICKER], DESK, "settled == 2", [
         ("flusher", ":on over on take settle :look look+ sleep :awake off clear again"),
+        ("worker", "ask+ number read tell"),
         ("worker", "read number+ ask tell"),
         ("worker", "tell number+ ask read"),
+        ("ticker", "ask+ tick tell"),
         ("ticker", "tell tick+ ask")]),
     Model("2. commands come while a batch is in flight", [FLUSHER, STORER, STORER], DESK, "settled == 2", [
         ("worker", "number+ ask read take see+ settle tell done :failed wake ring"),
@@ -239,10 +241,12 @@ MODELS = [
         ("worker", ":rest calls down count take up sleep again")]),
     Model("4. a stream is handed over, or the server closes", [SERVER, PUTTER, CLOSER], INBOX, "served == 1 and closed", [
         ("worker", ":top done empty over shut new done2 empty2 down sleep up close enter again"),
+        ("worker", ":top done empty over down shut new done2 empty2 up sleep close enter again"),
         ("acceptor", "swap wake put"),
         ("crew", "swap wake shut")]),
     Model("4. the last stream is handed over", [SERVER, LAST], INBOX, "served == 1 and 'worker' in over", [
         ("worker", ":top empty done over down shut new done2 empty2 sleep up close enter again"),
+        ("acceptor", "done put swap wake"),
         ("acceptor", "put swap wake done")]),
     Model("5. a request is added while another thread stops handing over", [HANDER, HANDER, ROUND], INTAKE, "served == 2", [
         ("worker", ":up up+ task round next+ keep serve :leave clear+ more :rest add sleep"),
