@@ -4,7 +4,7 @@ use Rattle.std.proofs.lemmas.Bool.{leb-true, leb-false}
 use Rattle.cg_frame.specs.declared.segment.TheConstants.{LARGEST_PAYLOAD_BYTES}
 use Rattle.cg_record.specs.declared.command.Command.{Command}
 use Rattle.cg_record.specs.Spelling.{command_text}
-use Rattle.cg_store.proofs.Lengths.{text_len, text_len-cons, spelling-len}
+use Rattle.cg_record.proofs.Lengths.{text_len, text_len-cons, spelling-len}
 use Rattle.cg_desk.specs.Fronts.{fitting, in_frame}
 use Rattle.cg_desk.specs.Laws.{BatchesAreLongest}
 

@@ -1,11 +1,12 @@
 -- A payload that grows by commands, and when it is full.
-use Rattle.std.proofs.Common.{◌≡◌, ℕ, suc, ◌+◌, ◌<◌, ◌≤◌, Bool, true, false, List, [], ◌∷◌, ◌++◌, length, get_or, take, drop, cond, leb, refl, ap, ◌∙◌, subst, arith}
+use Rattle.std.proofs.Common.{◌≡◌, ℕ, suc, ◌+◌, ◌<◌, ◌≤◌, Bool, true, false, List, [], ◌∷◌, ◌++◌, length, get_or, take, drop, cond, leb, refl, ap, ◌∙◌, subst, append-nil, arith}
 use Rattle.std.proofs.lemmas.Bool.{leb-true, leb-false}
 use Rattle.std.proofs.Math.Seq.{take-append_seam, drop-append_seam}
+use Rattle.std.specs.List.{flat_map}
 use Rattle.cg_frame.specs.declared.segment.TheConstants.{LARGEST_PAYLOAD_BYTES}
 use Rattle.cg_record.specs.declared.command.Command.{Command}
 use Rattle.cg_record.specs.Spelling.{command_text, spelling}
-use Rattle.cg_store.proofs.Lengths.{text_len, text_len-cons, spelling-len}
+use Rattle.cg_record.proofs.Lengths.{text_len, text_len-cons, spelling-len}
 use Rattle.cg_desk.specs.Fronts.{fitting, in_frame}
 
 -- a command that does not fit ends the prefix that fits
@@ -53,11 +54,8 @@ unfolding fitting
 full_empty used [] none = refl
 full_empty used (c ∷ cs) none = absurd (omega arith)
 
-pub none_fits : length (spelling []) ≤ LARGEST_PAYLOAD_BYTES
-none_fits = omega (arith, spelling-len [])
-
--- a full payload has as many of the commands as one frame holds
-pub is_front : (all cs rest : List Command) → all ≡ cs ++ rest → length (spelling cs) ≤ LARGEST_PAYLOAD_BYTES → fitting (length (spelling cs)) rest ≡ 0
+-- a full draft has as many of the commands as one frame holds
+is_front : (all cs rest : List Command) → all ≡ cs ++ rest → length (spelling cs) ≤ LARGEST_PAYLOAD_BYTES → fitting (length (spelling cs)) rest ≡ 0
     → (take (in_frame all) all ≡ cs) × (drop (in_frame all) all ≡ rest)
 is_front all cs rest is fits full =
     let count = all_in_frame cs rest fits full in
@@ -65,3 +63,9 @@ is_front all cs rest is fits full =
       ap (λ (n : ℕ). take n all) at ∙ ap (take (length cs)) is ∙ take-append_seam cs rest,
       ap (λ (n : ℕ). drop n all) at ∙ ap (drop (length cs)) is ∙ drop-append_seam cs rest,
     )
+
+pub draft_is_front : (all draft front : List Command) (lists : List (List Command)) → all ≡ draft ++ (front ++ flat_map (λ (l : List Command). l) lists) → length (spelling draft) ≤ LARGEST_PAYLOAD_BYTES → lists ≡ [] → fitting (length (spelling draft)) front ≡ 0
+    → (take (in_frame all) all ≡ draft) × (drop (in_frame all) all ≡ front ++ flat_map (λ (l : List Command). l) lists)
+draft_is_front all draft front lists is fits none full =
+    let alone : front ++ flat_map (λ (l : List Command). l) lists ≡ front = ap (λ (ls : List (List Command)). front ++ flat_map (λ (l : List Command). l) ls) none ∙ append-nil front in
+    is_front all draft (front ++ flat_map (λ (l : List Command). l) lists) is fits (ap (fitting (length (spelling draft))) alone ∙ full)

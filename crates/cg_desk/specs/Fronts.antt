@@ -1,5 +1,5 @@
 -- The commands of one batch: the longest prefix of the queue that fits one frame.
-use Rattle.std.specs.Prelude.{◌≡◌, ◌≤◌, ℕ, suc, ◌+◌, List, [], ◌∷◌, length, nat_le, if◌then◌else◌, Option, Some, None}
+use Rattle.std.specs.Prelude.{◌≡◌, ℕ, suc, ◌+◌, List, [], ◌∷◌, length, nat_le, if◌then◌else◌, Option, Some, None}
 use Rattle.cg_frame.specs.declared.segment.TheConstants.{LARGEST_PAYLOAD_BYTES}
 use Rattle.cg_record.specs.declared.command.Command.{Command}
 use Rattle.cg_record.specs.Spelling.{command_text, spelling}
@@ -16,15 +16,11 @@ fitting used (c ∷ cs) =
 abbrev pub in_frame : List Command → ℕ
 in_frame commands = fitting 1 commands
 
--- the commands of a payload; without a payload, no commands
+-- the commands of a draft; without a draft, no commands
 abbrev pub spelled : Option (List Command) → List Command
 spelled None = []
 spelled (Some commands) = commands
 
--- one frame holds the payload
-abbrev pub FitsFrame : Option (List Command) → Type 0
-FitsFrame text = length (spelling (spelled text)) ≤ LARGEST_PAYLOAD_BYTES
-
--- the first of the commands after the payload does not fit the frame, or there is none
+-- the first of the commands after the draft does not fit the frame, or there is none
 abbrev pub IsFull : Option (List Command) → List Command → Type 0
-IsFull text behind = fitting (length (spelling (spelled text))) behind ≡ 0
+IsFull draft behind = fitting (length (spelling (spelled draft))) behind ≡ 0

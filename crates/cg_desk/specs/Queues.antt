@@ -8,7 +8,7 @@ use Rattle.cg_desk.specs.declared.queue.Queue.{Queue}
 
 -- the commands in the order of their numbers
 abbrev pub commands_of : Queue → List Command
-commands_of queue = spelled queue.text ++ (queue.front.items ++ flat_map (λ (commands : List Command). commands) queue.lists.items)
+commands_of queue = spelled queue.draft ++ (queue.front.items ++ flat_map (λ (commands : List Command). commands) queue.lists.items)
 
 -- there is room for the commands of one more step
 abbrev pub has_room : Queue → Type 0

@@ -176,6 +176,7 @@ impl Serving {
         let mut out = out;
         self.settled += receipt.batch().commands.len() as u64;
         self.flight = Flight::Idle;
+        self.queue.reuse(receipt.into_commands());
         let permit = Permit::new(self.settled);
         HeldStep::release(&mut self.held, &mut self.tokens, &permit, &mut out);
         Ok(out)

@@ -3,27 +3,27 @@ ghost use Rattle.std.specs.Prelude.{◌≡◌, ◌≤◌, ◌<◌, ◌+◌, ◌+
 ghost use Rattle.std.specs.List.{flat_map};
 ghost use Rattle.std.specs.VecDeque.{deque_capacity, deque_len};
 ghost use Rattle.cg_store.specs.Batches.{IsBatch};
-ghost use Rattle.cg_desk.specs.Fronts.{FitsFrame, IsFull, in_frame, spelled};
+ghost use Rattle.cg_desk.specs.Fronts.{IsFull, in_frame, spelled};
 
-use crate::batch_builder::{spell, spell_front};
+use crate::batch_builder::{share, spell, spell_front};
 use cg_group::{Few, Items};
 use cg_record::Command;
-use cg_store::Commands;
+use cg_store::{Commands, CommandsDraft};
 use std::alloc::{AllocError, Global};
 use std::collections::VecDeque;
-use std::mem;
 
-/// Queued commands in the order of their numbers: the encoded payload of the next batch, then single commands, then the
-/// lists that steps made. If only the payload is queued, a command that a step made alone is encoded at once and
-/// dropped. A list waits as a whole until a batch is taken, so a step needs room for one list only, whatever its
-/// length.
+/// Queued commands in the order of their numbers: the draft of the next batch, then single commands, then the lists that
+/// steps made. If only the draft is queued, a command that a step made alone is encoded at once and dropped. A list waits as a
+/// whole until a batch is taken, so a step needs room for one list only, whatever its length.
 #[derive(Debug, Drop)]
 pub struct Queue {
     alloc: Global,
-    pub text: Option<Commands>,
+    pub draft: Option<CommandsDraft>,
     pub front: VecDeque<Command>,
     pub lists: VecDeque<Few<Command>>,
-    ghost fits: { FitsFrame text },
+    // The memory of a settled batch, for the next draft.
+    spare: Option<CommandsDraft>,
+    ghost empty: { spelled spare ≡ [] },
 }
 
 // Appends commands in reserved room.
@@ -54,15 +54,15 @@ impl Queue {
     ghost use Rattle.cg_desk.specs.Queues.{commands_of, has_room};
 
     /// Creates an empty queue. Does not allocate.
-    #[tactic(auto, using(crate::proofs::FullTexts::none_fits))]
     pub fn new(alloc: Global) -> Self
         ensures { commands_of result ≡ [] }
     {
         Queue {
             alloc,
-            text: None,
+            draft: None,
             front: VecDeque::new(alloc),
             lists: VecDeque::new(alloc),
+            spare: None,
         }
     }
 
@@ -75,8 +75,7 @@ impl Queue {
         Ok(())
     }
 
-    // Encodes the only command of a step into the payload if nothing else is queued after the payload. Returns whether
-    // it did.
+    // Encodes the only command of a step into the draft if nothing else is queued after the draft. Returns whether it did.
     fn spell_alone(&mut self, commands: &Few<Command>) -> bool
         ensures spelled { result ≡ true → commands_of self.new ≡ commands_of self.old ++ commands.now }
         ensures kept { result ≡ false → commands_of self.new ≡ commands_of self.old }
@@ -86,10 +85,12 @@ impl Queue {
             return false;
         }
         match commands.as_slice() {
-            [command] => match spell(self.alloc, &mut self.text, command) {
-                Ok(is_put) => is_put,
-                Err(_) => false,
-            },
+            [command] => {
+                match spell(self.alloc, &mut self.spare, &mut self.draft, command) {
+                    Ok(is_put) => is_put,
+                    Err(_) => false,
+                }
+            }
             _ => false,
         }
     }
@@ -120,19 +121,24 @@ impl Queue {
         Ok(())
     }
 
-    // Fills the payload until the next command does not fit the frame. If an allocation fails, the remaining commands
+    // Fills the draft until the next command does not fit the frame. If an allocation fails, the remaining commands
     // stay queued.
     fn fill(&mut self) -> Result<(), AllocError>
         ensures commands { commands_of self.new ≡ commands_of self.old }
         ensures lists { OnOk result (self.new.lists.items ≡ []) }
-        ensures full { OnOk result (IsFull self.new.text self.new.front.items) }
-        ensures first { OnOk result (spelled self.new.text ≡ [] → self.new.front.items ≡ []) }
+        ensures full { OnOk result (IsFull self.new.draft self.new.front.items) }
+        ensures first { OnOk result (spelled self.new.draft ≡ [] → self.new.front.items ≡ []) }
     {
         self.gather()?;
-        spell_front(self.alloc, &mut self.text, &mut self.front)
+        spell_front(
+            self.alloc,
+            &mut self.spare,
+            &mut self.draft,
+            &mut self.front,
+        )
     }
 
-    /// Removes the longest prefix that fits one frame. Returns it as two `Commands` that share one payload, or `None`
+    /// Removes the longest prefix that fits one frame. Returns it as two `Commands` that share its sealed frame, or `None`
     /// if nothing is queued. If an allocation fails, the queue has the same commands as before. Linear in the bytes of
     /// the commands that are not yet encoded.
     pub fn take(&mut self) -> Result<Option<(Commands, Commands)>, AllocError>
@@ -142,18 +148,22 @@ impl Queue {
         ensures err { OnErr result (commands_of self.new ≡ commands_of self.old) }
     {
         self.fill()?;
-        let kept = match &self.text {
-            None => return Ok(None),
-            Some(text) => {
-                if text.len() == 0 {
-                    return Ok(None);
-                }
-                text.clone()?
+        match share(&mut self.draft)? {
+            None => Ok(None),
+            Some(kept) => {
+                let leaving = kept.clone()?;
+                self.draft = None;
+                Ok(Some((leaving, kept)))
             }
-        };
-        match mem::replace(&mut self.text, None) {
-            Some(leaving) => Ok(Some((leaving, kept))),
-            None => unreachable!(),
+        }
+    }
+
+    /// Keeps the memory of a settled batch for the next draft, unless a clone shares it or there is such memory already.
+    pub fn reuse(&mut self, settled: Commands)
+        ensures { commands_of self.new ≡ commands_of self.old }
+    {
+        if self.spare.is_none() {
+            self.spare = settled.into_draft();
         }
     }
 }

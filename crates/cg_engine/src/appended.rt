@@ -6,7 +6,7 @@ ghost use Rattle.cg_store.specs.Carried.{joined};
 ghost use Rattle.cg_trail.specs.Trails.{BeginsWith};
 
 use cg_fold::{Durable, snapshots_make_the_state_anew};
-use cg_record::Command;
+use cg_record::{Command, write};
 use cg_store::Commands;
 use cg_trail::{Trail, begins_with};
 use std::alloc::{AllocError, Global};
@@ -40,6 +40,14 @@ pub fn snapshots(
     Ok((Some(for_trail), Some(appended)))
 }
 
+// Returns whether these are the commands of a batch. Compares their encodings.
+fn are_those_of(alloc: Global, commands: &[Command], batch: &Commands) -> Result<bool, AllocError>
+    ensures { IfOk result (λ are. IsTrue are ↔ (commands.now ≡ batch.now)) }
+{
+    let encoded = write(alloc, commands)?;
+    Ok(encoded.as_slice() == batch.as_bytes())
+}
+
 // Returns the commands after those of a batch, if the commands begin with them.
 fn past_batch<'a>(
     alloc: Global,
@@ -54,8 +62,7 @@ fn past_batch<'a>(
         return Ok(None);
     }
     let (first, left) = made.split_at(batch.len());
-    let first = Commands::new(alloc, first)?;
-    if first.is_same(batch) {
+    if are_those_of(alloc, first, batch)? {
         Ok(Some(left))
     } else {
         Ok(None)
@@ -89,7 +96,7 @@ fn are_same(a: &[Command], b: &[Command]) -> bool
 impl Appended {
     ghost use Rattle.cg_engine.specs.Appended.{appended_in, state_in};
 
-    /// Makes room for one more batch. Returns a clone of its commands, which shares their payload.
+    /// Makes room for one more batch. Returns a clone of its commands, which shares their frame.
     pub fn reserve(&mut self, commands: &Commands) -> Result<Commands, AllocError>
         ensures copy { IfOk result (λ copy. copy ≡ commands.now) }
         ensures room { OnOk result (vec_len self.new.batches < vec_capacity self.new.batches) }

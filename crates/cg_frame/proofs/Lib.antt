@@ -5,5 +5,6 @@ pub mod Loading
 mod Parts
 mod Read
 mod Readers
+mod Sealing
 pub mod Standing
 mod Words

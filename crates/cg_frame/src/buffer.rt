@@ -1,10 +1,11 @@
 //! The sectors of a frame while it is encoded, and numbers of eight bytes.
-ghost use Rattle.cg_frame.specs.declared.segment.TheConstants.{HEAD_BYTES, SECTORS_BOUND};
+ghost use Rattle.cg_frame.specs.declared.segment.TheConstants.{HEAD_BYTES};
 ghost use Rattle.cg_disk.specs.declared.disk.TheConstants.{SECTOR_BYTES};
-ghost use Rattle.std.specs.Prelude.{◌≡◌, ℕ, ◌+◌, ◌*◌, ◌<◌, ◌≤◌, IfOk, length, take, drop, slice_index};
-ghost use Rattle.cg_frame.specs.Frames.{word, body, body_sectors};
+ghost use Rattle.std.specs.Prelude.{◌≡◌, ◌+◌, ◌-◌, ◌*◌, ◌^◌, ◌<◌, ◌≤◌, ◌++◌, OnOk, OnErr, length, take, drop};
+ghost use Rattle.cg_frame.specs.Frames.{body_sectors, word};
+ghost use Rattle.cg_frame.specs.Staged.{IsStagedFrame, behind_head};
 
-use crate::segment::sectors_of;
+use crate::segment::{HEAD_BYTES, sectors_of};
 use cg_disk::SECTOR_BYTES;
 use std::alloc::AllocError;
 
@@ -26,24 +27,43 @@ pub(crate) fn number(bytes: &[u8], at: usize) -> u64
     u64::from_be_bytes(eight)
 }
 
-/// Returns the sectors of a body and of the closed gate after it, with zeros after the payload. Copies the payload
-/// once. They take the memory of `room`, and more only where that is too small.
-pub(crate) fn staged(room: Vec<u8>, count: u64, payload: &[u8]) -> Result<Vec<u8>, AllocError>
-    requires { body_sectors (length payload.now) < SECTORS_BOUND }
-    ensures length { IfOk result (λ sectors.
-        length sectors.items ≡ SECTOR_BYTES * (body_sectors (length payload.now) + 1)) }
-    ensures body { IfOk result (λ sectors.
-        take (HEAD_BYTES + length payload.now) sectors.items ≡ body count payload.now) }
-    ensures padded { IfOk result (λ sectors. (i : ℕ) →
-        HEAD_BYTES + length payload.now ≤ i → slice_index sectors.items i ≡ 0) }
+/// Returns how many bytes a frame takes: the sectors of its body, and the sector of the gate after it.
+pub(crate) fn frame_bytes(payload_bytes: u64) -> usize
+    requires { payload_bytes ≤ 2 ^ 63 }
+    ensures { result ≡ SECTOR_BYTES * (body_sectors payload_bytes + 1) }
 {
-    let size = (sectors_of(payload.len() as u64) as usize + 1) * SECTOR_BYTES;
-    let mut sectors = room;
-    sectors.clear();
-    sectors.reserve_exact(size)?;
-    sectors.extend_from_slice(&bytes_of(count))?;
-    sectors.extend_from_slice(&bytes_of(payload.len() as u64))?;
-    sectors.extend_from_slice(payload)?;
-    sectors.resize(size, 0)?;
-    Ok(sectors)
+    (sectors_of(payload_bytes) as usize + 1) * SECTOR_BYTES
+}
+
+/// Leaves the room for a head and the first `bytes` bytes after it.
+pub(crate) fn cut(buffer: &mut Vec<u8>, bytes: u64) -> Result<(), AllocError>
+    requires { bytes ≤ length buffer.old.items - HEAD_BYTES }
+    ensures long { OnOk result (length buffer.new.items ≡ HEAD_BYTES + bytes) }
+    ensures payload { OnOk result (behind_head buffer.new.items ≡ take bytes (behind_head buffer.old.items)) }
+    ensures err { OnErr result (buffer.new.items ≡ buffer.old.items) }
+{
+    buffer.resize((HEAD_BYTES + bytes) as usize, 0)?;
+    Ok(())
+}
+
+// Fills in the count and the length before a payload.
+fn put_head(sectors: &mut [u8], count: u64, bytes: u64)
+    requires { HEAD_BYTES ≤ length sectors.old }
+    ensures { sectors.new ≡ word count ++ word bytes ++ behind_head sectors.old }
+{
+    sectors[0..8].copy_from_slice(&bytes_of(count));
+    sectors[8..16].copy_from_slice(&bytes_of(bytes));
+}
+
+/// Fills in the head before a payload, and adds the zeros after it and the closed gate.
+pub(crate) fn complete(buffer: &mut Vec<u8>, count: u64) -> Result<(), AllocError>
+    requires { HEAD_BYTES ≤ length buffer.old.items }
+    ensures frame { OnOk result (IsStagedFrame buffer.new.items count (length buffer.old.items - HEAD_BYTES)) }
+    ensures payload { OnOk result (take (length buffer.old.items - HEAD_BYTES) (behind_head buffer.new.items) ≡ behind_head buffer.old.items) }
+    ensures err { OnErr result (buffer.new.items ≡ buffer.old.items) }
+{
+    let bytes = buffer.len() as u64 - HEAD_BYTES;
+    buffer.resize(frame_bytes(bytes), 0)?;
+    put_head(buffer.as_mut_slice(), count, bytes);
+    Ok(())
 }

@@ -6,9 +6,9 @@ ghost use Rattle.cg_frame.specs.Frames.{IsClosed, body_sectors, next_gate};
 ghost use Rattle.cg_frame.specs.Outcomes.{StandsLast, Appended, KeepsFramesTo, IsBeforeOrAfter, is_device_failure};
 
 use crate::segment::positions_fit;
-use crate::{FrameFault, Segment, append_staged, fits, stage};
+use crate::{FrameFault, Segment, StagedFrame, append_staged, fits};
 use cg_disk::{DiskFault, SectorDisk};
-use std::alloc::Global;
+use std::alloc::{AllocError, Global};
 
 /// Writes a closed gate at `pos` and syncs it.
 pub fn close_gate<D: SectorDisk>(disk: &mut D, segment: Segment, pos: u64) -> Result<(), DiskFault>
@@ -33,6 +33,18 @@ pub fn close_gate<D: SectorDisk>(disk: &mut D, segment: Segment, pos: u64) -> Re
     positions_fit(disk);
     cg_gate::close_gate(disk, segment.first + pos)?;
     Ok(())
+}
+
+// Encodes a frame with a payload that is there already, which is copied once.
+fn stage(alloc: Global, count: u64, payload: &[u8]) -> Result<StagedFrame, AllocError>
+    ensures { IfOk result (λ frame. frame ≡ (count, payload.now)) }
+{
+    let mut frame = StagedFrame::new(alloc);
+    let mut buffer = frame.open(payload.len() as u64)?;
+    buffer.extend_from_slice(payload)?;
+    frame.close(buffer);
+    frame.seal(count)?;
+    Ok(frame)
 }
 
 /// Appends a frame: its body and the closed gate after it in one write, then its gate, each synced, in four calls of
@@ -89,7 +101,7 @@ pub fn append<D: SectorDisk>(
     if !fits(segment, pos, payload.len() as u64) {
         return Err(FrameFault::NoRoom);
     }
-    let frame = stage(alloc, &mut Vec::new(alloc), count, payload)?;
+    let frame = stage(alloc, count, payload)?;
     let next = append_staged(disk, segment, pos, &frame)?;
     Ok(next)
 }

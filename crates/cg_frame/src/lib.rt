@@ -20,4 +20,4 @@ pub use segment::{
     Frame, LARGEST_PAYLOAD_BYTES, SECTORS_BOUND, SEGMENT_SECTORS, Segment, fits, frame_numbers,
 };
 pub use segment_reader::{PIECE_SECTORS, SegmentReader};
-pub use staged::{StagedFrame, append_staged, stage};
+pub use staged::{StagedFrame, append_staged};

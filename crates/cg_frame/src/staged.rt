@@ -1,67 +1,120 @@
 //! Frames that are encoded, to be appended later without an allocation.
-ghost use Rattle.cg_frame.specs.declared.segment.TheConstants.{SECTORS_BOUND};
-ghost use Rattle.cg_disk.specs.declared.disk.TheConstants.{SECTOR_BYTES};
-ghost use Rattle.std.specs.Prelude.{◌≡◌, ℕ, ◌+◌, ◌*◌, ◌<◌, ◌≤◌, true, length, OnOk, IfOk, is_err, List};
+ghost use Rattle.cg_frame.specs.declared.segment.TheConstants.{HEAD_BYTES};
+ghost use Rattle.std.specs.Prelude.{◌≡◌, ℕ, ◌+◌, ◌^◌, ◌<◌, ◌≤◌, [], true, length, take, OnOk, OnErr, IfOk, is_err, List};
 ghost use Rattle.cg_disk.specs.Disk.{Image, present, IsImage, IsSynced, Changes, LeavesOnly, TakesCalls, Counts};
 ghost use Rattle.cg_frame.specs.Frames.{IsClosed, body_sectors, next_gate};
 ghost use Rattle.cg_frame.specs.Outcomes.{StandsLast, Appended};
+ghost use Rattle.cg_frame.specs.Staged.{behind_head};
 
 use crate::Segment;
-use crate::buffer::staged;
-use crate::segment::{positions_fit, sectors_of};
+use crate::buffer::{complete, cut, frame_bytes};
+use crate::segment::{HEAD_BYTES, positions_fit, sectors_of};
 use cg_disk::{DiskFault, SectorDisk};
 use cg_gate::write_guarded;
 use std::alloc::{AllocError, Global};
 use std::marker::Model;
-use std::mem;
+use std::{cmp, mem};
 
-/// The sectors of a frame: its body, and the closed gate after it. Contracts see its count and its payload.
-#[derive(Drop)]
+/// A frame in memory, in the buffer that is written to the disk. First it is a draft: room for the head, and the payload so far.
+/// Once it is sealed it has the number of its commands, its head, zeros up to the end of its last sector, and the closed gate
+/// after it. Contracts see the number of its commands, 0 of a draft, and the payload.
+#[derive(Debug, Drop)]
 pub struct StagedFrame {
+    alloc: Global,
     count: u64,
     bytes: u64,
-    sectors: Vec<u8>,
+    buffer: Vec<u8>,
 }
 
 impl Model for StagedFrame {
-    ghost use Rattle.std.specs.Prelude.{ℕ, List, take, drop};
-    ghost use Rattle.cg_frame.specs.declared.segment.TheConstants.{HEAD_BYTES};
-    ghost use Rattle.cg_frame.specs.Staged.{IsStagedFrame};
+    ghost use Rattle.std.specs.Prelude.{ℕ, List, take};
+    ghost use Rattle.cg_frame.specs.Staged.{IsFrameBuffer, behind_head};
 
     ghost Value = { ℕ × List ℕ };
 
-    ghost view = { λ f. (f.count, take f.bytes (drop HEAD_BYTES f.sectors.items)) };
+    ghost view = { λ f. (f.count, take f.bytes (behind_head f.buffer.items)) };
 
-    ghost invariant = { λ f. IsStagedFrame f.sectors.items f.count f.bytes };
-}
-
-/// Encodes a frame. Copies the payload once. The frame takes the memory of `room`, whatever it holds, and more only where
-/// that is too small: a caller that gives the memory of the last frame back allocates only for a longer one.
-pub fn stage(
-    alloc: Global,
-    room: &mut Vec<u8>,
-    count: u64,
-    payload: &[u8],
-) -> Result<StagedFrame, AllocError>
-    requires { body_sectors (length payload.now) < SECTORS_BOUND }
-    ensures { IfOk result (λ frame. frame ≡ (count, payload.now)) }
-{
-    let room = mem::replace(room, Vec::new(alloc));
-    let sectors = staged(room, count, payload)?;
-    Ok(StagedFrame {
-        count,
-        bytes: payload.len() as u64,
-        sectors,
-    })
+    ghost invariant = { λ f. IsFrameBuffer f.buffer.items f.count f.bytes };
 }
 
 impl StagedFrame {
-    /// Returns the memory of the frame, for the next one.
-    pub fn into_room(self) -> Vec<u8>
-        ensures { length result.items ≡ SECTOR_BYTES * (body_sectors (length self.1) + 1) }
+    /// Creates a frame without a payload. Does not allocate.
+    pub fn new(alloc: Global) -> Self
+        ensures { result ≡ (0, []) }
     {
-        let StagedFrame { sectors, .. } = self;
-        sectors
+        StagedFrame {
+            alloc,
+            count: 0,
+            bytes: 0,
+            buffer: Vec::new(alloc),
+        }
+    }
+
+    /// Returns the number of commands, 0 of a draft.
+    pub fn count(&self) -> u64
+        ensures { result ≡ self.now.0 }
+    {
+        self.count
+    }
+
+    /// Returns the payload.
+    pub fn payload(&self) -> &[u8]
+        ensures { result.now ≡ self.now.1 }
+    {
+        if self.bytes == 0 {
+            return &[];
+        }
+        let start = HEAD_BYTES as usize;
+        &self.buffer[start..start + self.bytes as usize]
+    }
+
+    /// Takes the buffer out. It ends with the payload, and what is appended to it is written to the disk from there. It has room
+    /// for `more` bytes of payload and for all that sealing adds, so only this call allocates. Until `close` puts the buffer
+    /// back, the frame has no payload.
+    pub fn open(&mut self, more: u64) -> Result<Vec<u8>, AllocError>
+        requires { length self.old.1 + more ≤ 2 ^ 63 }
+        ensures head { IfOk result (λ buffer. HEAD_BYTES ≤ length buffer.items) }
+        ensures payload { IfOk result (λ buffer. behind_head buffer.items ≡ self.old.1) }
+        ensures empty { OnOk result (self.new ≡ (0, [])) }
+        ensures err { OnErr result (self.new ≡ self.old) }
+    {
+        let room = frame_bytes(self.bytes + more).saturating_sub(self.buffer.len());
+        self.buffer.reserve(room)?;
+        cut(&mut self.buffer, self.bytes)?;
+        self.count = 0;
+        self.bytes = 0;
+        Ok(mem::replace(&mut self.buffer, Vec::new(self.alloc)))
+    }
+
+    /// Puts the buffer back. The bytes after its head are the payload.
+    pub fn close(&mut self, buffer: Vec<u8>)
+        requires { HEAD_BYTES ≤ length buffer.items }
+        ensures { self.new ≡ (0, behind_head buffer.items) }
+    {
+        self.count = 0;
+        self.bytes = buffer.len() as u64 - HEAD_BYTES;
+        self.buffer = buffer;
+    }
+
+    /// Removes all but the first `bytes` bytes of the payload. The memory stays.
+    pub fn truncate(&mut self, bytes: u64)
+        ensures { self.new ≡ (0, take bytes self.old.1) }
+    {
+        self.count = 0;
+        self.bytes = cmp::min(self.bytes, bytes);
+    }
+
+    /// Seals the frame, so that it can be appended. Does not allocate if at most as many bytes came as `open` reserved room for.
+    /// If an allocation fails, the payload is unchanged.
+    pub fn seal(&mut self, count: u64) -> Result<(), AllocError>
+        ensures ok { OnOk result (self.new ≡ (count, self.old.1)) }
+        ensures err { OnErr result (self.new ≡ (0, self.old.1)) }
+    {
+        self.count = 0;
+        cut(&mut self.buffer, self.bytes)?;
+        complete(&mut self.buffer, count)?;
+        self.count = count;
+        Ok(())
     }
 }
 
@@ -100,6 +153,6 @@ pub fn append_staged<D: SectorDisk>(
     ensures durable { D.is_honest disk.old ≡ true → OnOk result (IsSynced (present (D.history disk.new))) }
 {
     positions_fit(disk);
-    write_guarded(disk, segment.first + pos, &frame.sectors)?;
+    write_guarded(disk, segment.first + pos, &frame.buffer)?;
     Ok(pos + sectors_of(frame.bytes) + 1)
 }

@@ -1,6 +1,6 @@
 -- A call that is parked in the place of an older one of its member.
 use Rattle.std.proofs.Common.{◌≡◌, ℕ, Bool, true, false, ◌||◌, cond, find, List, [], ◌∷◌, inl, inr, Option, Some, None, Ok, is_some, refl, sym, ap, ◌∙◌, subst}
-use Rattle.std.specs.Prelude.{◌⊎◌, ◌==◌, if◌then◌else◌, is_ok}
+use Rattle.std.specs.Prelude.{◌⊎◌, ◌==◌, if◌then◌else◌}
 use Rattle.std.specs.BTreeMap.{BTreeMap, get}
 use Rattle.std.specs.List.{list_any}
 use Rattle.std.specs.Ordering.{nat_cmp}
@@ -9,29 +9,32 @@ use Rattle.cg_group_state.specs.declared.calls.Calls.TheVariants.{Any, OfSession
 use Rattle.cg_group_state.specs.declared.effects.Effects.{Effects}
 use Rattle.cg_group_state.specs.declared.group.Group.{Group}
 use Rattle.cg_group_state.specs.declared.member.Member.{Member}
+use Rattle.cg_group_state.specs.declared.turn.Turn.{Turn}
 use Rattle.cg_group_state.specs.declared.member.Waits.{Waits}
 use Rattle.cg_group_state.specs.declared.member.Waits.TheVariants.{Nothing, Join, Sync}
 use Rattle.cg_request.specs.declared.request_fields.JoinRequest.{JoinRequest}
 use Rattle.cg_request.specs.declared.request_fields.SyncRequest.{SyncRequest}
 use Rattle.cg_request.specs.declared.ticket.Ticket.{Ticket}
 use Rattle.cg_group_rules.specs.declared.sync.SyncCase.TheVariants.{Parked}
-use Rattle.cg_group.specs.InPlace.{IsJoinParked, IsSync, Parks, parking_effects, CameOn}
-use Rattle.cg_group.specs.Machine.{concluded, join, sync}
+use Rattle.cg_group.specs.InPlace.{CameOn, IsCallOf, IsStepped, IsSync, Parks, parking_effects}
+use Rattle.cg_group.specs.Machine.{concluded, sync}
 use Rattle.cg_group_table.specs.declared.session_index.Home.{Home}
-use Rattle.cg_group_table.specs.GroupChanges.{ChangeKeepsId}
+use Rattle.cg_group_table.specs.GroupChanges.{KeepsId, StepsTo}
 use Rattle.cg_group_table.specs.GroupTable.{at_moment, find_group, outcome, with_group}
 use Rattle.cg_group_table.specs.SessionIndex.{AreKnown, IsFilled, IsLetGo, IsTight, Known, is_home, is_parked}
 use Rattle.cg_group_table.proofs.Finding.{find-own}
 use Rattle.cg_group_table.proofs.InOrder.{found_named}
 use Rattle.cg_group_table.proofs.KeptLists.{each-found, each-put}
+use Rattle.cg_group_table.proofs.Mapped.{keeps_step}
 use Rattle.cg_group_rules.specs.Join.{displaced, updating, waiting}
 use Rattle.cg_group_state.specs.JoinTerms.{updated}
 use Rattle.cg_group_state.specs.Waiting.{waits_with, called, is_waiting}
 use Rattle.cg_group_state.specs.Membership.{find_member, has_id, heard, hearing, with_member}
-use Rattle.cg_group_rules.specs.Rebalance.{turn_of}
+use Rattle.cg_group_rules.specs.Rebalance.{turn_of, turned}
 use Rattle.cg_group_state.proofs.Recalling.{find-with_member}
-use Rattle.cg_group.proofs.InPlace.{join_here, sync_here}
+use Rattle.cg_group.proofs.InPlace.{sync_here}
 use Rattle.cg_group.proofs.KnownSessions.{known-parked_join, known-parked_sync}
+use Rattle.cg_group.proofs.Stepped.{concluded_stepped}
 use Rattle.cg_group.proofs.TightIndex.{tight_parked}
 
 -- a change of one member: who passed the test before passes it after, or is that member
@@ -140,103 +143,102 @@ parks_sync now id ticket older g m found was = record {
   known = λ sessions own h. known-parked_sync sessions now id ticket g own h;
 }
 
--- the outcome of a JOIN that is parked
-pub join_displacing : (now : ℕ) (r : JoinRequest) (fresh : List ℕ) (ticket : Ticket) (groups after : List Group) (own id : List ℕ) (older : Option Ticket) (e : Effects) → IsJoinParked r groups own id older
-    → ((g : Group) → find_group own groups ≡ Some g → after ≡ with_group (waiting now id (Join ticket) (turn_of (updating r id g))).group groups) → e ≡ parking_effects older → concluded (at_moment now groups) ticket (join now r fresh ticket groups) ≡ outcome (at_moment now after) e
-unfolding concluded waiting updating
-join_displacing now r fresh ticket groups after own id older e at put made =
-    let g : Group = at.group in
-    let changed : find_member id (updating r id g).members ≡ Some (updated r at.member) = find-with_member id (updated r) (λ x. refl) g.members at.member at.found in
-    ap (concluded (at_moment now groups) ticket) (join_here now r fresh ticket groups own g at.named at.session ∙ at.taken now fresh ticket)
-    ∙ ap (λ o. outcome (at_moment now (with_group (waiting now id (Join ticket) (turn_of (updating r id g))).group groups)) (record { commands = []; replies = displaced o })) changed
-    ∙ ap (λ gs. outcome (at_moment now gs) (parking_effects (called Any at.member.waits))) (sym (put g at.named.found))
-    ∙ ap (λ o. outcome (at_moment now after) (parking_effects o)) (sym at.called)
-    ∙ ap (outcome (at_moment now after)) (sym made)
+-- the group and the effects are those of the step
+pub parked_join : (now : ℕ) (r : JoinRequest) (id : List ℕ) (ticket : Ticket) (older : Option Ticket) (g : Group) → IsCallOf older id g → (members : List Member) → members ≡ with_member id (waits_with now (Join ticket)) (with_member id (updated r) g.members) → (e : Effects) → e ≡ parking_effects older
+    → turned (record g { members = members }) e ≡ waiting now id (Join ticket) (turn_of (updating r id g))
+unfolding waiting updating
+parked_join now r id ticket older g call members put e made =
+    let changed : find_member id (updating r id g).members ≡ Some (updated r call.member) = find-with_member id (updated r) (λ x. refl) g.members call.member call.found in
+    ap (λ ms. turned (record g { members = ms }) e) put
+    ∙ ap (turned (waiting now id (Join ticket) (turn_of (updating r id g))).group) (made ∙ ap parking_effects call.called)
+    ∙ sym (ap (λ o. turned (waiting now id (Join ticket) (turn_of (updating r id g))).group (record { commands = []; replies = displaced o })) changed)
 
--- the outcome of a SYNC that is parked
-pub sync_displacing : (now : ℕ) (r : SyncRequest) (ticket : Ticket) (groups after : List Group) (own id : List ℕ) (older : Option Ticket) (e : Effects) → IsSync r groups own id (Parked older)
-    → ((g : Group) → find_group own groups ≡ Some g → after ≡ with_group (waiting now id (Sync ticket) (turn_of (hearing now id g))).group groups) → e ≡ parking_effects older → concluded (at_moment now groups) ticket (sync now r ticket groups) ≡ outcome (at_moment now after) e
-unfolding concluded waiting hearing
-sync_displacing now r ticket groups after own id older e at put made =
-    let g : Group = at.group in
-    let changed : find_member id (hearing now id g).members ≡ Some (heard now at.member) = find-with_member id (heard now) (λ x. refl) g.members at.member at.found in
-    ap (concluded (at_moment now groups) ticket) (sync_here now r ticket groups own id (Parked older) at ∙ ap Ok (at.processed.1 now r id ticket))
-    ∙ ap (λ o. outcome (at_moment now (with_group (waiting now id (Sync ticket) (turn_of (hearing now id g))).group groups)) (record { commands = []; replies = displaced o })) changed
-    ∙ ap (λ gs. outcome (at_moment now gs) (parking_effects (called Any at.member.waits))) (sym (put g at.named.found))
-    ∙ ap (λ o. outcome (at_moment now after) (parking_effects o)) (sym at.processed.0)
-    ∙ ap (outcome (at_moment now after)) (sym made)
+pub parked_sync : (now : ℕ) (id : List ℕ) (ticket : Ticket) (older : Option Ticket) (g : Group) → IsCallOf older id g → (members : List Member) → members ≡ with_member id (waits_with now (Sync ticket)) (with_member id (heard now) g.members) → (e : Effects) → e ≡ parking_effects older
+    → turned (record g { members = members }) e ≡ waiting now id (Sync ticket) (turn_of (hearing now id g))
+unfolding waiting hearing
+parked_sync now id ticket older g call members put e made =
+    let changed : find_member id (hearing now id g).members ≡ Some (heard now call.member) = find-with_member id (heard now) (λ x. refl) g.members call.member call.found in
+    ap (λ ms. turned (record g { members = ms }) e) put
+    ∙ ap (turned (waiting now id (Sync ticket) (turn_of (hearing now id g))).group) (made ∙ ap parking_effects call.called)
+    ∙ sym (ap (λ o. turned (waiting now id (Sync ticket) (turn_of (hearing now id g))).group (record { commands = []; replies = displaced o })) changed)
 
 -- the session index, where a call is parked in place
-module _ (own : List ℕ) (change : Group → Group) (keeps : ChangeKeepsId change) (gs after : List Group) (altered : (g : Group) → find_group own gs ≡ Some g → after ≡ with_group (change g) gs)
-    (ticket : Ticket) (older : Option Ticket) (parks : (g : Group) → find_group own gs ≡ Some g → Parks ticket older g (change g)) (loaded : is_some (find_group own gs) ≡ true) where
-  with_loaded : (P : Type 0) → ((g : Group) → find_group own gs ≡ Some g → P) → P
-  with_loaded P k = go (find_group own gs) refl loaded
-    where
-      go : (o : Option Group) → find_group own gs ≡ o → is_some o ≡ true → P
-      go None e h = absurd (false≢true h)
-      go (Some g) e h = k g e
+module _ (own : List ℕ) (gs later : List Group) (g after : Group) (found : find_group own gs ≡ Some g) (keeps : after.id ≡ g.id) (put : later ≡ with_group after gs)
+    (ticket : Ticket) (older : Option Ticket) (parks : Parks ticket older g after) where
+  named : after.id ≡ own
+  named = keeps ∙ found_named own gs g found
 
-  pub known-displaced : (homes : ℕ → List ℕ → Bool) → homes ticket.session own ≡ true → AreKnown homes gs → AreKnown homes after
+  pub known-displaced : (homes : ℕ → List ℕ → Bool) → homes ticket.session own ≡ true → AreKnown homes gs → AreKnown homes later
   known-displaced homes here h =
-      with_loaded (AreKnown homes after)
-      (λ g found.
       let P : List Group → Type 0 = λ ks. AreKnown homes ks in
-      let named : (change g).id ≡ own = keeps g ∙ found_named own gs g found in
       let before : Known (λ s. homes s g.id) g = each-found (λ (k : Group). Known (λ s. homes s k.id) k) own gs g found h in
       let K : List ℕ → Type 0 = λ i. Known (λ s. homes s i) g in
       let H : List ℕ → Type 0 = λ i. homes ticket.session i ≡ true in
-      let then_known : Known (λ s. homes s (change g).id) (change g) = (parks g found).known (λ s. homes s (change g).id) (subst H (sym named) here) (subst K (sym (keeps g)) before) in
-      subst P (sym (altered g found)) (each-put (λ (k : Group). Known (λ s. homes s k.id) k) (change g) gs then_known h))
+      let then_known : Known (λ s. homes s after.id) after = parks.known (λ s. homes s after.id) (subst H (sym named) here) (subst K (sym keeps) before) in
+      subst P (sym put) (each-put (λ (k : Group). Known (λ s. homes s k.id) k) after gs then_known h)
 
   pub tight-displaced : (homes noted final : BTreeMap ℕ (BTreeMap (List ℕ) Home))
       → ((q : ℕ) (x : List ℕ) → is_home final q x ≡ true → is_home noted q x ≡ true)
       → ((q : ℕ) → IsFilled (get nat_cmp noted q) → IsFilled (get nat_cmp final q))
       → ((q : ℕ) (x : List ℕ) → is_home noted q x ≡ true → (is_home homes q x ≡ true) ⊎ ((ticket.session ≡ q) × (Some own ≡ Some x)))
       → ((q : ℕ) → IsFilled (get nat_cmp homes q) → IsFilled (get nat_cmp noted q))
-      → ((q : ℕ) → CameOn older q → IsLetGo final after own q)
-      → IsTight homes gs → IsTight final after
+      → ((q : ℕ) → CameOn older q → IsLetGo final later own q)
+      → IsTight homes gs → IsTight final later
   tight-displaced homes noted final fewer filled new also gone tight =
-      with_loaded (IsTight final after)
-      (λ g found.
-      let named : (change g).id ≡ own = keeps g ∙ found_named own gs g found in
-      let there : find_group own after ≡ Some (change g) = ap (find_group own) (altered g found) ∙ ap (λ i. find_group i (with_group (change g) gs)) (sym named) ∙ find-own (change g) gs in
-      let asked : is_parked ticket.session (find_group own after) ≡ true = ap (is_parked ticket.session) there ∙ (parks g found).asked in
-      let A : List ℕ → Type 0 = λ y. is_parked ticket.session (find_group y after) ≡ true in
-      tight_parked homes noted final gs after fewer filled (Some own) ticket.session new also (λ x e here. let same : own ≡ x = cc in subst A same asked) tight (Some g)
+      let there : find_group own later ≡ Some after = ap (find_group own) put ∙ ap (λ i. find_group i (with_group after gs)) (sym named) ∙ find-own after gs in
+      let asked : is_parked ticket.session (find_group own later) ≡ true = ap (is_parked ticket.session) there ∙ parks.asked in
+      let A : List ℕ → Type 0 = λ y. is_parked ticket.session (find_group y later) ≡ true in
+      tight_parked homes noted final gs later fewer filled (Some own) ticket.session new also (λ x e here. let same : own ≡ x = cc in subst A same asked) tight (Some g)
       (λ q x e p here.
       let same : own ≡ x = cc in
-      let B : List ℕ → Type 0 = λ y. is_parked q (find_group y after) ≡ true in
+      let B : List ℕ → Type 0 = λ y. is_parked q (find_group y later) ≡ true in
       let C : List ℕ → Type 0 = λ y. is_home final q y ≡ true in
-      elim ((parks g found).stays q p) as (λ _. is_parked q (find_group x after) ≡ true) [
+      elim (parks.stays q p) as (λ _. is_parked q (find_group x later) ≡ true) [
         | inl a ↦ subst B same (ap (is_parked q) there ∙ a)
         | inr o ↦ subst B same (gone q o (subst C (sym same) here))
       ])
-      (Ok (turn_of (change g))) (ap Some (sym named)) (altered g found) (sym found ∙ ap (λ i. find_group i gs) (sym named)))
+      (Ok (turn_of after)) (ap Some (sym named)) put (sym found ∙ ap (λ i. find_group i gs) (sym named))
 
--- these changes keep the id of their group
-pub keeps_join : (now : ℕ) (r : JoinRequest) (id : List ℕ) (ticket : Ticket) (g : Group) → (waiting now id (Join ticket) (turn_of (updating r id g))).group.id ≡ g.id
+-- these steps keep the id of their group
+id-join : (now : ℕ) (r : JoinRequest) (id : List ℕ) (ticket : Ticket) (g : Group) → (waiting now id (Join ticket) (turn_of (updating r id g))).group.id ≡ g.id
 unfolding waiting updating
-keeps_join now r id ticket g = refl
+id-join now r id ticket g = refl
 
-pub keeps_sync : (now : ℕ) (id : List ℕ) (ticket : Ticket) (g : Group) → (waiting now id (Sync ticket) (turn_of (hearing now id g))).group.id ≡ g.id
+pub keeps_join : {E : Type 0} (now : ℕ) (r : JoinRequest) (id : List ℕ) (ticket : Ticket) → KeepsId (λ g. StepsTo {E = E} (λ t. t ≡ waiting now id (Join ticket) (turn_of (updating r id g))) g)
+keeps_join now r id ticket = keeps_step (λ g t. t ≡ waiting now id (Join ticket) (turn_of (updating r id g))) (λ g t is. ap (λ (u : Turn). u.group.id) is ∙ id-join now r id ticket g)
+
+id-sync : (now : ℕ) (id : List ℕ) (ticket : Ticket) (g : Group) → (waiting now id (Sync ticket) (turn_of (hearing now id g))).group.id ≡ g.id
 unfolding waiting hearing
-keeps_sync now id ticket g = refl
+id-sync now id ticket g = refl
 
--- a request that is parked is taken
-pub join_taken : (r : JoinRequest) (groups : List Group) (own id : List ℕ) (older : Option Ticket) → IsJoinParked r groups own id older → (now : ℕ) (fresh : List ℕ) (ticket : Ticket) → is_ok (join now r fresh ticket groups) ≡ true
-join_taken r groups own id older at now fresh ticket = ap is_ok (join_here now r fresh ticket groups own at.group at.named at.session ∙ at.taken now fresh ticket)
+pub keeps_sync : {E : Type 0} (now : ℕ) (id : List ℕ) (ticket : Ticket) → KeepsId (λ g. StepsTo {E = E} (λ t. t ≡ waiting now id (Sync ticket) (turn_of (hearing now id g))) g)
+keeps_sync now id ticket = keeps_step (λ g t. t ≡ waiting now id (Sync ticket) (turn_of (hearing now id g))) (λ g t is. ap (λ (u : Turn). u.group.id) is ∙ id-sync now id ticket g)
 
--- the loaded group with its id is the one that the request names
-pub parks_named_join : (now : ℕ) (r : JoinRequest) (ticket : Ticket) (groups : List Group) (own id : List ℕ) (older : Option Ticket) → IsJoinParked r groups own id older → (g : Group) → find_group own groups ≡ Some g → Parks ticket older g (waiting now id (Join ticket) (turn_of (updating r id g))).group
-parks_named_join now r ticket groups own id older at g found =
-    let is : Some at.group ≡ Some g = sym at.named.found ∙ found in
-    let same : at.group ≡ g = cc in
-    let P : Group → Type 0 = λ k. Parks ticket older k (waiting now id (Join ticket) (turn_of (updating r id k))).group in
-    subst P same (parks_join now r id ticket older at.group at.member at.found at.called)
+-- a step that parks a JOIN, or a SYNC
+pub parks_joined : (now : ℕ) (r : JoinRequest) (id : List ℕ) (ticket : Ticket) (older : Option Ticket) (g after : Group) (e : Effects) → IsCallOf older id g → turned after e ≡ waiting now id (Join ticket) (turn_of (updating r id g)) → Parks ticket older g after
+parks_joined now r id ticket older g after e call is =
+    let P : Group → Type 0 = λ k. Parks ticket older g k in
+    subst P (sym (ap (λ (t : Turn). t.group) is)) (parks_join now r id ticket older g call.member call.found call.called)
 
-pub parks_named_sync : (now : ℕ) (r : SyncRequest) (ticket : Ticket) (groups : List Group) (own id : List ℕ) (older : Option Ticket) → IsSync r groups own id (Parked older) → (g : Group) → find_group own groups ≡ Some g → Parks ticket older g (waiting now id (Sync ticket) (turn_of (hearing now id g))).group
-parks_named_sync now r ticket groups own id older at g found =
-    let is : Some at.group ≡ Some g = sym at.named.found ∙ found in
-    let same : at.group ≡ g = cc in
-    let P : Group → Type 0 = λ k. Parks ticket older k (waiting now id (Sync ticket) (turn_of (hearing now id k))).group in
-    subst P same (parks_sync now id ticket older at.group at.member at.found at.processed.0)
+module _ (now : ℕ) (r : SyncRequest) (ticket : Ticket) (groups : List Group) (own id : List ℕ) (older : Option Ticket) (at : IsSync r groups own id (Parked older)) where
+  call_here : IsCallOf older id at.group
+  call_here = record { member = at.member; found = at.found; called = at.processed.0 }
+
+  -- the loaded group with its id is the one that the request names
+  same : (g : Group) → find_group own groups ≡ Some g → at.group ≡ g
+  same g found = let is : Some at.group ≡ Some g = sym at.named.found ∙ found in cc
+
+  pub call_of_sync : (g : Group) → find_group own groups ≡ Some g → IsCallOf older id g
+  call_of_sync g found = let P : Group → Type 0 = λ k. IsCallOf older id k in subst P (same g found) call_here
+
+  pub parks_synced : (g after : Group) (e : Effects) → find_group own groups ≡ Some g → turned after e ≡ waiting now id (Sync ticket) (turn_of (hearing now id g)) → Parks ticket older g after
+  parks_synced g after e found is =
+      let call = call_of_sync g found in
+      let P : Group → Type 0 = λ k. Parks ticket older g k in
+      subst P (sym (ap (λ (t : Turn). t.group) is)) (parks_sync now id ticket older g call.member call.found call.called)
+
+  pub sync_is_parked : {E : Type 0} (later : List Group) (e : Effects) → IsStepped {E = E} (λ g. StepsTo (λ t. t ≡ waiting now id (Sync ticket) (turn_of (hearing now id g))) g) own groups later e → concluded (at_moment now groups) ticket (sync now r ticket groups) ≡ outcome (at_moment now later) e
+  sync_is_parked later e s =
+      concluded_stepped (λ g t. t ≡ waiting now id (Sync ticket) (turn_of (hearing now id g))) own groups later e s (sync now r ticket groups)
+      (λ g found t is. sync_here now r ticket groups own id (Parked older) at ∙ ap Ok (at.processed.1 now r id ticket) ∙ ap (λ k. Ok (waiting now id (Sync ticket) (turn_of (hearing now id k)))) (same g found) ∙ ap Ok (sym is))
+      now ticket

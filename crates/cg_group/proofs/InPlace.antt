@@ -1,9 +1,7 @@
 -- The outcome of a request that changes a member in place, or is refused.
-use Rattle.std.proofs.Common.{◌≡◌, ℕ, true, false, List, map, Option, Some, None, is_some, Result, Ok, Err, OnErr, is_ok, ok_or, refl, sym, ap, ◌∙◌}
+use Rattle.std.proofs.Common.{◌≡◌, ℕ, true, false, List, inl, inr, Option, Some, None, is_some, Result, Ok, Err, MatchResult, OnErr, is_ok, ok_or, refl, sym, ap, ◌∙◌}
 use Rattle.cg_names.specs.declared.code.Code.{Code}
-use Rattle.cg_names.specs.declared.code.Code.TheVariants.{InvalidGroupId, InvalidSessionTimeout, OffsetMetadataTooLarge, UnknownMemberId}
-use Rattle.cg_record.specs.declared.entry.Entry.{Entry}
-use Rattle.cg_request.specs.declared.commit_entry.CommitEntry.{CommitEntry}
+use Rattle.cg_names.specs.declared.code.Code.TheVariants.{InvalidGroupId, InvalidSessionTimeout, UnknownMemberId}
 use Rattle.cg_group_state.specs.declared.effects.Effects.{Effects}
 use Rattle.cg_group_state.specs.declared.group.Group.{Group}
 use Rattle.cg_request.specs.declared.request_fields.BeatRequest.{BeatRequest}
@@ -15,22 +13,22 @@ use Rattle.cg_group_state.specs.declared.reply.Reply.TheVariants as reply
 use Rattle.cg_request.specs.declared.ticket.Ticket.{Ticket}
 use Rattle.cg_group_state.specs.declared.turn.Turn.{Turn}
 use Rattle.cg_group_rules.specs.JoinChecks.{join_held}
-use Rattle.cg_group_rules.specs.Heartbeat.{IsBeat, beat_held, beat_reply, beat_taken}
+use Rattle.cg_group_rules.specs.Heartbeat.{IsBeat, IsBeatRefused, beat_held, beat_reply, beat_taken}
 use Rattle.cg_group_rules.specs.declared.sync.SyncCase.{SyncCase}
 use Rattle.cg_group_rules.specs.declared.sync.SyncCase.TheVariants.{Current}
-use Rattle.cg_request.specs.Commits.{is_too_large, kept_entry}
-use Rattle.cg_group_rules.specs.OffsetCommit.{commit_at, commit_by, commit_effects, commit_held, committed, committer, hearing_committer, keeping_entries}
-use Rattle.cg_group.specs.InPlace.{IsBeatIn, IsJoinIn, IsNamed, IsSync}
+use Rattle.cg_group_rules.specs.OffsetCommit.{commit_held}
+use Rattle.cg_group_rules.specs.JoinWays.{IsCurrent}
+use Rattle.cg_group.specs.InPlace.{IsBeatIn, IsCurrentJoin, IsNamed, IsSync}
 use Rattle.cg_group.specs.Machine.{beat, commit, commit_in, concluded, join, join_in, named_group, reply_alone, sync}
-use Rattle.cg_group_table.specs.GroupTable.{at_moment, find_group, outcome, with_group}
+use Rattle.cg_group_table.specs.GroupChanges.{IsChanged, OnlyHears}
+use Rattle.cg_group_table.specs.GroupTable.{InOrder, at_moment, find_group, outcome, with_group}
+use Rattle.cg_group_table.proofs.InOrder.{with_group-found}
 use Rattle.cg_group_state.specs.JoinTerms.{is_session_refused}
 use Rattle.cg_group_rules.specs.Join.{join_current}
 use Rattle.cg_group_state.specs.Membership.{hearing}
 use Rattle.cg_group_rules.specs.Rebalance.{joined_reply}
 use Rattle.cg_group_state.specs.Checks.{◌>>=◌, refused_if}
 use Rattle.cg_group_rules.specs.Sync.{sync_current, sync_held, sync_taken}
-use Rattle.cg_group_table.proofs.InOrder.{found_named}
-use Rattle.cg_group_table.proofs.Mapped.{id-hearing}
 
 -- a fact that holds in any case holds of an error
 pub on_err : {A E : Type 0} (r : Result A E) (P : Type 0) → P → OnErr r P
@@ -63,6 +61,29 @@ beat_in_place now r ticket groups after id answer e at made =
     ∙ ap (λ gs. outcome (at_moment now gs) (reply_alone ticket (beat_reply g))) (sym at.heard)
     ∙ ap (λ a. outcome (at_moment now after) (reply_alone ticket a)) (sym done.answered)
     ∙ ap (outcome (at_moment now after)) (sym made)
+
+-- a BEAT as a change of its group
+module _ {T : Type 0} (id : T → List ℕ) (answer : T → Reply) (now : ℕ) (r : BeatRequest) where
+  abbrev pub Beaten : Group → Group → Result T Code → Type 0
+  Beaten g after x = MatchResult x (λ p. IsBeat r g (id p) (answer p) × (after ≡ hearing now (id p) g)) (λ code. IsBeatRefused r g code × (after ≡ g))
+
+  pub beats_hear : OnlyHears now Beaten
+  beats_hear g after (Ok p) h = inr (id p, h.1)
+  beats_hear g after (Err code) h = inl h.1
+
+  pub beaten_in : (groups later : List Group) (own : List ℕ) → r.group ≡ Some own → InOrder groups → (g : Group) → find_group own groups ≡ Some g → (x : Result T Code) → IsChanged Beaten groups later g x
+      → MatchResult x (λ p. IsBeatIn now r groups later (id p) (answer p)) (λ code. ((now : ℕ) (ticket : Ticket) → beat now r ticket groups ≡ Err code) × (later ≡ groups))
+  beaten_in groups later own named o g found (Ok p) c = record {
+    own = own;
+    group = g;
+    named = record { named = named; found = found };
+    beat = c.became.0;
+    heard = c.put ∙ ap (λ k. with_group k groups) c.became.1;
+  }
+  beaten_in groups later own named o g found (Err code) c = (
+    λ now ticket. beat_refused now r ticket groups g code (named_is r.group groups own g (record { named = named; found = found })) (c.became.0 now ticket),
+    c.put ∙ ap (λ k. with_group k groups) c.became.1 ∙ with_group-found own groups g o found,
+  )
 
 -- a SYNC that is not refused is that of its group
 pub sync_here : (now : ℕ) (r : SyncRequest) (ticket : Ticket) (groups : List Group) (own id : List ℕ) (which : SyncCase) (at : IsSync r groups own id which) → sync now r ticket groups ≡ Ok (sync_taken now r id ticket at.member at.group at.group.phase)
@@ -108,17 +129,18 @@ join_here now r fresh ticket groups own g at lawful =
     ∙ ap (λ b. refused_if b InvalidSessionTimeout >>= λ _. join_in now r fresh ticket groups own (find_group own groups)) lawful
     ∙ ap (join_in now r fresh ticket groups own) at.found
 
-pub join_in_place : (now : ℕ) (r : JoinRequest) (fresh : List ℕ) (ticket : Ticket) (groups after : List Group) (own id : List ℕ) (answer : Reply) (e : Effects) → IsJoinIn r groups own id answer
+pub join_in_place : (now : ℕ) (r : JoinRequest) (fresh : List ℕ) (ticket : Ticket) (groups after : List Group) (own id : List ℕ) (answer : Reply) (e : Effects) → IsCurrentJoin r groups own id answer
     → ((g : Group) → find_group own groups ≡ Some g → after ≡ with_group (hearing now id g) groups) → e ≡ reply_alone ticket answer → concluded (at_moment now groups) ticket (join now r fresh ticket groups) ≡ outcome (at_moment now after) e
 unfolding concluded join_current
 join_in_place now r fresh ticket groups after own id answer e at put made =
     let g : Group = at.group in
-    ap (concluded (at_moment now groups) ticket) (join_here now r fresh ticket groups own g at.named at.session ∙ at.taken now fresh ticket)
-    ∙ ap (λ gs. outcome (at_moment now gs) (reply_alone ticket (joined_reply g at.member))) (sym (put g at.named.found))
-    ∙ ap (λ a. outcome (at_moment now after) (reply_alone ticket a)) (sym at.answered)
+    let is : IsCurrent r g id answer = at.way in
+    ap (concluded (at_moment now groups) ticket) (join_here now r fresh ticket groups own g at.named at.session ∙ is.taken now fresh ticket)
+    ∙ ap (λ gs. outcome (at_moment now gs) (reply_alone ticket (joined_reply g is.member))) (sym (put g at.named.found))
+    ∙ ap (λ a. outcome (at_moment now after) (reply_alone ticket a)) (sym is.answered)
     ∙ ap (outcome (at_moment now after)) (sym made)
 
--- the outcome of a COMMIT in a loaded group is that of the group
+-- a COMMIT in a loaded group is that of the group
 commit_found : (now : ℕ) (r : CommitRequest) (ticket : Ticket) (groups : List Group) (g : Group) (id : List ℕ) (o : Option Group) → ok_or o UnknownMemberId ≡ Ok g → commit_in now r ticket groups id o ≡ commit_held now r.generation r.instance r.member r.entries ticket g
 commit_found now r ticket groups g id None e = cc
 commit_found now r ticket groups g id (Some x) e = let same : x ≡ g = cc in ap (commit_held now r.generation r.instance r.member r.entries ticket) same
@@ -130,31 +152,3 @@ commit_named now r ticket groups g (Some id) e = commit_found now r ticket group
 pub commit_here : (now : ℕ) (r : CommitRequest) (ticket : Ticket) (groups : List Group) (own : List ℕ) (g : Group) → IsNamed r.group groups own g → commit now r ticket groups ≡ commit_held now r.generation r.instance r.member r.entries ticket g
 unfolding commit
 commit_here now r ticket groups own g at = commit_named now r ticket groups g r.group (named_is r.group groups own g at)
-
-pub commit_refused : (now : ℕ) (r : CommitRequest) (ticket : Ticket) (groups : List Group) (own : List ℕ) (g : Group) (code : Code) → IsNamed r.group groups own g → committer r.generation r.instance r.member g ≡ Err code → commit now r ticket groups ≡ Err code
-unfolding commit_held
-commit_refused now r ticket groups own g code at e =
-    commit_here now r ticket groups own g at
-    ∙ ap (λ o. o >>= λ who. refused_if (is_too_large r.entries) OffsetMetadataTooLarge >>= λ _. Ok (committed now r.entries ticket (hearing_committer now who g))) e
-
-pub commit_taken : (now : ℕ) (r : CommitRequest) (ticket : Ticket) (groups : List Group) (own : List ℕ) (g : Group) (who : Option (List ℕ)) → IsNamed r.group groups own g → committer r.generation r.instance r.member g ≡ Ok who → commit now r ticket groups ≡ commit_by now who r.entries ticket g
-unfolding commit_held
-commit_taken now r ticket groups own g who at e = commit_here now r ticket groups own g at ∙ ap (λ o. o >>= λ who. commit_by now who r.entries ticket g) e
-
-pub commit_too_large : (now : ℕ) (entries : List CommitEntry) (ticket : Ticket) (g : Group) (who : Option (List ℕ)) → is_too_large entries ≡ true → commit_by now who entries ticket g ≡ Err OffsetMetadataTooLarge
-commit_too_large now entries ticket g who large = ap (λ b. refused_if b OffsetMetadataTooLarge >>= λ _. Ok (committed now entries ticket (hearing_committer now who g))) large
-
-id-committer : (now : ℕ) (who : Option (List ℕ)) (g : Group) → (hearing_committer now who g).id ≡ g.id
-id-committer now None g = refl
-id-committer now (Some id) g = id-hearing now id g
-
-pub commit_in_place : (now : ℕ) (given : List CommitEntry) (ticket : Ticket) (groups after : List Group) (own : List ℕ) (g : Group) (who : Option (List ℕ)) (e : Effects) (entries : List Entry) → find_group own groups ≡ Some g → is_too_large given ≡ false → entries ≡ map kept_entry given
-    → after ≡ with_group (hearing_committer now who g) groups → e ≡ commit_effects (commit_at now entries own) ticket → concluded (at_moment now groups) ticket (commit_by now who given ticket g) ≡ outcome (at_moment now after) e
-unfolding concluded keeping_entries
-commit_in_place now given ticket groups after own g who e entries found few kept put made =
-    let h : Group = hearing_committer now who g in
-    ap (λ b. concluded (at_moment now groups) ticket (refused_if b OffsetMetadataTooLarge >>= λ _. Ok (committed now given ticket h))) few
-    ∙ ap (λ gs. outcome (at_moment now gs) (commit_effects (commit_at now (map kept_entry given) h.id) ticket)) (sym put)
-    ∙ ap (λ i. outcome (at_moment now after) (commit_effects (commit_at now (map kept_entry given) i) ticket)) (id-committer now who g ∙ found_named own groups g found)
-    ∙ ap (λ es. outcome (at_moment now after) (commit_effects (commit_at now es own) ticket)) (sym kept)
-    ∙ ap (outcome (at_moment now after)) (sym made)

@@ -1,6 +1,5 @@
 -- A new member whose JOIN is parked.
-use Rattle.std.proofs.Common.{◌≡◌, ℕ, Bool, true, List, [], ◌∷◌, inl, Some, None, sym, ap, ◌∙◌}
-use Rattle.std.specs.Prelude.{is_ok}
+use Rattle.std.proofs.Common.{◌≡◌, ℕ, Bool, true, List, [], ◌∷◌, inl, None, sym, ap, ◌∙◌, subst}
 use Rattle.std.specs.List.{list_any}
 use Rattle.std.proofs.lemmas.Bool.{or_left, or_right}
 use Rattle.std.proofs.lemmas.List.Folds.{list_any-append}
@@ -8,20 +7,20 @@ use Rattle.cg_group_state.specs.declared.calls.Calls.TheVariants.{OfSession}
 use Rattle.cg_group_state.specs.declared.effects.Effects.{Effects}
 use Rattle.cg_group_state.specs.declared.group.Group.{Group}
 use Rattle.cg_group_state.specs.declared.member.Member.{Member}
+use Rattle.cg_group_state.specs.declared.turn.Turn.{Turn}
 use Rattle.cg_group_state.specs.declared.member.Waits.TheVariants.{Join}
 use Rattle.cg_request.specs.declared.request_fields.JoinRequest.{JoinRequest}
 use Rattle.cg_request.specs.declared.ticket.Ticket.{Ticket}
-use Rattle.cg_group.specs.InPlace.{IsEntering, Parks, parking_effects}
-use Rattle.cg_group.specs.Machine.{concluded, join}
-use Rattle.cg_group_table.specs.GroupTable.{at_moment, find_group, outcome, with_group}
+use Rattle.cg_group.specs.InPlace.{Parks}
+use Rattle.cg_group_table.specs.GroupChanges.{KeepsId, StepsTo}
 use Rattle.cg_group_table.specs.SessionIndex.{is_known}
 use Rattle.cg_group_table.proofs.Framed.{each-append}
-use Rattle.cg_group_state.specs.MemberId.{drawn, own_name}
+use Rattle.cg_group_table.proofs.Mapped.{keeps_step}
 use Rattle.cg_group_rules.specs.Join.{new_member}
+use Rattle.cg_group_rules.specs.Rebalance.{turn_of, turned}
 use Rattle.cg_group_state.specs.Waiting.{is_waiting}
 use Rattle.cg_group_rules.specs.ParkedJoin.{entered}
 use Rattle.cg_group.proofs.Displacing.{asked_join}
-use Rattle.cg_group.proofs.InPlace.{join_here}
 
 -- the call of the new member is parked, and those of the others stay
 pub parks_entered : (now : ℕ) (r : JoinRequest) (id : List ℕ) (ticket : Ticket) (g : Group) → Parks ticket None g (entered now r id ticket g)
@@ -35,17 +34,11 @@ parks_entered now r id ticket g =
       known = λ sessions own h. each-append (λ (x : Member). is_known sessions x.waits ≡ true) g.members (m ∷ []) h (own, tt);
     }
 
--- the JOIN is taken
-pub entering_taken : (r : JoinRequest) (fresh : List ℕ) (groups : List Group) (own : List ℕ) → IsEntering r fresh groups own → (now : ℕ) (ticket : Ticket) → is_ok (join now r fresh ticket groups) ≡ true
-entering_taken r fresh groups own at now ticket = ap is_ok (join_here now r fresh ticket groups own at.group at.named at.session ∙ at.taken now ticket)
+-- such a step keeps the id of its group, and parks the call
+pub keeps_entered : {E : Type 0} (now : ℕ) (r : JoinRequest) (id : List ℕ) (ticket : Ticket) → KeepsId (λ g. StepsTo {E = E} (λ t. t ≡ turn_of (entered now r id ticket g)) g)
+keeps_entered now r id ticket = keeps_step (λ g t. t ≡ turn_of (entered now r id ticket g)) (λ g t is. ap (λ (u : Turn). u.group.id) is)
 
--- the outcome of the JOIN
-pub join_entering : (now : ℕ) (r : JoinRequest) (fresh : List ℕ) (ticket : Ticket) (groups after : List Group) (own id : List ℕ) (e : Effects) → IsEntering r fresh groups own → id ≡ drawn (own_name r) fresh
-    → ((g : Group) → find_group own groups ≡ Some g → after ≡ with_group (entered now r id ticket g) groups) → e ≡ parking_effects None → concluded (at_moment now groups) ticket (join now r fresh ticket groups) ≡ outcome (at_moment now after) e
-unfolding concluded
-join_entering now r fresh ticket groups after own id e at named put made =
-    let g : Group = at.group in
-    ap (concluded (at_moment now groups) ticket) (join_here now r fresh ticket groups own g at.named at.session ∙ at.taken now ticket)
-    ∙ ap (λ i. outcome (at_moment now (with_group (entered now r i ticket g) groups)) (parking_effects None)) (sym named)
-    ∙ ap (λ gs. outcome (at_moment now gs) (parking_effects None)) (sym (put g at.named.found))
-    ∙ ap (outcome (at_moment now after)) (sym made)
+pub parks_newcomer : (now : ℕ) (r : JoinRequest) (id : List ℕ) (ticket : Ticket) (g after : Group) (e : Effects) → turned after e ≡ turn_of (entered now r id ticket g) → Parks ticket None g after
+parks_newcomer now r id ticket g after e is =
+    let P : Group → Type 0 = λ k. Parks ticket None g k in
+    subst P (sym (ap (λ (t : Turn). t.group) is)) (parks_entered now r id ticket g)

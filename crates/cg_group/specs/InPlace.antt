@@ -6,32 +6,32 @@ use Rattle.cg_names.specs.declared.code.Code.TheVariants.{RebalanceInProgress, U
 use Rattle.cg_group_state.specs.declared.calls.Calls.TheVariants.{Any, OfSession}
 use Rattle.cg_group_state.specs.declared.group.Group.{Group}
 use Rattle.cg_group_state.specs.declared.member.Member.{Member}
-use Rattle.cg_group_state.specs.declared.member.Waits.TheVariants.{Join}
 use Rattle.cg_group_state.specs.declared.reply.Reply.{Reply}
 use Rattle.cg_group_state.specs.declared.reply.Reply.TheVariants.{Done, Refused}
 use Rattle.cg_request.specs.declared.request_fields.BeatRequest.{BeatRequest}
+use Rattle.cg_request.specs.declared.request_fields.CommitRequest.{CommitRequest}
 use Rattle.cg_request.specs.declared.request_fields.JoinRequest.{JoinRequest}
 use Rattle.cg_request.specs.declared.request_fields.LeaveRequest.{LeaveRequest}
 use Rattle.cg_request.specs.declared.request_fields.SyncRequest.{SyncRequest}
 use Rattle.cg_request.specs.declared.ticket.Ticket.{Ticket}
 use Rattle.cg_group_state.specs.declared.turn.Turn.{Turn}
-use Rattle.cg_group.specs.declared.join.Way.{Way}
-use Rattle.cg_group.specs.declared.join.Way.TheVariants.{Makes, Finds}
-use Rattle.cg_group_rules.specs.JoinChecks.{join_held, join_unheld}
-use Rattle.cg_group_rules.specs.ParkedJoin.{HasPlace, entered}
+use Rattle.cg_group_rules.specs.JoinChecks.{join_unheld}
+use Rattle.cg_group_rules.specs.JoinWays.{ComesTo, IsCurrent, IsEntering, IsNew, IsParked}
+use Rattle.cg_group_rules.specs.declared.join_way.JoinWay.{JoinWay}
+use Rattle.cg_group_rules.specs.declared.join_way.JoinWay.TheVariants as way
 use Rattle.cg_group_rules.specs.Heartbeat.{IsBeat}
+use Rattle.cg_group_rules.specs.OffsetCommit.{IsCommit}
 use Rattle.cg_group_rules.specs.SyncSteps.{IsSyncCase}
 use Rattle.cg_group_rules.specs.declared.sync.SyncCase.{SyncCase}
-use Rattle.cg_group.specs.Machine.{concluded}
-use Rattle.cg_group_table.specs.GroupTable.{at_moment, find_group, outcome, with_group}
+use Rattle.cg_group.specs.Machine.{concluded, join}
+use Rattle.cg_group_table.specs.GroupChanges.{IsChanged}
+use Rattle.cg_group_table.specs.GroupTable.{InOrder, at_moment, find_group, outcome, with_group}
 use Rattle.cg_group_table.specs.SessionIndex.{AreKnown, Known, is_parked}
 use Rattle.cg_group_state.specs.declared.effects.Effects.{Effects}
-use Rattle.cg_group_state.specs.MemberId.{drawn, own_name}
 use Rattle.cg_group_state.specs.JoinTerms.{is_session_refused}
-use Rattle.cg_group_rules.specs.Join.{join_current, updating, waiting}
+use Rattle.cg_group_rules.specs.Join.{update_member_and_rebalance}
 use Rattle.cg_group_rules.specs.Leave.{leave_held, left}
 use Rattle.cg_group_state.specs.Membership.{find_member, has_id, hearing, keeping}
-use Rattle.cg_group_rules.specs.Rebalance.{joined_reply, turn_of}
 use Rattle.cg_group_rules.specs.Sync.{sync_held, sync_taken}
 use Rattle.cg_group_state.specs.Waiting.{called, is_waiting}
 
@@ -48,6 +48,15 @@ pub record IsBeatIn (now : ℕ) (r : BeatRequest) (groups after : List Group) (i
   pub beat : IsBeat r group id reply
   pub heard : after ≡ with_group (hearing now id group) groups
 
+-- the COMMIT passes its checks in the loaded group with this id, where the committing member is heard; it was last heard `before`
+pub record IsCommitIn (now : ℕ) (r : CommitRequest) (groups later : List Group) (own : List ℕ) (before : Option ℕ) : Type 0 where
+  pub group : Group
+  pub after : Group
+  pub named : IsNamed r.group groups own group
+  pub in_order : InOrder groups
+  pub commit : IsCommit now r group after before
+  pub put : later ≡ with_group after groups
+
 -- the SYNC is not refused; it is of this member, in the group with this id, and processed in this way
 pub record IsSync (r : SyncRequest) (groups : List Group) (own id : List ℕ) (which : SyncCase) : Type 0 where
   pub group : Group
@@ -57,62 +66,43 @@ pub record IsSync (r : SyncRequest) (groups : List Group) (own id : List ℕ) (w
   pub taken : (now : ℕ) (ticket : Ticket) → sync_held now r ticket group ≡ Ok (sync_taken now r id ticket member group group.phase)
   pub processed : IsSyncCase group member which
 
--- the JOIN changes nothing and gets its reply at once, from this member, in the group with this id
-pub record IsJoinIn (r : JoinRequest) (groups : List Group) (own id : List ℕ) (reply : Reply) : Type 0 where
+-- the JOIN is that of the loaded group with this id, of which this holds; its session timeout is within its limits
+pub record IsJoinIn (r : JoinRequest) (groups : List Group) (own : List ℕ) (holds : Group → Type 0) : Type 0 where
   pub group : Group
-  pub member : Member
   pub named : IsNamed r.group groups own group
   pub session : is_session_refused r ≡ false
-  pub taken : (now : ℕ) (fresh : List ℕ) (ticket : Ticket) → join_held now r fresh ticket r.member group ≡ Ok (join_current now id ticket member group)
-  pub answered : reply ≡ joined_reply group member
+  pub way : holds group
 
--- the JOIN of this member, in the group with this id, is only parked, in place of its older call: others have still to join
-pub record IsJoinParked (r : JoinRequest) (groups : List Group) (own id : List ℕ) (older : Option Ticket) : Type 0 where
-  pub group : Group
-  pub member : Member
-  pub named : IsNamed r.group groups own group
-  pub session : is_session_refused r ≡ false
-  pub found : find_member id group.members ≡ Some member
-  pub taken : (now : ℕ) (fresh : List ℕ) (ticket : Ticket) → join_held now r fresh ticket r.member group ≡ Ok (waiting now id (Join ticket) (turn_of (updating r id group)))
-  pub called : older ≡ called Any member.waits
-
--- the JOIN of a new member, in the group with this id, is only parked: others have still to join
-pub record IsEntering (r : JoinRequest) (fresh : List ℕ) (groups : List Group) (own : List ℕ) : Type 0 where
-  pub group : Group
-  pub named : IsNamed r.group groups own group
-  pub session : is_session_refused r ≡ false
-  pub place : HasPlace (drawn (own_name r) fresh) r.instance group.members
-  pub taken : (now : ℕ) (ticket : Ticket) → join_held now r fresh ticket r.member group ≡ Ok (turn_of (entered now r (drawn (own_name r) fresh) ticket group))
-
--- the group of the JOIN is loaded, and its session timeout is within its limits
-pub record IsFound (r : JoinRequest) (groups : List Group) : Type 0 where
-  pub own : List ℕ
-  pub group : Group
-  pub named : IsNamed r.group groups own group
-  pub session : is_session_refused r ≡ false
-
--- the JOIN is not refused, in the group with this id
-pub record IsJoining (r : JoinRequest) (fresh : List ℕ) (groups : List Group) (own : List ℕ) : Type 0 where
-  pub group : Group
-  pub named : IsNamed r.group groups own group
-  pub session : is_session_refused r ≡ false
-  pub taken : (now : ℕ) (ticket : Ticket) → is_ok (join_held now r fresh ticket r.member group) ≡ true
+-- the JOIN of this member changes nothing and gets this reply at once
+abbrev pub IsCurrentJoin : JoinRequest → List Group → List ℕ → List ℕ → Reply → Type 0
+IsCurrentJoin r groups own id reply = IsJoinIn r groups own (λ g. IsCurrent r g id reply)
 
 -- the JOIN is not refused, and makes the group with this id
 pub record IsMaking (r : JoinRequest) (groups : List Group) (own : List ℕ) : Type 0 where
-  pub named : r.group ≡ Some own
   pub absent : find_group own groups ≡ None
   pub taken : (now : ℕ) (fresh : List ℕ) (ticket : Ticket) (id : List ℕ) → is_ok (join_unheld now r fresh ticket (length groups) id) ≡ true
 
--- where the JOIN is processed
-abbrev pub IsWay : JoinRequest → List Group → Way → Type 0
-IsWay r groups (Makes own) = IsMaking r groups own.now
-IsWay r groups Finds = IsFound r groups
+-- the JOIN takes this way, in the group with this id
+abbrev pub IsWay : JoinRequest → List ℕ → List Group → List ℕ → JoinWay → Type 0
+IsWay r fresh groups own (way.Refused code) = (now : ℕ) (ticket : Ticket) → join now r fresh ticket groups ≡ Err code
+IsWay r fresh groups own way.Creates = IsMaking r groups own
+IsWay r fresh groups own (way.Current id reply) = IsCurrentJoin r groups own id.now reply
+IsWay r fresh groups own (way.Parks id older) = IsJoinIn r groups own (λ g. IsParked r g id.now older)
+IsWay r fresh groups own (way.Rejoins id) = IsJoinIn r groups own (λ g. ComesTo r g (λ now ticket. update_member_and_rebalance now r id.now ticket g))
+IsWay r fresh groups own way.Enters = IsJoinIn r groups own (IsEntering r fresh)
+IsWay r fresh groups own way.Joins = IsJoinIn r groups own (IsNew r fresh)
 
--- the step of a request, or that of an event that changes nothing
-abbrev pub turn_or : Group → Result Turn Code → Turn
-turn_or g (Err code) = turn_of g
-turn_or g (Ok t) = t
+-- this is the parked call of the member with this id, if it has one
+pub record IsCallOf (call : Option Ticket) (id : List ℕ) (g : Group) : Type 0 where
+  pub member : Member
+  pub found : find_member id g.members ≡ Some member
+  pub called : call ≡ called Any member.waits
+
+-- the loaded group with this id is changed, and the change returns these effects
+pub record IsStepped {E : Type 0} (becomes : Group → Group → Result Effects E → Type 0) (own : List ℕ) (groups later : List Group) (e : Effects) : Type 0 where
+  pub group : Group
+  pub found : find_group own groups ≡ Some group
+  pub changed : IsChanged becomes groups later group (Ok e)
 
 -- the LEAVE is not refused, in the group with this id
 pub record IsLeaving (r : LeaveRequest) (groups : List Group) (own : List ℕ) : Type 0 where

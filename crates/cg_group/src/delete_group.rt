@@ -1,9 +1,9 @@
 //! DELETE (DeleteGroups request), and the group that a DELETE or a DROP names.
 ghost use Rattle.std.specs.Prelude.{◌≡◌, ℕ, false, Ok, Err, true, is_ok, IfOk, OnErr, MatchResult};
-ghost use Rattle.cg_group_state.specs.Offsets.{offsets_after};
-ghost use Rattle.cg_group_table.specs.SessionIndex.{StayParked, is_parked};
 ghost use Rattle.cg_group.specs.Machine.{deleted, deleted_alone, memberless};
 ghost use Rattle.cg_group_table.specs.GroupTable.{at_moment, find_group, outcome};
+ghost use Rattle.cg_group_table.specs.SessionIndex.{StayParked, is_parked};
+ghost use Rattle.cg_group_state.specs.Offsets.{offsets_after};
 
 use crate::single_reply::reply_alone;
 use cg_fold::Offsets;
@@ -14,7 +14,8 @@ use cg_record::{Command, Deleted};
 use cg_request::Ticket;
 use std::alloc::{AllocError, Global};
 
-/// Returns the group that a DELETE or a DROP names. Reports 69 if it is not loaded, and 68 if it has members.
+// Returns the group that a DELETE removes, or from which a DROP removes offsets. Reports 69 if it is not loaded, and 68 if it has
+// members.
 #[tactic(auto, unfolding(crate::specs::Machine::memberless))]
 pub fn memberless<'a>(id: &'a Option<GroupId>, groups: &GroupTable) -> Result<&'a GroupId, Code>
     ensures deleted { MatchResult result

@@ -1,14 +1,14 @@
 //! Hands each event to the function that processes it.
-ghost use Rattle.cg_group_table.specs.Resting.{AreResting};
-ghost use Rattle.cg_group_table.specs.declared.expiry.TheConstants.{RETENTION_MS};
 ghost use Rattle.std.specs.Prelude.{◌≡◌, ◌+◌, ◌≤◌, Ok, true, IfOk, OnErr};
 ghost use Rattle.std.specs.List.{list_any};
-ghost use Rattle.cg_group_rules.specs.Leave.{gone_in};
-ghost use Rattle.cg_group_rules.specs.TickDeadline.{gone_touches};
-ghost use Rattle.cg_group_state.specs.Offsets.{offsets_after};
-ghost use Rattle.cg_group_table.specs.SessionIndex.{AreKnown, IsTight, is_home};
 ghost use Rattle.cg_group.specs.Machine.{MayNeedMemory, describe, handled};
 ghost use Rattle.cg_group_table.specs.GroupTable.{at_moment, everywhere, outcome, standing};
+ghost use Rattle.cg_group_table.specs.Resting.{AreResting};
+ghost use Rattle.cg_group_table.specs.SessionIndex.{AreKnown, IsTight, is_home};
+ghost use Rattle.cg_group_table.specs.declared.expiry.TheConstants.{RETENTION_MS};
+ghost use Rattle.cg_group_rules.specs.Leave.{gone_in};
+ghost use Rattle.cg_group_state.specs.Offsets.{offsets_after};
+ghost use Rattle.cg_group_rules.specs.TickDeadline.{gone_touches};
 
 use crate::delete_group::handle_delete;
 use crate::describe::describe;

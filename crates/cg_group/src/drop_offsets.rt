@@ -1,10 +1,10 @@
 //! DROP (OffsetDelete request, KIP-496): offsets of a group without members are removed.
 ghost use Rattle.std.specs.Prelude.{◌≡◌, ◌≤◌, ℕ, false, Ok, Err, None, true, length, IfOk, OnErr};
-ghost use Rattle.cg_record.specs.Partitions.{ArePartitions};
-ghost use Rattle.cg_group_state.specs.Offsets.{offsets_after};
-ghost use Rattle.cg_group_table.specs.SessionIndex.{StayParked, is_parked};
 ghost use Rattle.cg_group.specs.Machine.{dropped, is_unfounded, memberless, with_offset};
 ghost use Rattle.cg_group_table.specs.GroupTable.{find_group, outcome, standing};
+ghost use Rattle.cg_group_table.specs.SessionIndex.{StayParked, is_parked};
+ghost use Rattle.cg_group_state.specs.Offsets.{offsets_after};
+ghost use Rattle.cg_record.specs.Partitions.{ArePartitions};
 
 use crate::delete_group::memberless;
 use crate::single_reply::reply_alone;

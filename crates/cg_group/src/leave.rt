@@ -12,7 +12,7 @@ use crate::rebalance_step::step_leaving;
 use crate::single_reply::reply_alone;
 use cg_group_rules::{RequestContext, departing, leave_in, leave_refusal, remove_member};
 use cg_group_state::{Calls, Effects, Few, Group, Reply};
-use cg_group_table::{Altering, GroupTable, SessionIndex, Stepping};
+use cg_group_table::{GroupChange, GroupTable, SessionIndex};
 use cg_names::{Code, GroupId, MemberId, Moment};
 use cg_request::{LeaveRequest, Ticket};
 use std::alloc::{AllocError, Global};
@@ -23,17 +23,16 @@ struct Removal {
     id: MemberId,
 }
 
-impl Altering for Removal {
-    ghost use Rattle.std.specs.Prelude.{⊤, not};
+impl GroupChange for Removal {
+    ghost use Rattle.std.specs.Prelude.{◌≡◌, not};
     ghost use Rattle.cg_group_state.specs.Membership.{has_id, keeping};
 
-    ghost Suits = { λ p g. ⊤ };
+    type Output = ();
 
-    ghost alters = { λ p g. keeping (λ other. not (has_id p.id other)) g };
+    ghost Becomes = { λ p g after _. after ≡ keeping (λ other. not (has_id p.id other)) g };
 
-    fn alter(self, group: &mut Group) -> Result<(), AllocError> {
+    fn change(self, group: &mut Group) {
         remove_member(&self.id, group);
-        Ok(())
     }
 }
 
@@ -77,23 +76,25 @@ fn departing_effects(
     })
 }
 
-/// The step of a LEAVE in its loaded group, which does not refuse it.
+/// A LEAVE in its loaded group, which does not refuse it, as a change of the group.
 #[derive(Drop)]
 struct LeaveStep<'a> {
     context: RequestContext,
     request: &'a LeaveRequest,
 }
 
-impl<'a> Stepping for LeaveStep<'a> {
-    ghost use Rattle.std.specs.Prelude.{◌≡◌, true, is_ok};
-    ghost use Rattle.cg_group.specs.InPlace.{turn_or};
+impl<'a> GroupChange for LeaveStep<'a> {
+    ghost use Rattle.std.specs.Prelude.{◌≡◌, Ok, true, is_ok};
+    ghost use Rattle.cg_group_table.specs.GroupChanges.{StepsTo};
     ghost use Rattle.cg_group_rules.specs.Leave.{leave_held};
+
+    type Output = Result<Effects, AllocError>;
 
     ghost Suits = { λ s g. is_ok (leave_held s.context.now s.request.now s.context.ticket g) ≡ true };
 
-    ghost steps = { λ s g. turn_or g (leave_held s.context.now s.request.now s.context.ticket g) };
+    ghost Becomes = { λ s g. StepsTo (λ t. leave_held s.context.now s.request.now s.context.ticket g ≡ Ok t) g };
 
-    fn step(self, group: &mut Group) -> Result<Effects, AllocError> {
+    fn change(self, group: &mut Group) -> Result<Effects, AllocError> {
         let LeaveStep { context, request } = self;
         let effects = leave_in(context, request, group)?;
         Ok(effects)
@@ -136,18 +137,18 @@ pub fn handle_leave(
     let alloc = held.allocator();
     if let Some((own, id, parked)) = departure(r, held)? {
         let effects = departing_effects(alloc, ticket, parked)?;
-        held.alter(own, Removal { id })?;
+        let _removed = held.change(own, Removal { id });
         settle_older(homes, held, own, parked);
         return Ok(effects);
     }
     match leaving(r, held) {
         Err(code) => Ok(reply_alone(alloc, ticket, Reply::Refused(code))),
         Ok(own) => {
-            let stepping = LeaveStep {
+            let change = LeaveStep {
                 context: RequestContext { alloc, now, ticket },
                 request: r,
             };
-            let effects = step_leaving(held, homes, own, stepping)?;
+            let effects = step_leaving(held, homes, own, change)?;
             Ok(effects)
         }
     }

@@ -1,19 +1,20 @@
 //! Requests that are only parked: they change or add one member, and no rebalance begins or ends with them. The group is
 //! changed in place, and not copied.
-ghost use Rattle.std.specs.Prelude.{◌≡◌, ℕ, List, Some, true, is_some, IfOk, OnErr, OnOk};
+ghost use Rattle.std.specs.Prelude.{◌≡◌, ℕ, List, Some, Ok, true, IfOk, OnErr};
 ghost use Rattle.std.specs.BTreeMap.{get};
 ghost use Rattle.std.specs.Ordering.{nat_cmp};
-ghost use Rattle.cg_group.specs.InPlace.{Parks, parking_effects, CameOn};
-ghost use Rattle.cg_group_table.specs.GroupChanges.{ChangeKeepsId};
-ghost use Rattle.cg_group_table.specs.GroupTable.{find_group, with_group};
+ghost use Rattle.cg_group.specs.InPlace.{CameOn, IsStepped, Parks, parking_effects};
+ghost use Rattle.cg_group_table.specs.GroupChanges.{FailsUnchanged, KeepsId};
+ghost use Rattle.cg_group_table.specs.GroupTable.{IsHeld, find_group};
 ghost use Rattle.cg_group_table.specs.SessionIndex.{AreKnown, IsFilled, IsLetGo, IsTight, is_home};
+ghost use Rattle.cg_group_state.specs.declared.effects.Effects.{Effects};
 ghost use Rattle.cg_group_state.specs.declared.group.Group.{Group};
 
 use cg_group_state::{Effects, Few, Reply};
-use cg_group_table::{Altering, GroupTable, SessionIndex, note, settle_request};
+use cg_group_table::{GroupChange, GroupTable, SessionIndex, note, settle_request};
 use cg_names::{Code, GroupId};
 use cg_request::Ticket;
-use std::alloc::AllocError;
+use std::alloc::{AllocError, Global};
 
 /// Updates the session index for the session of the older call, if there is one. No allocation.
 pub fn settle_older(
@@ -32,11 +33,11 @@ pub fn settle_older(
     }
 }
 
-// Builds the effects: 27 to the older call, if there is one, and no command.
-fn parking_effects(held: &GroupTable, older: Option<Ticket>) -> Effects
+/// Builds the effects of parking a call, without an allocation: 27 to the older call of its member, if there is one, and no
+/// command.
+pub fn parking_effects(alloc: Global, older: Option<Ticket>) -> Effects
     ensures { result ≡ parking_effects older }
 {
-    let alloc = held.allocator();
     let refused = Reply::Refused(Code::RebalanceInProgress);
     Effects {
         commands: Few::new(alloc),
@@ -47,34 +48,37 @@ fn parking_effects(held: &GroupTable, older: Option<Ticket>) -> Effects
     }
 }
 
-/// Parks a call in the loaded group with this id by changing the group in place; an older call of the member gets 27. If an
-/// allocation fails, no group changes.
-pub fn park_in<A: Altering + Drop>(
+/// Makes a step that only parks the call of its request, in the loaded group with this id; `older` is the older call of its
+/// member. If an allocation fails, no group changes.
+pub fn park_in<C: GroupChange<Output = Result<Effects, AllocError>> + Drop>(
     held: &mut GroupTable,
     homes: &mut SessionIndex,
     ticket: Ticket,
     own: &GroupId,
-    altering: A,
+    change: C,
     older: Option<Ticket>,
 ) -> Result<Effects, AllocError>
     requires known { AreKnown (is_home homes.old) held.old }
     requires tight { IsTight homes.old held.old }
-    requires loaded { is_some (find_group own.now held.old) ≡ true }
-    requires keeps { ChangeKeepsId (A.alters altering) }
-    requires suits { (g : Group) → find_group own.now held.old ≡ Some g → A.Suits altering g }
-    requires parks { (g : Group) → find_group own.now held.old ≡ Some g → Parks ticket older g (A.alters altering g) }
+    requires loaded { IsHeld held.old own.now }
+    requires keeps { KeepsId (C.Becomes change) }
+    requires suits { (g : Group) → find_group own.now held.old ≡ Some g → C.Suits change g }
+    requires fails { FailsUnchanged (C.Becomes change) }
+    requires parks { (g after : Group) (e : Effects) → find_group own.now held.old ≡ Some g → C.Becomes change g after (Ok e) → Parks ticket older g after }
     ensures known { AreKnown (is_home homes.new) held.new }
     ensures tight { IsTight homes.new held.new }
-    ensures after { OnOk result ((g : Group) → find_group own.now held.old ≡ Some g → held.new ≡ with_group (A.alters altering g) held.old) }
-    ensures effects { IfOk result (λ e. e ≡ parking_effects older) }
+    ensures ok { IfOk result (IsStepped (C.Becomes change) own.now held.old held.new) }
     ensures err { OnErr result (held.new ≡ held.old) }
 {
     let id = own.clone()?;
     note(held.allocator(), homes, ticket.session, id)?;
-    match held.alter(own, altering) {
-        Ok(()) => {
+    let Some(parked) = held.change(own, change) else {
+        unreachable!()
+    };
+    match parked {
+        Ok(effects) => {
             settle_older(homes, held, own, older);
-            Ok(parking_effects(held, older))
+            Ok(effects)
         }
         Err(wanting) => {
             settle_request::<Ticket>(homes, held, own, &[], ticket.session);

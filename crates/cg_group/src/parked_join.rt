@@ -1,53 +1,50 @@
 //! JOIN (JoinGroup request) while a rebalance waits for others: the member is appended or updated in place, and the call parked.
 //! A JOIN of a known member that changes nothing is answered at once.
-ghost use Rattle.std.specs.Prelude.{◌≡◌, ⊤, true, false, is_ok, IfOk, OnErr, MatchOption, ℕ, Bool, List};
-ghost use Rattle.cg_group.specs.InPlace.{IsEntering, IsJoinIn, IsJoinParked};
+ghost use Rattle.std.specs.Prelude.{◌≡◌, ℕ, Bool, List};
+ghost use Rattle.cg_group.specs.InPlace.{IsCurrentJoin};
 ghost use Rattle.cg_group.specs.Machine.{concluded, join};
 ghost use Rattle.cg_group_table.specs.GroupTable.{at_moment, outcome};
-ghost use Rattle.cg_group_table.specs.SessionIndex.{AreKnown, IsTight, is_home, StayParked};
-ghost use Rattle.cg_group_state.specs.JoinTerms.{is_session_refused};
+ghost use Rattle.cg_group_table.specs.SessionIndex.{AreKnown, StayParked};
 ghost use Rattle.cg_request.specs.declared.request_fields.JoinRequest.{JoinRequest};
 
-use crate::named_group::named;
-use crate::parked_call::park_in;
+use crate::parked_call::parking_effects;
 use crate::single_reply::hear_in;
-use cg_group_rules::{
-    RequestContext, current_joiner, is_entering, joined_reply, new_member, parking_joiner,
-};
-use cg_group_state::{Calls, CheckedJoin, Effects, Group, Reply, Waits, drawn};
-use cg_group_table::{Altering, GroupTable, SessionIndex};
+use cg_group_rules::{RequestContext, join_placed, new_member, update_member_and_rebalance};
+use cg_group_state::{CheckedJoin, Effects, Group, Reply, Waits};
+use cg_group_table::{GroupChange, GroupTable};
 use cg_names::{GroupId, MemberId, Moment};
 use cg_record::Assignment;
 use cg_request::Ticket;
-use std::alloc::{AllocError, Global};
-use uuid::Uuid;
+use std::alloc::AllocError;
 
-/// The change of a group by the JOIN of a new member that is only parked: the member is appended.
+/// A JOIN of a new member that is only parked, as a change of its group: the member is appended under this id.
 #[derive(Drop)]
-struct EnteringJoin {
-    alloc: Global,
-    now: Moment,
-    id: MemberId,
-    request: CheckedJoin,
-    ticket: Ticket,
+pub struct EnteringJoin {
+    pub context: RequestContext,
+    pub id: MemberId,
+    pub request: CheckedJoin,
 }
 
-impl Altering for EnteringJoin {
+impl GroupChange for EnteringJoin {
+    ghost use Rattle.std.specs.Prelude.{◌≡◌};
+    ghost use Rattle.cg_group_table.specs.GroupChanges.{StepsTo};
+    ghost use Rattle.cg_group_rules.specs.Rebalance.{turn_of};
     ghost use Rattle.cg_group_rules.specs.ParkedJoin.{HasPlace, entered};
 
-    ghost Suits = { λ p g. HasPlace p.id p.request.instance g.members };
+    type Output = Result<Effects, AllocError>;
 
-    ghost alters = { λ p g. entered p.now p.request p.id p.ticket g };
+    ghost Suits = { λ j g. HasPlace j.id j.request.instance g.members };
+
+    ghost Becomes = { λ j g. StepsTo (λ t. t ≡ turn_of (entered j.context.now j.request j.id j.context.ticket g)) g };
 
     #[tactic(auto, unfolding(cg_group_rules::specs::Join::new_member))]
-    fn alter(self, group: &mut Group) -> Result<(), AllocError> {
+    fn change(self, group: &mut Group) -> Result<Effects, AllocError> {
         let EnteringJoin {
-            alloc,
-            now,
+            context,
             id,
             request,
-            ticket,
         } = self;
+        let RequestContext { alloc, now, ticket } = context;
         let (member, _kind) = new_member(
             now,
             request,
@@ -55,81 +52,39 @@ impl Altering for EnteringJoin {
             Assignment::empty(alloc),
             Waits::Join(ticket),
         );
-        group.members.push(member)
+        group.members.push(member)?;
+        Ok(Effects::new(alloc))
     }
 }
 
-/// Returns the id of the group of a JOIN by a new member that is only parked, or `None` for any other JOIN. No allocation.
-pub fn entering<'a>(r: &'a CheckedJoin, fresh: Uuid, groups: &GroupTable) -> Option<&'a GroupId>
-    requires lawful { is_session_refused r.now ≡ false }
-    ensures { MatchOption result ⊤ (λ own. IsEntering r.now fresh groups.now own.now) }
-{
-    if r.request.member.is_some() {
-        return None;
-    }
-    let Ok((own, group)) = named(groups, &r.request.group) else {
-        return None;
-    };
-    if is_entering(&r.request, fresh, group) {
-        Some(own)
-    } else {
-        None
-    }
+/// Any other JOIN of a new member, as a change of its group.
+#[derive(Drop)]
+pub struct NewMemberJoin {
+    pub context: RequestContext,
+    pub id: MemberId,
+    pub request: CheckedJoin,
 }
 
-/// Processes a JOIN by a new member that is only parked, in the group with this id.
-pub fn enter_in(
-    context: RequestContext,
-    held: &mut GroupTable,
-    homes: &mut SessionIndex,
-    own: &GroupId,
-    r: CheckedJoin,
-    fresh: Uuid,
-) -> Result<Effects, AllocError>
-    requires known { AreKnown (is_home homes.old) held.old }
-    requires tight { IsTight homes.old held.old }
-    requires entering { IsEntering r fresh held.old own.now }
-    ensures known { AreKnown (is_home homes.new) held.new }
-    ensures tight { IsTight homes.new held.new }
-    ensures ok { IfOk result
-        (λ e. concluded (at_moment context.now held.old) context.ticket (join context.now r fresh context.ticket held.old) ≡ outcome (at_moment context.now held.new) e) }
-    ensures err { OnErr result (held.new ≡ held.old) }
-    ensures taken { is_ok (join context.now r fresh context.ticket held.old) ≡ true }
-{
-    let id = drawn(context.alloc, &r.request, fresh)?;
-    let altering = EnteringJoin {
-        alloc: context.alloc,
-        now: context.now,
-        id,
-        request: r,
-        ticket: context.ticket,
-    };
-    let effects = park_in(held, homes, context.ticket, own, altering, None)?;
-    Ok(effects)
-}
+impl GroupChange for NewMemberJoin {
+    ghost use Rattle.std.specs.Prelude.{◌≡◌};
+    ghost use Rattle.cg_group_table.specs.GroupChanges.{StepsTo};
+    ghost use Rattle.cg_group_state.specs.Membership.{find_instance};
+    ghost use Rattle.cg_group_rules.specs.JoinChecks.{join_placed};
+    ghost use Rattle.cg_group_rules.specs.JoinWays.{HasRoom};
 
-/// Returns the group, the member and the reply of a JOIN that changes nothing, or `None` for any other JOIN. Copies what
-/// the reply has.
-pub fn rejoining<'a>(
-    r: &'a CheckedJoin,
-    groups: &GroupTable,
-) -> Result<Option<(&'a GroupId, &'a MemberId, Reply)>, AllocError>
-    requires lawful { is_session_refused r.now ≡ false }
-    ensures ok { IfOk result (λ o. MatchOption o ⊤ (λ p. IsJoinIn r.now groups.now p.0.now p.1.now p.2)) }
-    ensures taken { OnErr result ((now : ℕ) (fresh : List ℕ) (ticket : Ticket) → is_ok (join now r.now fresh ticket groups.now) ≡ true) }
-{
-    if r.request.member.is_none() {
-        return Ok(None);
-    }
-    let Ok((own, group)) = named(groups, &r.request.group) else {
-        return Ok(None);
-    };
-    match current_joiner(&r.request, group) {
-        None => Ok(None),
-        Some((id, member)) => {
-            let reply = joined_reply(groups.allocator(), group, member)?;
-            Ok(Some((own, id, reply)))
-        }
+    type Output = Result<Effects, AllocError>;
+
+    ghost Suits = { λ j g. HasRoom j.id j.request.instance g };
+
+    ghost Becomes = { λ j g. StepsTo (λ t. t ≡ join_placed j.context.now j.request j.id j.context.ticket g (find_instance j.request.instance g.members)) g };
+
+    fn change(self, group: &mut Group) -> Result<Effects, AllocError> {
+        let NewMemberJoin {
+            context,
+            id,
+            request,
+        } = self;
+        join_placed(context, request, id, group)
     }
 }
 
@@ -142,62 +97,75 @@ pub fn rejoin_in(
     id: &MemberId,
     reply: Reply,
 ) -> Effects
-    ensures met { (r : JoinRequest) (fresh : List ℕ) → IsJoinIn r held.old own.now id.now reply
+    ensures met { (r : JoinRequest) (fresh : List ℕ) → IsCurrentJoin r held.old own.now id.now reply
         → concluded (at_moment now held.old) ticket (join now r fresh ticket held.old) ≡ outcome (at_moment now held.new) result }
-    ensures known { (r : JoinRequest) (homes : ℕ → List ℕ → Bool) → IsJoinIn r held.old own.now id.now reply → AreKnown homes held.old → AreKnown homes held.new }
-    ensures parked { (r : JoinRequest) → IsJoinIn r held.old own.now id.now reply → StayParked held.old held.new }
+    ensures known { (r : JoinRequest) (homes : ℕ → List ℕ → Bool) → IsCurrentJoin r held.old own.now id.now reply → AreKnown homes held.old → AreKnown homes held.new }
+    ensures parked { (r : JoinRequest) → IsCurrentJoin r held.old own.now id.now reply → StayParked held.old held.new }
 {
     hear_in(now, held, own, id, ticket, reply)
 }
 
-/// The change of a group by a JOIN that is only parked: its member is updated, and the call parked.
+/// A JOIN that is only parked, as a change of its group: its member is updated, and the call parked in place of this older one.
 #[derive(Drop)]
 pub struct ParkedJoin {
-    pub now: Moment,
+    pub context: RequestContext,
     pub id: MemberId,
     pub request: CheckedJoin,
-    pub ticket: Ticket,
+    pub older: Option<Ticket>,
 }
 
-impl Altering for ParkedJoin {
-    ghost use Rattle.std.specs.Prelude.{⊤};
+impl GroupChange for ParkedJoin {
+    ghost use Rattle.std.specs.Prelude.{◌≡◌};
+    ghost use Rattle.cg_group.specs.InPlace.{IsCallOf};
+    ghost use Rattle.cg_group_table.specs.GroupChanges.{StepsTo};
     ghost use Rattle.cg_group_rules.specs.Join.{updating, waiting};
     ghost use Rattle.cg_group_rules.specs.Rebalance.{turn_of};
     ghost use Rattle.cg_group_state.specs.declared.member.Waits.TheVariants.{Join};
 
-    ghost Suits = { λ p g. ⊤ };
+    type Output = Result<Effects, AllocError>;
 
-    ghost alters = { λ p g. (waiting p.now p.id (Join p.ticket) (turn_of (updating p.request p.id g))).group };
+    ghost Suits = { λ p g. IsCallOf p.older p.id g };
 
-    #[tactic(auto, unfolding(cg_group_rules::specs::Join::waiting, cg_group_rules::specs::Join::updating))]
-    fn alter(self, group: &mut Group) -> Result<(), AllocError> {
+    ghost Becomes = { λ p g. StepsTo (λ t. t ≡ waiting p.context.now p.id (Join p.context.ticket) (turn_of (updating p.request p.id g))) g };
+
+    #[tactic(auto, unfolding(cg_group_rules::specs::Join::updating))]
+    fn change(self, group: &mut Group) -> Result<Effects, AllocError> {
         let ParkedJoin {
-            now,
+            context,
             id,
             request,
-            ticket,
+            older,
         } = self;
+        let RequestContext { alloc, now, ticket } = context;
         let _before = group.members.exchange_terms(&id, request);
         group.members.wait(&id, Waits::Join(ticket), now);
-        Ok(())
+        Ok(parking_effects(alloc, older))
     }
 }
 
-/// Returns the ids of the group and the member of a JOIN that is only parked, and the member's older parked call, if any.
-/// Returns `None` for any other JOIN. No allocation.
-pub fn parking_join<'a>(
-    r: &'a CheckedJoin,
-    groups: &GroupTable,
-) -> Option<(&'a GroupId, &'a MemberId, Option<Ticket>)>
-    requires lawful { is_session_refused r.now ≡ false }
-    ensures { MatchOption result ⊤ (λ p. IsJoinParked r.now groups.now p.0.now p.1.now p.2) }
-{
-    if r.request.member.is_none() {
-        return None;
+/// A JOIN of a member that joins a rebalance, as a change of its group.
+#[derive(Drop)]
+pub struct RebalanceJoin {
+    pub context: RequestContext,
+    pub id: MemberId,
+    pub request: CheckedJoin,
+}
+
+impl GroupChange for RebalanceJoin {
+    ghost use Rattle.std.specs.Prelude.{◌≡◌};
+    ghost use Rattle.cg_group_table.specs.GroupChanges.{StepsTo};
+    ghost use Rattle.cg_group_rules.specs.Join.{update_member_and_rebalance};
+
+    type Output = Result<Effects, AllocError>;
+
+    ghost Becomes = { λ j g. StepsTo (λ t. t ≡ update_member_and_rebalance j.context.now j.request j.id j.context.ticket g) g };
+
+    fn change(self, group: &mut Group) -> Result<Effects, AllocError> {
+        let RebalanceJoin {
+            context,
+            id,
+            request,
+        } = self;
+        update_member_and_rebalance(context, request, &id, group)
     }
-    let Ok((own, group)) = named(groups, &r.request.group) else {
-        return None;
-    };
-    let (id, member) = parking_joiner(&r.request, group)?;
-    Some((own, id, Calls::Any.called(member.waits)))
 }

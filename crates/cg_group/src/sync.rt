@@ -8,12 +8,12 @@ ghost use Rattle.cg_group_table.specs.SessionIndex.{AreKnown, IsTight, StayParke
 ghost use Rattle.cg_group_rules.specs.declared.sync.SyncCase.TheVariants.{Current};
 
 use crate::named_group::named;
-use crate::parked_call::park_in;
+use crate::parked_call::{park_in, parking_effects};
 use crate::rebalance_step::step_parking;
 use crate::single_reply::{hear_in, reply_alone};
 use cg_group_rules::{RequestContext, SyncCase, case_of, distribute_in, syncer};
 use cg_group_state::{Effects, Group, Reply, Waits};
-use cg_group_table::{Altering, GroupTable, SessionIndex, Stepping};
+use cg_group_table::{GroupChange, GroupTable, SessionIndex};
 use cg_names::{Code, GroupId, MemberId, Moment};
 use cg_record::Assignment;
 use cg_request::{SyncEntries, SyncRequest, Ticket};
@@ -60,36 +60,40 @@ fn sync_in(
     hear_in(now, held, own, id, ticket, Reply::Synced(assignment))
 }
 
-/// The change of a group by a SYNC that is only parked: its member is heard, and the call parked.
+/// A SYNC that is only parked, as a change of its group: its member is heard, and the call parked in place of this older one.
 #[derive(Drop)]
 struct ParkedSync<'a> {
-    now: Moment,
+    context: RequestContext,
     id: &'a MemberId,
-    ticket: Ticket,
+    older: Option<Ticket>,
 }
 
-impl<'a> Altering for ParkedSync<'a> {
-    ghost use Rattle.std.specs.Prelude.{⊤};
+impl<'a> GroupChange for ParkedSync<'a> {
+    ghost use Rattle.std.specs.Prelude.{◌≡◌};
+    ghost use Rattle.cg_group.specs.InPlace.{IsCallOf};
+    ghost use Rattle.cg_group_table.specs.GroupChanges.{StepsTo};
     ghost use Rattle.cg_group_rules.specs.Join.{waiting};
     ghost use Rattle.cg_group_state.specs.Membership.{hearing};
     ghost use Rattle.cg_group_rules.specs.Rebalance.{turn_of};
     ghost use Rattle.cg_group_state.specs.declared.member.Waits.TheVariants.{Sync};
 
-    ghost Suits = { λ p g. ⊤ };
+    type Output = Result<Effects, AllocError>;
 
-    ghost alters = { λ p g. (waiting p.now p.id.now (Sync p.ticket) (turn_of (hearing p.now p.id.now g))).group };
+    ghost Suits = { λ p g. IsCallOf p.older p.id.now g };
 
-    #[tactic(auto, unfolding(cg_group_rules::specs::Join::waiting, cg_group_state::specs::Membership::hearing))]
-    fn alter(self, group: &mut Group) -> Result<(), AllocError> {
-        group.members.hear(self.id, self.now);
-        group
-            .members
-            .wait(self.id, Waits::Sync(self.ticket), self.now);
-        Ok(())
+    ghost Becomes = { λ p g. StepsTo (λ t. t ≡ waiting p.context.now p.id.now (Sync p.context.ticket) (turn_of (hearing p.context.now p.id.now g))) g };
+
+    #[tactic(auto, unfolding(cg_group_state::specs::Membership::hearing))]
+    fn change(self, group: &mut Group) -> Result<Effects, AllocError> {
+        let ParkedSync { context, id, older } = self;
+        let RequestContext { alloc, now, ticket } = context;
+        let _before = group.members.hear(id, now);
+        group.members.wait(id, Waits::Sync(ticket), now);
+        Ok(parking_effects(alloc, older))
     }
 }
 
-/// The step of a leader's SYNC, which hands these assignments in.
+/// A leader's SYNC, which hands these assignments in, as a change of its group.
 #[derive(Drop)]
 struct Distribution {
     context: RequestContext,
@@ -97,14 +101,18 @@ struct Distribution {
     entries: SyncEntries,
 }
 
-impl Stepping for Distribution {
+impl GroupChange for Distribution {
+    ghost use Rattle.std.specs.Prelude.{◌≡◌};
+    ghost use Rattle.cg_group_table.specs.GroupChanges.{StepsTo};
     ghost use Rattle.cg_group_rules.specs.SyncSteps.{IsLeader, distributing};
+
+    type Output = Result<Effects, AllocError>;
 
     ghost Suits = { λ d g. IsLeader d.id g };
 
-    ghost steps = { λ d g. distributing d.context.now d.id d.context.ticket d.entries g };
+    ghost Becomes = { λ d g. StepsTo (λ t. t ≡ distributing d.context.now d.id d.context.ticket d.entries g) g };
 
-    fn step(self, group: &mut Group) -> Result<Effects, AllocError> {
+    fn change(self, group: &mut Group) -> Result<Effects, AllocError> {
         let Distribution {
             context,
             id,
@@ -137,22 +145,23 @@ pub fn handle_sync(
         Ok(taken) => taken,
         Err(code) => return Ok(reply_alone(alloc, ticket, Reply::Refused(code))),
     };
+    let context = RequestContext { alloc, now, ticket };
     match which {
         SyncCase::Current(assignment) => Ok(sync_in(now, held, ticket, own, id, assignment)),
         SyncCase::Parked(older) => {
-            let altering = ParkedSync { now, id, ticket };
-            let effects = park_in(held, homes, ticket, own, altering, older)?;
+            let change = ParkedSync { context, id, older };
+            let effects = park_in(held, homes, ticket, own, change, older)?;
             Ok(effects)
         }
         SyncCase::Leading => {
             let group = own.clone()?;
             let leader = id.clone()?;
-            let stepping = Distribution {
-                context: RequestContext { alloc, now, ticket },
+            let change = Distribution {
+                context,
                 id: leader,
                 entries: r.entries,
             };
-            let effects = step_parking(held, homes, ticket, &group, stepping)?;
+            let effects = step_parking(held, homes, ticket, &group, change)?;
             Ok(effects)
         }
     }

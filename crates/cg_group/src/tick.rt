@@ -16,7 +16,7 @@ use cg_fold::Offsets;
 use cg_group_rules::{TickPlan, carry_out_tick};
 use cg_group_state::{Effects, Group};
 use cg_group_table::{
-    Changing, Clock, Due, GroupTable, RETENTION_MS, SessionIndex, Sweep, expires, fresh_until,
+    Clock, Due, GroupChange, GroupTable, RETENTION_MS, SessionIndex, Sweep, expires, fresh_until,
     plan_due, plan_sweep, settle,
 };
 use cg_names::{GroupId, Moment};
@@ -30,10 +30,13 @@ struct TickChange {
     plan: TickPlan,
 }
 
-impl Changing for TickChange {
+impl GroupChange for TickChange {
+    ghost use Rattle.std.specs.Prelude.{◌≡◌};
     ghost use Rattle.cg_group_rules.specs.TickPlan.{carried};
 
-    ghost changes = { λ t g. carried t.now t.plan g };
+    type Output = ();
+
+    ghost Becomes = { λ t g after _. after ≡ carried t.now t.plan g };
 
     fn change(self, group: &mut Group) {
         let TickChange { now, plan } = self;
@@ -53,7 +56,7 @@ fn carry_out_due(held: &mut GroupTable, homes: &mut SessionIndex, now: Moment, d
     ensures in_order { InOrder held.old }
 {
     let Due { id, plan, calls } = due;
-    held.change(&id, TickChange { now, plan });
+    let _changed = held.change(&id, TickChange { now, plan });
     settle(homes, held, &id, calls.as_slice());
 }
 

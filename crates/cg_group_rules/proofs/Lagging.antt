@@ -5,7 +5,8 @@ use Rattle.std.specs.List.{list_all, list_any}
 use Rattle.std.proofs.lemmas.Bool.{false≢true, or_left, or_right}
 use Rattle.cg_group_state.specs.declared.calls.Calls.TheVariants.{Joins}
 use Rattle.cg_group_state.specs.declared.group.Group.{Group}
-use Rattle.cg_group_state.specs.declared.group.Phase.TheVariants.{Preparing}
+use Rattle.cg_group_state.specs.declared.group.Phase.{Phase}
+use Rattle.cg_group_state.specs.declared.group.Phase.TheVariants.{Empty, Preparing, Completing, Stable}
 use Rattle.cg_group_state.specs.declared.member.Member.{Member}
 use Rattle.cg_group_state.specs.declared.member.Waits.TheVariants.{Join}
 use Rattle.cg_group_state.specs.declared.turn.Turn.{Turn}
@@ -49,6 +50,12 @@ pub lags-not_all : (id : List ℕ) (ms : List Member) → list_any (lags id) ms 
 lags-not_all id [] h = absurd (false≢true h)
 lags-not_all id (m ∷ ms) h = not_all_by (has_id id m) (is_waiting Joins m) (list_any (lags id) ms) (list_all (is_waiting Joins) ms) h (lags-not_all id ms)
 
+pub preparing_is : (p : Phase) → is_preparing p ≡ true → p ≡ Preparing
+preparing_is Preparing e = refl
+preparing_is Empty e = absurd (false≢true e)
+preparing_is Completing e = absurd (false≢true e)
+preparing_is Stable e = absurd (false≢true e)
+
 pub join_parked : (now : ℕ) (r : JoinRequest) (id : List ℕ) (ticket : Ticket) (m : Member) (g : Group) → g.phase ≡ Preparing → list_any (lags id) g.members ≡ true
     → join_known now r id ticket m g ≡ waiting now id (Join ticket) (turn_of (updating r id g))
 unfolding join_known update_member_and_rebalance rejoined try_complete_join is_ready waiting updating is_current
@@ -61,3 +68,12 @@ join_parked now r id ticket m g e h =
     ∙ ap (λ p. try_complete_join now (waiting now id (Join ticket) (if is_preparing p then turn_of (updating r id g) else prepare_rebalance now (turn_of (updating r id g))))) e
     ∙ ap (λ b. if is_preparing g.phase && b then complete_join now t else t) behind
     ∙ ap (λ p. if is_preparing p && false then complete_join now t else t) e
+
+-- the JOIN of a known member changes nothing, or joins a rebalance
+pub known_current : (now : ℕ) (r : JoinRequest) (id : List ℕ) (ticket : Ticket) (m : Member) (g : Group) → is_current r m g g.phase ≡ true → join_known now r id ticket m g ≡ join_current now id ticket m g
+unfolding join_known
+known_current now r id ticket m g e = ap (λ b. if b then join_current now id ticket m g else update_member_and_rebalance now r id ticket g) e
+
+pub known_again : (now : ℕ) (r : JoinRequest) (id : List ℕ) (ticket : Ticket) (m : Member) (g : Group) → is_current r m g g.phase ≡ false → join_known now r id ticket m g ≡ update_member_and_rebalance now r id ticket g
+unfolding join_known
+known_again now r id ticket m g e = ap (λ b. if b then join_current now id ticket m g else update_member_and_rebalance now r id ticket g) e

@@ -1,3 +1,4 @@
+pub mod Committers
 pub mod Leavers
 pub mod Entering
 pub mod Leading

@@ -1,5 +1,6 @@
 -- A BEAT with an id that no member has.
-use Rattle.std.proofs.Common.{◌≡◌, ℕ, false, not, List, is_some, option_map, Ok, ok_or, ap, ◌∙◌}
+use Rattle.std.proofs.Common.{◌≡◌, ℕ, false, not, List, is_some, option_map, Option, Some, None, Ok, ok_or, refl, sym, ap, ◌∙◌}
+use Rattle.std.proofs.lemmas.Bool.{false≢true}
 use Rattle.std.specs.Ordering.{int_eq}
 use Rattle.std.specs.Prelude.{pos}
 use Rattle.cg_names.specs.declared.code.Code.TheVariants.{IllegalGeneration, UnknownMemberId}
@@ -12,6 +13,10 @@ use Rattle.cg_group_state.proofs.Recalling.{with_member_none}
 use Rattle.cg_request.specs.declared.request_fields.BeatRequest.{BeatRequest}
 use Rattle.cg_group_rules.specs.Heartbeat.{IsBeatRefused, beat_held, beat_taken}
 use Rattle.cg_group_rules.proofs.Entering.{is_none}
+
+pub is_some-map : {X Y : Type 0} (f : X → Y) (o : Option X) (r : Option Y) → r ≡ option_map f o → is_some r ≡ false → is_some o ≡ false
+is_some-map f None r e h = refl
+is_some-map f (Some x) r e h = absurd (false≢true (sym h ∙ ap is_some e))
 
 module _ (r : BeatRequest) (g : Group) (id : List ℕ) (missing : is_some (find_member id g.members) ≡ false) where
   -- the BEAT is refused

@@ -3,6 +3,7 @@ pub mod Heartbeat
 pub mod OffsetCommit
 pub mod SyncSteps
 pub mod ParkedJoin
+pub mod JoinWays
 pub mod LeaveSteps
 pub mod RebalancePlan
 pub mod TickDeadline

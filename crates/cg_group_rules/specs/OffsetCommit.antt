@@ -1,5 +1,5 @@
 -- COMMIT (protocol guide, "OffsetCommit").
-use Rattle.std.specs.Prelude.{ℕ, ℤ, pos, int_lt, Bool, true, false, not, nat_le, List, [], ◌∷◌, map, Option, Some, None, Result, Ok, if◌then◌else◌}
+use Rattle.std.specs.Prelude.{◌≡◌, ℕ, ℤ, pos, int_lt, Bool, true, false, not, nat_le, List, [], ◌∷◌, map, Option, Some, None, Result, Ok, Err, if◌then◌else◌}
 use Rattle.std.specs.Ordering.{int_eq}
 use Rattle.cg_names.specs.declared.code.Code.{Code}
 use Rattle.cg_names.specs.declared.code.Code.TheVariants.{CoordinatorNotAvailable, IllegalGeneration, OffsetMetadataTooLarge, RebalanceInProgress, UnknownMemberId}
@@ -7,6 +7,7 @@ use Rattle.cg_record.specs.declared.committed.Committed.{Committed}
 use Rattle.cg_record.specs.declared.entry.Entry.{Entry}
 use Rattle.cg_record.specs.declared.command.Command.TheVariants as command
 use Rattle.cg_request.specs.declared.commit_entry.CommitEntry.{CommitEntry}
+use Rattle.cg_request.specs.declared.request_fields.CommitRequest.{CommitRequest}
 use Rattle.cg_group_rules.specs.declared.group_limit.TheConstants.{GROUPS_MAX}
 use Rattle.cg_group_state.specs.declared.effects.Effects.{Effects}
 use Rattle.cg_group_state.specs.declared.group.Group.{Group}
@@ -82,6 +83,35 @@ unfoldable pub commit_held : ℕ → ℤ → Option (List ℕ) → Option (List 
 commit_held now generation instance member entries ticket g = do
   who ← committer generation instance member g
   commit_by now who entries ticket g
+
+-- the COMMIT is refused in this group
+abbrev pub IsCommitRefused : CommitRequest → Group → Code → Type 0
+IsCommitRefused r g code = (now : ℕ) (ticket : Ticket) → commit_held now r.generation r.instance r.member r.entries ticket g ≡ Err code
+
+-- the group in which this member, if there is one, was last heard at this moment
+abbrev pub heard_at : Option (List ℕ) → Option ℕ → Group → Group
+heard_at None moment g = g
+heard_at (Some id) None g = g
+heard_at (Some id) (Some moment) g = hearing moment id g
+
+-- the COMMIT passes its checks in this group, in which the committing member is heard; `before` is the moment at which it was
+-- last heard
+pub record IsCommit (now : ℕ) (r : CommitRequest) (g after : Group) (before : Option ℕ) : Type 0 where
+  pub who : Option (List ℕ)
+  pub heard : after ≡ hearing_committer now who g
+  pub taken : (ticket : Ticket) → commit_held now r.generation r.instance r.member r.entries ticket g ≡ Ok (committed now r.entries ticket after)
+  pub small : is_too_large r.entries ≡ false
+  pub back : heard_at r.member before after ≡ g
+
+-- the error code of a COMMIT of a member, of those that come after the member check
+abbrev pub late_refusal : CommitRequest → Group → Option Code
+late_refusal r g =
+    if not (int_eq r.generation (pos g.generation)) then Some IllegalGeneration
+    else (if is_completing g.phase then Some RebalanceInProgress else (if is_too_large r.entries then Some OffsetMetadataTooLarge else None))
+
+-- the error code of a COMMIT to a group without members
+abbrev pub simple_refusal : CommitRequest → Option Code
+simple_refusal r = if not (is_negative r.generation) then Some UnknownMemberId else (if is_too_large r.entries then Some OffsetMetadataTooLarge else None)
 
 -- COMMIT in a group that is not loaded: the group is created, without members
 unfoldable pub commit_unheld : ℕ → ℤ → List CommitEntry → Ticket → ℕ → List ℕ → Result Turn Code

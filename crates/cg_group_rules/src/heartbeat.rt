@@ -38,7 +38,7 @@ pub fn beat_in<'a>(
             Code::UnknownMemberId
         });
     }
-    if !group.members.hear(id, now) {
+    if group.members.hear(id, now).is_none() {
         return Err(Code::UnknownMemberId);
     }
     Ok((id, beat_reply(group)))

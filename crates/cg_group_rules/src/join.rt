@@ -1,22 +1,21 @@
 //! JOIN (JoinGroup request): its checks, in the order of the refusals.
-ghost use Rattle.std.specs.Prelude.{◌≡◌, ◌<◌, ℕ, List, Ok, Err, None, Some, true, false, is_ok, is_some, IfOk, IfSome, OnErr, MatchOption, MatchResult, ⊤};
+ghost use Rattle.std.specs.Prelude.{◌≡◌, ◌<◌, ℕ, List, Ok, Err, None, Some, true, false, is_ok, is_some, IfOk, OnErr, MatchOption};
 ghost use Rattle.std.specs.Option.{option_copied};
 ghost use Rattle.std.specs.List.{list_any};
 ghost use Rattle.cg_record.specs.declared.roster.TheConstants.{MEMBERS_MAX};
 ghost use Rattle.cg_group_state.specs.Membership.{is_named, find_member, find_instance};
 ghost use Rattle.cg_group_state.specs.Vote.{is_common};
 ghost use Rattle.cg_group_state.specs.MemberId.{drawn, own_name};
-ghost use Rattle.cg_group_rules.specs.Join.{is_inconsistent, join_current, join_known};
+ghost use Rattle.cg_group_rules.specs.Join.{is_inconsistent};
 ghost use Rattle.cg_group_rules.specs.Rebalance.{turned};
 ghost use Rattle.cg_group_rules.specs.JoinChecks.{is_full, join_placed, join_held, join_unheld};
 
 use crate::group_limit::GROUPS_MAX;
-use crate::member_join::{add_member_and_rebalance, is_current, join_known, new_group};
+use crate::member_join::{add_member_and_rebalance, new_group};
 use crate::request_context::RequestContext;
 use crate::static_member::replace_static_member;
 use cg_group_state::{
-    CheckedJoin, Effects, Group, Member, Members, Turn, checked_member, drawn, is_common,
-    is_drawn_held,
+    CheckedJoin, Effects, Group, Member, Members, Turn, drawn, is_common, is_drawn_held,
 };
 use cg_names::{Code, GroupId, MemberId, ProtocolName};
 use cg_record::MEMBERS_MAX;
@@ -43,7 +42,7 @@ fn shares_protocol(r: &JoinRequest, members: &[Member]) -> bool
 }
 
 #[tactic(auto, unfolding(crate::specs::Join::is_inconsistent))]
-fn is_inconsistent(r: &JoinRequest, group: &Group) -> bool
+pub(crate) fn is_inconsistent(r: &JoinRequest, group: &Group) -> bool
     ensures { result ≡ is_inconsistent r.now group.now }
 {
     group.members.len() != 0
@@ -60,8 +59,10 @@ fn is_full(old: Option<&Member>, members: &Members) -> bool
     }
 }
 
+/// Processes a JOIN of a new member, in place: it joins, or replaces the member with its instance. If an allocation fails, the
+/// group is as it was.
 #[tactic(auto, using(cg_group_state::proofs::Seats::instance_given))]
-fn join_placed(
+pub fn join_placed(
     context: RequestContext,
     r: CheckedJoin,
     id: MemberId,
@@ -99,110 +100,6 @@ pub fn stranger_refusal(r: &JoinRequest, fresh: Uuid, group: &Group) -> Option<C
         return Some(Code::CoordinatorNotAvailable);
     }
     None
-}
-
-fn join_stranger(
-    context: RequestContext,
-    r: CheckedJoin,
-    fresh: Uuid,
-    group: &mut Group,
-) -> Result<Effects, AllocError>
-    requires { is_ok (join_held context.now r fresh context.ticket None group.old) ≡ true }
-    ensures ok { IfOk result (λ e. join_held context.now r fresh context.ticket None group.old ≡ Ok (turned group.new e)) }
-    ensures err { OnErr result (group.new ≡ group.old) }
-{
-    if stranger_refusal(&r.request, fresh, group).is_some() {
-        unreachable!()
-    }
-    let id = drawn(context.alloc, &r.request, fresh)?;
-    join_placed(context, r, id, group)
-}
-
-// Returns the member that joins again, with the id that it gives.
-#[tactic(auto, unfolding(crate::specs::JoinChecks::join_held))]
-fn known_joiner<'a, 'b>(
-    r: &'a JoinRequest,
-    group: &'b Group,
-) -> Result<(&'a MemberId, &'b Member), Code>
-    ensures check { MatchResult result
-        (λ who. (now : ℕ) (fresh : List ℕ) (ticket : Ticket) (id : List ℕ) → r.now.member ≡ Some id → join_held now r.now fresh ticket (Some id) group.now ≡ Ok (join_known now r.now who.0.now ticket who.1.now group.now))
-        (λ code. (now : ℕ) (fresh : List ℕ) (ticket : Ticket) (id : List ℕ) → r.now.member ≡ Some id → join_held now r.now fresh ticket (Some id) group.now ≡ Err code) }
-    ensures found { IfOk result (λ who. find_member who.0.now group.now.members ≡ Some who.1.now) }
-{
-    let who = checked_member(&r.instance, &r.member, &group.members)?;
-    if is_inconsistent(r, group) {
-        return Err(Code::InconsistentGroupProtocol);
-    }
-    Ok(who)
-}
-
-/// Returns the known member whose JOIN passes its checks, with the id that the JOIN gives; `None` for any other JOIN. No
-/// allocation.
-pub fn rejoiner<'a, 'b>(r: &'a JoinRequest, group: &'b Group) -> Option<(&'a MemberId, &'b Member)>
-    ensures known { MatchOption result ⊤
-        (λ who. (now : ℕ) (fresh : List ℕ) (ticket : Ticket) → join_held now r.now fresh ticket r.now.member group.now ≡ Ok (join_known now r.now who.0.now ticket who.1.now group.now)) }
-    ensures found { IfSome result (λ who. find_member who.0.now group.now.members ≡ Some who.1.now) }
-{
-    let Some(_) = &r.member else {
-        return None;
-    };
-    match known_joiner(r, group) {
-        Ok(who) => Some(who),
-        Err(_) => None,
-    }
-}
-
-/// Returns the member whose JOIN changes nothing and gets its reply at once, with the id that the JOIN gives. No allocation.
-#[tactic(auto, unfolding(crate::specs::Join::join_known))]
-pub fn current_joiner<'a, 'b>(
-    r: &'a JoinRequest,
-    group: &'b Group,
-) -> Option<(&'a MemberId, &'b Member)>
-    ensures { MatchOption result ⊤
-        (λ who. (now : ℕ) (fresh : List ℕ) (ticket : Ticket) → join_held now r.now fresh ticket r.now.member group.now ≡ Ok (join_current now who.0.now ticket who.1.now group.now)) }
-{
-    let Some((id, member)) = rejoiner(r, group) else {
-        return None;
-    };
-    if is_current(r, member, group) {
-        Some((id, member))
-    } else {
-        None
-    }
-}
-
-/// Returns the error code of a JOIN in a loaded group, if it is refused. No allocation.
-pub fn join_refusal(r: &JoinRequest, fresh: Uuid, group: &Group) -> Option<Code>
-    ensures { MatchOption result
-        ((now : ℕ) (ticket : Ticket) → is_ok (join_held now r.now fresh ticket r.now.member group.now) ≡ true)
-        (λ code. (now : ℕ) (ticket : Ticket) → join_held now r.now fresh ticket r.now.member group.now ≡ Err code) }
-{
-    match &r.member {
-        None => stranger_refusal(r, fresh, group),
-        Some(_) => known_joiner(r, group).err(),
-    }
-}
-
-/// Processes a JOIN in a loaded group that does not refuse it (`join_refusal`), in place. If an allocation fails, the group is
-/// as it was.
-pub fn join_in(
-    context: RequestContext,
-    r: CheckedJoin,
-    fresh: Uuid,
-    group: &mut Group,
-) -> Result<Effects, AllocError>
-    requires { is_ok (join_held context.now r fresh context.ticket r.member group.old) ≡ true }
-    ensures ok { IfOk result (λ e. join_held context.now r fresh context.ticket r.member group.old ≡ Ok (turned group.new e)) }
-    ensures err { OnErr result (group.new ≡ group.old) }
-{
-    if r.request.member.is_none() {
-        return join_stranger(context, r, fresh, group);
-    }
-    let Ok((id, _)) = known_joiner(&r.request, group) else {
-        unreachable!()
-    };
-    let id = id.clone()?;
-    join_known(context, r, &id, group)
 }
 
 /// Returns the error code of a JOIN in a group that is not loaded, if it is refused. No allocation.

@@ -9,7 +9,7 @@ ghost use Rattle.std.specs.List.{list_any};
 ghost use Rattle.cg_group_state.specs.declared.member.Member.{Member};
 ghost use Rattle.cg_request.specs.declared.ticket.Ticket.{Ticket};
 
-use crate::parked_join::waits_for_others;
+use crate::join_way::waits_for_others;
 use crate::rebalance::{Round, carry_out, is_preparing, leads, planned, refuse_syncs_of};
 use crate::request_context::RequestContext;
 use cg_group_state::{

@@ -1,17 +1,16 @@
 //! JOIN (JoinGroup request) after its checks: a new member, or a known member. The group is changed in place.
-ghost use Rattle.std.specs.Prelude.{◌≡◌, ◌<◌, ◌++◌, ℕ, [], Some, false, true, not, filter, is_some, length, IfOk, IfSome, OnErr, OnOk, if◌then◌else◌};
+ghost use Rattle.std.specs.Prelude.{◌≡◌, ◌<◌, ◌++◌, ℕ, [], Some, false, true, not, filter, is_some, length, IfOk, OnErr, OnOk, if◌then◌else◌};
 ghost use Rattle.cg_names.specs.declared.code.Code.TheVariants.{RebalanceInProgress};
 ghost use Rattle.cg_record.specs.declared.roster.TheConstants.{MEMBERS_MAX};
 ghost use Rattle.cg_group_state.specs.Membership.{find_member, find_instance, has_id, with_member};
-ghost use Rattle.cg_group_rules.specs.Join.{new_group, new_member, admitted, displaced, in_join_phase, add_member_and_rebalance, rejoined, update_member_and_rebalance, join_current, is_current, join_known};
+ghost use Rattle.cg_group_rules.specs.Join.{new_group, new_member, admitted, displaced, in_join_phase, add_member_and_rebalance, rejoined, update_member_and_rebalance, is_current};
 ghost use Rattle.cg_group_state.specs.Waiting.{waits_with, after_answers, answers, recalled, refusing};
-ghost use Rattle.cg_group_rules.specs.Rebalance.{joined_reply, try_complete_join, turn_of, turned};
+ghost use Rattle.cg_group_rules.specs.Rebalance.{try_complete_join, turn_of, turned};
 ghost use Rattle.cg_group_state.specs.declared.calls.Calls.TheVariants.{Syncs};
 ghost use Rattle.cg_group_state.specs.declared.member.Member.{Member};
 ghost use Rattle.cg_group_state.specs.declared.member.Waits.{Waits};
 ghost use Rattle.cg_group_rules.specs.ParkedJoin.{refused_call, with_header};
 
-use crate::join_reply::joined_reply;
 use crate::rebalance::{advance, is_preparing, leads, refuse_syncs};
 use crate::request_context::RequestContext;
 use cg_group_state::{
@@ -233,8 +232,9 @@ pub fn rejoin(
     }
 }
 
+/// Processes a JOIN of a known member that changes something, in place. If an allocation fails, the group is as it was.
 #[tactic(auto, unfolding(crate::specs::Join::update_member_and_rebalance, crate::specs::Join::updating))]
-fn update_member_and_rebalance(
+pub fn update_member_and_rebalance(
     context: RequestContext,
     r: CheckedJoin,
     id: &MemberId,
@@ -254,18 +254,6 @@ fn update_member_and_rebalance(
     }
 }
 
-// The machine answers such a JOIN before (`current_joiner`); the contract of `join_in` has every JOIN.
-#[tactic(auto, unfolding(crate::specs::Join::join_current, cg_group_state::specs::Membership::hearing))]
-fn join_current(context: RequestContext, id: &MemberId, reply: Reply, group: &mut Group) -> Effects
-    ensures { (m : Member) → reply ≡ joined_reply group.old m → turned group.new result ≡ join_current context.now id.now context.ticket m group.old }
-{
-    group.members.hear(id, context.now);
-    Effects {
-        commands: Few::new(context.alloc),
-        replies: Few::one(context.alloc, (context.ticket, reply)),
-    }
-}
-
 /// Returns whether a known member's JOIN changes nothing, so that it gets the current generation at once.
 #[tactic(auto, unfolding(crate::specs::Join::is_current))]
 pub fn is_current(r: &JoinRequest, member: &Member, group: &Group) -> bool
@@ -277,44 +265,5 @@ pub fn is_current(r: &JoinRequest, member: &Member, group: &Group) -> bool
         Phase::Stable => !leads(group, member)
             && member.protocols.as_slice() == r.protocols.as_slice(),
         Phase::Empty => true,
-    }
-}
-
-// Returns the reply to a JOIN of the member that changes nothing, or `None` if it changes something.
-fn current_reply(
-    alloc: Global,
-    r: &JoinRequest,
-    id: &MemberId,
-    group: &Group,
-) -> Result<Option<Reply>, AllocError>
-    requires { is_some (find_member id.now group.now.members) ≡ true }
-    ensures current { IfOk result (λ o. (m : Member) → find_member id.now group.now.members ≡ Some m → is_some o ≡ is_current r.now m group.now group.now.phase) }
-    ensures reply { IfOk result (λ o. IfSome o (λ reply. (m : Member) → find_member id.now group.now.members ≡ Some m → reply ≡ joined_reply group.now m)) }
-{
-    let Some(member) = group.members.find(id) else {
-        return Ok(None);
-    };
-    if !is_current(r, member, group) {
-        return Ok(None);
-    }
-    let reply = joined_reply(alloc, group, member)?;
-    Ok(Some(reply))
-}
-
-/// Processes a JOIN of a known member, in place. If an allocation fails, the group is as it was.
-#[tactic(auto, unfolding(crate::specs::Join::join_known))]
-pub fn join_known(
-    context: RequestContext,
-    r: CheckedJoin,
-    id: &MemberId,
-    group: &mut Group,
-) -> Result<Effects, AllocError>
-    requires { is_some (find_member id.now group.old.members) ≡ true }
-    ensures ok { IfOk result (λ e. (m : Member) → find_member id.now group.old.members ≡ Some m → turned group.new e ≡ join_known context.now r id.now context.ticket m group.old) }
-    ensures err { OnErr result (group.new ≡ group.old) }
-{
-    match current_reply(context.alloc, &r.request, id, group)? {
-        Some(reply) => Ok(join_current(context, id, reply, group)),
-        None => update_member_and_rebalance(context, r, id, group),
     }
 }

@@ -1,61 +1,96 @@
 //! COMMIT (OffsetCommit request): its checks and its command.
 ghost use Rattle.std.specs.Prelude.{◌≡◌, ℕ, List, Ok, Err, Some, false, MatchOption, MatchResult};
-ghost use Rattle.std.specs.Option.{option_copied};
-ghost use Rattle.cg_group_rules.specs.OffsetCommit.{commit_at, commit_effects, commit_of_member, commit_unheld, committed, committer};
+ghost use Rattle.cg_group_rules.specs.OffsetCommit.{IsCommit, IsCommitRefused, commit_at, commit_effects, commit_unheld, committed, is_completing, late_refusal, simple_refusal};
 ghost use Rattle.cg_request.specs.Commits.{is_too_large};
 ghost use Rattle.cg_group_rules.specs.Join.{new_group};
+ghost use Rattle.cg_group_state.specs.Membership.{is_empty};
 
 use crate::group_limit::GROUPS_MAX;
-use cg_group_state::{Effects, Few, Group, Phase, Reply, checked_member};
-use cg_names::{Code, GroupId, InstanceId, MemberId, Moment};
+use cg_group_state::{Effects, Few, Group, Phase, Reply, fenced_caller};
+use cg_names::{Code, GroupId, Moment};
 use cg_record::{Command, Committed, Entries};
-use cg_request::{Commits, Ticket, is_too_large};
+use cg_request::{CommitRequest, Commits, Ticket, is_too_large};
 use std::alloc::Global;
 
-#[tactic(auto, unfolding(crate::specs::OffsetCommit::commit_of_member))]
-fn committing_member<'a>(
-    generation: i32,
-    instance: &Option<InstanceId>,
-    member: &'a Option<MemberId>,
-    group: &Group,
-) -> Result<&'a MemberId, Code>
-    ensures { MatchResult result
-        (λ id. commit_of_member generation instance.now member.now group.now ≡ Ok (Some id.now))
-        (λ code. commit_of_member generation instance.now member.now group.now ≡ Err code) }
+fn is_completing(phase: Phase) -> bool
+    ensures { result ≡ is_completing phase }
 {
-    let (id, _) = checked_member(instance, member, &group.members)?;
-    if i64::from(generation) != i64::from(group.generation.get()) {
-        return Err(Code::IllegalGeneration);
-    }
-    match group.phase {
-        Phase::Completing => Err(Code::RebalanceInProgress),
-        _ => Ok(id),
-    }
+    matches!(phase, Phase::Completing)
 }
 
-/// Returns the id of the committing member, or `None` for a commit to a group without members. Linear in the members,
-/// no allocation.
-#[tactic(auto, unfolding(crate::specs::OffsetCommit::committer))]
-pub fn committer<'a>(
-    generation: i32,
-    instance: &Option<InstanceId>,
-    member: &'a Option<MemberId>,
-    group: &Group,
-) -> Result<Option<&'a MemberId>, Code>
-    ensures { MatchResult result
-        (λ who. committer generation instance.now member.now group.now ≡ Ok (option_copied who))
-        (λ code. committer generation instance.now member.now group.now ≡ Err code) }
+// Returns the error code of a COMMIT of a member, of those that come after the member check. No allocation.
+fn late_refusal(r: &CommitRequest, group: &Group) -> Option<Code>
+    ensures { result ≡ late_refusal r.now group.now }
 {
-    if group.members.len() == 0 {
-        if generation < 0 {
-            return Ok(None);
+    if i64::from(r.generation) != i64::from(group.generation.get()) {
+        return Some(Code::IllegalGeneration);
+    }
+    if is_completing(group.phase) {
+        return Some(Code::RebalanceInProgress);
+    }
+    if is_too_large(&r.entries) {
+        return Some(Code::OffsetMetadataTooLarge);
+    }
+    None
+}
+
+// Checks a COMMIT in a group with members, and marks the committing member as heard. Returns the moment at which it was last
+// heard before.
+fn hear_member(now: Moment, r: &CommitRequest, group: &mut Group) -> Result<Moment, Code>
+    requires { is_empty group.old.members ≡ false }
+    ensures { MatchResult result
+        (λ before. IsCommit now r.now group.old group.new (Some before))
+        (λ code. IsCommitRefused r.now group.old code × (group.new ≡ group.old)) }
+{
+    let id = match fenced_caller(&r.instance, &r.member, &group.members) {
+        Ok(id) => id,
+        Err(code) => return Err(code),
+    };
+    if let Some(code) = late_refusal(r, group) {
+        if group.members.has(id) {
+            return Err(code);
         }
         return Err(Code::UnknownMemberId);
     }
-    match committing_member(generation, instance, member, group) {
-        Ok(id) => Ok(Some(id)),
-        Err(code) => Err(code),
+    match group.members.hear(id, now) {
+        None => Err(Code::UnknownMemberId),
+        Some(before) => Ok(before),
     }
+}
+
+// Returns the error code of a COMMIT in a group without members: only one of a simple consumer passes. No allocation.
+fn simple_refusal(r: &CommitRequest) -> Option<Code>
+    ensures { result ≡ simple_refusal r.now }
+{
+    if r.generation >= 0 {
+        return Some(Code::UnknownMemberId);
+    }
+    if is_too_large(&r.entries) {
+        return Some(Code::OffsetMetadataTooLarge);
+    }
+    None
+}
+
+/// Checks a COMMIT in its group, and marks the committing member as heard. Returns the moment at which it was last heard before,
+/// or `None` in a group without members. A COMMIT that is refused changes nothing. One look-up of the member, and a pass over the
+/// members if an instance is given. No allocation.
+pub fn hear_committer(
+    now: Moment,
+    r: &CommitRequest,
+    group: &mut Group,
+) -> Result<Option<Moment>, Code>
+    ensures { MatchResult result
+        (λ before. IsCommit now r.now group.old group.new before)
+        (λ code. IsCommitRefused r.now group.old code × (group.new ≡ group.old)) }
+{
+    if group.members.len() == 0 {
+        return match simple_refusal(r) {
+            Some(code) => Err(code),
+            None => Ok(None),
+        };
+    }
+    let before = hear_member(now, r, group)?;
+    Ok(Some(before))
 }
 
 /// Builds the commit of these entries for the group, at this moment, without an allocation.

@@ -1,5 +1,5 @@
 //! Changes of the members in a map, by their ids, their instances or their parked calls. `Members` keeps its promises over them.
-ghost use Rattle.std.specs.Prelude.{◌≡◌, ◌+◌, ◌<◌, ◌≤◌, ◌++◌, ◌∷◌, [], true, false, OnErr, OnOk, Some, length, not, filter, map, is_some};
+ghost use Rattle.std.specs.Prelude.{◌≡◌, ◌+◌, ◌<◌, ◌≤◌, ◌++◌, ◌∷◌, [], true, false, OnErr, OnOk, Some, length, not, filter, map, is_some, option_map};
 ghost use Rattle.indexmap.specs.IndexMap.{index_map_len, values, spare};
 ghost use Rattle.std.specs.List.{position};
 ghost use Rattle.cg_request.specs.Names.{are_distinct};
@@ -92,17 +92,19 @@ fn recall(member: &mut Member, heard: Moment, waits: Waits)
 }
 
 #[tactic(auto, using(crate::proofs::Places::placing))]
-pub(crate) fn hear_one(members: &mut ById, id: &MemberId, now: Moment) -> bool
+pub(crate) fn hear_one(members: &mut ById, id: &MemberId, now: Moment) -> Option<Moment>
     requires keyed { AreKeyed members.old }
     ensures keyed { AreKeyed members.new }
     ensures heard { values members.new ≡ with_member id.now (heard now) (values members.old) }
-    ensures found { result ≡ is_some (find_member id.now (values members.old)) }
+    ensures before { result ≡ option_map (λ m. m.heard) (find_member id.now (values members.old)) }
 {
     match place_of(id, members) {
-        None => false,
+        None => None,
         Some(place) => {
-            members[place].heard = now;
-            true
+            let member = &mut members[place];
+            let before = member.heard;
+            member.heard = now;
+            Some(before)
         }
     }
 }

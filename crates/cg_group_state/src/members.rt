@@ -1,5 +1,5 @@
 //! The members of a group.
-ghost use Rattle.std.specs.Prelude.{◌≡◌, ◌<◌, ◌≤◌, [], ◌∷◌, ◌++◌, false, Some, length, List, not, OnOk, OnErr, IfOk, filter, map, is_some};
+ghost use Rattle.std.specs.Prelude.{◌≡◌, ◌<◌, ◌≤◌, [], ◌∷◌, ◌++◌, false, Some, length, List, not, OnOk, OnErr, IfOk, filter, map, is_some, option_map};
 ghost use Rattle.std.specs.Option.{option_copied};
 ghost use Rattle.indexmap.specs.IndexMap.{index_map_len, spare};
 ghost use Rattle.std.specs.List.{list_any, list_all};
@@ -207,11 +207,11 @@ impl Members {
         self.by_id = room;
     }
 
-    /// Sets the moment at which the member was last heard. Returns whether there is such a member.
+    /// Sets the moment at which the member was last heard. Returns that moment as it was, or `None` if there is no such member.
     #[tactic(auto, using(crate::proofs::Together::after_hearing))]
-    pub fn hear(&mut self, id: &MemberId, now: Moment) -> bool
+    pub fn hear(&mut self, id: &MemberId, now: Moment) -> Option<Moment>
         ensures heard { self.new ≡ with_member id.now (heard now) self.old }
-        ensures found { result ≡ is_some (find_member id.now self.old) }
+        ensures before { result ≡ option_map (λ m. m.heard) (find_member id.now self.old) }
     {
         hear_one(&mut self.by_id, id, now)
     }

@@ -105,7 +105,7 @@ framed-rejoined : (id : List ℕ) (now : ℕ) (own : List ℕ) (ticket : Ticket)
 unfolding rejoined
 framed-rejoined id now own ticket t h = framed-tried id now _ (framed-waiting id now own _ _ (framed-in_join_phase id now t h))
 
-framed-update_member_and_rebalance : (now : ℕ) (r : JoinRequest) (id : List ℕ) (ticket : Ticket) (g : Group) → Framed g.id (update_member_and_rebalance now r id ticket g)
+pub framed-update_member_and_rebalance : (now : ℕ) (r : JoinRequest) (id : List ℕ) (ticket : Ticket) (g : Group) → Framed g.id (update_member_and_rebalance now r id ticket g)
 unfolding update_member_and_rebalance
 framed-update_member_and_rebalance now r id ticket g = framed-rejoined g.id now id ticket _ (framed-updating r id g)
 

@@ -86,6 +86,22 @@ with_group-found id (x ∷ xs) g o e =
           ∙ ap (λ ys. x ∷ ys) (with_group-found id xs g o.1 e)
     ]) refl e
 
+-- a group that replaces one that was put in its place
+pub with_group-again : (g k : Group) (gs : List Group) → k.id ≡ g.id → with_group g (with_group k gs) ≡ with_group g gs
+unfolding with_group
+with_group-again g k [] same = ap (λ o. match_ordering o (g ∷ k ∷ []) (g ∷ []) (k ∷ g ∷ [])) (ap (slice_cmp nat_cmp g.id) same ∙ same_order g.id)
+with_group-again g k (x ∷ xs) same =
+    let level : slice_cmp nat_cmp k.id x.id ≡ slice_cmp nat_cmp g.id x.id = ap (λ i. slice_cmp nat_cmp i x.id) same in
+    let own : slice_cmp nat_cmp g.id k.id ≡ Equal = ap (slice_cmp nat_cmp g.id) same ∙ same_order g.id in
+    ap (λ o. with_group g (match_ordering o (k ∷ x ∷ xs) (k ∷ xs) (x ∷ with_group k xs))) level
+    ∙ (elim (slice_cmp nat_cmp g.id x.id) as (λ o. slice_cmp nat_cmp g.id x.id ≡ o → with_group g (match_ordering o (k ∷ x ∷ xs) (k ∷ xs) (x ∷ with_group k xs)) ≡ match_ordering o (g ∷ x ∷ xs) (g ∷ xs) (x ∷ with_group g xs)) [
+      | Less ↦ λ _. ap (λ o. match_ordering o (g ∷ k ∷ x ∷ xs) (g ∷ x ∷ xs) (k ∷ with_group g (x ∷ xs))) own
+      | Equal ↦ λ _. ap (λ o. match_ordering o (g ∷ k ∷ xs) (g ∷ xs) (k ∷ with_group g xs)) own
+      | Greater ↦ λ e.
+          ap (λ o. match_ordering o (g ∷ x ∷ with_group k xs) (g ∷ with_group k xs) (x ∷ with_group g (with_group k xs))) e
+          ∙ ap (λ ys. x ∷ ys) (with_group-again g k xs same)
+    ]) refl
+
 -- a group that comes after all others is inserted last
 pub with_group-last : (g : Group) (gs : List Group) → ComeBefore (group_ids gs) g.id → with_group g gs ≡ gs ++ g ∷ []
 unfolding with_group

@@ -16,7 +16,6 @@ pub mod Homeward
 pub mod Successive
 pub mod Quiet
 pub mod Timed
-pub mod Beaten
 pub mod Stale
 pub mod SweptGroups
 pub mod Fresh

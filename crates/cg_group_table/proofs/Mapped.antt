@@ -1,5 +1,5 @@
 -- A map of groups, each under its own id: a change of an entry is a change of the list of groups.
-use Rattle.std.proofs.Common.{◌≡◌, ℕ, Bool, true, false, cond, List, [], ◌∷◌, find, is_some, Option, Some, None, refl, sym, ap, ◌∙◌, subst}
+use Rattle.std.proofs.Common.{◌≡◌, ℕ, Bool, true, false, cond, List, [], ◌∷◌, find, is_some, Option, Some, None, Result, Ok, Err, MatchOption, refl, sym, ap, ◌∙◌, subst}
 use Rattle.std.specs.Prelude.{if◌then◌else◌}
 use Rattle.std.proofs.lemmas.Cmp.{nat_list_eq_equiv}
 use Rattle.std.proofs.lemmas.Map.Text.{is_eq-slice_cmp}
@@ -8,11 +8,14 @@ use Rattle.std.specs.Cmp.Lexicographic.{slice_cmp}
 use Rattle.std.specs.Map.{lookup, remove_entry, set_value, values_of}
 use Rattle.std.specs.Ordering.{nat_cmp, match_ordering}
 use Rattle.std.specs.declared.cmp.Ordering.TheVariants.{Less, Equal, Greater}
+use Rattle.cg_group_state.specs.declared.effects.Effects.{Effects}
 use Rattle.cg_group_state.specs.declared.group.Group.{Group}
-use Rattle.cg_group_table.specs.GroupChanges.{ChangeKeepsId}
+use Rattle.cg_group_state.specs.declared.turn.Turn.{Turn}
+use Rattle.cg_group_table.specs.GroupChanges.{IsChanged, KeepsId, StepsTo}
 use Rattle.cg_group_table.specs.GroupTable.{IsHeld, StandUnderIds, InOrder, find_group, with_group, without_group}
 use Rattle.cg_request.specs.Names.{is_same}
 use Rattle.cg_group_state.specs.Membership.{hearing}
+use Rattle.cg_group_rules.specs.Rebalance.{turned}
 use Rattle.cg_group_table.proofs.InOrder.{before_found, equal_is, found_named, less_greater, same_order}
 use Rattle.cg_group_table.proofs.KeptLists.{ascending-with_group, same_names}
 
@@ -107,24 +110,41 @@ unfolding hearing
 id-hearing now id g = refl
 
 -- a loaded group is changed in its place
-module _ (x : List ℕ) (change : Group → Group) (keeps : ChangeKeepsId change) (es after : Entries) (h : StandUnderIds es) (o : InOrder (values_of es))
-    (some : (g : Group) → lookup (is_at (slice_cmp nat_cmp x)) es ≡ Some g → after ≡ set_value (is_at (slice_cmp nat_cmp x)) es (change g)) where
-  set_there : (g : Group) → find_group x (values_of es) ≡ Some g → after ≡ set_value (is_at (slice_cmp nat_cmp x)) es (change g)
-  set_there g e = some g (lookup-own x es h ∙ e)
+module _ {X : Type 0} (x : List ℕ) (becomes : Group → Group → X → Type 0) (keeps : KeepsId becomes) (es later : Entries) (h : StandUnderIds es) (o : InOrder (values_of es)) where
+  abbrev pub Put : Group → X → Type 0
+  Put g y = (after : Group) × becomes g after y × (later ≡ set_value (is_at (slice_cmp nat_cmp x)) es after)
 
-  pub altered_there : (g : Group) → find_group x (values_of es) ≡ Some g → values_of after ≡ with_group (change g) (values_of es)
-  altered_there g e = ap values_of (set_there g e) ∙ values-set_value x (change g) g es h o e (sym (keeps g))
+  put_values : (g : Group) → find_group x (values_of es) ≡ Some g → (y : X) (p : Put g y) → values_of later ≡ with_group p.0 (values_of es)
+  put_values g found y p = ap values_of p.2 ∙ values-set_value x p.0 g es h o found (sym (keeps g p.0 y p.1))
 
-  pub altered_whole : (lookup (is_at (slice_cmp nat_cmp x)) es ≡ None → after ≡ es) → StandUnderIds after × InOrder (values_of after)
-  altered_whole none = go (find_group x (values_of es)) refl
-    where
-      go : (found : Option Group) → find_group x (values_of es) ≡ found → StandUnderIds after × InOrder (values_of after)
-      go None e =
-          let P : Entries → Type 0 = λ es. StandUnderIds es × InOrder (values_of es) in
-          subst P (sym (none (lookup-own x es h ∙ e))) (h, o)
-      go (Some g) e =
-          let S : Entries → Type 0 = λ es. StandUnderIds es in
-          let O : List Group → Type 0 = λ gs. InOrder gs in (
-            subst S (sym (set_there g e)) (stand-set_value x (change g) es h (sym (keeps g ∙ found_named x (values_of es) g e))),
-            subst O (sym (altered_there g e)) (ascending-with_group (change g) (values_of es) o),
-          )
+  pub changed_there : (g : Group) → find_group x (values_of es) ≡ Some g → (r : Option X) → MatchOption r ⊥ (Put g) → MatchOption r ⊥ (IsChanged becomes (values_of es) (values_of later) g)
+  changed_there g found None p = p
+  changed_there g found (Some y) p = record { after = p.0; became = p.1; put = put_values g found y p }
+
+  put_whole : (g : Group) → find_group x (values_of es) ≡ Some g → (r : Option X) → MatchOption r ⊥ (Put g) → StandUnderIds later × InOrder (values_of later)
+  put_whole g found None p = absurd p
+  put_whole g found (Some y) p =
+      let S : Entries → Type 0 = λ es. StandUnderIds es in
+      let O : List Group → Type 0 = λ gs. InOrder gs in (
+        subst S (sym p.2) (stand-set_value x p.0 es h (sym (keeps g p.0 y p.1 ∙ found_named x (values_of es) g found))),
+        subst O (sym (put_values g found y p)) (ascending-with_group p.0 (values_of es) o),
+      )
+
+  pub changed_whole : (r : Option X) → ((g : Group) → find_group x (values_of es) ≡ Some g → MatchOption r ⊥ (Put g)) → (find_group x (values_of es) ≡ None → later ≡ es) → StandUnderIds later × InOrder (values_of later)
+  changed_whole r some none =
+      let P : Entries → Type 0 = λ es. StandUnderIds es × InOrder (values_of es) in
+      (elim (find_group x (values_of es)) as (λ f. find_group x (values_of es) ≡ f → StandUnderIds later × InOrder (values_of later)) [
+        | None ↦ λ e. subst P (sym (none e)) (h, o)
+        | Some g ↦ λ e. put_whole g e r (some g e)
+      ]) refl
+
+-- a change that is a function of the group
+pub changed_by : {X : Type 0} (becomes : Group → Group → X → Type 0) (step : Group → Group) → ((g after : Group) (x : X) → becomes g after x → after ≡ step g) → (groups later : List Group) (g : Group) (r : Option X)
+    → MatchOption r ⊥ (IsChanged becomes groups later g) → later ≡ with_group (step g) groups
+changed_by becomes step is groups later g None p = absurd p
+changed_by becomes step is groups later g (Some x) p = p.put ∙ ap (λ k. with_group k groups) (is g p.after x p.became)
+
+-- a change that is a step keeps the id of its group, if every such step does
+pub keeps_step : {E : Type 0} (kind : Group → Turn → Type 0) → ((g : Group) (t : Turn) → kind g t → t.group.id ≡ g.id) → KeepsId {X = Result Effects E} (λ g. StepsTo (kind g) g)
+keeps_step kind keeps g after (Ok e) is = keeps g (turned after e) is
+keeps_step kind keeps g after (Err x) same = ap (λ (k : Group). k.id) same

@@ -1,24 +1,23 @@
 -- What expires in a group, by its phase, its type and its rows.
 use Rattle.std.proofs.Common.{◌≡◌, ◌≤◌, ◌+◌, ℕ, zero, suc, Bool, true, false, not, ◌||◌, List, [], ◌∷◌, ◌++◌, append_assoc, append-nil, arith, cond, drop, filter, is_some, length, map, refl, sym, ap, ◌∙◌, subst, take}
 use Rattle.std.proofs.Math.Dec.{T}
-use Rattle.std.proofs.lemmas.Bool.Decides.{Decides-eqb}
 use Rattle.std.proofs.lemmas.List.{length-append}
-use Rattle.std.proofs.lemmas.Slice.Eq.{bytes_eq-Decides}
 use Rattle.std.specs.Cmp.{tied_itself}
 use Rattle.std.specs.FinMap.{is_sorted}
 use Rattle.std.specs.FinMap.Entries.{below_all}
 use Rattle.std.specs.List.{AllByRecursion, IsDistinct, list_any}
 use Rattle.std.specs.Ordering.{is_lt}
-use Rattle.std.specs.Prelude.{◌==◌, IsTrue, bytes_eq, if◌then◌else◌}
+use Rattle.std.specs.Prelude.{IsTrue, if◌then◌else◌}
 use Rattle.cg_record.specs.declared.command.Command.{Command}
 use Rattle.cg_record.specs.declared.command.Command.TheVariants.{Deleted, Expired}
 use Rattle.cg_record.specs.declared.entries.TheConstants.{ENTRIES_MAX}
 use Rattle.cg_record.specs.declared.topic_partition.TopicPartition.{TopicPartition}
-use Rattle.cg_record.specs.Partitions.{ArePartitions, are_one, partition_cmp, topic_partition}
+use Rattle.cg_record.specs.Partitions.{ArePartitions, are_one, partition_cmp}
 use Rattle.cg_fold.specs.Key.{KeptRow}
 use Rattle.cg_fold.proofs.KeyOrder.{partition_total}
 use Rattle.cg_fold.proofs.Place.{and, both}
 use Rattle.cg_fold.proofs.Put.{is_true, tested}
+use Rattle.cg_fold.proofs.Searched.{one_partition}
 use Rattle.cg_fold.specs.Snapshot.{offsets_in}
 use Rattle.cg_group_state.specs.declared.group.Group.{Group}
 use Rattle.cg_group_state.specs.Offsets.{OffsetMap}
@@ -67,13 +66,6 @@ expires_rows loaded now offsets g e k =
     ∙ any-stale loaded now (offsets_in offsets g.id)
 
 -- ---- the partitions of sorted rows are different
-
-one_partition : (a b : TopicPartition) → are_one a b ≡ true → a ≡ b
-one_partition a b one =
-    let parts = both (a.partition == b.partition) (bytes_eq a.topic b.topic) (tested one) in
-    let partition = (Decides-eqb a.partition b.partition).0 (is_true (a.partition == b.partition) parts.0) in
-    let topic = (bytes_eq-Decides a.topic b.topic).0 (is_true (bytes_eq a.topic b.topic) parts.1) in
-    ap (λ t. topic_partition t a.partition) topic ∙ ap (topic_partition b.topic) partition
 
 ones_apart : (a b : TopicPartition) → T (is_lt (partition_cmp a b)) → are_one a b ≡ false
 ones_apart a b lt = step (are_one a b) refl

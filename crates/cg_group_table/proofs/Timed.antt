@@ -1,5 +1,5 @@
 -- The index of deadlines beside the groups: it changes as they do.
-use Rattle.std.proofs.Common.{◌≡◌, ℕ, ◌<◌, ◌≤◌, Bool, true, false, ◌||◌, cond, List, [], ◌∷◌, find, is_some, map as each, Option, Some, None, refl, sym, ap, ◌∙◌, subst, arith}
+use Rattle.std.proofs.Common.{◌≡◌, ℕ, ◌<◌, ◌≤◌, Bool, true, false, ◌||◌, cond, List, [], ◌∷◌, find, is_some, map as each, inl, inr, Option, Some, None, MatchOption, refl, sym, ap, ◌∙◌, subst, arith}
 use Rattle.std.specs.Prelude.{if◌then◌else◌, nat_le}
 use Rattle.std.specs.List.{filter}
 use Rattle.std.proofs.lemmas.Bool.{false≢true, leb-false, or_parts}
@@ -16,12 +16,11 @@ use Rattle.cg_group_state.specs.Membership.{hearing}
 use Rattle.cg_group_rules.specs.Rebalance.{turn_of}
 use Rattle.cg_group_rules.specs.Tick.{ticked}
 use Rattle.cg_group_rules.specs.TickDeadline.{next_deadline}
-use Rattle.cg_group_table.specs.GroupChanges.{ChangeKeepsId, is_one_of}
+use Rattle.cg_group_table.specs.GroupChanges.{IsChanged, KeepsId, OnlyHears, is_one_of}
 use Rattle.cg_group_table.specs.GroupTable.{InOrder, find_group, with_group, without_group}
 use Rattle.cg_group_table.specs.Kept.{Each}
 use Rattle.cg_group_table.specs.DeadlineIndex.{AreTimed}
 use Rattle.cg_request.specs.Names.{is_same}
-use Rattle.cg_group_table.proofs.Finding.{find-own}
 use Rattle.cg_group_table.proofs.InOrder.{before_found, equal_is, found_named, less_greater, same_order, with_group-found}
 use Rattle.cg_group_table.proofs.KeptLists.{same_self}
 use Rattle.cg_group_table.proofs.Quiet.{deadline-heard, deadline-since, ticked_before}
@@ -103,49 +102,37 @@ timed-there since id new g (e ∷ es) (x ∷ xs) o found own more h =
 pub timed-heard : (since now : ℕ) (own id : List ℕ) (g : Group) (es : Index) (gs : List Group) → since ≤ now → InOrder gs → find_group own gs ≡ Some g → AreTimed since es gs → AreTimed since es (with_group (hearing now id g) gs)
 timed-heard since now own id g es gs le o found h = timed-there since own (hearing now id g) g es gs o found (id-hearing now id g) (deadline-heard now id since g le) h
 
--- heard too early: the entry is the first moment
-pub timed-early : (since now : ℕ) (own id : List ℕ) (g : Group) (es : Index) (gs : List Group) → find_group own gs ≡ Some g → AreTimed since es gs → AreTimed since (insert_entry (slice_cmp nat_cmp) es own 0) (with_group (hearing now id g) gs)
-timed-early since now own id g es gs found h = timed-put since 0 own (hearing now id g) es gs (sym (id-hearing now id g ∙ found_named own gs g found)) (omega arith) h
-
 -- the entry of a loaded group is set
 pub timed-renewed : (since deadline : ℕ) (id : List ℕ) (g : Group) (es : Index) (gs : List Group) → InOrder gs → find_group id gs ≡ Some g → deadline ≤ next_deadline since g → AreTimed since es gs → AreTimed since (insert_entry (slice_cmp nat_cmp) es id deadline) gs
 timed-renewed since deadline id g es gs o found d h =
     let P : List Group → Type 0 = λ ks. AreTimed since (insert_entry (slice_cmp nat_cmp) es id deadline) ks in
     subst P (with_group-found id gs g o found) (timed-put since deadline id g es gs (sym (found_named id gs g found)) d h)
 
--- a group that is changed in its place, and its entry
-module _ (since : ℕ) (own : List ℕ) (change : Group → Group) (keeps : ChangeKeepsId change) (es : Index) (gs after : List Group)
-    (altered : (g : Group) → find_group own gs ≡ Some g → after ≡ with_group (change g) gs) (absent : find_group own gs ≡ None → after ≡ gs) (h : AreTimed since es gs) where
-  there : (g : Group) → find_group own gs ≡ Some g → find_group own after ≡ Some (change g)
-  there g found =
-      let named : (change g).id ≡ own = keeps g ∙ found_named own gs g found in
-      ap (find_group own) (altered g found) ∙ ap (λ i. find_group i (with_group (change g) gs)) (sym named) ∙ find-own (change g) gs
+-- a group that is changed in its place, and whose entry is set
+pub timed-changed : (since deadline : ℕ) (own : List ℕ) (g after : Group) (es : Index) (gs later : List Group) → find_group own gs ≡ Some g → after.id ≡ g.id → later ≡ with_group after gs → deadline ≤ next_deadline since after
+    → AreTimed since es gs → AreTimed since (insert_entry (slice_cmp nat_cmp) es own deadline) later
+timed-changed since deadline own g after es gs later found keeps put d h =
+    let P : List Group → Type 0 = λ ks. AreTimed since (insert_entry (slice_cmp nat_cmp) es own deadline) ks in
+    subst P (sym put) (timed-put since deadline own after es gs (sym (keeps ∙ found_named own gs g found)) d h)
 
-  pub timed-gone : find_group own after ≡ None → AreTimed since es after
-  timed-gone none = go (find_group own gs) refl
-    where
-      go : (o : Option Group) → find_group own gs ≡ o → AreTimed since es after
-      go None e = let P : List Group → Type 0 = λ hs. AreTimed since es hs in subst P (sym (absent e)) h
-      go (Some g) e = let no : Some (change g) ≡ None = sym (there g e) ∙ none in cc
+-- a group of which at most a member was heard
+pub heard_keeps : {X : Type 0} (now : ℕ) (becomes : Group → Group → X → Type 0) → OnlyHears now becomes → KeepsId becomes
+heard_keeps now becomes hears g after x h =
+    elim (hears g after x h) as (λ _. after.id ≡ g.id) [
+      | inl same ↦ ap (λ (k : Group). k.id) same
+      | inr heard ↦ ap (λ (k : Group). k.id) heard.1 ∙ id-hearing now heard.0 g
+    ]
 
-  pub was_found : (k : Group) → find_group own after ≡ Some k → is_some (find_group own gs) ≡ true
-  was_found k found = go (find_group own gs) refl
-    where
-      go : (o : Option Group) → find_group own gs ≡ o → is_some o ≡ true
-      go None e = let no : None ≡ Some k = sym (ap (find_group own) (absent e) ∙ e) ∙ found in cc
-      go (Some g) e = refl
-
-  pub timed-altered : (deadline : ℕ) (k : Group) → find_group own after ≡ Some k → deadline ≤ next_deadline since k → AreTimed since (insert_entry (slice_cmp nat_cmp) es own deadline) after
-  timed-altered deadline k found d = go (find_group own gs) refl
-    where
-      go : (o : Option Group) → find_group own gs ≡ o → AreTimed since (insert_entry (slice_cmp nat_cmp) es own deadline) after
-      go None e = let no : None ≡ Some k = sym (ap (find_group own) (absent e) ∙ e) ∙ found in cc
-      go (Some g) e =
-          let is : Some k ≡ Some (change g) = sym found ∙ there g e in
-          let same : k ≡ change g = cc in
-          let P : List Group → Type 0 = λ hs. AreTimed since (insert_entry (slice_cmp nat_cmp) es own deadline) hs in
-          let D : Group → Type 0 = λ y. deadline ≤ next_deadline since y in
-          subst P (sym (altered g e)) (timed-put since deadline own (change g) es gs (sym (keeps g ∙ found_named own gs g e)) (subst D same d) h)
+pub timed-as_heard : {X : Type 0} (since now : ℕ) (becomes : Group → Group → X → Type 0) → OnlyHears now becomes → since ≤ now → (own : List ℕ) (es : Index) (gs later : List Group) → InOrder gs → (g : Group) → find_group own gs ≡ Some g
+    → (r : Option X) → MatchOption r ⊥ (IsChanged becomes gs later g) → AreTimed since es gs → AreTimed since es later
+timed-as_heard since now becomes hears le own es gs later o g found None p h = absurd p
+timed-as_heard since now becomes hears le own es gs later o g found (Some x) p h =
+    let P : List Group → Type 0 = λ ks. AreTimed since es ks in
+    let W : Group → Type 0 = λ k. AreTimed since es (with_group k gs) in
+    subst P (sym p.put) (elim (hears g p.after x p.became) as (λ _. W p.after) [
+      | inl same ↦ subst W (sym same) (subst P (sym (with_group-found own gs g o found)) h)
+      | inr heard ↦ subst W (sym heard.1) (timed-heard since now own heard.0 g es gs le o found h)
+    ])
 
 -- a tick changes no group that is not due
 

@@ -169,8 +169,8 @@ fn rows_fresh_until(clock: &Clock, rows: &[Row], until: Moment) -> Moment
     until
 }
 
-/// Returns the least of `until` and the first moment at which something expires in a group, if nothing else happens to it. Costs
-/// a pass over the offsets of a group that has no record, no allocation.
+/// Returns the least of `until` and the first moment at which something expires in a group, if nothing else happens to it.
+/// Costs a pass over the offsets of a group that has no record, no allocation.
 pub fn fresh_until(clock: &Clock, offsets: &Offsets, group: &Group, until: Moment) -> Moment
     ensures earlier { result ≤ until }
     ensures rests { Rests result clock.now.loaded group.now }

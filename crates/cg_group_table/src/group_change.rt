@@ -1,20 +1,21 @@
 //! A change of a loaded group, in place.
 use cg_group_state::Group;
-use std::alloc::AllocError;
 
-/// A change of one group, made in place.
-pub trait Altering {
-    ghost use Rattle.std.specs.Prelude.{◌≡◌, OnErr, OnOk};
+/// A change of one loaded group, made in place, as a request, a closed session or a tick makes it.
+pub trait GroupChange {
     ghost use Rattle.cg_group_state.specs.declared.group.Group.{Group};
 
+    /// What the change returns. A change that can fail returns a `Result`.
+    type Output;
+
     /// What has to hold of the group before the change.
-    ghost Suits: { Self → Group → Type 0 };
+    ghost Suits: { Self → Group → Type 0 } = { λ _ _. Unit {0} };
 
-    ghost alters: { Self → Group → Group };
+    /// What holds of the group before and after the change, and of what the change returns.
+    ghost Becomes: { Self → Group → Group → Self.Output → Type 0 };
 
-    /// Changes the group. If an allocation fails, nothing changes.
-    fn alter(self, group: &mut Group) -> Result<(), AllocError>
+    /// Changes the group.
+    fn change(self, group: &mut Group) -> Self::Output
         requires { Suits self group.old }
-        ensures ok { OnOk result (group.new ≡ alters self group.old) }
-        ensures err { OnErr result (group.new ≡ group.old) };
+        ensures { Becomes self group.old group.new result };
 }

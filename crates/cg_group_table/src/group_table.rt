@@ -1,29 +1,24 @@
 //! The loaded groups, with an index of the moments at which ticks may change them.
-ghost use Rattle.std.specs.Prelude.{◌≡◌, ℕ, Err, MatchResult, ◌<◌, List, Some, None, [], length, true, false, slice_get, IfOk, OnErr, OnOk};
+ghost use Rattle.std.specs.Prelude.{◌≡◌, ◌<◌, List, Some, None, [], length, true, false, slice_get, IfOk, MatchOption, OnErr, OnOk};
 ghost use Rattle.std.specs.Map.Iter.{ShowsInOrder, deref};
 ghost use Rattle.std.specs.List.{list_any};
 ghost use Rattle.std.specs.Option.{option_copied};
 ghost use Rattle.cg_group_state.specs.declared.group.Group.{Group};
-ghost use Rattle.cg_group_table.specs.GroupChanges.{ChangeKeepsId, KeepIds, effects_in, is_one_of};
+ghost use Rattle.cg_group_table.specs.GroupChanges.{IsChanged, KeepsId, OnlyHears, is_one_of};
 ghost use Rattle.cg_group_table.specs.GroupTable.{IsHeld, InOrder, find_group, with_group, without_group};
 ghost use Rattle.cg_group_table.specs.Kept.{Ascending, Each};
 ghost use Rattle.cg_group_table.specs.DeadlineIndex.{AreTimed};
-ghost use Rattle.cg_group_state.specs.Membership.{hearing};
-ghost use Rattle.cg_names.specs.declared.code.Code.TheVariants.{UnknownMemberId};
-ghost use Rattle.cg_group_rules.specs.Heartbeat.{IsBeat, IsBeatRefused};
 ghost use Rattle.cg_group_rules.specs.TickDeadline.{tick_touches};
 ghost use Rattle.cg_group_rules.specs.Rebalance.{turn_of};
 ghost use Rattle.cg_group_rules.specs.Tick.{ticked};
 ghost use Rattle.cg_group_state.specs.Waiting.{waiting_calls};
 
-use crate::group_change::Altering;
-use crate::group_step::Stepping;
+use crate::group_change::GroupChange;
 use crate::loaded_groups::Loaded;
-use crate::sure_change::Changing;
 use cg_group_rules::{next_deadline, tick_touches};
-use cg_group_state::{Effects, Group, Reply};
-use cg_names::{Code, GroupId, MemberId, Moment};
-use cg_request::{BeatRequest, Ticket};
+use cg_group_state::Group;
+use cg_names::{GroupId, Moment};
+use cg_request::Ticket;
 use cg_time::Deadlines;
 use std::alloc::{AllocError, Global};
 use std::collections::btree_map::Values;
@@ -52,28 +47,29 @@ impl Model for GroupTable {
     ghost invariant = { λ h. AreTimed h.since h.deadlines.entries h.loaded };
 }
 
-// Keeps the index when a member of this group is heard. If it is heard before `since`, the next tick visits the group.
-fn hear_in_index(deadlines: &mut Deadlines<GroupId>, since: Moment, now: Moment, own: &GroupId)
-    ensures heard { (id : List ℕ) (groups : List Group) (g : Group) → InOrder groups → find_group own.now groups ≡ Some g
-        → AreTimed since deadlines.old.entries groups → AreTimed since deadlines.new.entries (with_group (hearing now id g) groups) }
-    ensures absent { (groups : List Group) → find_group own.now groups ≡ None
-        → AreTimed since deadlines.old.entries groups → AreTimed since deadlines.new.entries groups }
-{
-    if now.as_millis() < since.as_millis() {
-        let _found = deadlines.reschedule(own, Moment::from_millis(0));
-    }
+/// A change of a group, after which the next moment at which a tick may change the group is found out.
+#[derive(Drop)]
+struct Timed<C> {
+    since: Moment,
+    change: C,
 }
 
-// Finds out the next moment at which a tick may change the group with this id, after it changed.
-fn renew_in_index(deadlines: &mut Deadlines<GroupId>, since: Moment, loaded: &Loaded, own: &GroupId)
-    ensures { (change : Group → Group) (groups : List Group) → ChangeKeepsId change → ((g : Group) → find_group own.now groups ≡ Some g → loaded.now ≡ with_group (change g) groups)
-        → (find_group own.now groups ≡ None → loaded.now ≡ groups) → AreTimed since deadlines.old.entries groups → AreTimed since deadlines.new.entries loaded.now }
-{
-    let Some(group) = loaded.find(own) else {
-        return;
-    };
-    let deadline = next_deadline(since, group);
-    let _found = deadlines.reschedule(own, deadline);
+impl<C: GroupChange> GroupChange for Timed<C> {
+    ghost use Rattle.std.specs.Prelude.{◌≡◌};
+    ghost use Rattle.cg_group_rules.specs.TickDeadline.{next_deadline};
+
+    type Output = (C::Output, Moment);
+
+    ghost Suits = { λ t g. C.Suits t.change g };
+
+    ghost Becomes = { λ t g after x. C.Becomes t.change g after x.0 × (x.1 ≡ next_deadline t.since after) };
+
+    fn change(self, group: &mut Group) -> (C::Output, Moment) {
+        let Timed { since, change } = self;
+        let output = change.change(group);
+        let deadline = next_deadline(since, group);
+        (output, deadline)
+    }
 }
 
 impl GroupTable {
@@ -174,81 +170,39 @@ impl GroupTable {
         self.loaded.remove(id);
     }
 
-    /// Sets the moment at which this member of this group was last heard. No allocation.
-    pub fn hear(&mut self, group: &GroupId, id: &MemberId, now: Moment)
-        ensures heard { (g : Group) → find_group group.now self.old ≡ Some g → self.new ≡ with_group (hearing now id.now g) self.old }
-        ensures absent { find_group group.now self.old ≡ None → self.new ≡ self.old }
-    {
-        hear_in_index(&mut self.deadlines, self.since, now, group);
-        self.loaded.hear(group, id, now);
-    }
-
-    /// Changes the group with this id in place, if it is loaded, and finds out its next moment for ticks. Costs three look-ups
-    /// and a pass over its members, beside the change. No allocation.
-    pub fn change<C: Changing + Drop>(&mut self, group: &GroupId, changing: C)
-        requires keeps { ChangeKeepsId (C.changes changing) }
-        ensures changed { (g : Group) → find_group group.now self.old ≡ Some g → self.new ≡ with_group (C.changes changing g) self.old }
-        ensures absent { find_group group.now self.old ≡ None → self.new ≡ self.old }
+    /// Changes the group with this id, finds out its next moment for ticks, and returns what the change returns, or `None` if the
+    /// group is not loaded. Costs two look-ups and a pass over its members, beside the change.
+    pub fn change<C: GroupChange + Drop>(&mut self, group: &GroupId, change: C) -> Option<C::Output>
+        requires keeps { KeepsId (C.Becomes change) }
+        requires suits { (g : Group) → find_group group.now self.old ≡ Some g → C.Suits change g }
+        ensures changed { (g : Group) → find_group group.now self.old ≡ Some g → MatchOption result ⊥ (IsChanged (C.Becomes change) self.old self.new g) }
+        ensures absent { find_group group.now self.old ≡ None → (result ≡ None) × (self.new ≡ self.old) }
         ensures in_order { InOrder self.old }
     {
-        self.loaded.change(group, changing);
-        renew_in_index(&mut self.deadlines, self.since, &self.loaded, group);
+        let since = self.since;
+        let (output, deadline) = self.loaded.change(group, Timed { since, change })?;
+        let _found = self.deadlines.reschedule(group, deadline);
+        Some(output)
     }
 
-    /// Processes a BEAT in the group with this id: marks the calling member as heard, and returns its id and the reply.
-    /// Reports 25 if the group is not loaded. Costs one look-up of the group, no allocation.
-    pub fn beat<'a>(
+    /// Makes a change that at most marks a member as heard at this moment: does what `change` does, but costs one look-up beside
+    /// the change, and no pass over the members. If the moment comes before that of the last tick, it costs what `change` does.
+    pub fn hear<C: GroupChange + Drop>(
         &mut self,
         group: &GroupId,
         now: Moment,
-        r: &'a BeatRequest,
-    ) -> Result<(&'a MemberId, Reply), Code>
-        ensures beaten { (g : Group) → find_group group.now self.old ≡ Some g → MatchResult result
-            (λ p. IsBeat r.now g p.0.now p.1 × (self.new ≡ with_group (hearing now p.0.now g) self.old))
-            (λ code. IsBeatRefused r.now g code × (self.new ≡ self.old)) }
-        ensures absent { find_group group.now self.old ≡ None → (result ≡ Err UnknownMemberId) × (self.new ≡ self.old) }
+        change: C,
+    ) -> Option<C::Output>
+        requires hears { OnlyHears now (C.Becomes change) }
+        requires suits { (g : Group) → find_group group.now self.old ≡ Some g → C.Suits change g }
+        ensures changed { (g : Group) → find_group group.now self.old ≡ Some g → MatchOption result ⊥ (IsChanged (C.Becomes change) self.old self.new g) }
+        ensures absent { find_group group.now self.old ≡ None → (result ≡ None) × (self.new ≡ self.old) }
+        ensures in_order { InOrder self.old }
     {
-        let (id, reply) = self.loaded.beat(group, now, r)?;
-        hear_in_index(&mut self.deadlines, self.since, now, group);
-        Ok((id, reply))
-    }
-
-    /// Changes the group with this id in place, if it is loaded, and finds out its next moment for ticks. Costs three look-ups
-    /// and a pass over its members, beside the change. If an allocation fails, nothing changes.
-    pub fn alter<A: Altering + Drop>(
-        &mut self,
-        group: &GroupId,
-        altering: A,
-    ) -> Result<(), AllocError>
-        requires keeps { ChangeKeepsId (A.alters altering) }
-        requires suits { (g : Group) → find_group group.now self.old ≡ Some g → A.Suits altering g }
-        ensures altered { OnOk result ((g : Group) → find_group group.now self.old ≡ Some g → self.new ≡ with_group (A.alters altering g) self.old) }
-        ensures absent { find_group group.now self.old ≡ None → self.new ≡ self.old }
-        ensures err { OnErr result (self.new ≡ self.old) }
-    {
-        self.loaded.alter(group, altering)?;
-        renew_in_index(&mut self.deadlines, self.since, &self.loaded, group);
-        Ok(())
-    }
-
-    /// Makes a step of the loaded group with this id in place, finds out its next moment for ticks, and returns the effects of
-    /// the step. Costs three look-ups and a pass over the members after it, beside the step. If an allocation fails, nothing
-    /// changes.
-    pub fn step<S: Stepping + Drop>(
-        &mut self,
-        group: &GroupId,
-        stepping: S,
-    ) -> Result<Effects, AllocError>
-        requires loaded { IsHeld self.old group.now }
-        requires keeps { KeepIds (S.steps stepping) }
-        requires suits { (g : Group) → find_group group.now self.old ≡ Some g → S.Suits stepping g }
-        ensures stepped { OnOk result ((g : Group) → find_group group.now self.old ≡ Some g → self.new ≡ with_group (S.steps stepping g).group self.old) }
-        ensures effects { IfOk result (λ e. (g : Group) → find_group group.now self.old ≡ Some g → e ≡ effects_in (S.steps stepping g)) }
-        ensures err { OnErr result (self.new ≡ self.old) }
-    {
-        let effects = self.loaded.step(group, stepping)?;
-        renew_in_index(&mut self.deadlines, self.since, &self.loaded, group);
-        Ok(effects)
+        if now.as_millis() < self.since.as_millis() {
+            return self.change(group, change);
+        }
+        self.loaded.change(group, change)
     }
 
     // Returns whether a tick at this moment changes a group. Linear in the members of all groups, no allocation.

@@ -10,9 +10,9 @@ ghost use Rattle.cg_group_state.specs.Waiting.{answers, refusing};
 ghost use Rattle.cg_names.specs.declared.code.Code.TheVariants.{CoordinatorNotAvailable};
 ghost use Rattle.cg_group_rules.specs.TickDeadline.{gone_touches};
 
+use crate::group_change::GroupChange;
 use crate::group_table::GroupTable;
 use crate::session_index::{Home, SessionIndex};
-use crate::sure_change::Changing;
 use cg_group_state::{Calls, Effects, Few, Group, Refusing, Reply, answer_all};
 use cg_names::{Code, GroupId, Moment};
 use cg_request::Ticket;
@@ -67,10 +67,13 @@ struct Answering {
     now: Moment,
 }
 
-impl Changing for Answering {
+impl GroupChange for Answering {
+    ghost use Rattle.std.specs.Prelude.{◌≡◌};
     ghost use Rattle.cg_group_rules.specs.Leave.{gone_in};
 
-    ghost changes = { λ a g. (gone_in a.now a.session g).group };
+    type Output = ();
+
+    ghost Becomes = { λ a g after _. after ≡ (gone_in a.now a.session g).group };
 
     #[tactic(auto, unfolding(cg_group_rules::specs::Leave::gone_in))]
     fn change(self, group: &mut Group) {
@@ -86,7 +89,7 @@ fn answer_homes(held: &mut GroupTable, ids: &BTreeMap<GroupId, Home>, session: u
     ensures { held.new ≡ groups_after (gone_in now session) held.old }
 {
     for id in ids.keys() {
-        held.change(id, Answering { session, now });
+        let _changed = held.change(id, Answering { session, now });
     }
 }
 

@@ -21,7 +21,7 @@ use crate::roll::next_tail;
 use crate::segment_layout::{last_id, segment};
 use crate::{COMMAND_NUMBER_MAX, LogFault};
 use cg_disk::{DiskFault, SectorDisk};
-use cg_frame::{StagedFrame, append_staged, fits, stage};
+use cg_frame::{StagedFrame, append_staged, fits};
 use cg_root::Root;
 
 /// Appends a frame that fits to the last tail. Returns the position of the gate after it. A crash at any moment leaves
@@ -66,21 +66,20 @@ impl<D: SectorDisk> Log<D> {
     ghost use Rattle.cg_log.specs.Log.{HasFresh, IsUnchanged, LogHas, disk_of, end_of, fresh_end_of, fresh_of, has_failed, number_of, room_of, root_of, taken_of};
 
     // Appends a frame that fits to the last tail.
-    fn put(&mut self, frame: StagedFrame, count: u64) -> Result<(), LogFault>
+    fn put(&mut self, frame: &StagedFrame) -> Result<(), LogFault>
         requires serves { has_failed self.old ≡ false }
-        requires count { count ≡ frame.0 }
-        requires counted { 1 ≤ count }
-        requires few { number_of self.old + count ≤ COMMAND_NUMBER_MAX }
-        requires fits { next_gate (end_of self.old) (length frame.1) < SEGMENT_SECTORS }
+        requires counted { 1 ≤ frame.now.0 }
+        requires few { number_of self.old + frame.now.0 ≤ COMMAND_NUMBER_MAX }
+        requires fits { next_gate (end_of self.old) (length frame.now.1) < SEGMENT_SECTORS }
 
         ensures stored { (has : Content) → LogHas D.is_honest D.history D.size self.old has → OnOk result
-            (LogHas D.is_honest D.history D.size self.new (appended has frame.0 frame.1)) }
+            (LogHas D.is_honest D.history D.size self.new (appended has frame.now.0 frame.now.1)) }
         ensures images { (has : Content) → LogHas D.is_honest D.history D.size self.old has →
             LeavesOnly (D.history (disk_of self.old)) (D.history (disk_of self.new))
-            (CarriesBeforeOrAfter (D.size (disk_of self.old)) (number_of self.old) (frames_of has.base) (frames_of (tails has)) frame.0 frame.1) }
-        ensures number { OnOk result (number_of self.new ≡ number_of self.old + count) }
+            (CarriesBeforeOrAfter (D.size (disk_of self.old)) (number_of self.old) (frames_of has.base) (frames_of (tails has)) frame.now.0 frame.now.1) }
+        ensures number { OnOk result (number_of self.new ≡ number_of self.old + frame.now.0) }
         ensures same_number { OnErr result (number_of self.new ≡ number_of self.old) }
-        ensures end { OnOk result (end_of self.new ≡ next_gate (end_of self.old) (length frame.1)) }
+        ensures end { OnOk result (end_of self.new ≡ next_gate (end_of self.old) (length frame.now.1)) }
         ensures same_root { root_of self.new ≡ root_of self.old }
         ensures fresh { (fresh : List Filled) → HasFresh D.is_honest D.history self.old fresh →
             HasFresh D.is_honest D.history self.new fresh }
@@ -95,11 +94,10 @@ impl<D: SectorDisk> Log<D> {
         ensures same_size { D.size (disk_of self.new) ≡ D.size (disk_of self.old) }
         ensures same_honesty { D.is_honest (disk_of self.new) ≡ D.is_honest (disk_of self.old) }
     {
-        match append_last(&mut self.disk, &self.root, self.end, &frame) {
+        match append_last(&mut self.disk, &self.root, self.end, frame) {
             Ok(next) => {
                 self.end = next;
-                self.number += count;
-                self.memory = frame.into_room();
+                self.number += frame.count();
                 Ok(())
             }
             Err(DiskFault::Device) => {
@@ -109,23 +107,23 @@ impl<D: SectorDisk> Log<D> {
         }
     }
 
-    // Adds a tail and appends a frame to it. Allocates both before it writes.
-    fn put_in_new_tail(&mut self, count: u64, payload: &[u8]) -> Result<(), LogFault>
+    // Adds a tail and appends a frame to it. Allocates the tail before it writes.
+    fn put_in_new_tail(&mut self, frame: &StagedFrame) -> Result<(), LogFault>
         requires serves { has_failed self.old ≡ false }
-        requires counted { 1 ≤ count }
-        requires one_frame { length payload.now ≤ LARGEST_PAYLOAD_BYTES }
-        requires few { number_of self.old + count ≤ COMMAND_NUMBER_MAX }
+        requires counted { 1 ≤ frame.now.0 }
+        requires one_frame { length frame.now.1 ≤ LARGEST_PAYLOAD_BYTES }
+        requires few { number_of self.old + frame.now.0 ≤ COMMAND_NUMBER_MAX }
 
         ensures stored { (has : Content) → LogHas D.is_honest D.history D.size self.old has → OnOk result
-            ((id : ℕ) × LogHas D.is_honest D.history D.size self.new (appended (rolled has id) count payload.now)) }
+            ((id : ℕ) × LogHas D.is_honest D.history D.size self.new (appended (rolled has id) frame.now.0 frame.now.1)) }
         ensures images { (has : Content) → LogHas D.is_honest D.history D.size self.old has →
             LeavesOnly (D.history (disk_of self.old)) (D.history (disk_of self.new))
-            (CarriesBeforeOrAfter (D.size (disk_of self.old)) (number_of self.old) (frames_of has.base) (frames_of (tails has)) count payload.now) }
-        ensures number { OnOk result (number_of self.new ≡ number_of self.old + count) }
+            (CarriesBeforeOrAfter (D.size (disk_of self.old)) (number_of self.old) (frames_of has.base) (frames_of (tails has)) frame.now.0 frame.now.1) }
+        ensures number { OnOk result (number_of self.new ≡ number_of self.old + frame.now.0) }
         ensures same_number { OnErr result (number_of self.new ≡ number_of self.old) }
         ensures serves { OnOk result (has_failed self.new ≡ false) }
         ensures tail { OnOk result ((id : ℕ) × IsNextTail (D.size (disk_of self.old)) (taken_of self.old) (root_of self.old) id (root_of self.new)) }
-        ensures end { OnOk result (end_of self.new ≡ next_gate 0 (length payload.now)) }
+        ensures end { OnOk result (end_of self.new ≡ next_gate 0 (length frame.now.1)) }
         ensures fresh { (fresh : List Filled) → HasFresh D.is_honest D.history self.old fresh →
             HasFresh D.is_honest D.history self.new fresh }
         ensures same_fresh { fresh_of self.new ≡ fresh_of self.old }
@@ -149,50 +147,49 @@ impl<D: SectorDisk> Log<D> {
             &self.root,
             self.fresh.as_slice(),
         )?;
-        let frame = stage(self.alloc, &mut self.memory, count, payload)?;
         let _ = self.add_tail(tail)?;
-        self.put(frame, count)?;
+        self.put(frame)?;
         Ok(())
     }
 
-    /// Appends a frame of `count` commands to the last tail, in four calls of the device. If it does not fit there,
+    /// Appends a sealed frame to the last tail, in four calls of the device, without a copy. If it does not fit there,
     /// begins a new tail, in up to eight calls more. Every crash image since the start carries the frames before, or
     /// these and the new one; after `Ok` the latter. Reports `Full` exactly where the number of a command would be too
     /// great, and where a new tail is needed and no segment is free or the epoch is the last. After `Device` every call
     /// reports `Failed`.
-    pub fn append(&mut self, count: u64, payload: &[u8]) -> Result<(), LogFault>
-        requires counted { 1 ≤ count }
-        requires one_frame { length payload.now ≤ LARGEST_PAYLOAD_BYTES }
+    pub fn append(&mut self, frame: &StagedFrame) -> Result<(), LogFault>
+        requires counted { 1 ≤ frame.now.0 }
+        requires one_frame { length frame.now.1 ≤ LARGEST_PAYLOAD_BYTES }
 
         ensures stored { (has : Content) → LogHas D.is_honest D.history D.size self.old has → OnOk result ((new : Content) ×
-            (IsAppended has count payload.now new × LogHas D.is_honest D.history D.size self.new new)) }
+            (IsAppended has frame.now.0 frame.now.1 new × LogHas D.is_honest D.history D.size self.new new)) }
         ensures images { (has : Content) → LogHas D.is_honest D.history D.size self.old has →
             LeavesOnly (D.history (disk_of self.old)) (D.history (disk_of self.new))
-            (CarriesBeforeOrAfter (D.size (disk_of self.old)) (number_of self.old) (frames_of has.base) (frames_of (tails has)) count payload.now) }
+            (CarriesBeforeOrAfter (D.size (disk_of self.old)) (number_of self.old) (frames_of has.base) (frames_of (tails has)) frame.now.0 frame.now.1) }
         ensures after { (has : Content) → LogHas D.is_honest D.history D.size self.old has → OnOk result
-            (AllCarry (present (D.history (disk_of self.new))) (D.size (disk_of self.old)) (number_of self.old + count)
-            (frames_of has.base) (frames_of (tails has) ++ (count, payload.now) ∷ [])) }
-        ensures number { OnOk result (number_of self.new ≡ number_of self.old + count) }
+            (AllCarry (present (D.history (disk_of self.new))) (D.size (disk_of self.old)) (number_of self.old + frame.now.0)
+            (frames_of has.base) (frames_of (tails has) ++ frame.now ∷ [])) }
+        ensures number { OnOk result (number_of self.new ≡ number_of self.old + frame.now.0) }
         ensures same_number { OnErr result (number_of self.new ≡ number_of self.old) }
-        ensures room { OnOk result (room_of D.size self.new ≡ room_after (room_of D.size self.old) (length payload.now)) }
-        ensures full { IsErrOf result LogFault.Full → (COMMAND_NUMBER_MAX < number_of self.old + count)
-            ⊎ (has_room (room_of D.size self.old) (length payload.now) ≡ false) }
+        ensures room { OnOk result (room_of D.size self.new ≡ room_after (room_of D.size self.old) (length frame.now.1)) }
+        ensures full { IsErrOf result LogFault.Full → (COMMAND_NUMBER_MAX < number_of self.old + frame.now.0)
+            ⊎ (has_room (room_of D.size self.old) (length frame.now.1) ≡ false) }
         ensures few { MatchResult result
-            (λ _. number_of self.old + count ≤ COMMAND_NUMBER_MAX)
-            (λ fault. fault ≢ LogFault.Failed → fault ≢ LogFault.Full → number_of self.old + count ≤ COMMAND_NUMBER_MAX) }
+            (λ _. number_of self.old + frame.now.0 ≤ COMMAND_NUMBER_MAX)
+            (λ fault. fault ≢ LogFault.Failed → fault ≢ LogFault.Full → number_of self.old + frame.now.0 ≤ COMMAND_NUMBER_MAX) }
         ensures clear { MatchResult result
-            (λ _. has_room (room_of D.size self.old) (length payload.now) ≡ true)
+            (λ _. has_room (room_of D.size self.old) (length frame.now.1) ≡ true)
             (λ fault. fault ≢ LogFault.Failed → fault ≢ LogFault.Full →
-            has_room (room_of D.size self.old) (length payload.now) ≡ true) }
+            has_room (room_of D.size self.old) (length frame.now.1) ≡ true) }
         // A frame that does not fit the last tail begins a new one, in the free segment of the least id.
-        ensures same_root { fits_tail (room_of D.size self.old) (length payload.now) ≡ true → root_of self.new ≡ root_of self.old }
-        ensures next { fits_tail (room_of D.size self.old) (length payload.now) ≡ false → OnOk result
+        ensures same_root { fits_tail (room_of D.size self.old) (length frame.now.1) ≡ true → root_of self.new ≡ root_of self.old }
+        ensures next { fits_tail (room_of D.size self.old) (length frame.now.1) ≡ false → OnOk result
             ((id : ℕ) × IsNextTail (D.size (disk_of self.old)) (taken_of self.old) (root_of self.old) id (root_of self.new)) }
         // Where the frame fits the last tail, it takes four calls of the device; a new tail takes up to eight more.
-        ensures clock { D.is_honest (disk_of self.old) ≡ true → fits_tail (room_of D.size self.old) (length payload.now) ≡ true →
+        ensures clock { D.is_honest (disk_of self.old) ≡ true → fits_tail (room_of D.size self.old) (length frame.now.1) ≡ true →
             TakesCalls 4 (D.history (disk_of self.old)) (D.history (disk_of self.new)) (is_err result) }
         ensures calls { D.is_honest (disk_of self.old) ≡ true → (D.history (disk_of self.new)).now ≤
-            (D.history (disk_of self.old)).now + calls_for (room_of D.size self.old) (length payload.now) }
+            (D.history (disk_of self.old)).now + calls_for (room_of D.size self.old) (length frame.now.1) }
         // Fresh segments stay, and so does every tail.
         ensures fresh { (fresh : List Filled) → HasFresh D.is_honest D.history self.old fresh → OnOk result
             (HasFresh D.is_honest D.history self.new fresh) }
@@ -210,16 +207,15 @@ impl<D: SectorDisk> Log<D> {
         if self.has_failed {
             return Err(LogFault::Failed);
         }
-        if count > COMMAND_NUMBER_MAX - self.number {
+        if frame.count() > COMMAND_NUMBER_MAX - self.number {
             return Err(LogFault::Full);
         }
         let last = segment(last_id(self.root.tail.as_slice()));
-        if !fits(last, self.end, payload.len() as u64) {
-            self.put_in_new_tail(count, payload)?;
+        if !fits(last, self.end, frame.payload().len() as u64) {
+            self.put_in_new_tail(frame)?;
             return Ok(());
         }
-        let frame = stage(self.alloc, &mut self.memory, count, payload)?;
-        self.put(frame, count)?;
+        self.put(frame)?;
         Ok(())
     }
 }

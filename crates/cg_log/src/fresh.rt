@@ -17,7 +17,7 @@ use crate::free::least_free;
 use crate::log::Log;
 use crate::segment_layout::{last_id, segment};
 use cg_disk::{DiskFault, SectorDisk};
-use cg_frame::{StagedFrame, append_staged, fits, stage};
+use cg_frame::{StagedFrame, append_staged, fits};
 use cg_gate::{close_gate, first_sector};
 use cg_root::SegmentId;
 
@@ -66,15 +66,15 @@ impl<D: SectorDisk> Log<D> {
     }
 
     // Appends a frame that fits to the last fresh segment.
-    fn put_fresh(&mut self, frame: StagedFrame) -> Result<(), LogFault>
+    fn put_fresh(&mut self, frame: &StagedFrame) -> Result<(), LogFault>
         requires serves { has_failed self.old ≡ false }
         requires some { 1 ≤ length (fresh_of self.old) }
-        requires counted { 1 ≤ frame.0 }
-        requires fits { next_gate (fresh_end_of self.old) (length frame.1) < SEGMENT_SECTORS }
+        requires counted { 1 ≤ frame.now.0 }
+        requires fits { next_gate (fresh_end_of self.old) (length frame.now.1) < SEGMENT_SECTORS }
 
         ensures fresh { (sealed : List Filled) (id : ℕ) (frames : Frames) →
             HasFresh D.is_honest D.history self.old (sealed ++ (id, frames) ∷ []) → OnOk result
-            (HasFresh D.is_honest D.history self.new (sealed ++ (id, frames ++ frame ∷ []) ∷ [])) }
+            (HasFresh D.is_honest D.history self.new (sealed ++ (id, frames ++ frame.now ∷ []) ∷ [])) }
         ensures stored { (has : Content) → LogHas D.is_honest D.history D.size self.old has →
             LogHas D.is_honest D.history D.size self.new has }
         ensures images { (has : Content) → LogHas D.is_honest D.history D.size self.old has →
@@ -94,10 +94,9 @@ impl<D: SectorDisk> Log<D> {
         ensures same_honesty { D.is_honest (disk_of self.new) ≡ D.is_honest (disk_of self.old) }
     {
         let id = last_id(self.fresh.as_slice());
-        match append_fresh(&mut self.disk, id, self.fresh_end, &frame) {
+        match append_fresh(&mut self.disk, id, self.fresh_end, frame) {
             Ok(next) => {
                 self.fresh_end = next;
-                self.memory = frame.into_room();
                 Ok(())
             }
             Err(DiskFault::Device) => {
@@ -148,13 +147,13 @@ impl<D: SectorDisk> Log<D> {
     }
 
     // Begins a fresh segment, and appends a frame to it. Allocates all before it writes.
-    fn put_in_new_fresh(&mut self, count: u64, payload: &[u8]) -> Result<(), LogFault>
+    fn put_in_new_fresh(&mut self, frame: &StagedFrame) -> Result<(), LogFault>
         requires serves { has_failed self.old ≡ false }
-        requires counted { 1 ≤ count }
-        requires one_frame { length payload.now ≤ LARGEST_PAYLOAD_BYTES }
+        requires counted { 1 ≤ frame.now.0 }
+        requires one_frame { length frame.now.1 ≤ LARGEST_PAYLOAD_BYTES }
 
         ensures fresh { (fresh : List Filled) → HasFresh D.is_honest D.history self.old fresh → OnOk result
-            ((id : ℕ) × HasFresh D.is_honest D.history self.new (fresh ++ (id, (count, payload.now) ∷ []) ∷ [])) }
+            ((id : ℕ) × HasFresh D.is_honest D.history self.new (fresh ++ (id, frame.now ∷ []) ∷ [])) }
         ensures stored { (has : Content) → LogHas D.is_honest D.history D.size self.old has →
             LogHas D.is_honest D.history D.size self.new has }
         ensures images { (has : Content) → LogHas D.is_honest D.history D.size self.old has →
@@ -184,36 +183,35 @@ impl<D: SectorDisk> Log<D> {
             return Err(LogFault::Full);
         };
         self.fresh.reserve(1)?;
-        let frame = stage(self.alloc, &mut self.memory, count, payload)?;
         self.begin_fresh(id)?;
         self.put_fresh(frame)?;
         Ok(())
     }
 
-    /// Appends a frame of `count` commands to the last fresh segment, in four calls of the device; if it does not fit,
+    /// Appends a sealed frame to the last fresh segment, without a copy, in four calls of the device; if it does not fit,
     /// to the free segment of the least id, which is fresh from then on and takes two calls more. Content and root stay,
     /// in every crash image since the start. `Full` is reported only where a segment is needed and none is free.
-    pub fn fresh_append(&mut self, count: u64, payload: &[u8]) -> Result<(), LogFault>
-        requires counted { 1 ≤ count }
-        requires one_frame { length payload.now ≤ LARGEST_PAYLOAD_BYTES }
+    pub fn fresh_append(&mut self, frame: &StagedFrame) -> Result<(), LogFault>
+        requires counted { 1 ≤ frame.now.0 }
+        requires one_frame { length frame.now.1 ≤ LARGEST_PAYLOAD_BYTES }
 
         ensures fresh { (fresh : List Filled) → HasFresh D.is_honest D.history self.old fresh → OnOk result ((new : List Filled) ×
-            (IsFreshAppended (fits_fresh (fresh_of self.old) (fresh_end_of self.old) (length payload.now)) fresh count payload.now new
-            × (frames_of new ≡ frames_of fresh ++ (count, payload.now) ∷ []) × HasFresh D.is_honest D.history self.new new)) }
+            (IsFreshAppended (fits_fresh (fresh_of self.old) (fresh_end_of self.old) (length frame.now.1)) fresh frame.now.0 frame.now.1 new
+            × (frames_of new ≡ frames_of fresh ++ frame.now ∷ []) × HasFresh D.is_honest D.history self.new new)) }
         ensures stored { (has : Content) → LogHas D.is_honest D.history D.size self.old has →
             LogHas D.is_honest D.history D.size self.new has }
         ensures images { (has : Content) → LogHas D.is_honest D.history D.size self.old has →
             LeavesOnly (D.history (disk_of self.old)) (D.history (disk_of self.new))
             (λ image. Carries image (D.size (disk_of self.old)) (number_of self.old) (frames_of has.base) (frames_of (tails has))) }
-        ensures same_segment { OnOk result (fits_fresh (fresh_of self.old) (fresh_end_of self.old) (length payload.now) ≡ true →
+        ensures same_segment { OnOk result (fits_fresh (fresh_of self.old) (fresh_end_of self.old) (length frame.now.1) ≡ true →
             fresh_of self.new ≡ fresh_of self.old) }
-        ensures new_segment { OnOk result (fits_fresh (fresh_of self.old) (fresh_end_of self.old) (length payload.now) ≡ false →
+        ensures new_segment { OnOk result (fits_fresh (fresh_of self.old) (fresh_end_of self.old) (length frame.now.1) ≡ false →
             (id : ℕ) × (IsLeastFree (D.size (disk_of self.old)) (taken_of self.old) id × (fresh_of self.new ≡ fresh_of self.old ++ id ∷ []))) }
         ensures full { IsErrOf result LogFault.Full →
-            (fits_fresh (fresh_of self.old) (fresh_end_of self.old) (length payload.now) ≡ false)
+            (fits_fresh (fresh_of self.old) (fresh_end_of self.old) (length frame.now.1) ≡ false)
             × NoneIsFree (D.size (disk_of self.old)) (taken_of self.old) }
         ensures clear { IfErr result (λ fault. fault ≢ LogFault.Full → fault ≢ LogFault.Failed →
-            fits_fresh (fresh_of self.old) (fresh_end_of self.old) (length payload.now) ≡ false →
+            fits_fresh (fresh_of self.old) (fresh_end_of self.old) (length frame.now.1) ≡ false →
             (id : ℕ) × IsLeastFree (D.size (disk_of self.old)) (taken_of self.old) id) }
         ensures unchanged { IfErr result (λ fault. fault ≢ LogFault.Device → IsUnchanged self.old self.new) }
         ensures same_root { root_of self.new ≡ root_of self.old }
@@ -232,11 +230,10 @@ impl<D: SectorDisk> Log<D> {
         if self.has_failed {
             return Err(LogFault::Failed);
         }
-        if !self.has_fresh_room(payload.len() as u64) {
-            self.put_in_new_fresh(count, payload)?;
+        if !self.has_fresh_room(frame.payload().len() as u64) {
+            self.put_in_new_fresh(frame)?;
             return Ok(());
         }
-        let frame = stage(self.alloc, &mut self.memory, count, payload)?;
         self.put_fresh(frame)?;
         Ok(())
     }

@@ -33,8 +33,6 @@ pub struct Log<D: SectorDisk> {
     pub(crate) fresh: Vec<SegmentId>,
     // Position of the next frame in the last of them; 0 if there is none.
     pub(crate) fresh_end: u64,
-    // Memory in which the next frame is encoded.
-    pub(crate) memory: Vec<u8>,
     ghost room: { 4 ≤ D.size disk },
     ghost lawful: { IsLawful (D.size disk) root } by { IsLawful-prop (D.size disk) root },
     ghost inside: { end < SEGMENT_SECTORS },

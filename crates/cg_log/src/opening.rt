@@ -281,7 +281,6 @@ impl<D: SectorDisk> Opening<D> {
             has_failed: false,
             fresh: Vec::new(alloc),
             fresh_end: 0,
-            memory: Vec::new(alloc),
         }
     }
 

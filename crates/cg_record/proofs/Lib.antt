@@ -11,6 +11,8 @@ pub mod MemberLaws
 pub mod RosterLaws
 pub mod GroupLaws
 pub mod CommandLaws
+pub mod Lengths
+pub mod Longer
 pub mod Steps
 pub mod Again
 pub mod Decoding

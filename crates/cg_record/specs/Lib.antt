@@ -12,5 +12,6 @@ pub mod Counts
 pub mod Saying
 pub mod Spelling
 pub mod Reading
+pub mod Payloads
 pub mod Decoding
 pub mod Cutting

@@ -1,5 +1,5 @@
 //! The encoder of commands, in the newest version.
-ghost use Rattle.std.specs.Prelude.{◌≡◌, ◌<◌, ◌≤◌, ◌+◌, ◌^◌, ◌∷◌, ◌++◌, Ok, length, sum_by, IfOk, OnOk, OnErr};
+ghost use Rattle.std.specs.Prelude.{◌≡◌, ◌<◌, ◌≤◌, ◌+◌, ◌^◌, [], ◌∷◌, ◌++◌, Ok, length, sum_by, IfOk, OnOk, OnErr};
 ghost use Rattle.std.specs.Io.{StartsWith};
 ghost use Rattle.std.specs.List.{flat_map, AllByRecursion};
 ghost use Rattle.cg_names.specs.Grammar.{IsName};
@@ -339,15 +339,14 @@ fn put_command(out: &mut Vec<u8>, command: &Command) -> Result<(), AllocError>
     Ok(())
 }
 
-/// Appends the encoding of a command, `size` bytes, for which room is reserved first. If an allocation fails, nothing is
-/// appended.
+/// Appends the encoding of a command, `size` bytes. A caller that has reserved room for them saves allocations. If an
+/// allocation fails, nothing is appended.
 pub fn append_command(out: &mut Vec<u8>, command: &Command) -> Result<(), AllocError>
     ensures ok { OnOk result (out.new.items ≡ out.old.items ++ command_text command.now) }
     ensures lawful { OnOk result (IsCommand command.now) }
     ensures err { OnErr result (out.new.items ≡ out.old.items) }
 {
     let before = out.len();
-    out.reserve(size(command) as usize)?;
     match put_command(out, command) {
         Ok(()) => Ok(()),
         Err(error) => {
@@ -355,6 +354,16 @@ pub fn append_command(out: &mut Vec<u8>, command: &Command) -> Result<(), AllocE
             Err(error)
         }
     }
+}
+
+/// Begins a payload: appends the encoding of no command, the version byte.
+#[tactic(auto, unfolding(crate::specs::Spelling::spelling))]
+pub fn append_version(out: &mut Vec<u8>) -> Result<(), AllocError>
+    ensures ok { OnOk result (out.new.items ≡ out.old.items ++ spelling []) }
+    ensures err { OnErr result (out.new.items ≡ out.old.items) }
+{
+    out.push(Version::newest().byte())?;
+    Ok(())
 }
 
 // Only a capacity: it saves allocations while `write` appends, and no contract depends on it.

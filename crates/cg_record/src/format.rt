@@ -2,6 +2,7 @@
 ghost use Rattle.std.specs.Prelude.{◌≡◌};
 ghost use Rattle.cg_record.specs.Reading.{version_of, Gives};
 ghost use Rattle.cg_record.specs.Versions.{byte_of, has_dropped, has_expired, has_long_counts, has_moments, newest};
+ghost use Rattle.cg_record.specs.declared.entries.TheConstants.{SHORT_COUNT_MAX};
 ghost use Rattle.cg_record.specs.declared.format.TheConstants.{ASSIGNED_KIND, COMMITTED_KIND, DELETED_KIND, DROPPED_KIND, EMPTIED_KIND, EXPIRED_KIND, REPLACED_KIND, VERSION_ONE, VERSION_THREE, VERSION_TWO};
 
 use crate::fault::RecordFault;
@@ -132,4 +133,5 @@ pub fn format_has_these_bytes()
     ensures deleted { DELETED_KIND ≡ 5 }
     ensures expired { EXPIRED_KIND ≡ 6 }
     ensures dropped { DROPPED_KIND ≡ 7 }
+    ensures short_counts { SHORT_COUNT_MAX ≡ 64 }
 {}

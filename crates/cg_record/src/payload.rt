@@ -1,18 +1,31 @@
+//! What the encoding of commands is.
 //! The decoder of a payload.
-ghost use Rattle.std.specs.Prelude.{◌≡◌, ℕ, ◌<◌, List, length, take, Ok, IfOk, MatchResult};
-ghost use Rattle.cg_record.specs.declared.command.Command.{Command};
+ghost use Rattle.std.specs.Prelude.{◌≡◌, Ok, ℕ, ◌<◌, List, length, take, IfOk, MatchResult};
 ghost use Rattle.cg_record.specs.Lawful.{AreCommands};
+ghost use Rattle.cg_record.specs.Payloads.{IsText, told};
+ghost use Rattle.cg_record.specs.Reading.{commands_of, Fails, Tells};
+ghost use Rattle.cg_record.specs.Spelling.{spelling, IsPayload, payload};
+ghost use Rattle.cg_record.specs.declared.command.Command.{Command};
 ghost use Rattle.cg_record.specs.declared.format.Version.{Version};
 ghost use Rattle.cg_record.specs.Cutting.{IsCutShort};
 ghost use Rattle.cg_record.specs.Saying.{CanSayAll};
-ghost use Rattle.cg_record.specs.Spelling.{IsPayload, payload};
-ghost use Rattle.cg_record.specs.Reading.{Fails, Tells, commands_of};
 
 use crate::command::Command;
 use crate::command_check::check;
 use crate::command_decoder::build;
 use crate::fault::RecordFault;
 use std::alloc::Global;
+
+/// States in its contract what a payload that `write` makes is: it decodes to its commands, and they are lawful. Returns it.
+pub fn spelling_of(bytes: &[u8]) -> &[u8]
+    requires { IsText bytes.now }
+    ensures same { result.now ≡ bytes.now }
+    ensures decoded { commands_of result.now ≡ Ok (told bytes.now) }
+    ensures spelled { result.now ≡ spelling (told bytes.now) }
+    ensures lawful { AreCommands (told bytes.now) }
+{
+    bytes
+}
 
 // Returns the fault to report after building met this one: if an allocation failed, a fault of the bytes comes first.
 #[tactic(auto, using(crate::proofs::Told::commands_tell, crate::proofs::Told::fails_tells))]

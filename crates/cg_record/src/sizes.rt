@@ -82,7 +82,8 @@ const ROSTER_BYTES_MAX: u64 = ROSTER_FIXED_BYTES
 // Maximum size of an `Assigned`.
 const ASSIGNED_BYTES_MAX: u64 = GROUP_FIXED_BYTES + 2 * NAME_BYTES_MAX as u64 + ROSTER_BYTES_MAX;
 
-/// Maximum size of a command, in bytes: a kind, and an `Assigned` of `MEMBERS_MAX` members.
+/// Maximum size of a command, in bytes: a kind, and an `Assigned` of `MEMBERS_MAX` members. With fewer than 54 members a
+/// `Committed` could be larger; then `bound` of `size` would not be proved.
 pub const COMMAND_BYTES_MAX: u64 = 1 + ASSIGNED_BYTES_MAX;
 
 #[tactic(auto, using(crate::proofs::TextLens::key_len, cg_names::proofs::Names::length_from_name))]

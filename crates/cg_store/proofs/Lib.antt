@@ -1,6 +1,5 @@
 pub mod Spelled
-pub mod Longer
-pub mod Lengths
+mod Buffers
 pub mod Whole
 pub mod Reading
 pub mod Opened

@@ -5,9 +5,6 @@ use Rattle.std.proofs.lemmas.List.Concat.{flat_map-cons}
 use Rattle.std.proofs.lemmas.List.Sums.{fold-append}
 use Rattle.cg_record.specs.declared.command.Command.{Command}
 use Rattle.cg_record.specs.Lawful.{AreCommands}
-use Rattle.cg_record.specs.Reading.{commands_of}
-use Rattle.cg_record.specs.Spelling.{spelling}
-use Rattle.cg_record.proofs.CommandLaws.{commands_again}
 use Rattle.cg_fold.specs.Durable.{State, after, effect, empty, folded}
 use Rattle.cg_log.specs.Segments.{Frames}
 use Rattle.cg_store.specs.Carried.{AreMade, AreFramesOf, IsFrameOf, Spell, joined}
@@ -71,13 +68,6 @@ pub none-at : (frames : Frames) (count : ℕ) (payload : List ℕ) → IsNoText 
 none-at frames count payload no_text batches are = let parts = split frames (count, payload) batches are in no_text parts.last parts.last_is
 
 -- ---- frames have exactly one list of batches
-
-pub commands-unique : (a b : List Command) → AreCommands a → AreCommands b → spelling a ≡ spelling b → a ≡ b
-commands-unique a b of_a of_b is =
-    let read_a = commands_again a of_a in
-    let read_b = commands_again b of_b in
-    let both : Ok a ≡ Ok b = sym read_a ∙ ap commands_of is ∙ read_b in
-    cc
 
 batches-unique : (frames : Frames) (a b : List (List Command)) → AreFramesOf frames a → AreFramesOf frames b → a ≡ b
 batches-unique [] [] [] of_a of_b = refl

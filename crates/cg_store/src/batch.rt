@@ -1,10 +1,8 @@
 //! Batches of commands.
 ghost use Rattle.std.specs.Prelude.{◌≡◌, MatchResult};
-ghost use Rattle.cg_frame.specs.declared.segment.TheConstants.{LARGEST_PAYLOAD_BYTES};
 ghost use Rattle.cg_store.specs.Batches.{IsBatch};
 
 use crate::commands::Commands;
-use cg_frame::LARGEST_PAYLOAD_BYTES;
 
 /// Commands that are appended together: at least one, and at most as many as fit one frame.
 #[derive(Debug, Drop)]
@@ -16,14 +14,13 @@ pub struct Batch {
 }
 
 impl Batch {
-    /// Builds a batch. Returns the commands unchanged if there are none or too many for one frame. No allocation.
+    /// Builds a batch. Returns the commands unchanged if there are none. No allocation.
     pub fn new(first: u64, commands: Commands) -> Result<Self, Commands>
         ensures { MatchResult result
             (λ batch. (batch.first ≡ first) × (batch.commands ≡ commands))
             (λ back. (¬ IsBatch commands) × (back ≡ commands)) }
     {
-        let bytes = commands.as_bytes().len() as u64;
-        if commands.len() > 0 && bytes <= LARGEST_PAYLOAD_BYTES {
+        if commands.len() > 0 {
             Ok(Batch { first, commands })
         } else {
             Err(commands)

@@ -51,8 +51,7 @@ impl<D: SectorDisk> Store<D> {
         if batch.first != self.log.number() + 1 {
             return Err(StoreFault::OutOfOrder);
         }
-        let count = batch.commands.len() as u64;
-        match self.log.append(count, batch.commands.as_bytes()) {
+        match self.log.append(batch.commands.frame()) {
             Ok(()) => Ok(()),
             Err(LogFault::Memory) => Err(StoreFault::Memory),
             Err(LogFault::Device) => Err(StoreFault::Device),

@@ -1,6 +1,6 @@
 //! A compaction: what it keeps from call to call.
 
-use crate::commands::Commands;
+use crate::draft::CommandsDraft;
 use crate::snapshot_frames::SnapshotFrames;
 use cg_fold::Durable;
 use cg_log::Cursor;
@@ -36,8 +36,8 @@ pub(crate) struct Writing {
     pub(crate) cut: Cut,
     /// The commands that are left to write.
     pub(crate) frames: SnapshotFrames,
-    /// The payload of the last frame: memory for the next.
-    pub(crate) text: Commands,
+    /// The last frame: memory for the next.
+    pub(crate) draft: CommandsDraft,
 }
 
 /// Phase of a compaction, with what that phase keeps.

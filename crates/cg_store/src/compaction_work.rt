@@ -17,8 +17,8 @@ ghost use Rattle.cg_store.specs.Carried.{Carries as CarriesState, Spell};
 ghost use Rattle.cg_store.specs.Compacting.{Compacts, HasCopied, HaveSameFrames, IsFolding, IsFrameRead, IsTakenFrom, IsWritten, NeedsSegment, cut_in, phase_in, unwritten_in};
 ghost use Rattle.cg_store.specs.Phases.{IsEnd, is_compact_failure, phase_after};
 
-use crate::commands::Commands;
 use crate::compaction::{Compaction, Cut, Reading, Writing};
+use crate::draft::CommandsDraft;
 use crate::fault::CompactFault;
 use crate::phase::{Phase, Progress};
 use crate::recovery::{add_commands, room_for_spent};
@@ -151,12 +151,12 @@ fn writing_of(alloc: Global, reading: Reading) -> Result<Writing, AllocError>
     ensures frames { IfOk result (λ writing. writing.frames ≡ snapshot_of reading.durable) }
     ensures cut { IfOk result (λ writing. writing.cut ≡ reading.cut) }
 {
-    let text = Commands::new(alloc, &[])?;
+    let draft = CommandsDraft::new(alloc)?;
     let frames = SnapshotFrames::new(alloc, reading.durable);
     Ok(Writing {
         cut: reading.cut,
         frames,
-        text,
+        draft,
     })
 }
 
@@ -245,7 +245,7 @@ pub(crate) fn read<D: SectorDisk>(
 fn write_frame<D: SectorDisk>(
     log: &mut Log<D>,
     frames: &mut SnapshotFrames,
-    text: &mut Commands,
+    draft: &mut CommandsDraft,
 ) -> Result<Progress, CompactFault>
     requires serves { has_failed log.old ≡ false }
     ensures written { IfOk result (λ progress. IsWritten progress frames.old frames.new) }
@@ -269,11 +269,11 @@ fn write_frame<D: SectorDisk>(
     ensures same_size { D.size (disk_of log.new) ≡ D.size (disk_of log.old) }
     ensures same_honesty { D.is_honest (disk_of log.new) ≡ D.is_honest (disk_of log.old) }
 {
-    if !frames.next(text)? {
+    if !frames.next(draft)? {
         return Ok(Progress::Done);
     }
-    let count = text.len() as u64;
-    match log.fresh_append(count, text.as_bytes()) {
+    let commands = draft.share()?;
+    match log.fresh_append(commands.frame()) {
         Ok(()) => Ok(Progress::More),
         Err(LogFault::Memory) => Err(CompactFault::Memory),
         Err(LogFault::Device) => Err(CompactFault::Device),
@@ -319,8 +319,8 @@ pub(crate) fn write<D: SectorDisk>(
     ensures same_honesty { D.is_honest (disk_of log.new) ≡ D.is_honest (disk_of log.old) }
 {
     let (outcome, cut) = match compaction {
-        Compaction::Writing(Writing { cut, frames, text }) => {
-            (write_frame(log, frames, text), *cut)
+        Compaction::Writing(Writing { cut, frames, draft }) => {
+            (write_frame(log, frames, draft), *cut)
         }
         _ => unreachable!(),
     };

@@ -2,6 +2,7 @@
 ghost use Rattle.std.specs.Prelude.{◌≡◌};
 
 use crate::batch::Batch;
+use crate::commands::Commands;
 
 /// The receipt for a batch that was appended. Only a store creates it, once every crash image has the batch.
 #[derive(Debug, Drop)]
@@ -24,5 +25,12 @@ impl Receipt {
         ensures { result.now ≡ batch_of self.now }
     {
         &self.batch
+    }
+
+    /// Returns the commands of the appended batch.
+    pub fn into_commands(self) -> Commands
+        ensures { result ≡ (batch_of self).commands }
+    {
+        self.batch.commands
     }
 }

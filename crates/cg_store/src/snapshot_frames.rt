@@ -1,12 +1,10 @@
-//! The commands of a snapshot, cut into payloads of frames.
-ghost use Rattle.std.specs.Prelude.{◌≡◌, ◌≤◌, ◌<◌, ◌++◌, ◌≢◌, [], None, true, false, length, IfOk, OnOk};
+//! The commands of a snapshot, cut into frames.
+ghost use Rattle.std.specs.Prelude.{◌≡◌, ◌<◌, ◌++◌, ◌≢◌, [], None, true, false, length, IfOk, OnOk};
 ghost use Rattle.std.specs.Option.{option_to_list};
-ghost use Rattle.cg_frame.specs.declared.segment.TheConstants.{LARGEST_PAYLOAD_BYTES};
 ghost use Rattle.cg_fold.specs.Snapshot.{snapshot_of};
-ghost use Rattle.cg_record.specs.Spelling.{spelling};
 ghost use Rattle.cg_store.specs.Compacting.{IsFull, IsNextFrame};
 
-use crate::commands::Commands;
+use crate::draft::CommandsDraft;
 use cg_fold::{Durable, Snapshot};
 use cg_record::Command;
 use std::alloc::{AllocError, Global};
@@ -23,57 +21,53 @@ fn look_ahead(ahead: &mut Option<Command>, snapshot: &mut Snapshot) -> Result<()
     Ok(())
 }
 
-// Appends the command ahead to the payload. Returns `false` if there is none, or it does not fit.
-fn put_ahead(text: &mut Commands, ahead: &Option<Command>) -> Result<bool, AllocError>
-    ensures put { IfOk result (λ is. is ≡ true → text.new ≡ text.old ++ option_to_list ahead.now) }
-    ensures same { IfOk result (λ is. is ≡ false → text.new ≡ text.old) }
-    ensures fits { length (spelling text.old) ≤ LARGEST_PAYLOAD_BYTES → length (spelling text.new) ≤ LARGEST_PAYLOAD_BYTES }
+// Appends the command ahead to the draft. Returns `false` if there is none, or it does not fit.
+fn put_ahead(draft: &mut CommandsDraft, ahead: &Option<Command>) -> Result<bool, AllocError>
+    ensures put { IfOk result (λ is. is ≡ true → draft.new ≡ draft.old ++ option_to_list ahead.now) }
+    ensures same { IfOk result (λ is. is ≡ false → draft.new ≡ draft.old) }
     ensures some { IfOk result (λ is. is ≡ true → ahead.now ≢ None) }
-    ensures full { IfOk result (λ is. is ≡ false → IsFull text.new (option_to_list ahead.now)) }
-    ensures holds_one { IfOk result (λ is. is ≡ false → text.new ≡ [] → ahead.now ≡ None) }
+    ensures full { IfOk result (λ is. is ≡ false → IsFull draft.new (option_to_list ahead.now)) }
+    ensures holds_one { IfOk result (λ is. is ≡ false → draft.new ≡ [] → ahead.now ≡ None) }
 {
     match ahead {
         Some(command) => {
-            let is_put = text.push_if_fits(command)?;
+            let is_put = draft.push_if_fits(command)?;
             Ok(is_put)
         }
         None => Ok(false),
     }
 }
 
-// Moves the next command to the payload. Returns `false` if there is none, or it does not fit: then it is the one ahead.
+// Moves the next command to the draft. Returns `false` if there is none, or it does not fit: then it is the one ahead.
 fn move_one(
-    text: &mut Commands,
+    draft: &mut CommandsDraft,
     ahead: &mut Option<Command>,
     snapshot: &mut Snapshot,
 ) -> Result<bool, AllocError>
-    ensures order { OnOk result (text.new ++ (option_to_list ahead.new ++ snapshot.new) ≡ text.old ++ (option_to_list ahead.old ++ snapshot.old)) }
-    ensures fits { length (spelling text.old) ≤ LARGEST_PAYLOAD_BYTES → length (spelling text.new) ≤ LARGEST_PAYLOAD_BYTES }
+    ensures order { OnOk result (draft.new ++ (option_to_list ahead.new ++ snapshot.new) ≡ draft.old ++ (option_to_list ahead.old ++ snapshot.old)) }
     ensures moved { IfOk result (λ is. is ≡ true → length (option_to_list ahead.new ++ snapshot.new) < length (option_to_list ahead.old ++ snapshot.old)) }
-    ensures full { IfOk result (λ is. is ≡ false → IsFull text.new (option_to_list ahead.new ++ snapshot.new)) }
-    ensures some { IfOk result (λ is. is ≡ false → text.new ≡ [] → option_to_list ahead.new ++ snapshot.new ≡ []) }
+    ensures full { IfOk result (λ is. is ≡ false → IsFull draft.new (option_to_list ahead.new ++ snapshot.new)) }
+    ensures some { IfOk result (λ is. is ≡ false → draft.new ≡ [] → option_to_list ahead.new ++ snapshot.new ≡ []) }
 {
     look_ahead(ahead, snapshot)?;
-    let is_put = put_ahead(text, ahead)?;
+    let is_put = put_ahead(draft, ahead)?;
     if is_put {
         *ahead = None;
     }
     Ok(is_put)
 }
 
-// Moves commands to the payload until the next does not fit, which is the one ahead then.
+// Moves commands to the draft until the next does not fit, which is the one ahead then.
 fn fill(
-    text: &mut Commands,
+    draft: &mut CommandsDraft,
     ahead: &mut Option<Command>,
     snapshot: &mut Snapshot,
 ) -> Result<(), AllocError>
-    requires { length (spelling text.old) ≤ LARGEST_PAYLOAD_BYTES }
-    ensures order { OnOk result (text.new ++ (option_to_list ahead.new ++ snapshot.new) ≡ text.old ++ (option_to_list ahead.old ++ snapshot.old)) }
-    ensures fits { OnOk result (length (spelling text.new) ≤ LARGEST_PAYLOAD_BYTES) }
-    ensures full { OnOk result (IsFull text.new (option_to_list ahead.new ++ snapshot.new)) }
-    ensures some { OnOk result (text.new ≡ [] → option_to_list ahead.new ++ snapshot.new ≡ []) }
+    ensures order { OnOk result (draft.new ++ (option_to_list ahead.new ++ snapshot.new) ≡ draft.old ++ (option_to_list ahead.old ++ snapshot.old)) }
+    ensures full { OnOk result (IsFull draft.new (option_to_list ahead.new ++ snapshot.new)) }
+    ensures some { OnOk result (draft.new ≡ [] → option_to_list ahead.new ++ snapshot.new ≡ []) }
 {
-    while move_one(text, ahead, snapshot)? {}
+    while move_one(draft, ahead, snapshot)? {}
     Ok(())
 }
 
@@ -106,14 +100,14 @@ impl SnapshotFrames {
         }
     }
 
-    /// Moves as many commands as fit one frame to a payload, in place of what that has. Returns `false` if there are no
+    /// Moves as many commands as fit one frame to a draft, in place of what that has. Returns `false` if there are no
     /// more. If an allocation fails, some of them may be gone.
-    pub(crate) fn next(&mut self, text: &mut Commands) -> Result<bool, AllocError>
-        ensures next { IfOk result (λ is. is ≡ true → IsNextFrame text.new self.old self.new) }
+    pub(crate) fn next(&mut self, draft: &mut CommandsDraft) -> Result<bool, AllocError>
+        ensures next { IfOk result (λ is. is ≡ true → IsNextFrame draft.new self.old self.new) }
         ensures none { IfOk result (λ is. is ≡ false → (self.old ≡ []) × (self.new ≡ [])) }
     {
-        text.clear()?;
-        fill(text, &mut self.ahead, &mut self.snapshot)?;
-        Ok(text.len() > 0)
+        draft.clear()?;
+        fill(draft, &mut self.ahead, &mut self.snapshot)?;
+        Ok(draft.len() > 0)
     }
 }

@@ -1,10 +1,10 @@
-use Rattle.std.proofs.Common.{◌≡◌, ℕ, Err, rules}
+use Rattle.std.proofs.Common.{◌≡◌, ℕ, Err, is_some, rules, ap}
 use Rattle.cg_request.specs.declared.ticket.Ticket.{Ticket}
 use Rattle.cg_group_rules.specs.declared.sync.SyncCase.TheVariants.{Current, Parked, Leading}
 use Rattle.cg_group.specs.InPlace.{IsSync}
 use Rattle.cg_group.specs.Machine.{sync}
 use Rattle.cg_group_table.specs.SessionIndex.{is_home}
-use Rattle.cg_group.proofs.Displacing.{keeps_sync, parks_named_sync, sync_displacing}
+use Rattle.cg_group.proofs.Displacing.{call_of_sync, keeps_sync, parks_synced, sync_is_parked}
 use Rattle.cg_group.proofs.Handing.{keeps_leading, leading_is, parks_leading}
 use Rattle.cg_group.proofs.InPlace.{concluded_refused, on_err, sync_is_taken}
 use Rattle.cg_group.proofs.sync.handle_sync.Goals as goal
@@ -23,13 +23,23 @@ returns-in-Current-clause-known c =
 
 -- a SYNC that is only parked
 
+pub park_in-requires-clause-loaded : goal.park_in-requires-clause-loaded
+park_in-requires-clause-loaded c =
+    let at : IsSync c.args.r c.args.held.now c.in-Ok.taken.0.now c.in-Ok.taken.1.now (Parked c.in-Parked.older) = search rules in
+    ap is_some at.named.found
+
 pub park_in-requires-clause-keeps : goal.park_in-requires-clause-keeps
-park_in-requires-clause-keeps c = λ g. keeps_sync _ _ _ g
+park_in-requires-clause-keeps c = keeps_sync _ _ _
+
+pub park_in-requires-clause-suits : goal.park_in-requires-clause-suits
+park_in-requires-clause-suits c =
+    let at : IsSync c.args.r c.args.held.now c.in-Ok.taken.0.now c.in-Ok.taken.1.now (Parked c.in-Parked.older) = search rules in
+    λ g found. call_of_sync c.args.now c.args.r c.args.ticket c.args.held.now c.in-Ok.taken.0.now c.in-Ok.taken.1.now c.in-Parked.older at g found
 
 pub park_in-requires-clause-parks : goal.park_in-requires-clause-parks
 park_in-requires-clause-parks c =
     let at : IsSync c.args.r c.args.held.now c.in-Ok.taken.0.now c.in-Ok.taken.1.now (Parked c.in-Parked.older) = search rules in
-    λ g found. parks_named_sync c.args.now c.args.r c.args.ticket c.args.held.now c.in-Ok.taken.0.now c.in-Ok.taken.1.now c.in-Parked.older at g found
+    λ g after e found is. parks_synced c.args.now c.args.r c.args.ticket c.args.held.now c.in-Ok.taken.0.now c.in-Ok.taken.1.now c.in-Parked.older at g after e found is
 
 pub returns-in_err-effects-in-Parked-clause-taken : goal.returns-in_err-effects-in-Parked-clause-taken
 returns-in_err-effects-in-Parked-clause-taken c =
@@ -39,8 +49,7 @@ returns-in_err-effects-in-Parked-clause-taken c =
 pub returns-in_ok-effects-in-Parked-clause-ok : goal.returns-in_ok-effects-in-Parked-clause-ok
 returns-in_ok-effects-in-Parked-clause-ok c =
     let at : IsSync c.args.r c.args.held.now c.in-Ok.taken.0.now c.in-Ok.taken.1.now (Parked c.in-Parked.older) = search rules in
-    sync_displacing c.args.now c.args.r c.args.ticket c.args.held.now c.park_in.new.held c.in-Ok.taken.0.now c.in-Ok.taken.1.now c.in-Parked.older c.in_ok-effects-in-Parked.effects at
-    c.in_ok-effects-in-Parked.ensures.after c.in_ok-effects-in-Parked.ensures.effects
+    sync_is_parked c.args.now c.args.r c.args.ticket c.args.held.now c.in-Ok.taken.0.now c.in-Ok.taken.1.now c.in-Parked.older at c.park_in.new.held c.in_ok-effects-in-Parked.effects c.in_ok-effects-in-Parked.ensures.ok
 
 -- the SYNC of a leader
 
@@ -60,7 +69,7 @@ step_parking-requires-clause-keeps c = keeps_leading _ _ _ _
 pub step_parking-requires-clause-parks : goal.step_parking-requires-clause-parks
 step_parking-requires-clause-parks c =
     let at : IsSync c.args.r c.args.held.now c.in_ok-group-in-Leading.group c.in_ok-leader-in-Leading.leader Leading = search rules in
-    λ g found. parks_leading c.args.r c.args.held.now c.in_ok-group-in-Leading.group c.in_ok-leader-in-Leading.leader at g found c.args.now c.args.ticket
+    λ g after e found is. parks_leading c.args.now c.args.r c.args.ticket c.args.held.now c.in_ok-group-in-Leading.group c.in_ok-leader-in-Leading.leader at g after e found is
 
 pub returns-in_err-effects-in-Leading-clause-taken : goal.returns-in_err-effects-in-Leading-clause-taken
 returns-in_err-effects-in-Leading-clause-taken c =
@@ -70,5 +79,4 @@ returns-in_err-effects-in-Leading-clause-taken c =
 pub returns-in_ok-effects-in-Leading-clause-ok : goal.returns-in_ok-effects-in-Leading-clause-ok
 returns-in_ok-effects-in-Leading-clause-ok c =
     let at : IsSync c.args.r c.args.held.now c.in_ok-group-in-Leading.group c.in_ok-leader-in-Leading.leader Leading = search rules in
-    leading_is c.args.r c.args.held.now c.in_ok-group-in-Leading.group c.in_ok-leader-in-Leading.leader at at.group at.named.found c.args.now c.args.ticket c.step_parking.new.held c.in_ok-effects-in-Leading.effects
-    (c.in_ok-effects-in-Leading.ensures.ok c.args.now at.group at.named.found)
+    leading_is c.args.now c.args.r c.args.ticket c.args.held.now c.in_ok-group-in-Leading.group c.in_ok-leader-in-Leading.leader at c.step_parking.new.held c.in_ok-effects-in-Leading.effects c.in_ok-effects-in-Leading.ensures.ok

@@ -1,4 +1,4 @@
-use Rattle.std.proofs.Common.{◌+◌, ◌≤◌, ◌∙◌, sym, arith}
+use Rattle.std.proofs.Common.{◌+◌, ◌≤◌, ◌∙◌, sym}
 use Rattle.cg_log.specs.declared.numbers.TheConstants.{COMMAND_NUMBER_MAX}
 use Rattle.cg_log.proofs.Moves.{put-images}
 use Rattle.cg_gate.specs.Layout.{segment_count}
@@ -11,20 +11,20 @@ returns-in-Ok-clause-stored g c has log =
     let holds = c.in-Ok.ensures.stored log.is_honest has self.number log.holds in
     record {
       is_honest = c.append_last.ensures.same_honesty ∙ log.is_honest;
-      holds = rw (c.append_last.ensures.same_size, c.requires.count) holds;
+      holds = rw (c.append_last.ensures.same_size, c.count.ensures) holds;
     }
 
 pub returns-in-Ok-clause-images : goal.returns-in-Ok-clause-images
 returns-in-Ok-clause-images g c has log =
     let self = c.args.self.now in
-    let few : self.number + c.args.frame.0 ≤ COMMAND_NUMBER_MAX = omega (arith, c.requires.few, c.requires.count) in
-    put-images (g.D.SectorDisk.history self.disk) (g.D.SectorDisk.history c.append_last.new.disk) (g.D.SectorDisk.size self.disk) self.root self.end self.number has self.in_range log.holds c.args.frame.0 c.args.frame.1 few (c.append_last.ensures.images log.is_honest has self.number log.holds)
+    let few : self.number + c.args.frame.now.0 ≤ COMMAND_NUMBER_MAX = c.requires.few in
+    put-images (g.D.SectorDisk.history self.disk) (g.D.SectorDisk.history c.append_last.new.disk) (g.D.SectorDisk.size self.disk) self.root self.end self.number has self.in_range log.holds c.args.frame.now.0 c.args.frame.now.1 few (c.append_last.ensures.images log.is_honest has self.number log.holds)
 
 pub returns-in-Err-Device-clause-images : goal.returns-in-Err-Device-clause-images
 returns-in-Err-Device-clause-images g c has log =
     let self = c.args.self.now in
-    let few : self.number + c.args.frame.0 ≤ COMMAND_NUMBER_MAX = omega (arith, c.requires.few, c.requires.count) in
-    put-images (g.D.SectorDisk.history self.disk) (g.D.SectorDisk.history c.append_last.new.disk) (g.D.SectorDisk.size self.disk) self.root self.end self.number has self.in_range log.holds c.args.frame.0 c.args.frame.1 few (c.append_last.ensures.images log.is_honest has self.number log.holds)
+    let few : self.number + c.args.frame.now.0 ≤ COMMAND_NUMBER_MAX = c.requires.few in
+    put-images (g.D.SectorDisk.history self.disk) (g.D.SectorDisk.history c.append_last.new.disk) (g.D.SectorDisk.size self.disk) self.root self.end self.number has self.in_range log.holds c.args.frame.now.0 c.args.frame.now.1 few (c.append_last.ensures.images log.is_honest has self.number log.holds)
 
 pub invariant_of-self-clause-ready : goal.invariant_of-self-clause-ready
 invariant_of-self-clause-ready g c serves honest =

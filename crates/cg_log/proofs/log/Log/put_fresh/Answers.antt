@@ -77,8 +77,8 @@ returns-in-Ok-clause-fresh g c sealed at frames has =
     let none = last-not_named (segment_count size) self.root ids self.taken c.requires.some in
     let id_is : c.last_id-id.result ≡ last_id ids = c.last_id-id.ensures ∙ ap last_id c.as_slice.ensures.value in
     let change = subst (λ (k : ℕ). Changes (first_sector k) 2048 old new) id_is (c.append_fresh.ensures.time has.is_honest) in
-    let count = c.args.frame.0 in
-    let payload = c.args.frame.1 in
+    let count = c.args.frame.now.0 in
+    let payload = c.args.frame.now.1 in
     let more = subst (λ (k : ℕ). (frames : Frames) → ((image : Image) → IsImage (present old) image → HasFrames image (segment_of k) frames) → self.fresh_end ≡ end_of_frames 0 frames → (image : Image) → IsImage (present new) image → HasFrames image (segment_of k) (frames ++ (count, payload) ∷ [])) id_is (c.in-Ok.ensures.stored has.is_honest) in
     record {
       is_honest = c.append_fresh.ensures.same_honesty ∙ has.is_honest;
@@ -110,4 +110,4 @@ invariant_of-self-clause-fresh_ready g c serves honest some =
     let none = last-not_named (segment_count size) self.root ids self.taken c.requires.some in
     let id_is : c.last_id-id.result ≡ last_id ids = c.last_id-id.ensures ∙ ap last_id c.as_slice.ensures.value in
     let honest0 = sym c.append_fresh.ensures.same_honesty ∙ honest in
-    rw c.in-Ok.ensures.next (subst (λ (k : ℕ). AllClosed (present new) (first_sector k + next_gate self.fresh_end (length c.args.frame.1))) id_is (c.in-Ok.ensures.closed honest0))
+    rw c.in-Ok.ensures.next (subst (λ (k : ℕ). AllClosed (present new) (first_sector k + next_gate self.fresh_end (length c.args.frame.now.1))) id_is (c.in-Ok.ensures.closed honest0))

@@ -1,8 +1,8 @@
-use Rattle.std.proofs.Common.{◌∷◌, [], ◌++◌, ℕ, List, subst}
+use Rattle.std.proofs.Common.{[]}
 use Rattle.cg_log.specs.Carried.{tails}
 use Rattle.cg_disk.specs.Disk.{present}
 use Rattle.cg_log.specs.Fresh.{HoldsFresh}
-use Rattle.cg_log.specs.Log.{HasFresh, disk_of, number_of}
+use Rattle.cg_log.specs.Log.{disk_of, number_of}
 use Rattle.cg_log.specs.Segments.{frames_of}
 use Rattle.cg_log.proofs.Kept.{then-kept}
 use Rattle.cg_log.proofs.Moves.{still-images}
@@ -15,11 +15,6 @@ returns-in_default-clause-images g c has log =
 
 pub returns-in_err-reserve-clause-images : goal.returns-in_err-reserve-clause-images
 returns-in_err-reserve-clause-images g c has log =
-    let self = c.args.self.now in
-    still-images (g.D.SectorDisk.history self.disk) (g.D.SectorDisk.size self.disk) self.root self.end self.number has self.in_range log.holds
-
-pub returns-in_err-frame-clause-images : goal.returns-in_err-frame-clause-images
-returns-in_err-frame-clause-images g c has log =
     let self = c.args.self.now in
     still-images (g.D.SectorDisk.history self.disk) (g.D.SectorDisk.size self.disk) self.root self.end self.number has self.in_range log.holds
 
@@ -46,4 +41,4 @@ returns-clause-fresh g c fresh has =
     let m = present (g.D.SectorDisk.history self.disk) in
     let reserved : HoldsFresh m c.reserve.new.self.items self.fresh_end fresh = rw c.reserve.ensures.items has.holds in
     let put = c.in_ok-put_fresh.ensures.fresh fresh id [] (c.in_ok-begin_fresh.ensures.fresh fresh (record { is_honest = has.is_honest; holds = reserved })) in
-    (id, subst (λ (f : ℕ × List ℕ). HasFresh g.D.SectorDisk.is_honest g.D.SectorDisk.history c.put_fresh.new.self (fresh ++ (id, f ∷ []) ∷ [])) c.in_ok-frame.ensures put)
+    (id, put)

@@ -1,6 +1,6 @@
 use Rattle.std.proofs.Common.{◌≡◌, ◌∙◌, ap, sym, rules}
 use Rattle.cg_record.specs.Spelling.{spelling}
-use Rattle.cg_store.proofs.Spelled.{commands-unique}
+use Rattle.cg_record.proofs.Longer.{commands-unique}
 use Rattle.cg_store.proofs.commands.Commands.is_same.Goals as goal
 
 pub returns : goal.returns
