@@ -36,7 +36,8 @@ use Rattle.cg_group_rules.specs.StaticMember.{replace_static_member}
 use Rattle.cg_group_rules.specs.Sync.{sync_taken}
 use Rattle.cg_group_table.proofs.Framed.{framed-beat_taken, framed-committed, framed-join_known, framed-add_member_and_rebalance, framed-replace_static_member, framed-leave_taken, framed-sync_taken}
 use Rattle.cg_group_table.proofs.KeptLists.{each-found, same_self}
-use Rattle.cg_group.proofs.Requests.{Fine, after_checked, after_given, fine-beat, fine-commit, fine-join, fine-sync, given_by, tested}
+use Rattle.cg_group_state.proofs.MemberChecks.{given_by, tested}
+use Rattle.cg_group.proofs.Requests.{Fine, after_checked, after_given, fine-beat, fine-commit, fine-join, fine-sync}
 use Rattle.cg_desk.specs.Owed.{KeepsCalls}
 use Rattle.cg_desk.specs.Tokens.{call_of}
 use Rattle.cg_desk.specs.Turns.{told_of, waits_of}

@@ -29,7 +29,8 @@ use Rattle.cg_group_table.specs.Recovery.{revive}
 use Rattle.cg_group.proofs.Agreeing.{Whole, empty_members, empty_is}
 use Rattle.cg_group.proofs.AgreeingMachine.{whole-all}
 use Rattle.cg_group_table.proofs.KeptLists.{each-found}
-use Rattle.cg_group.proofs.Requests.{Fine, after_checked, after_given, after_test, check_parts, passed_by, tested, unfenced_by}
+use Rattle.cg_group_state.proofs.MemberChecks.{check_parts, passed_by, tested, unfenced_by}
+use Rattle.cg_group.proofs.Requests.{Fine, after_checked, after_given, after_test}
 
 -- a group in Empty has no members
 abbrev IsSound : Group → Type 0

@@ -1,5 +1,5 @@
 -- The effect of a request that passes its checks, and what the checks established.
-use Rattle.std.proofs.Common.{◌≡◌, ℕ, Bool, true, false, not, List, [], ◌∷◌, is_some, refl, ap, subst, Option, Some, None, Result, Ok, Err, ok_or, nat_le, length, pos}
+use Rattle.std.proofs.Common.{◌≡◌, ℕ, Bool, true, false, not, List, [], ◌∷◌, is_some, refl, ap, Option, Some, None, Result, Ok, Err, ok_or, nat_le, length, pos}
 use Rattle.std.proofs.lemmas.Bool.{not-false}
 use Rattle.std.specs.Ordering.{int_eq}
 use Rattle.cg_names.specs.declared.code.Code.{Code}
@@ -16,7 +16,7 @@ use Rattle.cg_request.specs.declared.ticket.Ticket.{Ticket}
 use Rattle.cg_group_state.specs.declared.turn.Turn.{Turn}
 use Rattle.cg_group_rules.specs.Heartbeat.{beat_held, beat_taken}
 use Rattle.cg_group_rules.specs.JoinChecks.{is_full, join_drawn, join_held, join_placed, join_unheld}
-use Rattle.cg_group_state.specs.MemberCheck.{fencing, validate_current_member}
+use Rattle.cg_group_state.specs.MemberCheck.{validate_current_member}
 use Rattle.cg_group_state.specs.MemberId.{drawn, own_name}
 use Rattle.cg_group_rules.specs.Join.{is_inconsistent, join_known, add_member_and_rebalance, new_group}
 use Rattle.cg_group_state.specs.JoinTerms.{is_session_refused}
@@ -46,37 +46,6 @@ after_given P (Some x) code rest h = h x refl
 pub after_checked : {A : Type 0} (P : Turn → Type 0) (o : Result A Code) (rest : A → Result Turn Code) → ((x : A) → o ≡ Ok x → Fine P (rest x)) → Fine P (o >>= rest)
 after_checked P (Ok x) rest h = h x refl
 after_checked P (Err code) rest h = tt
-
--- the condition of a check that passed
-
-pub tested : {A : Type 0} (b : Bool) (code : Code) (rest : Unit {0} → Result A Code) (x : A) → (refused_if b code >>= rest) ≡ Ok x → (b ≡ false) × (rest tt ≡ Ok x)
-tested true code rest x e = cc
-tested false code rest x e = (refl, e)
-
-pub given_by : {A B : Type 0} (o : Option B) (code : Code) (rest : B → Result A Code) (x : A) → (ok_or o code >>= rest) ≡ Ok x → (y : B) × (o ≡ Some y) × (rest y ≡ Ok x)
-given_by None code rest x e = cc
-given_by (Some y) code rest x e = (y, refl, e)
-
-pub passed_by : {A B : Type 0} (o : Result B Code) (rest : B → Result A Code) (x : A) → (o >>= rest) ≡ Ok x → (y : B) × (o ≡ Ok y) × (rest y ≡ Ok x)
-passed_by (Ok y) rest x e = (y, refl, e)
-passed_by (Err code) rest x e = cc
-
--- a caller that passes the member check is the member with the given id
-pub check_parts : (instance member : Option (List ℕ)) (ms : List Member) (who : List ℕ × Member) → validate_current_member instance member ms ≡ Ok who → (member ≡ Some who.0) × (find_member who.0 ms ≡ Some who.1)
-unfolding validate_current_member
-check_parts instance member ms who e =
-    let from = passed_by (fencing instance member ms) (λ _. ok_or member UnknownMemberId >>= λ id. ok_or (find_member id ms) UnknownMemberId >>= λ m. Ok (id, m)) who e in
-    let named = given_by member UnknownMemberId (λ id. ok_or (find_member id ms) UnknownMemberId >>= λ m. Ok (id, m)) who from.2 in
-    let found = given_by (find_member named.0 ms) UnknownMemberId (λ m. Ok (named.0, m)) who named.2 in
-    let same : (named.0, found.0) ≡ who = cc in
-    let Q : List ℕ × Member → Type 0 = λ w. (member ≡ Some w.0) × (find_member w.0 ms ≡ Some w.1) in
-    subst Q same (named.1, found.1)
-
--- no other member has the given instance
-pub unfenced_by : (instance member : Option (List ℕ)) (ms : List Member) (who : List ℕ × Member) → validate_current_member instance member ms ≡ Ok who → fencing instance member ms ≡ Ok tt
-unfolding validate_current_member
-unfenced_by instance member ms who e =
-    (passed_by (fencing instance member ms) (λ _. ok_or member UnknownMemberId >>= λ id. ok_or (find_member id ms) UnknownMemberId >>= λ m. Ok (id, m)) who e).1
 
 -- the member that leaves is a member
 leaver_is_there : (instance member : Option (List ℕ)) (ms : List Member) (m : Member) → leaver instance member ms ≡ Ok m → is_empty ms ≡ false

@@ -8,9 +8,10 @@ use Rattle.cg_names.specs.declared.code.Code.TheVariants.{IllegalGeneration, Off
 use Rattle.cg_group_state.specs.declared.group.Group.{Group}
 use Rattle.cg_group_state.specs.declared.member.Member.{Member}
 use Rattle.cg_group_state.specs.declared.turn.Turn.{Turn}
-use Rattle.cg_group_state.specs.MemberCheck.{fencing, validate_current_member}
+use Rattle.cg_group_state.specs.MemberCheck.{validate_current_member}
 use Rattle.cg_group_state.specs.Membership.{find_member, heard, hearing, is_empty}
 use Rattle.cg_group_state.specs.Checks.{◌>>=◌, refused_if}
+use Rattle.cg_group_state.proofs.MemberChecks.{check_parts}
 use Rattle.cg_group_state.proofs.Recalling.{taken_back}
 use Rattle.cg_request.specs.Commits.{is_too_large}
 use Rattle.cg_request.specs.declared.request_fields.CommitRequest.{CommitRequest}
@@ -38,24 +39,6 @@ too_large_by true b c e = cc
 too_large_by false true c e = cc
 too_large_by false false true e = cc
 too_large_by false false false e = refl
-
--- a caller that passes the member check gave its id
-given_id : (instance member : Option (List ℕ)) (ms : List Member) (id : List ℕ) (m : Member) → validate_current_member instance member ms ≡ Ok (id, m) → member ≡ Some id
-unfolding validate_current_member
-given_id instance member ms id m e = go (fencing instance member ms) member e
-  where
-    found_id : (x : List ℕ) (o : Option Member) → (ok_or o UnknownMemberId >>= λ y. let p : List ℕ × Member = (x, y) in Ok p) ≡ Ok (id, m) → x ≡ id
-    found_id x None e = cc
-    found_id x (Some y) e =
-        let p : List ℕ × Member = (x, y) in
-        let q : List ℕ × Member = (id, m) in
-        let same : p ≡ q = cc in
-        ap (λ (w : List ℕ × Member). w.0) same
-
-    go : (f : Result (Unit {0}) Code) (o : Option (List ℕ)) → (f >>= λ _. ok_or o UnknownMemberId >>= λ x. ok_or (find_member x ms) UnknownMemberId >>= λ y. let p : List ℕ × Member = (x, y) in Ok p) ≡ Ok (id, m) → o ≡ Some id
-    go (Err code) o e = cc
-    go (Ok u) None e = cc
-    go (Ok u) (Some x) e = ap Some (found_id x (find_member x ms) e)
 
 module _ (r : CommitRequest) (g : Group) (some : is_empty g.members ≡ false) where
   by_check : (now : ℕ) (ticket : Ticket) (o : Result (List ℕ × Member) Code) → validate_current_member r.instance r.member g.members ≡ o
@@ -96,7 +79,7 @@ module _ (r : CommitRequest) (g : Group) (some : is_empty g.members ≡ false) w
         taken = λ ticket. comes_to now ticket ∙ ap (λ o. or_code o (committed now r.entries ticket (hearing now id g))) e;
         small = too_large_by (not (int_eq r.generation (pos g.generation))) (is_completing g.phase) (is_too_large r.entries) e;
         back =
-            ap (λ o. heard_at o (Some m.heard) (hearing now id g)) (given_id r.instance r.member g.members id m passed)
+            ap (λ o. heard_at o (Some m.heard) (hearing now id g)) (check_parts r.instance r.member g.members (id, m) passed).0
             ∙ ap (λ (ms : List Member). record g { members = ms }) (taken_back id (heard now) (heard m.heard) (λ _. refl) g.members m found refl);
       }
 

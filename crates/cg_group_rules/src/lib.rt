@@ -1,5 +1,6 @@
-//! What each request does to one group. Each file has one request, and `specs/` its rules in the order of the protocol guide.
-//! A function changes the group in place and returns the replies and commands, or returns what is to change.
+//! What each request does to one group, in a file of its name. What several of them share (the rebalance, the reply to a JOIN, a
+//! static member) has a file of its own. A function changes the group in place and returns the replies and commands, or returns
+//! what is to change. `specs/` has the rules in the order of the protocol guide.
 #![tactic(auto)]
 
 mod group_limit;
