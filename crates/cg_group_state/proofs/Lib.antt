@@ -6,6 +6,7 @@ pub mod Seats
 pub mod Keyed
 pub mod SameLists
 pub mod Votes
+pub mod MemberChecks
 pub mod Recalling
 pub mod Exchanges
 pub mod Remaining
