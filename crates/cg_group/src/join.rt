@@ -13,7 +13,7 @@ use crate::parked_call::park_in;
 use crate::parked_join::{EnteringJoin, NewMemberJoin, ParkedJoin, RebalanceJoin, rejoin_in};
 use crate::rebalance_step::step_parking;
 use crate::single_reply::reply_alone;
-use cg_group_rules::{JoinWay, RequestContext, join_unheld, join_way, unheld_refusal};
+use cg_group_rules::{JoinWay, RequestContext, join_unheld, unheld_refusal, way_of_join};
 use cg_group_state::{CheckedJoin, Effects, Reply, Turn, drawn};
 use cg_group_table::{GroupTable, SessionIndex};
 use cg_names::{Code, GroupId, Moment};
@@ -180,7 +180,7 @@ pub fn way_of<'a>(
             None => Ok(JoinWay::Creates),
         },
         Some(group) => {
-            let way = join_way(groups.allocator(), &r.request, fresh, group)?;
+            let way = way_of_join(groups.allocator(), &r.request, fresh, group)?;
             Ok(way)
         }
     }

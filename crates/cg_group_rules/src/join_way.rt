@@ -108,7 +108,7 @@ fn way_of_newcomer<'a>(r: &JoinRequest, fresh: Uuid, group: &Group) -> JoinWay<'
 
 /// Returns the way that a JOIN takes in its loaded group. Copies what the reply to a JOIN that changes nothing has: only a JOIN
 /// that is not refused needs an allocation.
-pub fn join_way<'a>(
+pub fn way_of_join<'a>(
     alloc: Global,
     r: &'a JoinRequest,
     fresh: Uuid,

@@ -23,7 +23,7 @@ pub use group_limit::GROUPS_MAX;
 pub use heartbeat::beat_in;
 pub use join::{join_placed, join_unheld, unheld_refusal};
 pub use join_reply::subscription_for;
-pub use join_way::{JoinWay, join_way};
+pub use join_way::{JoinWay, way_of_join};
 pub use leave::{departing, leave_in, leave_refusal, remove_member};
 pub use member_join::{new_group, new_member, update_member_and_rebalance};
 pub use offset_commit::{commit_at, hear_committer, kept, new_group_commit_refusal};
