@@ -28,6 +28,7 @@ use Rattle.cg_group.specs.Machine.{commit, commit_in, join, join_in, named_group
 use Rattle.cg_group_table.specs.GroupTable.{find_group}
 use Rattle.cg_group_state.specs.Membership.{find_instance, find_member, is_empty, is_preparing}
 use Rattle.cg_group_state.specs.Checks.{◌>>=◌, refused_if}
+use Rattle.cg_group_state.proofs.MemberChecks.{check_parts}
 use Rattle.cg_group_rules.specs.Sync.{sync_held, sync_taken}
 
 -- a refusal, or a step with this property
