@@ -7,7 +7,7 @@ from typing import Callable
 
 from . import log_file
 from .fault import Fault
-from .groups import Population, assignment, flushed, member_id, metadata, subscription
+from .groups import Group, Population, assignment, flushed, member_id, metadata, subscription
 from .processes import has_room
 from .report import Table, number, ratio
 from .script import ScriptProgram
@@ -25,6 +25,11 @@ REFUSED = b" ERR 24 INVALID_GROUP_ID\n"
 OFFSETS_A_GROUP = 64
 OFFSET_TICKS = 65_536
 OFFSET_ROUNDS = 3
+# JOINs that wait for the first member of their group, and the COMMITs beside them.
+PARKED = 10_000
+PARKED_A_GROUP = 63
+PARKED_COMMITS = 65_536
+PARKED_ROUNDS = 5
 
 
 @dataclass(frozen=True)
@@ -176,6 +181,42 @@ def _offset_ticks(settings, folder):
     return _row(f"Tick, none of {OFFSETS_A_GROUP} offsets due", settings.groups, 0, 1, times["tick"], times["at"])
 
 
+def _waiting_joins():
+    """Returns JOINs of new groups: in each the first member is answered at once, and the others wait for it to join again."""
+    lines = []
+    while len(lines) < PARKED + PARKED // PARKED_A_GROUP + 1:
+        at = len(lines)
+        group = Group(at // (PARKED_A_GROUP + 1), [], at)
+        lines.append(group.join(0, group.name, "-"))
+    return lines
+
+
+def _commits_of_no_member(program):
+    """Plays COMMITs to a group without members. Returns the processor seconds that one took."""
+    lines = [f"s0 COMMIT apart -1 - - t:0:{it}:x" for it in range(PARKED_COMMITS)]
+    seconds, printed = program.play(flushed(lines))
+    if printed.count(b"s0 OK\n") != len(lines) or printed.count(b"\n") != len(lines):
+        raise Fault(f"of {len(lines)} commits {printed.count(b' OK')} were acknowledged")
+    return seconds
+
+
+def _commits_beside_joins(settings, folder):
+    """Returns the row of COMMITs beside parked JOINs: what they are compared with are the same lines before a JOIN is parked."""
+    joins, times = _waiting_joins(), defaultdict(list)
+    with ScriptProgram(settings.sim, folder, SEGMENTS) as program:
+        # What the program prints when it has loaded.
+        program.play(["flush"])
+        for _ in range(PARKED_ROUNDS):
+            times["none"].append(_commits_of_no_member(program))
+        _, printed = program.play(flushed(joins))
+        answered = len(joins) - PARKED
+        if printed.count(b" JOINED ") != answered or printed.count(b"\n") != answered:
+            raise Fault(f"of {len(joins)} JOINs {printed.count(b' JOINED ')} were answered, and not {answered}")
+        for _ in range(PARKED_ROUNDS):
+            times["parked"].append(_commits_of_no_member(program))
+    return _row(f"COMMIT beside {number(PARKED)} parked JOINs", answered, PARKED_A_GROUP + 1, PARKED_COMMITS, times["parked"], times["none"])
+
+
 def _state(groups, size, differs):
     """Yields the commands of a state."""
     for at in range(groups):
@@ -221,6 +262,8 @@ def measure(settings, folder):
     events = [row for size in SIZES if settings.wants(f"{size} members") for row in _events(settings, folder, size)]
     if settings.wants(f"{OFFSETS_A_GROUP} offsets"):
         events.append(_offset_ticks(settings, folder))
+    if settings.wants("parked JOINs"):
+        events.append(_commits_beside_joins(settings, folder))
     path = os.path.join(folder, "empty")
     log_file.write_log(path, SEGMENTS, [])
     empty = _resident(settings, folder, path, 0)

@@ -1,5 +1,5 @@
 -- A desk that serves is balanced from recovery on.
-use Rattle.std.proofs.Common.{ℕ, Bool, true, false, List, [], ◌∷◌, refl, sym, subst}
+use Rattle.std.proofs.Common.{ℕ, Bool, true, false, List, [], ◌∷◌, ◌++◌, refl, sym, subst}
 use Rattle.std.specs.Prelude.{Option, Some, None, if◌then◌else◌}
 use Rattle.cg_fold.specs.Durable.{State as Durable}
 use Rattle.cg_request.specs.declared.request.Request.{Request}
@@ -122,7 +122,7 @@ replies_find_their_calls = record {
   tick = λ b now h. leave-served b [] Tick now h.owed (tick-keeps b.machine now);
   gone = λ b session now h. leave-served b [] (Gone session) now h.owed (gone-keeps b.machine session now);
   settle = λ b count h. leave-settled b count h.owed;
-  fail = λ b h. subst (AreRefusedOnce b.tokens) (by_tokens-order b h.owed) (by_tokens-once b);
+  fail = λ b h. subst (AreRefusedOnce (b.replied ++ b.parked)) (by_tokens-order b h.owed) (by_tokens-once b);
 }
 
 pub desks_have_distinct_members : DesksHaveDistinctMembers

@@ -1,9 +1,9 @@
 -- Each command is counted by at most one reply.
-use Rattle.std.proofs.Common.{◌≡◌, ℕ, zero, suc, ◌+◌, ◌≤◌, Bool, true, false, List, [], ◌∷◌, length, map, cond, refl, sym, ◌∙◌, arith}
+use Rattle.std.proofs.Common.{◌≡◌, ℕ, zero, suc, ◌+◌, ◌≤◌, Bool, true, false, List, [], ◌∷◌, ◌++◌, length, map, cond, refl, sym, ◌∙◌, arith}
 use Rattle.std.specs.Prelude.{Option, None, Some}
 use Rattle.std.specs.List.{sum_by}
 use Rattle.std.proofs.lemmas.Bool.{false≢true}
-use Rattle.std.proofs.lemmas.List.Sums.{sum_by-cons}
+use Rattle.std.proofs.lemmas.List.Sums.{sum_by-append, sum_by-cons}
 use Rattle.cg_group_state.specs.declared.effects.Effects.{Effects}
 use Rattle.cg_group_state.specs.declared.reply.Reply.{Reply}
 use Rattle.cg_request.specs.declared.event.Event.{Event}
@@ -73,16 +73,17 @@ none-pending ticket tokens none = by-weight (weight_of (alone ticket) tokens) re
     by-weight (suc n) is = absurd (false≢true (sym none ∙ found ticket tokens (omega arith)))
 
 -- so the request gets at most one reply in its step
-answered-once : (b : Books) (token : ReplyToken) (e : Event) (now : ℕ) → IsOwed b → KeepsCalls b.machine (token ∷ []) e now → has_token (call_of token) b.tokens ≡ false
+answered-once : (b : Books) (token : ReplyToken) (e : Event) (now : ℕ) → IsOwed b → KeepsCalls b.machine (token ∷ []) e now → has_token (call_of token) (b.replied ++ b.parked) ≡ false
     → weight_calls (alone (call_of token)) (calls_of (step b.machine e now).effects.replies) ≤ 1
 answered-once b token e now owed keeps none =
-    let pending = none-pending (call_of token) b.tokens none in
-    let total = owed (alone (call_of token)) in
+    let pending = none-pending (call_of token) (b.replied ++ b.parked) none in
+    let both = sum_by-append (λ (t : ReplyToken). alone (call_of token) (call_of t)) b.replied b.parked in
+    let total = owed.1 (alone (call_of token)) in
     let kept = keeps (alone (call_of token)) in
     let self = alone-self (call_of token) in
     omega arith
 
-counted-once : (b : Books) (token : ReplyToken) (e : Event) (now : ℕ) → IsOwed b → KeepsCalls b.machine (token ∷ []) e now → has_token (call_of token) b.tokens ≡ false
+counted-once : (b : Books) (token : ReplyToken) (e : Event) (now : ℕ) → IsOwed b → KeepsCalls b.machine (token ∷ []) e now → has_token (call_of token) (b.replied ++ b.parked) ≡ false
     → sum_by made_of (made_in b (token ∷ []) e now) ≤ length (step b.machine e now).effects.commands
 counted-once b token e now owed keeps none =
     let o : Effects = (step b.machine e now).effects in

@@ -52,15 +52,19 @@ once tokens out refuses kept = record {
 }
 
 -- whatever the desk, each token's request is refused once
-pub by_tokens-once : (b : Books) → AreRefusedOnce b.tokens (by_tokens b)
+pub by_tokens-once : (b : Books) → AreRefusedOnce (b.replied ++ b.parked) (by_tokens b)
 by_tokens-once b =
     let held : List Ticket = calls_of (replies_of b.held) in
-    let left : List ReplyToken = after_answering (map refusal held) b.tokens in
-    let parked : List Ticket = waiting_calls b.machine.groups in
-    once b.tokens (by_tokens b)
-    (refuses-both (answering (map refusal held) b.tokens ++ answering (map refusal parked) left) (map refused (after_answering (map refusal parked) left))
-    (refuses-both (answering (map refusal held) b.tokens) (answering (map refusal parked) left) (refuses-answering held b.tokens) (refuses-answering parked left))
-    (refuses-rest (after_answering (map refusal parked) left)))
+    let waiting : List Ticket = waiting_calls b.machine.groups in
+    let replied : List ReplyToken = after_answering (map refusal held) b.replied in
+    let parked : List ReplyToken = after_answering (map refusal waiting) b.parked in
+    let both : List Outgoing = answering (map refusal held) b.replied ++ answering (map refusal waiting) b.parked in
+    once (b.replied ++ b.parked) (by_tokens b)
+    (refuses-both (both ++ map refused replied) (map refused parked)
+    (refuses-both both (map refused replied)
+    (refuses-both (answering (map refusal held) b.replied) (answering (map refusal waiting) b.parked) (refuses-answering held b.replied) (refuses-answering waiting b.parked))
+    (refuses-rest replied))
+    (refuses-rest parked))
     (failed-kept b)
 
 -- each token is that of a held reply or of a parked request

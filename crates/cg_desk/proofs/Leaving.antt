@@ -122,18 +122,18 @@ pub refusals-append : (rs qs : List (Ticket × Reply)) → map refusal (calls_of
 refusals-append [] qs = refl
 refusals-append (r ∷ rs) qs = ap (λ l. refusal r.0 ∷ l) (refusals-append rs qs)
 
--- the requests of held replies are refused, then the parked ones, then the rest
-pub all_refused : (calls waiting : List Ticket) (t0 t1 t2 t3 : List ReplyToken) (out0 out1 out2 out3 : List Outgoing) → out0 ≡ []
-    → out1 ≡ out0 ++ answering (map refusal calls) t0 → t1 ≡ after_answering (map refusal calls) t0
-    → out2 ≡ out1 ++ answering (map refusal waiting) t1 → t2 ≡ after_answering (map refusal waiting) t1
-    → t3 ≡ t2 → out3 ≡ out2 ++ map refused t3
-    → out3 ≡ (let left : List ReplyToken = after_answering (map refusal calls) t0 in
-    answering (map refusal calls) t0 ++ answering (map refusal waiting) left ++ map refused (after_answering (map refusal waiting) left))
-all_refused calls waiting t0 t1 t2 t3 out0 out1 out2 out3 empty o1 k1 o2 k2 k3 o3 =
-    o3
-    ∙ ap (λ l. l ++ map refused t3) (o2 ∙ ap (λ l. l ++ answering (map refusal waiting) t1) (o1 ∙ ap (λ l. l ++ answering (map refusal calls) t0) empty))
-    ∙ ap (λ t. (answering (map refusal calls) t0 ++ answering (map refusal waiting) t1) ++ map refused t) (k3 ∙ k2)
-    ∙ ap (λ t. answering (map refusal calls) t0 ++ answering (map refusal waiting) t ++ map refused (after_answering (map refusal waiting) t)) k1
+-- the requests of held replies are refused, then the parked ones, then the rest of both
+pub all_refused : (calls waiting : List Ticket) (r0 r1 p0 p1 : List ReplyToken) (out0 out1 out2 out3 out4 : List Outgoing) → out0 ≡ []
+    → out1 ≡ out0 ++ answering (map refusal calls) r0 → r1 ≡ after_answering (map refusal calls) r0
+    → out2 ≡ out1 ++ answering (map refusal waiting) p0 → p1 ≡ after_answering (map refusal waiting) p0
+    → out3 ≡ out2 ++ map refused r1 → out4 ≡ out3 ++ map refused p1
+    → out4 ≡ answering (map refusal calls) r0 ++ answering (map refusal waiting) p0 ++ map refused (after_answering (map refusal calls) r0) ++ map refused (after_answering (map refusal waiting) p0)
+all_refused calls waiting r0 r1 p0 p1 out0 out1 out2 out3 out4 empty o1 k1 o2 k2 o3 o4 =
+    let both : List Outgoing = answering (map refusal calls) r0 ++ answering (map refusal waiting) p0 in
+    o4
+    ∙ ap (λ l. l ++ map refused p1) (o3 ∙ ap (λ l. l ++ map refused r1) (o2 ∙ ap (λ l. l ++ answering (map refusal waiting) p0) (o1 ∙ ap (λ l. l ++ answering (map refusal calls) r0) empty)))
+    ∙ ap (λ t. both ++ map refused t ++ map refused p1) k1
+    ∙ ap (λ t. both ++ map refused (after_answering (map refusal calls) r0) ++ map refused t) k2
 
 pub front_waits : (settled : ℕ) (items : List HeldStep) (next : HeldStep) → 0 < length items → next ≡ get_or items 0 next → is_waiting settled items ≡ nat_lt settled next.origin.need
 front_waits settled [] next some front = absurd (omega arith)
@@ -153,7 +153,7 @@ pub nothing_leaves : (b : Books) → is_waiting b.settled b.held ≡ true → le
 unfolding letting_go answering after_answering
 nothing_leaves b waits =
     let none = waiting-ready b.settled b.held waits in
-    ap (λ (rs : List Outgoing). let s : Served = record { books = record b { held = still_held b.settled b.held; tokens = after_answering rs b.tokens }; out = answering rs b.tokens } in s) (none-released b.settled b.held none)
+    ap (λ (rs : List Outgoing). let s : Served = record { books = record b { held = still_held b.settled b.held; replied = after_answering rs b.replied }; out = answering rs b.replied } in s) (none-released b.settled b.held none)
     ∙ ap (λ (hs : List HeldStep). let s : Served = record { books = record b { held = hs }; out = [] } in s) (all-held b.settled b.held none)
 
 -- the replies of the last held step

@@ -1,5 +1,6 @@
 pub mod Found
 pub mod Leaving
+pub mod Moving
 pub mod Parked
 pub mod FrontLaws
 pub mod FullTexts

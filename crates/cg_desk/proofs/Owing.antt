@@ -21,12 +21,12 @@ use Rattle.cg_desk.specs.Origins.{origin_of, own_of, sent}
 use Rattle.cg_desk.specs.Outgoings.{ticket_of}
 use Rattle.cg_desk.proofs.Sums.{weight_of, weight_out}
 use Rattle.cg_desk.specs.Owed.{IsOwed, KeepsCalls, weight_calls}
-use Rattle.cg_desk.specs.Tokens.{call_of, has_token, is_for, is_ticket, without}
+use Rattle.cg_desk.specs.Tokens.{call_of, has_token, is_for, is_ticket, token_for, token_of, tokens_for, without, without_all}
 use Rattle.cg_desk.specs.declared.pending_replies.HeldStep.{HeldStep}
 use Rattle.cg_desk.specs.declared.origin.Origin.{Origin}
 use Rattle.cg_desk.specs.declared.outgoing.Outgoing.{Outgoing}
 use Rattle.cg_desk.specs.declared.token.ReplyToken.{ReplyToken}
-use Rattle.cg_desk.proofs.Weights.{by_tokens, one-weight}
+use Rattle.cg_desk.proofs.Weights.{by_tokens, one-moved, one-weight}
 use Rattle.cg_desk.proofs.Called.{calls-append}
 
 -- the weight that is one for this ticket and zero for every other
@@ -92,6 +92,38 @@ all-leave (r ∷ rs) tokens rest owes =
       stay = more.stay;
     }
 
+-- each of the tickets has its token, and the other tokens stay
+record AllFound (ts : List Ticket) (tokens : List ReplyToken) (rest : (Ticket → ℕ) → ℕ) : Type 0 where
+  found : (weight : Ticket → ℕ) → weight_of weight (tokens_for ts tokens) ≡ weight_calls weight ts
+  stay : (weight : Ticket → ℕ) → weight_of weight (without_all ts tokens) ≡ rest weight
+
+all-found : (ts : List Ticket) (tokens : List ReplyToken) (rest : (Ticket → ℕ) → ℕ)
+    → ((weight : Ticket → ℕ) → weight_of weight tokens ≡ weight_calls weight ts + rest weight) → AllFound ts tokens rest
+unfolding tokens_for without_all
+all-found [] tokens rest owes = record { found = λ weight. refl; stay = λ weight. let all = owes weight in omega arith }
+all-found (t ∷ ts) tokens rest owes =
+    let own = owes (alone t) in
+    let front = sum_by-cons (alone t) t ts in
+    let self = alone-self t in
+    let has : has_token t tokens ≡ true = found t tokens (omega arith) in
+    let one : token_for t tokens ≡ token_of t ∷ [] = ap (λ b. let l : List ReplyToken = if b then token_of t ∷ [] else [] in l) has in
+    let less : (weight : Ticket → ℕ) → weight_of weight (without t tokens) ≡ weight_calls weight ts + rest weight = λ weight.
+    let all = owes weight in
+    let taken = one-moved weight t tokens in
+    let left = ap (weight_of weight) one in
+    let first = sum_by-cons weight t ts in
+    omega arith in
+    let more = all-found ts (without t tokens) rest less in
+    record {
+      found = λ weight.
+          let both = sum_by-append (λ (k : ReplyToken). weight (call_of k)) (token_for t tokens) (tokens_for ts (without t tokens)) in
+          let left = ap (weight_of weight) one in
+          let first = sum_by-cons weight t ts in
+          let rest = more.found weight in
+          omega arith;
+      stay = more.stay;
+    }
+
 -- replies as they leave have their tickets
 sent-weight : (weight : Ticket → ℕ) (origin : Origin) (rs : List (Ticket × Reply)) → weight_out weight (map (sent origin) rs) ≡ weight_calls weight (calls_of rs)
 sent-weight weight origin [] = refl
@@ -123,15 +155,15 @@ goes : (c : Books) → IsOwed c → Goes c
 unfolding letting_go
 goes c owed =
     let first : List HeldStep = take (ready c.settled c.held) c.held in
-    let rest : (Ticket → ℕ) → ℕ = λ weight. weight_calls weight (calls_of (replies_of (still_held c.settled c.held))) + weight_calls weight (waiting_calls c.machine.groups) in
-    let all = all-leave (released c.settled c.held) c.tokens rest (λ weight.
-    let total = owed weight in
+    let rest : (Ticket → ℕ) → ℕ = λ weight. weight_calls weight (calls_of (replies_of (still_held c.settled c.held))) in
+    let all = all-leave (released c.settled c.held) c.replied rest (λ weight.
+    let total = owed.0 weight in
     let split = ap (λ rs. weight_calls weight (calls_of rs)) (split-held c.settled c.held) in
     let calls = ap (weight_calls weight) (calls-append (replies_of first) (replies_of (still_held c.settled c.held))) in
     let both = sum_by-append weight (calls_of (replies_of first)) (calls_of (replies_of (still_held c.settled c.held))) in
     let out = leaving-weight weight first in
     omega arith) in
-    record { gone = all.gone; owed = all.stay }
+    record { gone = all.gone; owed = (all.stay, owed.1) }
 
 held-more : (origin : Origin) (held : List HeldStep) (rs : List (Ticket × Reply)) → replies_of (held ++ holding origin rs) ≡ replies_of held ++ rs
 held-more origin held [] = flat_map-append (λ (s : HeldStep). s.replies) held []
@@ -140,18 +172,28 @@ held-more origin held (r ∷ rs) =
     flat_map-append (λ (s : HeldStep). s.replies) held (step ∷ []) ∙ ap (λ l. replies_of held ++ l) (append-nil (r ∷ rs))
 
 stepped-owed : (b : Books) (handed : List ReplyToken) (e : Event) (now : ℕ) → IsOwed b → KeepsCalls b.machine handed e now → IsOwed (stepped b (step b.machine e now) handed)
-stepped-owed b handed e now owed keeps weight =
+stepped-owed b handed e now owed keeps =
     let rs = (step b.machine e now).effects.replies in
-    let before = owed weight in
+    let tokens : List ReplyToken = handed ++ b.parked in
+    let rest : (Ticket → ℕ) → ℕ = λ weight. weight_calls weight (waiting_calls (step b.machine e now).after.groups) in
+    let moved = all-found (calls_of rs) tokens rest (λ weight.
+    let before = owed.1 weight in
     let kept = keeps weight in
-    let tokens = sum_by-append (λ (t : ReplyToken). weight (call_of t)) b.tokens handed in
+    let both = sum_by-append (λ (t : ReplyToken). weight (call_of t)) handed b.parked in
+    omega arith) in
+    let replied : (weight : Ticket → ℕ) → weight_of weight (b.replied ++ tokens_for (calls_of rs) tokens)
+    ≡ weight_calls weight (calls_of (replies_of (b.held ++ holding (origin_of b.numbered (own_of handed) (step b.machine e now).effects) rs))) = λ weight.
+    let before = owed.0 weight in
+    let found = moved.found weight in
+    let grown = sum_by-append (λ (t : ReplyToken). weight (call_of t)) b.replied (tokens_for (calls_of rs) tokens) in
     let held = ap (λ l. weight_calls weight (calls_of l)) (held-more (origin_of b.numbered (own_of handed) (step b.machine e now).effects) b.held rs) in
     let calls = ap (weight_calls weight) (calls-append (replies_of b.held) rs) in
     let both = sum_by-append weight (calls_of (replies_of b.held)) (calls_of rs) in
-    omega arith
+    omega arith in
+    (replied, moved.stay)
 
 pub begins : (number : ℕ) (s : Machine) → waiting_calls s.groups ≡ [] → IsOwed (opened number s)
-begins number s none weight = let waiting = ap (weight_calls weight) none in omega arith
+begins number s none = ((λ weight. refl), (λ weight. let waiting = ap (weight_calls weight) none in omega arith))
 
 pub owed-served : (b : Books) (handed : List ReplyToken) (e : Event) (now : ℕ) → IsOwed b → KeepsCalls b.machine handed e now → IsOwed (served b handed e now).books
 unfolding served
@@ -186,16 +228,23 @@ pub failed : (b : Books) → IsOwed b → by_tokens b ≡ map refusal (calls_of 
 failed b owed =
     let held = calls_of (replies_of b.held) in
     let waiting = waiting_calls b.machine.groups in
-    let answered = map refusal held in
-    let left = after_answering answered b.tokens in
-    let first = all-leave answered b.tokens (λ weight. weight_calls weight waiting) (λ weight. let all = owed weight in let calls = refusals-weight weight held in omega arith) in
-    let second = all-leave (map refusal waiting) left (λ weight. 0) (λ weight. let all = first.stay weight in let calls = refusals-weight weight waiting in omega arith) in
-    let last = after_answering (map refusal waiting) left in
-    let none_left = second.stay (λ t. 1) in
-    let last_count = tokens-count last in
-    let none : last ≡ [] = nil_from_length last (omega arith) in
-    ap (λ ts. (answering answered b.tokens ++ answering (map refusal waiting) left) ++ map refused ts) none
-    ∙ append-nil (answering answered b.tokens ++ answering (map refusal waiting) left)
-    ∙ ap (λ l. l ++ answering (map refusal waiting) left) first.gone
-    ∙ ap (λ l. answered ++ l) second.gone
+    let first = all-leave (map refusal held) b.replied (λ weight. 0) (λ weight. let all = owed.0 weight in let calls = refusals-weight weight held in omega arith) in
+    let second = all-leave (map refusal waiting) b.parked (λ weight. 0) (λ weight. let all = owed.1 weight in let calls = refusals-weight weight waiting in omega arith) in
+    let replied = after_answering (map refusal held) b.replied in
+    let parked = after_answering (map refusal waiting) b.parked in
+    let no_replied : replied ≡ [] = none-left replied first.stay in
+    let no_parked : parked ≡ [] = none-left parked second.stay in
+    let both = answering (map refusal held) b.replied ++ answering (map refusal waiting) b.parked in
+    ap (λ ts. both ++ map refused ts ++ map refused parked) no_replied
+    ∙ ap (λ ts. both ++ [] ++ map refused ts) no_parked
+    ∙ append-nil (both ++ [])
+    ∙ append-nil both
+    ∙ ap (λ l. l ++ answering (map refusal waiting) b.parked) first.gone
+    ∙ ap (λ l. map refusal held ++ l) second.gone
     ∙ sym (map-append refusal held waiting)
+  where
+    none-left : (tokens : List ReplyToken) → ((weight : Ticket → ℕ) → weight_of weight tokens ≡ 0) → tokens ≡ []
+    none-left tokens weightless =
+        let none = weightless (λ t. 1) in
+        let count = tokens-count tokens in
+        nil_from_length tokens (omega arith)

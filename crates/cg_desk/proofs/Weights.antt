@@ -22,7 +22,7 @@ use Rattle.cg_desk.specs.Laws.{AreKept, AreRefusedOnce, TicketsAreKept, tokens_o
 use Rattle.cg_desk.proofs.Sums.{weight_of, weight_out}
 use Rattle.cg_desk.specs.Flights.{Idle}
 use Rattle.cg_desk.specs.Outgoings.{answer, ticket_of}
-use Rattle.cg_desk.specs.Tokens.{call_of, has_token, is_for, without, without_place}
+use Rattle.cg_desk.specs.Tokens.{call_of, has_token, is_for, token_for, token_of, tokens_for, without, without_all, without_place}
 use Rattle.cg_desk.specs.declared.outgoing.Outgoing.{Outgoing}
 use Rattle.cg_desk.specs.declared.token.ReplyToken.{ReplyToken}
 use Rattle.cg_desk.proofs.Found.{for_call}
@@ -58,18 +58,52 @@ answering-weight weight (r ∷ rs) tokens =
     let rest = answering-weight weight rs (without (ticket_of r) tokens) in
     omega arith
 
-going-weight : (weight : Ticket → ℕ) (b : Books) → weight_out weight (letting_go b).out + weight_of weight (letting_go b).books.tokens ≡ weight_of weight b.tokens
-unfolding letting_go
-going-weight weight b = answering-weight weight (released b.settled b.held) b.tokens
+moved-at : (weight : Ticket → ℕ) (ticket : Ticket) (tokens : List ReplyToken) (at : Option ℕ) → position (is_for ticket) tokens ≡ at
+    → weight_of weight (if is_some at then token_of ticket ∷ [] else []) + weight_of weight (without_place at tokens) ≡ weight_of weight tokens
+moved-at weight ticket tokens None missed = omega arith
+moved-at weight ticket tokens (Some at) found = let taken = taken-weight weight tokens ticket at found in omega arith
 
-served-kept : (b : Books) (handed : List ReplyToken) (e : Event) (now : ℕ) → AreKept b.tokens handed (served b handed e now).out (served b handed e now).books.tokens
+pub one-moved : (weight : Ticket → ℕ) (ticket : Ticket) (tokens : List ReplyToken) → weight_of weight (token_for ticket tokens) + weight_of weight (without ticket tokens) ≡ weight_of weight tokens
+unfolding has_token without
+one-moved weight ticket tokens = moved-at weight ticket tokens (position (is_for ticket) tokens) refl
+
+-- the tokens that move and those that stay weigh as much as all
+moved-weight : (weight : Ticket → ℕ) (ts : List Ticket) (tokens : List ReplyToken) → weight_of weight (tokens_for ts tokens) + weight_of weight (without_all ts tokens) ≡ weight_of weight tokens
+unfolding tokens_for without_all
+moved-weight weight [] tokens = omega arith
+moved-weight weight (t ∷ ts) tokens =
+    let both = sum_by-append (λ (k : ReplyToken). weight (call_of k)) (token_for t tokens) (tokens_for ts (without t tokens)) in
+    let one = one-moved weight t tokens in
+    let rest = moved-weight weight ts (without t tokens) in
+    omega arith
+
+-- the tokens of all pending requests
+abbrev all_of : Books → List ReplyToken
+all_of b = b.replied ++ b.parked
+
+going-weight : (weight : Ticket → ℕ) (b : Books) → weight_out weight (letting_go b).out + weight_of weight (all_of (letting_go b).books) ≡ weight_of weight (all_of b)
+unfolding letting_go
+going-weight weight b =
+    let f : ReplyToken → ℕ = λ (t : ReplyToken). weight (call_of t) in
+    let before = sum_by-append f b.replied b.parked in
+    let after = sum_by-append f (after_answering (released b.settled b.held) b.replied) b.parked in
+    let gone = answering-weight weight (released b.settled b.held) b.replied in
+    omega arith
+
+served-kept : (b : Books) (handed : List ReplyToken) (e : Event) (now : ℕ) → AreKept (all_of b) handed (served b handed e now).out (all_of (served b handed e now).books)
 unfolding served
 served-kept b handed e now weight =
-    let both = sum_by-append (λ (t : ReplyToken). weight (call_of t)) b.tokens handed in
+    let f : ReplyToken → ℕ = λ (t : ReplyToken). weight (call_of t) in
+    let calls : List Ticket = calls_of (step b.machine e now).effects.replies in
+    let before = sum_by-append f b.replied b.parked in
+    let with_handed = sum_by-append f handed b.parked in
+    let replied = sum_by-append f b.replied (tokens_for calls (handed ++ b.parked)) in
+    let between = sum_by-append f (b.replied ++ tokens_for calls (handed ++ b.parked)) (without_all calls (handed ++ b.parked)) in
+    let moved = moved-weight weight calls (handed ++ b.parked) in
     let gone = going-weight weight (stepped b (step b.machine e now) handed) in
     omega arith
 
-settled-kept : (b : Books) (count : ℕ) → AreKept b.tokens [] (settling b count).out (settling b count).books.tokens
+settled-kept : (b : Books) (count : ℕ) → AreKept (all_of b) [] (settling b count).out (all_of (settling b count).books)
 unfolding settling
 settled-kept b count weight = let gone = going-weight weight (let c : Books = record b { settled = b.settled + count; course = Idle } in c) in omega arith
 
@@ -82,35 +116,37 @@ refused-weight weight (token ∷ tokens) =
     omega arith
 
 -- what a failure sends, by the tokens: the requests of held replies are refused in their order, then the parked ones, then
--- the rest
+-- the rest of both
 abbrev pub by_tokens : Books → List Outgoing
 by_tokens b =
-    let answered : List Outgoing = map refusal (calls_of (replies_of b.held)) in
-    let left : List ReplyToken = after_answering answered b.tokens in
+    let held : List Outgoing = map refusal (calls_of (replies_of b.held)) in
     let waiting : List Outgoing = map refusal (waiting_calls b.machine.groups) in
-    answering answered b.tokens ++ answering waiting left ++ map refused (after_answering waiting left)
+    answering held b.replied ++ answering waiting b.parked ++ map refused (after_answering held b.replied) ++ map refused (after_answering waiting b.parked)
 
-pub failed-kept : (b : Books) → AreKept b.tokens [] (by_tokens b) []
+pub failed-kept : (b : Books) → AreKept (b.replied ++ b.parked) [] (by_tokens b) []
 failed-kept b weight =
     let f : Outgoing → ℕ = λ (o : Outgoing). weight (ticket_of o) in
-    let answered : List Outgoing = map refusal (calls_of (replies_of b.held)) in
-    let left : List ReplyToken = after_answering answered b.tokens in
+    let held : List Outgoing = map refusal (calls_of (replies_of b.held)) in
     let waiting : List Outgoing = map refusal (waiting_calls b.machine.groups) in
-    let last : List ReplyToken = after_answering waiting left in
-    let outer = sum_by-append f (answering answered b.tokens ++ answering waiting left) (map refused last) in
-    let inner = sum_by-append f (answering answered b.tokens) (answering waiting left) in
-    let first = answering-weight weight answered b.tokens in
-    let second = answering-weight weight waiting left in
-    let third = refused-weight weight last in
+    let replied : List ReplyToken = after_answering held b.replied in
+    let parked : List ReplyToken = after_answering waiting b.parked in
+    let all = sum_by-append (λ (t : ReplyToken). weight (call_of t)) b.replied b.parked in
+    let outer = sum_by-append f (answering held b.replied ++ answering waiting b.parked ++ map refused replied) (map refused parked) in
+    let middle = sum_by-append f (answering held b.replied ++ answering waiting b.parked) (map refused replied) in
+    let inner = sum_by-append f (answering held b.replied) (answering waiting b.parked) in
+    let first = answering-weight weight held b.replied in
+    let second = answering-weight weight waiting b.parked in
+    let third = refused-weight weight replied in
+    let fourth = refused-weight weight parked in
     omega arith
 
 asked-kept : (short : Bool) (b : Books) (token : ReplyToken) (e : Event) (now : ℕ)
     → let a : Answer = if short then record { after = Serving b; out = answer (call_of token) (Refused CoordinatorNotAvailable) 0 ∷ [] } else serving (served b (token ∷ []) e now) in
-    AreKept b.tokens (token ∷ []) a.out (tokens_of a.after)
+    AreKept (all_of b) (token ∷ []) a.out (tokens_of a.after)
 asked-kept true b token e now weight = omega arith
 asked-kept false b token e now weight = served-kept b (token ∷ []) e now weight
 
-ticked-kept : (short : Bool) (b : Books) (e : Event) (now : ℕ) → let a : Answer = if short then at_rest (Serving b) else serving (served b [] e now) in AreKept b.tokens [] a.out (tokens_of a.after)
+ticked-kept : (short : Bool) (b : Books) (e : Event) (now : ℕ) → let a : Answer = if short then at_rest (Serving b) else serving (served b [] e now) in AreKept (all_of b) [] a.out (tokens_of a.after)
 ticked-kept true b e now weight = omega arith
 ticked-kept false b e now weight = served-kept b [] e now weight
 
@@ -142,13 +178,13 @@ settle-kept (Serving b) count weight = settled-kept b count weight
 same-kept : (before after : List ReplyToken) → after ≡ before → AreKept before [] [] after
 same-kept before after is weight = let same = ap (weight_of weight) is in omega arith
 
-taking-tokens : (b : Books) → (taking b).tokens ≡ b.tokens
+taking-tokens : (b : Books) → all_of (taking b) ≡ all_of b
 unfolding taking
 taking-tokens b = refl
 
-taken-kept : (b c : Books) (o : Option Batch) → IsTake b o c → AreKept b.tokens [] [] c.tokens
-taken-kept b c None is = same-kept b.tokens c.tokens (ap (λ (d : Books). d.tokens) is.2)
-taken-kept b c (Some batch) is = same-kept b.tokens c.tokens (ap (λ (d : Books). d.tokens) is.2 ∙ taking-tokens b)
+taken-kept : (b c : Books) (o : Option Batch) → IsTake b o c → AreKept (all_of b) [] [] (all_of c)
+taken-kept b c None is = same-kept (all_of b) (all_of c) (ap all_of is.2)
+taken-kept b c (Some batch) is = same-kept (all_of b) (all_of c) (ap all_of is.2 ∙ taking-tokens b)
 
 take-kept : (s after : State) (o : Option Batch) → IsTakenFrom s o after → AreKept (tokens_of s) [] [] (tokens_of after)
 take-kept Loading after o is = same-kept [] (tokens_of after) (ap tokens_of is.1)
@@ -160,7 +196,7 @@ take-kept (Serving b) (Serving c) o is = taken-kept b c o is
 give-back-kept : (s : State) → AreKept (tokens_of s) [] [] (tokens_of (return_to s))
 give-back-kept Loading = same-kept [] [] refl
 give-back-kept (Failed n m) = same-kept [] [] refl
-give-back-kept (Serving b) = same-kept b.tokens b.tokens refl
+give-back-kept (Serving b) = same-kept (all_of b) (all_of b) refl
 
 pub refusals-weight : (weight : Ticket → ℕ) (calls : List Ticket) → weight_out weight (map refusal calls) ≡ sum_by weight calls
 refusals-weight weight [] = refl

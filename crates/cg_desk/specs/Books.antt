@@ -14,6 +14,7 @@ use Rattle.cg_desk.specs.Fronts.{in_frame}
 use Rattle.cg_desk.specs.Held.{calls_of, holding, released, replies_of, still_held}
 use Rattle.cg_desk.specs.Origins.{origin_of, own_of}
 use Rattle.cg_desk.specs.Flights.{Course, Idle, Away, Returned, is_away, unsettled}
+use Rattle.cg_desk.specs.Tokens.{tokens_for, without_all}
 use Rattle.cg_desk.specs.declared.number_reserve.TheConstants.{SPARE_NUMBERS, SPARE_NUMBERS_PER_GROUP}
 use Rattle.cg_desk.specs.declared.fault.SettleFault.{SettleFault}
 use Rattle.cg_desk.specs.declared.fault.SettleFault.TheVariants.{Memory, NotInFlight, Foreign}
@@ -22,7 +23,7 @@ use Rattle.cg_desk.specs.declared.outgoing.Outgoing.{Outgoing}
 use Rattle.cg_desk.specs.declared.token.ReplyToken.{ReplyToken}
 
 -- the machine; the numbers of the last command and of the last settled command; the commands that were never taken; the
--- state of the last batch; the held replies; and the tokens of all pending requests
+-- state of the last batch; the held replies; the tokens of their requests, and those of the parked requests
 pub record Books : Type 0 where
   pub machine : Machine
   pub numbered : ℕ
@@ -30,7 +31,8 @@ pub record Books : Type 0 where
   pub queue : List Command
   pub course : Course
   pub held : List HeldStep
-  pub tokens : List ReplyToken
+  pub replied : List ReplyToken
+  pub parked : List ReplyToken
 
 -- a desk after a call, and the replies that left in the call
 pub record Served : Type 0 where
@@ -50,18 +52,22 @@ numbering b own effects = record b {
   held = b.held ++ holding (origin_of b.numbered own effects) effects.replies;
 }
 
+-- the tokens of the requests that these replies answer go to those of the held replies; the others stay parked
+abbrev pub moving : Books → List Ticket → List ReplyToken → Books
+moving b calls tokens = record b { replied = b.replied ++ tokens_for calls tokens; parked = without_all calls tokens }
+
 -- a step of the machine, and the token of the request that it comes from, if there is one
 abbrev pub stepped : Books → Outcome → List ReplyToken → Books
-stepped b o handed = numbering (record b { machine = o.after; tokens = b.tokens ++ handed }) (own_of handed) o.effects
+stepped b o handed = numbering (moving (record b { machine = o.after }) (calls_of o.effects.replies) (handed ++ b.parked)) (own_of handed) o.effects
 
 -- releases the replies whose commands are settled, each with the token of its request
 unfoldable pub letting_go : Books → Served
 letting_go b = record {
   books = record b {
     held = still_held b.settled b.held;
-    tokens = after_answering (released b.settled b.held) b.tokens;
+    replied = after_answering (released b.settled b.held) b.replied;
   };
-  out = answering (released b.settled b.held) b.tokens;
+  out = answering (released b.settled b.held) b.replied;
 }
 
 -- a step of the machine, after which the replies whose commands are settled leave

@@ -1,5 +1,5 @@
 -- The desk by its phase, and what each of its calls does.
-use Rattle.std.specs.Prelude.{◌≡◌, ℕ, ⊤, Bool, true, false, List, [], ◌∷◌, length, if◌then◌else◌, Option, None}
+use Rattle.std.specs.Prelude.{◌≡◌, ◌+◌, ℕ, ⊤, Bool, true, false, List, [], ◌∷◌, length, if◌then◌else◌, Option, None}
 use Rattle.std.specs.FinMap as finmap
 use Rattle.cg_request.specs.declared.event.Event.{Event}
 use Rattle.cg_request.specs.declared.event.Event.TheVariants as event
@@ -52,7 +52,7 @@ at_rest state = record { after = state; out = [] }
 
 -- a desk that has just recovered the state that this many commands make
 abbrev pub opened : ℕ → Machine → Books
-opened number machine = record { machine = machine; numbered = number; settled = number; queue = []; course = Idle; held = []; tokens = [] }
+opened number machine = record { machine = machine; numbered = number; settled = number; queue = []; course = Idle; held = []; replied = []; parked = [] }
 
 -- a request, as an event with the ticket of this token: refused with 14 while loading, and with 15 after a failure or
 -- if command numbers are short
@@ -152,7 +152,7 @@ counts_of (Serving b) = record {
   groups = length b.machine.groups;
   members = member_count b.machine.groups;
   offsets = finmap.len b.machine.offsets;
-  pending = length b.tokens;
+  pending = length b.replied + length b.parked;
   settled = b.settled;
 }
 

@@ -1,5 +1,5 @@
 -- The laws of the desk.
-use Rattle.std.specs.Prelude.{◌≡◌, ◌≤◌, ◌<◌, ◌+◌, ℕ, false, List, [], ◌∷◌, length, map, take, Option}
+use Rattle.std.specs.Prelude.{◌≡◌, ◌≤◌, ◌<◌, ◌+◌, ℕ, false, List, [], ◌∷◌, ◌++◌, length, map, take, Option}
 use Rattle.std.specs.List.{sum_by}
 use Rattle.cg_fold.specs.Durable.{State as Durable}
 use Rattle.cg_frame.specs.declared.segment.TheConstants.{LARGEST_PAYLOAD_BYTES}
@@ -35,7 +35,7 @@ use Rattle.cg_desk.specs.declared.token.ReplyToken.{ReplyToken}
 abbrev pub tokens_of : State → List ReplyToken
 tokens_of Loading = []
 tokens_of (Failed numbered settled) = []
-tokens_of (Serving b) = b.tokens
+tokens_of (Serving b) = b.replied ++ b.parked
 
 -- the tickets that were pending before a call and the one that it took are those of the replies that left in it and
 -- those that are pending after it
@@ -95,7 +95,7 @@ made_in b handed e now = map (sent (origin_of b.numbered (own_of handed) (step b
 -- the numbers of the replies that a request makes are together at most the commands that it makes, if no pending request
 -- has its ticket; the replies that a Tick or a closed session makes have no number but 0
 pub record CommandsAreCountedOnce : Type 0 where
-  pub request : (b : Books) (r : Request) (token : ReplyToken) (fresh : List ℕ) (now : ℕ) → IsBalanced b → has_token (call_of token) b.tokens ≡ false
+  pub request : (b : Books) (r : Request) (token : ReplyToken) (fresh : List ℕ) (now : ℕ) → IsBalanced b → has_token (call_of token) (tokens_of (Serving b)) ≡ false
       → sum_by made_of (made_in b (token ∷ []) (asked r (call_of token) fresh) now) ≤ length (step b.machine (asked r (call_of token) fresh) now).effects.commands
   pub tick : (b : Books) (now : ℕ) → sum_by made_of (made_in b [] Tick now) ≡ 0
   pub gone : (b : Books) (session now : ℕ) → sum_by made_of (made_in b [] (Gone session) now) ≡ 0
@@ -115,4 +115,4 @@ pub record RepliesFindTheirCalls : Type 0 where
   pub tick : (b : Books) (now : ℕ) → IsBalanced b → AllLeave b [] Tick now
   pub gone : (b : Books) (session now : ℕ) → IsBalanced b → AllLeave b [] (Gone session) now
   pub settle : (b : Books) (count : ℕ) → IsBalanced b → (settling b count).out ≡ released (b.settled + count) b.held
-  pub fail : (b : Books) → IsBalanced b → AreRefusedOnce b.tokens (failing b)
+  pub fail : (b : Books) → IsBalanced b → AreRefusedOnce (tokens_of (Serving b)) (failing b)

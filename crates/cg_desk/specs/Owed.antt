@@ -15,9 +15,9 @@ use Rattle.cg_desk.specs.declared.token.ReplyToken.{ReplyToken}
 abbrev pub weight_calls : (Ticket → ℕ) → List Ticket → ℕ
 weight_calls weight calls = sum_by weight calls
 
--- the tokens are those of the requests with a held reply and of the parked requests
+-- each held reply has its token, and each parked request has its own
 abbrev pub IsOwed : Books → Type 0
-IsOwed b = AreSameTickets (bag_of_tokens b.tokens) (together (bag_of (calls_of (replies_of b.held))) (bag_of (waiting_calls b.machine.groups)))
+IsOwed b = AreSameTickets (bag_of_tokens b.replied) (bag_of (calls_of (replies_of b.held))) × AreSameTickets (bag_of_tokens b.parked) (bag_of (waiting_calls b.machine.groups))
 
 -- the requests that were parked before an event and the one that it comes from are those that it answers and those that
 -- are parked after it

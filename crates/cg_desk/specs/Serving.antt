@@ -17,15 +17,21 @@ books s = record {
   queue = commands_of s.queue;
   course = course_of s.flight;
   held = s.held.items;
-  tokens = s.tokens.items;
+  replied = s.replied.items;
+  parked = s.parked.items;
 }
+
+-- how many requests are pending
+abbrev pub pending_in : Serving → ℕ
+pending_in s = deque_len s.replied + deque_len s.parked
 
 -- there is room for what a step makes, for this many more tokens, and in the list for every reply that may leave; none
 -- may leave if held replies have to wait
 pub record HasRoom (s : Serving) (more : ℕ) (out : Vec Outgoing Global) : Type 0 where
-  pub tokens : deque_len s.tokens + more ≤ deque_capacity s.tokens
-  pub leaving : deque_len s.tokens + more ≤ vec_capacity s.leaving
+  pub parked : deque_len s.parked + more ≤ deque_capacity s.parked
+  pub replied : pending_in s + more ≤ deque_capacity s.replied
+  pub leaving : pending_in s + more ≤ vec_capacity s.leaving
   pub commands : has_room s.queue
   pub held : deque_len s.held < deque_capacity s.held
   pub empty : out.items ≡ []
-  pub room : is_waiting s.settled s.held.items ≡ false → vec_len out + (deque_len s.tokens + more) ≤ vec_capacity out
+  pub room : is_waiting s.settled s.held.items ≡ false → vec_len out + (pending_in s + more) ≤ vec_capacity out

@@ -1,5 +1,5 @@
 -- The tickets of tokens, and looking for a token by its ticket.
-use Rattle.std.specs.Prelude.{ℕ, Bool, ◌&&◌, nat_eq, List, Option, Some, None, is_some}
+use Rattle.std.specs.Prelude.{ℕ, Bool, ◌&&◌, nat_eq, List, [], ◌∷◌, ◌++◌, Option, Some, None, is_some, if◌then◌else◌}
 use Rattle.std.specs.List.{position, remove}
 use Rattle.cg_request.specs.declared.ticket.Ticket.{Ticket}
 use Rattle.cg_desk.specs.declared.token.ReplyToken.{ReplyToken}
@@ -28,3 +28,21 @@ without_place (Some at) tokens = remove tokens at
 -- the tokens without the first one that has this ticket
 unfoldable pub without : Ticket → List ReplyToken → List ReplyToken
 without ticket tokens = without_place (position (is_for ticket) tokens) tokens
+
+-- the token with this ticket
+abbrev pub token_of : Ticket → ReplyToken
+token_of ticket = record { ticket = ticket }
+
+-- the same, if it is one of these
+abbrev pub token_for : Ticket → List ReplyToken → List ReplyToken
+token_for ticket tokens = if has_token ticket tokens then token_of ticket ∷ [] else []
+
+-- the tokens of the requests with these tickets, in the order of the tickets
+unfoldable pub tokens_for : List Ticket → List ReplyToken → List ReplyToken
+tokens_for [] tokens = []
+tokens_for (t ∷ ts) tokens = token_for t tokens ++ tokens_for ts (without t tokens)
+
+-- the tokens of the others
+unfoldable pub without_all : List Ticket → List ReplyToken → List ReplyToken
+without_all [] tokens = tokens
+without_all (t ∷ ts) tokens = without_all ts (without t tokens)

@@ -170,7 +170,7 @@ impl Serving {
         if let Err(fault) = check(&self.flight, self.settled, receipt.batch()) {
             return Err((fault, receipt));
         }
-        let Ok(out) = Vec::with_capacity(self.alloc, self.tokens.len()) else {
+        let Ok(out) = Vec::with_capacity(self.alloc, self.replied.len()) else {
             return Err((SettleFault::Memory, receipt));
         };
         let mut out = out;
@@ -178,7 +178,7 @@ impl Serving {
         self.flight = Flight::Idle;
         self.queue.reuse(receipt.into_commands());
         let permit = Permit::new(self.settled);
-        HeldStep::release(&mut self.held, &mut self.tokens, &permit, &mut out);
+        HeldStep::release(&mut self.held, &mut self.replied, &permit, &mut out);
         Ok(out)
     }
 }

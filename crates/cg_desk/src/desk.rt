@@ -177,7 +177,7 @@ impl Desk {
                 groups: serving.groups.held(),
                 members: serving.groups.member_count(),
                 offsets: serving.groups.offset_count(),
-                pending: serving.tokens.len() as u64,
+                pending: (serving.replied.len() + serving.parked.len()) as u64,
                 settled: serving.settled,
             },
         }

@@ -22,6 +22,7 @@ fn refuse_reply(tokens: &mut VecDeque<ReplyToken>, held: (Ticket, Reply), out: &
     ensures out { out.new.items ≡ out.old.items ++ answering_one (refusal held.0) tokens.old.items }
     ensures tokens { tokens.new.items ≡ without held.0 tokens.old.items }
     ensures room { vec_len out.new + deque_len tokens.new ≤ vec_capacity out.new }
+    ensures sum { vec_len out.new + deque_len tokens.new ≡ vec_len out.old + deque_len tokens.old }
     ensures capacity { vec_capacity out.new ≡ vec_capacity out.old }
 {
     let (ticket, _reply) = held;
@@ -37,6 +38,7 @@ fn refuse_many(
     ensures out { out.new.items ≡ out.old.items ++ answering (map refusal (calls_of replies.items)) tokens.old.items }
     ensures tokens { tokens.new.items ≡ after_answering (map refusal (calls_of replies.items)) tokens.old.items }
     ensures room { vec_len out.new + deque_len tokens.new ≤ vec_capacity out.new }
+    ensures sum { vec_len out.new + deque_len tokens.new ≡ vec_len out.old + deque_len tokens.old }
     ensures capacity { vec_capacity out.new ≡ vec_capacity out.old }
 {
     for reply in replies {
@@ -54,6 +56,7 @@ fn refuse_calls(
     ensures out { out.new.items ≡ out.old.items ++ answering (map refusal (calls_of replies)) tokens.old.items }
     ensures tokens { tokens.new.items ≡ after_answering (map refusal (calls_of replies)) tokens.old.items }
     ensures room { vec_len out.new + deque_len tokens.new ≤ vec_capacity out.new }
+    ensures sum { vec_len out.new + deque_len tokens.new ≡ vec_len out.old + deque_len tokens.old }
     ensures capacity { vec_capacity out.new ≡ vec_capacity out.old }
 {
     match replies.into_items() {
@@ -73,6 +76,7 @@ pub fn refuse_held(
     ensures tokens { tokens.new.items ≡ after_answering (map refusal (calls_of (replies_of held.old.items))) tokens.old.items }
     ensures held { held.new.items ≡ [] }
     ensures room { vec_len out.new + deque_len tokens.new ≤ vec_capacity out.new }
+    ensures sum { vec_len out.new + deque_len tokens.new ≡ vec_len out.old + deque_len tokens.old }
     ensures capacity { vec_capacity out.new ≡ vec_capacity out.old }
 {
     while let Some(HeldStep { replies, .. }) = held.pop_front() {
@@ -86,6 +90,7 @@ fn refuse_member(tokens: &mut VecDeque<ReplyToken>, member: &Member, out: &mut V
     ensures out { out.new.items ≡ out.old.items ++ answering (map refusal (option_to_list (called Any member.now.waits))) tokens.old.items }
     ensures tokens { tokens.new.items ≡ after_answering (map refusal (option_to_list (called Any member.now.waits))) tokens.old.items }
     ensures room { vec_len out.new + deque_len tokens.new ≤ vec_capacity out.new }
+    ensures sum { vec_len out.new + deque_len tokens.new ≡ vec_len out.old + deque_len tokens.old }
     ensures capacity { vec_capacity out.new ≡ vec_capacity out.old }
 {
     if let Some(ticket) = Calls::Any.called(member.waits) {
@@ -98,6 +103,7 @@ fn refuse_members(tokens: &mut VecDeque<ReplyToken>, group: &Group, out: &mut Ve
     ensures out { out.new.items ≡ out.old.items ++ answering (map refusal (filter_map (λ m. called Any m.waits) group.now.members)) tokens.old.items }
     ensures tokens { tokens.new.items ≡ after_answering (map refusal (filter_map (λ m. called Any m.waits) group.now.members)) tokens.old.items }
     ensures room { vec_len out.new + deque_len tokens.new ≤ vec_capacity out.new }
+    ensures sum { vec_len out.new + deque_len tokens.new ≡ vec_len out.old + deque_len tokens.old }
     ensures capacity { vec_capacity out.new ≡ vec_capacity out.old }
 {
     for member in group.members.as_slice() {
@@ -112,6 +118,7 @@ pub fn refuse_waiting(tokens: &mut VecDeque<ReplyToken>, groups: &Groups, out: &
     ensures out { out.new.items ≡ out.old.items ++ answering (map refusal (waiting_calls groups.now.groups)) tokens.old.items }
     ensures tokens { tokens.new.items ≡ after_answering (map refusal (waiting_calls groups.now.groups)) tokens.old.items }
     ensures room { vec_len out.new + deque_len tokens.new ≤ vec_capacity out.new }
+    ensures sum { vec_len out.new + deque_len tokens.new ≡ vec_len out.old + deque_len tokens.old }
     ensures capacity { vec_capacity out.new ≡ vec_capacity out.old }
 {
     for group in groups.iter() {
@@ -124,6 +131,8 @@ pub fn refuse_rest(tokens: &mut VecDeque<ReplyToken>, out: &mut Vec<Outgoing>)
     requires { vec_len out.old + deque_len tokens.old ≤ vec_capacity out.old }
     ensures out { out.new.items ≡ out.old.items ++ map refused tokens.old.items }
     ensures tokens { tokens.new.items ≡ [] }
+    ensures room { vec_len out.new ≤ vec_len out.old + deque_len tokens.old }
+    ensures capacity { vec_capacity out.new ≡ vec_capacity out.old }
 {
     while let Some(token) = tokens.pop_front() {
         out.push_reserved(token.refuse(Code::CoordinatorNotAvailable));

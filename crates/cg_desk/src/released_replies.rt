@@ -1,12 +1,13 @@
-//! Releasing replies: each reply leaves with the token of its request.
+//! Releasing replies: each reply takes the token of its request when it is held, and leaves with it.
 ghost use Rattle.std.specs.Prelude.{◌≡◌, ◌≤◌, ◌+◌, ◌++◌, false, true, map, vec_len, vec_capacity, length, option_to_list};
 ghost use Rattle.std.specs.List.{position};
 ghost use Rattle.std.specs.Option.{MatchOption};
-ghost use Rattle.std.specs.VecDeque.{deque_len};
+ghost use Rattle.std.specs.VecDeque.{deque_capacity, deque_len};
 ghost use Rattle.cg_desk.specs.Answering.{after_answering, answering, answering_one, refusal};
+ghost use Rattle.cg_desk.specs.Held.{calls_of};
 ghost use Rattle.cg_desk.specs.Origins.{sent};
 ghost use Rattle.cg_desk.specs.Permits.{front_of};
-ghost use Rattle.cg_desk.specs.Tokens.{call_of, has_token, is_for, without};
+ghost use Rattle.cg_desk.specs.Tokens.{call_of, has_token, is_for, tokens_for, without, without_all};
 
 use crate::origin::Origin;
 use crate::outgoing::Outgoing;
@@ -34,6 +35,26 @@ fn take_token(tokens: &mut VecDeque<ReplyToken>, ticket: Ticket) -> Option<Reply
 {
     let at = place_of(tokens, ticket)?;
     tokens.remove(at)
+}
+
+/// Moves the tokens of the requests that these replies answer to those of the requests with a held reply, in the order of the
+/// replies. Linear in the parked requests that came after them.
+#[tactic(auto, unfolding(crate::specs::Tokens::tokens_for, crate::specs::Tokens::without_all))]
+pub fn move_answered(
+    parked: &mut VecDeque<ReplyToken>,
+    replied: &mut VecDeque<ReplyToken>,
+    replies: &[(Ticket, Reply)],
+)
+    requires room { deque_len replied.old + deque_len parked.old ≤ deque_capacity replied.old }
+    ensures replied { replied.new.items ≡ replied.old.items ++ tokens_for (calls_of replies.now) parked.old.items }
+    ensures parked { parked.new.items ≡ without_all (calls_of replies.now) parked.old.items }
+    ensures sum { deque_len replied.new + deque_len parked.new ≡ deque_len replied.old + deque_len parked.old }
+{
+    for reply in replies {
+        if let Some(token) = take_token(parked, reply.0) {
+            replied.push_back_reserved(token);
+        }
+    }
 }
 
 /// Appends the reply to this ticket's request, if the request has a token. The reply was made by the step `origin`.
@@ -113,6 +134,7 @@ pub fn refuse_call(tokens: &mut VecDeque<ReplyToken>, ticket: Ticket, out: &mut 
     ensures out { out.new.items ≡ out.old.items ++ answering_one (refusal ticket) tokens.old.items }
     ensures tokens { tokens.new.items ≡ without ticket tokens.old.items }
     ensures room { vec_len out.new + deque_len tokens.new ≤ vec_capacity out.new }
+    ensures sum { vec_len out.new + deque_len tokens.new ≡ vec_len out.old + deque_len tokens.old }
     ensures fewer { deque_len tokens.new ≤ deque_len tokens.old }
     ensures capacity { vec_capacity out.new ≡ vec_capacity out.old }
 {

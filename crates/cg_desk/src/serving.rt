@@ -12,6 +12,7 @@ use crate::pending_replies::HeldStep;
 use crate::permit::Permit;
 use crate::queue::Queue;
 use crate::refuse_all::{refuse_held, refuse_rest, refuse_waiting};
+use crate::released_replies::move_answered;
 use crate::token::ReplyToken;
 use cg_group::{Effects, Event, Groups, Request, Ticket};
 use cg_names::Moment;
@@ -33,30 +34,33 @@ pub struct Serving {
     pub flight: Flight,
     /// Replies that wait for their commands.
     pub held: VecDeque<HeldStep>,
-    /// Tokens of all pending requests: their replies are held, or they are parked in the machine.
-    pub tokens: VecDeque<ReplyToken>,
+    /// Tokens of the requests with a held reply, in the order of the replies.
+    pub replied: VecDeque<ReplyToken>,
+    /// Tokens of the requests that are parked in the machine, the last one first.
+    pub parked: VecDeque<ReplyToken>,
     /// Empty list with room for every token: a failure returns its refusals in it without allocating.
     pub leaving: Vec<Outgoing>,
     ghost counted: { settled + length (unsettled (course_of flight)) + length (commands_of queue) ≡ numbered },
     ghost first: { first_of flight (settled + 1) ≡ settled + 1 },
     ghost empty: { vec_len leaving ≡ 0 },
-    ghost room: { deque_len tokens ≤ vec_capacity leaving },
+    ghost room: { deque_len replied + deque_len parked ≤ vec_capacity leaving },
 }
 
 impl Serving {
     ghost use Rattle.cg_request.specs.Request.{asked};
     ghost use Rattle.cg_request.specs.declared.event.Event.TheVariants as event;
     ghost use Rattle.cg_desk.specs.Owed.{IsOwed};
-    ghost use Rattle.cg_desk.specs.Laws.{AreRefusedOnce};
-    ghost use Rattle.cg_desk.specs.Books.{failing, is_short, letting_go, numbering, served};
-    ghost use Rattle.cg_desk.specs.Held.{is_waiting};
+    ghost use Rattle.cg_desk.specs.Laws.{AreRefusedOnce, tokens_of};
+    ghost use Rattle.cg_desk.specs.Books.{failing, is_short, letting_go, moving, numbering, served};
+    ghost use Rattle.cg_desk.specs.Held.{calls_of, is_waiting};
+    ghost use Rattle.cg_desk.specs.States as state;
     ghost use Rattle.cg_desk.specs.Serving.{HasRoom, books};
     ghost use Rattle.cg_desk.specs.Tokens.{call_of};
 
     /// Creates a desk after recovery, with `number` commands numbered and settled and no pending request. Does not
     /// allocate.
     pub fn new(alloc: Global, groups: Groups, number: u64) -> Self
-        ensures { books result ≡ record { machine = groups; numbered = number; settled = number; queue = []; course = course_of Flight.Idle; held = []; tokens = [] } }
+        ensures { books result ≡ record { machine = groups; numbered = number; settled = number; queue = []; course = course_of Flight.Idle; held = []; replied = []; parked = [] } }
     {
         Serving {
             alloc,
@@ -66,7 +70,8 @@ impl Serving {
             queue: Queue::new(alloc),
             flight: Flight::Idle,
             held: VecDeque::new(alloc),
-            tokens: VecDeque::new(alloc),
+            replied: VecDeque::new(alloc),
+            parked: VecDeque::new(alloc),
             leaving: Vec::new(alloc),
         }
     }
@@ -88,22 +93,23 @@ impl Serving {
         ensures books { books self.new ≡ books self.old }
         ensures ok { IfOk result (λ out. HasRoom self.new more out) }
     {
-        self.tokens.reserve(more)?;
-        let tokens = self.tokens.len() + more;
-        self.leaving.reserve(tokens)?;
+        let pending = self.replied.len() + self.parked.len() + more;
+        self.parked.reserve(more)?;
+        self.replied.reserve(self.parked.len() + more)?;
+        self.leaving.reserve(pending)?;
         self.held.reserve(1)?;
         self.queue.reserve()?;
         if HeldStep::are_waiting(&self.held, self.settled) {
             return Ok(Vec::new(self.alloc));
         }
-        Vec::with_capacity(self.alloc, tokens)
+        Vec::with_capacity(self.alloc, pending)
     }
 
     // Releases the replies whose commands are settled.
     #[tactic(auto, unfolding(crate::specs::Books::letting_go))]
     fn let_go(&mut self, out: Vec<Outgoing>) -> Vec<Outgoing>
         requires empty { out.items ≡ [] }
-        requires room { is_waiting self.old.settled self.old.held.items ≡ false → vec_len out + deque_len self.old.tokens ≤ vec_capacity out }
+        requires room { is_waiting self.old.settled self.old.held.items ≡ false → vec_len out + deque_len self.old.replied ≤ vec_capacity out }
         ensures { letting_go (books self.old) ≡ record { books = books self.new; out = result.items } }
     {
         if HeldStep::are_waiting(&self.held, self.settled) {
@@ -111,17 +117,17 @@ impl Serving {
         }
         let mut out = out;
         let permit = Permit::new(self.settled);
-        HeldStep::release(&mut self.held, &mut self.tokens, &permit, &mut out);
+        HeldStep::release(&mut self.held, &mut self.replied, &permit, &mut out);
         out
     }
 
-    // Numbers the commands of a step of the request `own`, if it took one, holds its replies, and releases those whose
-    // commands are settled.
+    // Numbers the commands of a step of the request `own`, if it took one, holds its replies with the tokens of the requests that
+    // they answer, and releases those whose commands are settled. The token of `own` is the first of `parked`.
     #[tactic(auto, using(crate::proofs::Leaving::was_waiting))]
     fn finish(&mut self, own: Option<Ticket>, effects: Effects, out: Vec<Outgoing>) -> Vec<Outgoing>
         requires room { HasRoom self.old 0 out }
         requires numbers { self.old.numbered + length effects.commands < 2 ^ 64 }
-        ensures { letting_go (numbering (books self.old) own effects) ≡ record { books = books self.new; out = result.items } }
+        ensures { letting_go (numbering (moving (books self.old) (calls_of effects.replies) (books self.old).parked) own effects) ≡ record { books = books self.new; out = result.items } }
     {
         let Effects { commands, replies } = effects;
         let made = commands.len() as u64;
@@ -132,6 +138,7 @@ impl Serving {
             own,
             made,
         };
+        move_answered(&mut self.parked, &mut self.replied, replies.as_slice());
         HeldStep::hold(&mut self.held, origin, replies);
         self.let_go(out)
     }
@@ -160,7 +167,7 @@ impl Serving {
         match self.groups.step(event, now) {
             Err(error) => Err((error, token)),
             Ok(effects) => {
-                self.tokens.push_back_reserved(token);
+                self.parked.push_front_reserved(token);
                 Ok(self.finish(Some(ticket), effects, out))
             }
         }
@@ -196,7 +203,7 @@ impl Serving {
     /// Refuses every pending request: first those with a held reply, in the order of the replies, then the parked ones,
     /// by group and joining order. Does not allocate.
     pub fn fail(self) -> Vec<Outgoing>
-        ensures once { AreRefusedOnce (books self).tokens result.items }
+        ensures once { AreRefusedOnce (tokens_of (state.Serving (books self))) result.items }
         ensures order { IsOwed (books self) → result.items ≡ failing (books self) }
     {
         let Serving {
@@ -207,14 +214,17 @@ impl Serving {
             queue: _queue,
             flight: _flight,
             mut held,
-            mut tokens,
+            mut replied,
+            mut parked,
             leaving,
         } = self;
         let mut out = leaving;
-        refuse_held(&mut tokens, &mut held, &mut out);
-        refuse_waiting(&mut tokens, &groups, &mut out);
-        refuse_rest(&mut tokens, &mut out);
-        tokens.destroy_empty();
+        refuse_held(&mut replied, &mut held, &mut out);
+        refuse_waiting(&mut parked, &groups, &mut out);
+        refuse_rest(&mut replied, &mut out);
+        refuse_rest(&mut parked, &mut out);
+        replied.destroy_empty();
+        parked.destroy_empty();
         out
     }
 }

@@ -15,6 +15,7 @@ loop-replies-preserved c =
     record {
       told = told_then l.invariant.told many;
       room = search rules;
+      sum = search rules;
       capacity = search rules;
     }
 
@@ -28,5 +29,6 @@ returns c =
       tokens = told_tokens refl empty l.invariant.told;
       held = search rules;
       room = search rules;
+      sum = search rules;
       capacity = search rules;
     }

@@ -9,6 +9,7 @@ abbrev pub invariant-loop-replies : goal.invariant-loop-replies
 invariant-loop-replies l = record {
   told : Told (map refusal (calls_of (replies_of l.initial.held.items))) l.initial.tokens.items l.initial.out.items (map refusal (calls_of (replies_of l.held.items))) l.tokens.items l.out.items;
   room : vec_len l.out + deque_len l.tokens ≤ vec_capacity l.out;
+  sum : vec_len l.out + deque_len l.tokens ≡ vec_len l.initial.out + deque_len l.initial.tokens;
   capacity : vec_capacity l.out ≡ vec_capacity l.initial.out;
 }
 

@@ -22,6 +22,7 @@ loop-reply-preserved c =
           let short = ap length steps in
           omega arith;
       room = search rules;
+      sum = search rules;
       capacity = search rules;
     }
 
@@ -37,5 +38,6 @@ returns c =
       out = told_out all empty l.invariant.told;
       tokens = told_tokens all empty l.invariant.told;
       room = search rules;
+      sum = search rules;
       capacity = search rules;
     }

@@ -11,5 +11,6 @@ invariant-loop-reply l = record {
   told : Told (map refusal (calls_of (into_iter_items l.initial.reply-iterator))) l.initial.tokens.items l.initial.out.items (map refusal (calls_of (into_iter_items l.reply-iterator))) l.tokens.items l.out.items;
   len : into_iter_len l.reply-iterator ≡ length (into_iter_items l.reply-iterator);
   room : vec_len l.out + deque_len l.tokens ≤ vec_capacity l.out;
+  sum : vec_len l.out + deque_len l.tokens ≡ vec_len l.initial.out + deque_len l.initial.tokens;
   capacity : vec_capacity l.out ≡ vec_capacity l.initial.out;
 }

@@ -17,6 +17,7 @@ loop-member-preserved c =
     record {
       told = told_then l.invariant.told many;
       room = search rules;
+      sum = search rules;
       capacity = search rules;
     }
 
@@ -32,5 +33,6 @@ returns c =
       out = told_out all empty l.invariant.told;
       tokens = told_tokens all empty l.invariant.told;
       room = search rules;
+      sum = search rules;
       capacity = search rules;
     }

@@ -17,6 +17,7 @@ loop-group-preserved c =
     record {
       told = told_then l.invariant.told many;
       room = search rules;
+      sum = search rules;
       capacity = search rules;
     }
 
@@ -31,5 +32,6 @@ returns c =
       out = told_out all empty l.invariant.told;
       tokens = told_tokens all empty l.invariant.told;
       room = search rules;
+      sum = search rules;
       capacity = search rules;
     }
