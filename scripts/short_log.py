@@ -1,4 +1,5 @@
-"""Fills a log that is too short for a snapshot of its state, looks for the warnings, and makes it longer as OPERATING.md says.
+"""Fills a log that is too short for a snapshot of its state, looks for the warnings, and makes it longer as OPERATING.md says. Then
+commits to a log that always has fewer segments free than --compact-free says.
 
   python3 scripts/short_log.py PROGRAM
 
@@ -7,7 +8,12 @@ again, each commit after the reply to the one before, until the server says that
 the server has to have said, once each and in this order, that it has no room for a snapshot and that the log is full. It is
 killed, the file is made longer, and the server started again with more segments for --compact-free. Now it has to have every
 group and the last acknowledged offset, and to acknowledge more bytes of commits than the log has room for, without a warning:
-so it compacts the log. The exit status is 0 if all of this held. A run takes some seconds on a fast disk.
+so it compacts the log.
+
+A log of 5 segments has at most 3 free after a compaction. With 4 for --compact-free and a tick of a minute it must not become
+full either: the commits have to wake the compactor.
+
+The exit status is 0 if all of this held. A run takes some seconds on a fast disk.
 """
 import os
 import queue
@@ -29,6 +35,9 @@ LATE_SECONDS, LOOK_SECONDS = 2, 0.2
 ROOT_BYTES, SEGMENT_BYTES = 4 * 512, 2048 * 512
 NO_ROOM, FULL = "no room for a snapshot", "the log is full"
 TICK = ["--tick-ms", "100"]
+# A log that is always low, with ticks that come too late, and commits of 64 KiB to one group: 12 MiB.
+LOW = ["--segments", "5", "--compact-free", "4", "--tick-ms", "60000"]
+LOW_PARTITIONS, LOW_COMMITS = 32, 200
 
 
 def commit_line(group, partitions, offset):
@@ -112,6 +121,20 @@ def go_on(program, disk, last):
         return groups, is_kept, further, said(server)
 
 
+def commit_to_low_log(program, disk, count=LOW_COMMITS):
+    """Returns how many commits were acknowledged, and what was said."""
+    with Server(program, *LOW, "--disk", disk, "--format") as server:
+        server.load()
+        connection = server.connect()
+        replies = Replies(connection)
+        for done in range(count):
+            connection.send(commit_line("g", LOW_PARTITIONS, done))
+            if replies.next(server) != "OK":
+                return done, said(server)
+        server.kill()
+        return count, said(server)
+
+
 def main(words):
     (program,) = words
     with tempfile.TemporaryDirectory() as folder:
@@ -119,9 +142,11 @@ def main(words):
         last, warnings = fill_and_kill(program, disk)
         os.truncate(disk, ROOT_BYTES + LONGER * SEGMENT_BYTES)
         groups, is_kept, further, warnings_later = go_on(program, disk, last)
+        low, warnings_low = commit_to_low_log(program, os.path.join(folder, "low"))
     print(f"{last} commits, then {warnings}; later {groups} groups, last offset kept: {is_kept}, {further} further commits, "
-          f"then {warnings_later}")
-    return 0 if warnings == [NO_ROOM, FULL] and (groups, is_kept, further, warnings_later) == (GROUPS, True, FURTHER, []) else 1
+          f"then {warnings_later}; {low} commits to a log that is low, then {warnings_low}")
+    is_longer = (groups, is_kept, further, warnings_later) == (GROUPS, True, FURTHER, [])
+    return 0 if warnings == [NO_ROOM, FULL] and is_longer and (low, warnings_low) == (LOW_COMMITS, []) else 1
 
 
 if __name__ == "__main__":

@@ -101,27 +101,6 @@ PUTTER = ("acceptor", PUT + WAKE, "put swap wake")
 CLOSER = ("crew", SHUT + WAKE, "shut swap wake")
 LAST = ("acceptor", f"{PUT}\n{DONE}{WAKE}", "put done swap wake")
 
-# Threads that hand requests over, each one request a turn, and a flush round.
-INTAKE = {"waiting": 0, "has_task": False, "rounds": 0, "served": 0}
-HANDER = ("worker", """
-add    | begin_call       | self.intake.lock(rt).add(     | waiting += 1
-up     | take_up          | !self.is_served && !self.wait | my_task = waiting > 0 and not has_task; has_task |= my_task
-task   | hand_over        | if !self.intake.lock(rt).take | go = None if my_task else "rest"
-round  | serve_some       | if self.has_round()           | go = "leave" if rounds else None
-next   | next             | self.waiting.pop_front()      | my_task = waiting > 0; waiting -= my_task
-keep   | next             | self.is_served = next.is_some | has_task = my_task
-serve  | serve_some       | desk.serve(rt, submission     | served += my_task; go = None if my_task else "rest"
-clear  | leave            | self.is_served = false        | has_task = False
-more   | leave            | !self.waiting.is_empty()      | go = "up" if waiting else "rest"
-sleep  | rest             | watch.wait(                   | wait = served < 2
-""", "add :up up+ task round next+ keep serve :leave clear+ more :rest sleep")
-ROUND = ("flusher", """
-begin  | lock_for_round   | self.rounds.fetch_add(1       | rounds += 1
-take   | take_batch       | .exchange(desk.handed_over()) | my_taken = waiting; waiting = 0
-serve  | take_batch       | desk.serve_all(rt             | served += my_taken
-end    | let_callers_on   | self.rounds.fetch_sub(1       | rounds -= 1
-""", "begin take serve end")
-
 # A connection of which nothing is served before a reply, one byte a read. `epoll` reports once that something came.
 STREAM = {"bytes": 0, "event": False, "sent": False, "waker": False, "readable": False, "unserved": False, "served": 0}
 READER = ("worker", """
@@ -157,8 +136,9 @@ sleep  | wait             | |rung| !*rung                 | wait = asleep; go = 
 take   | wait             | *rung = false                 | rung = False
 """, ":look look+ sleep :rung take")
 
-# A flusher that finds the log full, one that watches the room, and the compactor, after whose round two segments are free.
-ROOM = {"free": 1, "least": 0, "stored": 0, "full": False, "low": False, "rung": False, "flush_rung": False, "ended": False}
+# A flusher that finds the log full, one that watches the room, and the compactor, after whose last round two segments are free.
+ROOM = {"free": 1, "least": 0, "stored": 0, "full": False, "under_way": False, "given_up": False, "rung": False,
+        "flush_rung": False, "ended": False}
 FULL = ("flusher", """
 store  | flush_until_over | server.flush_round(rt)        | my_room = free > 0; free -= my_room; stored += my_room
 after  | flush_until_over | match after                   | go = "end" if stored == 2 else "store" if my_room else None
@@ -169,19 +149,22 @@ wait   | flush_until_over | server.flush.wait(rt, tick)   | wait = not flush_run
 """, ":store store after new set ring wait")
 WATCHER = ("flusher", """
 store  | flush_until_over | server.flush_round(rt)        | my_room = free > 0; free -= my_room; stored += my_room
-ask    | watch            | self.is_low(rt, engine)       | my_low = free < least
-swap   | watch            | self.low.swap(is_low          | my_was = low; low = my_low
-ring   | watch            | self.compactor.ring(rt)       | rung |= my_low and not my_was
+leave  | watch            | !self.has_given_up()          | my_leave = given_up
+low    | watch            | self.is_low(rt, engine)       | my_low = free < least or under_way
+idle   | watch            | !is_under_way(rt, engine)     | my_idle = not under_way
+ring   | watch            | self.compactor.ring(rt)       | rung |= my_low and my_idle and not my_leave
 again  | flush_until_over | match after                   | go = "store" if stored < 3 else "end"
-""", ":store store ask swap ring again")
+""", ":store store leave low idle ring again")
 COMPACTOR = ("compactor", """
 hush   | compact_until_over | bell.hush(rt)               | rung = False
 over   | compact_until_over | if server.is_over()         | go = "end" if ended else None
 look   | is_wanted          | server.room.is_full()       | my_wanted = full or free < least
-round  | compact_once       | engine.compact_round(rt)    | free = 2 if my_wanted else free
+begin  | compact_once       | engine.compact_round(rt)    | under_way = my_wanted
+note   | compact_once       | server.room.note_given_up(  | given_up &= not my_wanted
+round  | compact_once       | engine.compact_round(rt)    | free = 2 if my_wanted else free; under_way = False
 wake   | compact_until_over | server.wake_flusher(rt)     | flush_rung |= my_wanted
 wait   | compact_until_over | bell.wait(rt, pause)        | wait = not rung; rung = False; go = "top"
-""", ":top hush over look round wake wait")
+""", ":top hush over look begin note round wake wait")
 ENDER = ("crew", """
 end    | end              | self.over.store(true          | ended = True
 wake   | wake             | self.desk.lock(rt).wake()     | woken = True
@@ -201,7 +184,8 @@ to     | close            | TcpStream::connect(rt         | queue += 1
 """, "close to")
 
 # The first values of the threads' own variables.
-OWN = {"my_has": True, "my_free": True, "my_work": False, "my_wanted": False, "my_wakes": False, "my_full": False, "my_count": 0}
+OWN = {"my_has": True, "my_free": True, "my_work": False, "my_wanted": False, "my_wakes": False, "my_full": False,
+       "my_leave": False, "my_low": False, "my_idle": False, "my_count": 0}
 
 
 @dataclass(frozen=True)
@@ -213,8 +197,6 @@ class Model:
     start: dict
     end: str
     exchanged: list
-    # Whether the order of the code is known to lose a wake-up.
-    is_known: bool = False
 
     def stuck(self, exchanged=("", "")):
         """Returns how a wake-up is lost, or None. With a thread and an order the lines of that thread are exchanged."""
@@ -248,28 +230,29 @@ MODELS = [
         ("worker", ":top empty done over down shut new done2 empty2 sleep up close enter again"),
         ("acceptor", "done put swap wake"),
         ("acceptor", "put swap wake done")]),
-    Model("5. a request is added while another thread stops handing over", [HANDER, HANDER, ROUND], INTAKE, "served == 2", [
-        ("worker", ":up up+ task round next+ keep serve :leave clear+ more :rest add sleep"),
-        ("worker", "add :up up+ task round next keep serve :leave clear+ more :rest sleep"),
-        ("worker", "add :rest sleep :up up+ task round next+ keep serve :leave clear+ more")]),
-    Model("6. a stream becomes ready while it may not be served", [READER, CLIENT, REPLIER], STREAM, "served == 2", [
+    Model("5. a stream becomes ready while it may not be served", [READER, CLIENT, REPLIER], STREAM, "served == 2", [
         ("worker", ":rest ask wait+ events reply read keep took list note again"),
         ("worker", ":rest wait+ events note reply read keep took ask list again"),
         ("flusher", "wake send")]),
-    Model("7. a bell is rung while a thread begins to wait", [LISTENER, RINGER], BELL, "'listener' in over", [
+    Model("6. a bell is rung while a thread begins to wait", [LISTENER, RINGER], BELL, "'listener' in over", [
         ("ringer", "tell set")]),
-    Model("7. the log becomes full, and has room again", [FULL, COMPACTOR], ROOM, "stored == 2", [
+    Model("6. the log becomes full, and has room again", [FULL, COMPACTOR], ROOM, "stored == 2", [
         ("flusher", ":store store after new ring set wait"),
-        ("compactor", ":top over look hush round wake wait"),
-        ("compactor", ":top hush over look wake round wait")]),
-    Model("7. too few segments are free", [WATCHER, COMPACTOR], {**ROOM, "free": 2, "least": 2}, "stored == 3 and free >= least",
-          [], is_known=True),
-    Model("7. the server is over", [FLUSHER, COMPACTOR, ENDER], {**DESK, **ROOM}, "{'flusher', 'compactor'} <= over", [
+        ("compactor", ":top over look hush begin note round wake wait"),
+        ("compactor", ":top hush over look wake begin note round wait")]),
+    Model("6. too few segments are free", [WATCHER, COMPACTOR], {**ROOM, "least": 2, "given_up": True},
+          "stored == 3 and free >= least", [
+              ("flusher", ":store low store leave idle ring again"),
+              ("flusher", ":store idle store leave low ring again"),
+              ("flusher", ":store leave low idle ring store again"),
+              ("compactor", ":top over look hush begin note round wake wait"),
+              ("compactor", ":top hush over look begin round note wake wait")]),
+    Model("6. the server is over", [FLUSHER, COMPACTOR, ENDER], {**DESK, **ROOM}, "{'flusher', 'compactor'} <= over", [
         ("crew", "wake tell ring end"),
         ("crew", "end tell wake ring"),
-        ("compactor", ":top over hush look round wake wait"),
+        ("compactor", ":top over hush look begin note round wake wait"),
         ("flusher", ":on over on take settle off clear :look look+ sleep :awake again")]),
-    Model("8. the server closes while the acceptor sleeps", [ACCEPTOR, CONNECTOR], PORT, "'acceptor' in over", [
+    Model("7. the server closes while the acceptor sleeps", [ACCEPTOR, CONNECTOR], PORT, "'acceptor' in over", [
         ("reporter", "to close")]),
 ]
 
@@ -277,14 +260,17 @@ MODELS = [
 CALLS_IN = """
 serve_inbox        | worker.is_over() | worker.rest( | worker.work(
 rest               | self.inbox.lie_down( | self.take_answers( | self.flush( | watch.wait(self.most_wait()) | self.inbox.get_up()
-work               | self.close() | self.enter_some( | self.serve_events( | self.flush( | self.take_answers( | wake_callers_since(
+work               | self.close() | self.enter_some( | self.serve_events( | self.flush( | self.take_answers(
 flush              | self.hand_over() | self.server.is_flushing() | notify_flusher() | server.flush_round( | server.engine.wake(
-hand_over          | take_up() | self.hand_over_some(rt) | leave()
-hand_over_some     | self.desk.lock(rt) | self.serve_some( | desk.has_pending() | drop(desk) | self.send_all(
-take_batch         | self.lock_for_round(rt) | .exchange( | desk.serve_all( | desk.take( | self.let_callers_on() | drop(desk)
-store_batch        | self.lock_for_round(rt) | desk.settle( | self.let_callers_on() | self.unlock(
+hand_over          | requests.is_empty() | self.hand_over_some(rt, requests)
+hand_over          | self.engine.answered() | self.engine.hand_over(rt, requests) | self.wake_callers_since(answered)
+hand_over_some     | self.desk.lock(rt) | serve_some( | desk.has_pending() | drop(desk) | self.send_all(
+take_batch         | self.engine.answered() | self.engine.take_batch(rt) | self.wake_callers_since(answered)
+flush_round        | self.take_batch(rt) | self.engine.store_batch(rt, batch) | self.wake_callers()
+take_batch         | self.desk.lock(rt) | desk.take( | drop(desk) | self.send_all(
+store_batch        | self.store.lock(rt) | self.desk.lock(rt) | desk.settle( | self.unlock(
 unlock             | desk.has_pending() | drop(desk) | self.pending.notify_one() | self.send_all(
-flush_until_over   | server.flush_round(rt) | server.wake_callers() | server.room.watch(
+flush_until_over   | server.flush_round(rt) | server.room.watch(
 wake_caller        | self.is_calling.load( | self.wake()
 put                | .push_back(stream) | self.wake()
 refuse             | self.closing.store(true | self.wake_workers()
@@ -292,7 +278,7 @@ finish_accepting   | self.done.store(true | self.wake_workers()
 serve_event        | connection.note_readable( | self.visit(
 end                | self.over.store(true | self.wake_flusher(rt) | self.room.compactor.ring(rt)
 compact_until_over | bell.hush(rt) | server.is_over() | compact_once( | server.wake_flusher(rt) | bell.wait(rt, pause)
-compact_once       | is_wanted( | server.engine.compact_round(rt)
+compact_once       | is_wanted( | server.engine.compact_round(rt) | server.room.note_given_up(
 """
 
 
@@ -333,10 +319,7 @@ def check(report, programs=None, folder=None):
     for model in MODELS:
         report.equal(f"{model.name}: functions without the lines of the model", missing(model, texts), [])
         lost = model.stuck()
-        if model.is_known:
-            report.holds(model.name, lost is not None, "a wake-up was known to be lost, and is not any more")
-        else:
-            report.holds(model.name, lost is None, f"a wake-up is lost after {'; '.join(lost or [])}")
+        report.holds(model.name, lost is None, f"a wake-up is lost after {'; '.join(lost or [])}")
         for exchanged in model.exchanged:
             report.holds(f"{model.name}: {' '.join(exchanged)}", model.stuck(exchanged) is not None, "no wake-up is lost")
 
@@ -352,8 +335,7 @@ def main():
     for model in MODELS:
         held += not show(model.name, model.stuck(), "holds")
         found += sum(show(f"  {': '.join(it)}", model.stuck(it), "NOT FOUND") for it in model.exchanged)
-    known = sum(it.is_known for it in MODELS)
-    print(f"{held} orders hold, {known} is known to lose a wake-up, {found} exchanged orders are found")
+    print(f"{held} orders hold, {found} exchanged orders are found")
 
 
 if __name__ == "__main__":

@@ -9,10 +9,10 @@ use Rattle.cg_engine.specs.Appended.{AreAsMany, appended_in}
 use Rattle.cg_engine.specs.BorneOut.{AreCounted, IsBorneOut, IsTested, IsTestedBy}
 use Rattle.cg_engine.specs.Left.{Leaves, LeftIn}
 use Rattle.cg_engine.specs.Recorders.{trail_of}
-use Rattle.cg_engine.specs.declared.appended.Appended.{Appended}
+use Rattle.cg_engine.specs.declared.trail.appended.Appended.{Appended}
 use Rattle.cg_engine.specs.declared.pass.SessionPass.{SessionPass}
-use Rattle.cg_engine.specs.declared.recorder.Recorder.{Recorder}
-use Rattle.cg_engine.specs.declared.recorder.Recorder.TheVariants.{Off, Waiting, On, Lost}
+use Rattle.cg_engine.specs.declared.trail.recorder.Recorder.{Recorder}
+use Rattle.cg_engine.specs.declared.trail.recorder.Recorder.TheVariants.{Off, Waiting, On, Lost}
 
 module _ {D : Type 0} (honest : D → Bool) (history : D → History) (size : D → ℕ) where
   -- without the commands that were noted

@@ -38,10 +38,8 @@ use Rattle.cg_engine.proofs.store_side.StoreSide.TheSendSync as storeside
 use Rattle.cg_engine.proofs.units.Pool.TheSendSync as pool
 use Rattle.cg_engine.proofs.units.Part.TheSendSync as part
 use Rattle.cg_engine.proofs.booked.BookedReceipt.TheSendSync as receipt
-use Rattle.cg_engine.proofs.recorder.Recorder.TheSendSync as recorder
+use Rattle.cg_engine.proofs.trail.recorder.Recorder.TheSendSync as recorder
 use Rattle.cg_engine.proofs.pass_state.Session.TheSendSync as session
-use Rattle.cg_engine.proofs.intake.Intake.TheSendSync as intake
-use Rattle.cg_engine.proofs.intake.Submission.TheSendSync as submission
 use Rattle.cg_time.proofs.tree.Tree.TheLaws.TheKnot as knot
 use Rattle.cg_time.specs.contracts.deadlines.Deadlines as Deadlines
 use Rattle.cg_time.specs.contracts.tree.Tree as Tree
@@ -112,9 +110,9 @@ module _ (L : RattleType) (l : ledger.Ghosts L.Denot) where
 
   side-of : IsSend (Desk.the_field).row → IsSend (DeskSide.the_row L l)
   side-of d = recorded_send (DeskSide.the_field L l).row _ _ (DeskSide.the_type L l).to_one (struct_send (shape (DeskSide.the_type L l))
-      (global.the_field_send, (d, (search sendable, (search sendable, (sessions, (pool.the_field_send L l, (option_field _ (part.the_send L l), (option_field _ (receipt.the_send L l), (recorder.the_field_send, (one.Deque-send _ (submission.the_send L l), (search sendable, tt))))))))))))
+      (global.the_field_send, (d, (search sendable, (search sendable, (sessions, (pool.the_field_send L l, (option_field _ (part.the_send L l), (option_field _ (receipt.the_send L l), (recorder.the_field_send, (search sendable, tt)))))))))))
 
   module _ (D : RattleType) (k : disk.Ghosts D.Denot) (s : IsSend D) where
     pub engine_shared : IsSync (Engine.the_row D L k l)
     engine_shared = recorded_sync (Engine.the_field D L k l).row _ _ (Engine.the_type D L k l).to_one (struct_sync (shape (Engine.the_type D L k l))
-        (global.the_field_sync, (search sendable, (mutex.the_sync _ (side-of desk), (mutex.the_sync _ (storeside.the_send D L k l s), (mutex.the_sync _ (intake.the_send L l), (search (sendable, one.crosses) depth 20, (search (sendable, one.crosses) depth 20, (search (sendable, one.crosses) depth 20, tt)))))))))
+        (global.the_field_sync, (search sendable, (mutex.the_sync _ (side-of desk), (mutex.the_sync _ (storeside.the_send D L k l s), (search (sendable, one.crosses) depth 20, (search (sendable, one.crosses) depth 20, tt)))))))

@@ -8,7 +8,7 @@ use Rattle.std.specs.Prelude.{List}
 use Rattle.cg_engine.specs.Appended.{AreAsMany, appended_in, state_in}
 use Rattle.cg_engine.specs.Left.{HasLeft}
 use Rattle.cg_engine.specs.Stored.{AllCarryOr, IsKept, Stores}
-use Rattle.cg_engine.specs.declared.appended.Appended.{Appended}
+use Rattle.cg_engine.specs.declared.trail.appended.Appended.{Appended}
 use Rattle.cg_disk.specs.Disk.{History}
 
 -- the book and the number of the store grow by the same

@@ -123,15 +123,17 @@ module _ {D : Type 0} {g : _} (honest : D → Bool) (history : D → History) wh
   refused old new batch back store_fault.OutOfOrder state call stored = IsStored-unchanged old new state (call.unchanged (λ e. cc)) stored
   refused old new batch back store_fault.Failed state call stored = IsStored-unchanged old new state (call.unchanged (λ e. cc)) stored
 
-  pub kept-ok : {R : Type 0} (old new : Store D g) (batch : Batch) (state : State) (result : Result R (StoreFault × Batch)) → honest (disk_of new) ≡ honest (disk_of old) → Appends old new batch result
-      → Stores honest history old state → OnOk result (Stores honest history new (after state batch.commands))
-  kept-ok old new batch state (Ok r) same call stored = λ now. appended old new batch r state call (stored (sym same ∙ now))
-  kept-ok old new batch state (Err e) same call stored = tt
+  -- the batch is in the store after an append that succeeded
+  pub kept-ok : {R : Type 0} (old new : Store D g) (batch : Batch) (state : State) (r : R) (result : Result R (StoreFault × Batch)) → result ≡ Ok r → honest (disk_of new) ≡ honest (disk_of old) → Appends old new batch result
+      → Stores honest history old state → Stores honest history new (after state batch.commands)
+  kept-ok {R = R} old new batch state r result is same call stored = λ now.
+      appended old new batch r state (subst (λ (x : Result R (StoreFault × Batch)). Appends old new batch x) is call) (stored (sym same ∙ now))
 
-  pub kept-err : {R : Type 0} (old new : Store D g) (batch : Batch) (state : State) (result : Result R (StoreFault × Batch)) → honest (disk_of new) ≡ honest (disk_of old) → Appends old new batch result
-      → Stores honest history old state → OnErr result (Stores honest history new state)
-  kept-err old new batch state (Ok r) same call stored = tt
-  kept-err old new batch state (Err (fault, back)) same call stored = λ now. refused old new batch back fault state call (stored (sym same ∙ now))
+  -- and it is as it was after one that failed
+  pub kept-err : {R : Type 0} (old new : Store D g) (batch : Batch) (state : State) (fault : StoreFault × Batch) (result : Result R (StoreFault × Batch)) → result ≡ Err fault → honest (disk_of new) ≡ honest (disk_of old) → Appends old new batch result
+      → Stores honest history old state → Stores honest history new state
+  kept-err {R = R} old new batch state fault result is same call stored = λ now.
+      refused old new batch fault.1 fault.0 state (subst (λ (x : Result R (StoreFault × Batch)). Appends old new batch x) is call) (stored (sym same ∙ now))
 
   -- ---- a step of a compaction
 

@@ -5,7 +5,7 @@ use Rattle.cg_fold.specs.Durable.{State, after, folded}
 use Rattle.cg_record.specs.declared.command.Command.{Command}
 use Rattle.cg_store.specs.Carried.{joined}
 use Rattle.cg_trail.specs.Trails.{TrailParts, BeginsWith}
-use Rattle.cg_engine.specs.declared.appended.Appended.{Appended}
+use Rattle.cg_engine.specs.declared.trail.appended.Appended.{Appended}
 
 -- the commands of the loaded state
 abbrev pub loaded_in : Appended → List Command

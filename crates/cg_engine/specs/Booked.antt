@@ -1,7 +1,7 @@
 -- The model of a store with the book of its ledger.
 use Rattle.std.specs.Prelude.{ℕ, Option}
 use Rattle.cg_store.specs.declared.store.Store.{Store}
-use Rattle.cg_engine.specs.declared.appended.Appended.{Appended}
+use Rattle.cg_engine.specs.declared.trail.appended.Appended.{Appended}
 use Rattle.cg_engine.specs.declared.booked.BookedStore.{BookedStore}
 
 abbrev pub store_in : {D L : Type 0} {g : _} → BookedStore D L g → Store D g

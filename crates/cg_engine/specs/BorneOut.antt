@@ -9,10 +9,10 @@ use Rattle.cg_engine.specs.Appended.{BearsIfNoted}
 use Rattle.cg_engine.specs.Left.{LeavesIn}
 use Rattle.cg_engine.specs.Noted.{AreIn}
 use Rattle.cg_engine.specs.Passes.{noted_of, number_of, units_of}
-use Rattle.cg_engine.specs.declared.appended.Appended.{Appended}
+use Rattle.cg_engine.specs.declared.trail.appended.Appended.{Appended}
 use Rattle.cg_engine.specs.declared.pass.SessionPass.{SessionPass}
-use Rattle.cg_engine.specs.declared.recorder.Recorder.{Recorder}
-use Rattle.cg_engine.specs.declared.recorder.Recorder.TheVariants.{Off, Waiting, On, Lost}
+use Rattle.cg_engine.specs.declared.trail.recorder.Recorder.{Recorder}
+use Rattle.cg_engine.specs.declared.trail.recorder.Recorder.TheVariants.{Off, Waiting, On, Lost}
 
 -- one of the passes has this number
 abbrev pub has_number : {L : Type 0} → ℕ → List (SessionPass L) → Bool

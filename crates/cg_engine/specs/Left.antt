@@ -8,7 +8,7 @@ use Rattle.cg_desk.specs.Answering.{refusal}
 use Rattle.cg_desk.specs.declared.outgoing.Outgoing.{Outgoing}
 use Rattle.cg_engine.specs.Appended.{Knows}
 use Rattle.cg_engine.specs.Stored.{AllCarryOr}
-use Rattle.cg_engine.specs.declared.appended.Appended.{Appended}
+use Rattle.cg_engine.specs.declared.trail.appended.Appended.{Appended}
 
 -- every crash image of an honest disk has this number of commands and this state, or one further batch as well
 abbrev pub LeftIn : {D : Type 0} → (D → Bool) → (D → History) → (D → ℕ) → D → ℕ → State → Type 0

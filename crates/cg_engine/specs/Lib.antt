@@ -2,11 +2,13 @@ pub mod Appended
 pub mod Booked
 pub mod BorneOut
 pub mod Faults
+pub mod Idle
 pub mod Left
 pub mod Loads
 pub mod Noted
 pub mod Passes
 pub mod Recorders
+pub mod Requests
 pub mod Sides
 pub mod Stored
 pub mod Units

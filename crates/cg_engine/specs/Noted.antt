@@ -6,8 +6,8 @@ use Rattle.cg_group_state.specs.declared.reply.Reply.TheVariants as reply
 use Rattle.cg_request.specs.declared.ticket.Ticket.{Ticket}
 use Rattle.cg_trail.specs.Entries.{Answer}
 use Rattle.cg_trail.specs.Trails.{TrailParts, AreAnswers}
-use Rattle.cg_engine.specs.declared.noted.Noted.{Noted}
-use Rattle.cg_engine.specs.declared.noted.Noted.TheVariants.{Off, Kept, Lost}
+use Rattle.cg_engine.specs.declared.trail.noted.Noted.{Noted}
+use Rattle.cg_engine.specs.declared.trail.noted.Noted.TheVariants.{Off, Kept, Lost}
 
 -- 14, 15, -1 or 42
 abbrev pub is_refused : Reply → Bool

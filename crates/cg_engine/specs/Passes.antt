@@ -5,7 +5,7 @@ use Rattle.cg_request.specs.declared.ticket.Ticket.{Ticket}
 use Rattle.cg_engine.specs.Units.{count_of}
 use Rattle.cg_engine.specs.declared.engine_limits.TheConstants.{CALLS_MAX}
 use Rattle.cg_engine.specs.declared.kind.CallKind.{CallKind}
-use Rattle.cg_engine.specs.declared.noted.Noted.{Noted}
+use Rattle.cg_engine.specs.declared.trail.noted.Noted.{Noted}
 use Rattle.cg_engine.specs.declared.pass.SessionPass.{SessionPass}
 use Rattle.cg_engine.specs.declared.pending_call.BegunCall.{BegunCall}
 use Rattle.cg_engine.specs.declared.pending_call.BegunCall.TheVariants.{Ended, Waits}

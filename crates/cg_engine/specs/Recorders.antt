@@ -1,8 +1,8 @@
 -- The trail that an engine keeps.
 use Rattle.std.specs.Prelude.{Option, Some, None}
 use Rattle.cg_trail.specs.Trails.{TrailParts}
-use Rattle.cg_engine.specs.declared.recorder.Recorder.{Recorder}
-use Rattle.cg_engine.specs.declared.recorder.Recorder.TheVariants.{Off, Waiting, On, Lost}
+use Rattle.cg_engine.specs.declared.trail.recorder.Recorder.{Recorder}
+use Rattle.cg_engine.specs.declared.trail.recorder.Recorder.TheVariants.{Off, Waiting, On, Lost}
 
 -- the trail, if one is kept and no step is missing
 abbrev pub trail_of : Recorder → Option TrailParts

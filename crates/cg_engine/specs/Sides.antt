@@ -1,13 +1,23 @@
--- What the two sides of an engine keep for the test of a trail.
+-- The desk's side of an engine, and what the two sides keep for the test of a trail.
 use Rattle.std.specs.Prelude.{ℕ, ◌+◌, Option, None, Some}
+use Rattle.cg_desk.specs.Desks.{State, state_of}
 use Rattle.cg_engine.specs.Booked.{appended_of, opening_in, since_in}
+use Rattle.cg_engine.specs.Idle.{AreIdle}
 use Rattle.cg_engine.specs.Units.{count_of, units_in}
-use Rattle.cg_engine.specs.declared.appended.Appended.{Appended}
+use Rattle.cg_engine.specs.declared.trail.appended.Appended.{Appended}
 use Rattle.cg_engine.specs.declared.booked.BookedReceipt.{BookedReceipt}
 use Rattle.cg_engine.specs.declared.desk_side.DeskSide.{DeskSide}
-use Rattle.cg_engine.specs.declared.recorder.Recorder.{Recorder}
+use Rattle.cg_engine.specs.declared.trail.recorder.Recorder.{Recorder}
 use Rattle.cg_engine.specs.declared.store_side.StoreSide.{StoreSide}
 use Rattle.cg_engine.specs.declared.store_side.StoreSide.TheVariants.{Empty, Loading, Loaded}
+
+-- the state of the desk
+abbrev pub desk_of : {L : Type 0} → DeskSide L → State
+desk_of side = state_of side.desk
+
+-- no call waits for its answer
+abbrev pub IsAtRest : {L : Type 0} → DeskSide L → Type 0
+IsAtRest side = AreIdle side.sessions
 
 abbrev pub recorder_of : {L : Type 0} → DeskSide L → Recorder
 recorder_of desk = desk.recorder

@@ -7,7 +7,7 @@ use Rattle.cg_store.specs.Carried.{CarriesBeforeOrAfter}
 use Rattle.cg_store.specs.Store.{StandsAt, disk_of, front_of, has_failed, sectors_of}
 use Rattle.cg_store.specs.declared.store.Store.{Store}
 use Rattle.cg_engine.specs.Appended.{Knows}
-use Rattle.cg_engine.specs.declared.appended.Appended.{Appended}
+use Rattle.cg_engine.specs.declared.trail.appended.Appended.{Appended}
 
 -- every crash image has n commands and this state, or these commands as well
 abbrev pub AllCarryOr : History → ℕ → ℕ → State → List Command → Type 0

@@ -9,8 +9,7 @@ ghost use Rattle.cg_store.specs.Receipts.{batch_of};
 ghost use Rattle.cg_store.specs.Store.{front_of, has_failed, phase_of, room_of};
 ghost use Rattle.cg_engine.specs.Units.{count_of};
 
-use crate::appended::Appended;
-use crate::store_calls;
+use crate::trail::Appended;
 use crate::units::{Part, Units};
 use cg_disk::SectorDisk;
 use cg_record::Command;
@@ -67,9 +66,22 @@ fn append_to<D: SectorDisk, L: Ledger>(
     ensures err { (state : State) → Stores D.is_honest D.history store.old state → OnErr result (Stores D.is_honest D.history store.new state) }
 {
     let count = batch.commands.len() as u64;
-    match store_calls::append(store, batch) {
+    match store.append(batch) {
         Ok(receipt) => Ok(BookedReceipt::new(receipt, part.book(book, count))),
         Err((fault, batch)) => Err((fault, batch, part)),
+    }
+}
+
+// Does the next step of a compaction: it begins one where none is under way.
+fn compact_step<D: SectorDisk>(store: &mut Store<D>) -> Result<Progress, CompactFault>
+    ensures number { front_of store.new ≡ front_of store.old }
+    ensures kept { (state : State) → Stores D.is_honest D.history store.old state → Stores D.is_honest D.history store.new state }
+{
+    match store.phase() {
+        Phase::Idle => store.compact_start(),
+        Phase::Reading => store.compact_read(),
+        Phase::Writing => store.compact_write(),
+        Phase::Ready => store.compact_switch(),
     }
 }
 
@@ -166,7 +178,7 @@ impl<D: SectorDisk, L: Ledger> BookedStore<D, L> {
 
     /// Does the next step of a compaction: it begins one where none is under way.
     pub fn compact(&mut self) -> Result<Progress, CompactFault> {
-        store_calls::compact(&mut self.store)
+        compact_step(&mut self.store)
     }
 
     /// Returns how many segments are free.

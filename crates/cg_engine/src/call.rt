@@ -1,25 +1,75 @@
 //! Calls of the engine: a request on its way to the desk, and the wait for its answer.
-ghost use Rattle.std.specs.Prelude.{◌≡◌, ◌+◌, ◌<◌, IfErr, IfOk};
+ghost use Rattle.std.specs.Prelude.{◌≡◌, ◌+◌, ◌<◌, ◌∷◌, ◌++◌, [], IfErr, IfOk};
 ghost use Rattle.cg_desk.specs.Outgoings.{made_of, reply_of, ticket_of};
+ghost use Rattle.cg_request.specs.Request.{asked};
 ghost use Rattle.cg_engine.specs.Noted.{IsNoted};
 ghost use Rattle.cg_engine.specs.Passes.{IfEnded, IfWaits, MatchBegun, calls_after, calls_of, next_ticket, noted_of, number_of, pending_calls, pending_kind, pending_noted, pending_number, pending_ticket, pending_units, units_of};
+ghost use Rattle.cg_engine.specs.Requests.{events_in};
 ghost use Rattle.cg_engine.specs.Worth.{kind_of, worth};
 
 use crate::answer::Answer;
 use crate::engine::Engine;
 use crate::engine_limits::CALLS_MAX;
-use crate::intake::Submission;
 use crate::kind::CallKind;
 use crate::pass::SessionPass;
 use crate::pending_call::{BegunCall, PendingCall};
+use crate::requests::{Requests, Submission};
 use cg_desk::{Outgoing, ReplyToken};
 use cg_disk::SectorDisk;
 use cg_group::{Reply, Request};
 use cg_names::{Code, Moment};
 use std::sync::Wait;
 use std::sync::ledger::Ledger;
-use std::thread;
 use uuid::Uuid;
+
+impl<L: Ledger> Requests<L> {
+    /// Begins a call: its request is added to the list. Once `Engine::hand_over` has handed it over, `Engine::end_call` ends the
+    /// call or, when the answer has come, `Engine::try_end_call`. A call that ends here was refused, by 15 or -1 as
+    /// `Engine::call` refuses it.
+    pub fn begin_call(
+        &mut self,
+        pass: SessionPass<L>,
+        request: Request,
+        now: Moment,
+        fresh: Uuid,
+    ) -> BegunCall<L>
+        ensures number { MatchBegun result (λ ended outgoing. number_of ended ≡ number_of pass) (λ call. pending_number call ≡ number_of pass) }
+        ensures ticket { MatchBegun result (λ ended outgoing. ticket_of outgoing ≡ next_ticket pass) (λ call. pending_ticket call ≡ next_ticket pass) }
+        ensures calls { MatchBegun result (λ ended outgoing. calls_of ended ≡ calls_after (calls_of pass)) (λ call. pending_calls call ≡ calls_of pass) }
+        ensures limit { MatchBegun result (λ ended outgoing. calls_of pass ≡ CALLS_MAX → reply_of outgoing ≡ Reply.Refused Code.CoordinatorNotAvailable) (λ call. calls_of pass < CALLS_MAX) }
+        ensures memory { IfEnded result (λ ended outgoing. calls_of pass < CALLS_MAX → reply_of outgoing ≡ Reply.Refused Code.UnknownServerError) }
+        ensures noted { MatchBegun result (λ ended outgoing. IsNoted (noted_of pass) (ticket_of outgoing) (reply_of outgoing) (noted_of ended)) (λ call. pending_noted call ≡ noted_of pass) }
+        ensures units { MatchBegun result (λ ended outgoing. units_of ended ≡ units_of pass + worth (kind_of request) (reply_of outgoing) (made_of outgoing)) (λ call. pending_units call ≡ units_of pass) }
+        ensures added { MatchBegun result (λ ended outgoing. events_in self.new ≡ events_in self.old) (λ call. events_in self.new ≡ events_in self.old ++ (asked request (next_ticket pass) fresh, now) ∷ []) }
+        ensures kind { IfWaits result (λ call. pending_kind call ≡ kind_of request) }
+    {
+        let ticket = pass.next_ticket();
+        let kind = CallKind::of(&request);
+        if pass.calls() >= CALLS_MAX {
+            let token = ReplyToken::new(ticket);
+            return BegunCall::Ended(pass, token.refuse(Code::CoordinatorNotAvailable));
+        }
+        let (caller, part) = pass.begin();
+        let submission = Submission {
+            ticket,
+            part,
+            request,
+            now,
+            fresh,
+        };
+        match self.add(submission) {
+            Ok(()) => BegunCall::Waits(PendingCall {
+                caller,
+                ticket,
+                kind,
+            }),
+            Err(Submission { part, .. }) => {
+                let token = ReplyToken::new(ticket);
+                BegunCall::Ended(caller.refused(part), token.refuse(Code::UnknownServerError))
+            }
+        }
+    }
+}
 
 impl<D: SectorDisk + Drop, L: Ledger> Engine<D, L> {
     /// Calls the desk at the moment `now`, and waits for the answer to this call. From the UUID `fresh` the desk draws the id of
@@ -41,60 +91,19 @@ impl<D: SectorDisk + Drop, L: Ledger> Engine<D, L> {
         ensures noted { IsNoted (noted_of pass) (ticket_of result.1) (reply_of result.1) (noted_of result.0) }
         ensures units { units_of result.0 ≡ units_of pass + worth (kind_of request) (reply_of result.1) (made_of result.1) }
     {
-        match self.begin_call(rt, pass, request, now, fresh) {
+        let mut requests = Requests::new(self.alloc);
+        match requests.begin_call(pass, request, now, fresh) {
             BegunCall::Ended(pass, outgoing) => (pass, outgoing),
-            BegunCall::Waits(call) => self.end_call(rt, call),
-        }
-    }
-
-    /// Begins a call: its request waits in the intake. `end_call` ends it, or `hand_over` and, once the answer has come,
-    /// `try_end_call`. A call that ends here was refused, by 15 or -1 as `call` refuses it.
-    pub fn begin_call<R: Wait>(
-        &self,
-        rt: &R,
-        pass: SessionPass<L>,
-        request: Request,
-        now: Moment,
-        fresh: Uuid,
-    ) -> BegunCall<L>
-        ensures number { MatchBegun result (λ ended outgoing. number_of ended ≡ number_of pass) (λ call. pending_number call ≡ number_of pass) }
-        ensures ticket { MatchBegun result (λ ended outgoing. ticket_of outgoing ≡ next_ticket pass) (λ call. pending_ticket call ≡ next_ticket pass) }
-        ensures calls { MatchBegun result (λ ended outgoing. calls_of ended ≡ calls_after (calls_of pass)) (λ call. pending_calls call ≡ calls_of pass) }
-        ensures limit { MatchBegun result (λ ended outgoing. calls_of pass ≡ CALLS_MAX → reply_of outgoing ≡ Reply.Refused Code.CoordinatorNotAvailable) (λ call. calls_of pass < CALLS_MAX) }
-        ensures memory { IfEnded result (λ ended outgoing. calls_of pass < CALLS_MAX → reply_of outgoing ≡ Reply.Refused Code.UnknownServerError) }
-        ensures noted { MatchBegun result (λ ended outgoing. IsNoted (noted_of pass) (ticket_of outgoing) (reply_of outgoing) (noted_of ended)) (λ call. pending_noted call ≡ noted_of pass) }
-        ensures units { MatchBegun result (λ ended outgoing. units_of ended ≡ units_of pass + worth (kind_of request) (reply_of outgoing) (made_of outgoing)) (λ call. pending_units call ≡ units_of pass) }
-        ensures kind { IfWaits result (λ call. pending_kind call ≡ kind_of request) }
-    {
-        let ticket = pass.next_ticket();
-        let kind = CallKind::of(&request);
-        if pass.calls() >= CALLS_MAX {
-            let token = ReplyToken::new(ticket);
-            return BegunCall::Ended(pass, token.refuse(Code::CoordinatorNotAvailable));
-        }
-        let (caller, part) = pass.begin();
-        let submission = Submission {
-            ticket,
-            part,
-            request,
-            now,
-            fresh,
-        };
-        let added = self.intake.lock(rt).add(submission);
-        match added {
-            Ok(()) => BegunCall::Waits(PendingCall {
-                caller,
-                ticket,
-                kind,
-            }),
-            Err(Submission { part, .. }) => {
-                let token = ReplyToken::new(ticket);
-                BegunCall::Ended(caller.refused(part), token.refuse(Code::UnknownServerError))
+            BegunCall::Waits(call) => {
+                if self.hand_over(rt, &mut requests) {
+                    self.notify_flusher();
+                }
+                self.end_call(rt, call)
             }
         }
     }
 
-    /// Hands the requests of the intake to the desk, as `hand_over`, and waits for the answer to a call, which ends it.
+    /// Waits for the answer to a call, which ends it. Its request has to be handed over before.
     pub fn end_call<R: Wait>(&self, rt: &R, call: PendingCall<L>) -> (SessionPass<L>, Outgoing)
         ensures number { number_of result.0 ≡ pending_number call }
         ensures ticket { ticket_of result.1 ≡ pending_ticket call }
@@ -140,12 +149,11 @@ impl<D: SectorDisk + Drop, L: Ledger> Engine<D, L> {
         ensures kind { result.kind ≡ pending_kind call.now }
     {
         for _ in rt.forever() {
-            if let Some(answer) = self.received(rt, call) {
+            if let Ok(answer) = call.caller.answers.recv(rt) {
                 if call.is_answered_by(&answer) {
                     return answer;
                 }
             }
-            thread::yield_now();
         }
         unreachable!()
     }

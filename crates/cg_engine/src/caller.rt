@@ -7,8 +7,8 @@ ghost use Rattle.cg_engine.specs.Worth.{worth};
 ghost use Rattle.cg_engine.specs.declared.engine_limits.TheConstants.{CALLS_MAX};
 
 use crate::answer::Answer;
-use crate::noted::Noted;
 use crate::pass::SessionPass;
+use crate::trail::Noted;
 use crate::units::{Part, Units};
 use cg_desk::Outgoing;
 use crossbeam_channel::Receiver;

@@ -1,33 +1,32 @@
 //! What the desk lock of an engine guards: the desk, the sessions, and the units that no answer has yet.
-ghost use Rattle.std.specs.Prelude.{◌≡◌, ◌↔◌, IfErr, IsTrue};
+ghost use Rattle.std.specs.Prelude.{◌≡◌, ◌⊎◌, ◌↔◌, false, IfErr, IfOk, IsTrue, OnErr};
 ghost use Rattle.cg_group_table.specs.Kept.{AreRecords};
 ghost use Rattle.cg_desk.specs.Tokens.{call_of};
 ghost use Rattle.cg_engine.specs.Left.{AreRefusals};
 ghost use Rattle.cg_engine.specs.declared.engine_limits.TheConstants.{PARTS};
 
-use crate::answer::Answer;
+mod rounds;
+
 use crate::booked::BookedReceipt;
-use crate::delivery::{Deliveries, Delivery};
+use crate::delivery::Deliveries;
 use crate::engine_limits::{PARTS, PARTS_FOR_PASS, PASSES_MAX};
-use crate::fault::{PassFault, RoundEnd, RoundFault, Skip};
-use crate::intake::Submission;
+use crate::fault::PassFault;
 use crate::kind::CallKind;
 use crate::pass::SessionPass;
-use crate::pass_state::{Session, Waiting};
-use crate::recorder::{Begun, Recorder};
-use crate::taken::{Taken, TakenBatch};
+use crate::pass_state::{Session, Waiting, delivers, refuse_all};
+use crate::requests::Submission;
+use crate::trail::{Begun, Recorder};
 use crate::units::{Part, Pool};
-use cg_desk::{Counts, Desk, Outgoing, ReplyToken, SettleFault, TakeFault};
+use cg_desk::{Counts, Desk, Outgoing, ReplyToken};
 use cg_fold::Durable;
 use cg_group::{Request, Ticket};
 use cg_names::{Code, Moment};
 use cg_record::Command;
-use cg_store::{Batch, StoreFault};
 use cg_trail::Trail;
 use crossbeam_channel::bounded;
 use slab::Slab;
 use std::alloc::{AllocError, Global};
-use std::collections::VecDeque;
+use std::mem;
 use std::sync::Wait;
 use std::sync::ledger::{Ledger, Share};
 use uuid::Uuid;
@@ -46,74 +45,16 @@ pub struct DeskSide<L: Ledger> {
     // A receipt that the desk could not settle for lack of memory. The next round settles it first.
     unsettled: Option<BookedReceipt<L>>,
     recorder: Recorder,
-    // The requests that a flush round hands over, empty otherwise. Its room is used again.
-    handed_over: VecDeque<Submission<L>>,
     // Whether the wait for commands was ended from outside.
     woken: bool,
 }
 
-// Pays the units of an answer. An answer that no command backs is replaced by a refusal; a desk makes none.
-fn paid<L: Ledger>(
-    pool: &mut Pool<L>,
-    opening: u64,
-    waiting: Waiting<L>,
-    outgoing: Outgoing,
-) -> Answer<L> {
-    let Waiting { kind, part } = waiting;
-    let made = outgoing.made();
-    let worth = kind.worth(outgoing.reply(), made);
-    if worth == made && made <= pool.count() {
-        let units = pool.pay(part, worth);
-        return Answer {
-            kind,
-            outgoing,
-            units,
-            opening,
-        };
-    }
-    let token = ReplyToken::new(outgoing.ticket());
-    Answer {
-        kind,
-        outgoing: token.refuse(Code::CoordinatorNotAvailable),
-        units: part.without_units(),
-        opening,
-    }
-}
-
-// Addresses an answer to a session.
-fn address<L: Ledger, R: Wait>(
-    rt: &R,
-    session: &Session<L>,
-    answer: Answer<L>,
-    deliveries: &mut Deliveries<L>,
-) {
-    match session.answers.clone() {
-        Ok(to) => deliveries.add(rt, Delivery { to, answer }),
-        Err(_) => deliveries.send(rt, &session.answers, answer),
-    }
-}
-
-// Addresses a reply to the session that waits for it.
-fn deliver<L: Ledger, R: Wait>(
-    rt: &R,
-    sessions: &mut Slab<Session<L>>,
-    pool: &mut Pool<L>,
-    opening: u64,
-    outgoing: Outgoing,
-    deliveries: &mut Deliveries<L>,
-) {
-    let Some(session) = sessions.get_mut(outgoing.ticket().session as usize) else {
-        return;
-    };
-    if let Some(waiting) = session.waiting.take() {
-        let answer = paid(pool, opening, waiting, outgoing);
-        address(rt, session, answer, deliveries);
-    }
-}
-
 impl<L: Ledger> DeskSide<L> {
     ghost use Rattle.cg_engine.specs.Recorders.{trail_of};
-    ghost use Rattle.cg_engine.specs.Sides.{recorder_of, unpaid_in};
+    ghost use Rattle.cg_desk.specs.Desks.{is_serving, request_on};
+    ghost use Rattle.cg_request.specs.Request.{asked};
+    ghost use Rattle.cg_engine.specs.Requests.{IsServed};
+    ghost use Rattle.cg_engine.specs.Sides.{IsAtRest, desk_of, recorder_of, unpaid_in};
 
     /// Creates the side of a desk with nothing loaded.
     pub fn new(alloc: Global, share: Share<L>, trail: bool) -> Result<Self, AllocError>
@@ -133,21 +74,43 @@ impl<L: Ledger> DeskSide<L> {
             courier,
             unsettled: None,
             recorder: Recorder::new(trail),
-            handed_over: VecDeque::new(alloc),
             woken: false,
         })
     }
 
-    fn deliver_all<R: Wait>(&mut self, rt: &R, out: Vec<Outgoing>, deliveries: &mut Deliveries<L>) {
+    /// Refuses every pending call, and every later one: the disk failed, or the side met what the contracts of the desk exclude,
+    /// such as a reply for which no call waits.
+    pub fn fail<R: Wait>(&mut self, rt: &R, deliveries: &mut Deliveries<L>)
+        ensures desk { is_serving (desk_of self.new) ≡ false }
+        ensures calls { IsAtRest self.new }
+    {
+        self.has_failed = true;
+        // The refusals of the calls that wait.
+        drop(self.desk.fail());
+        refuse_all(rt, &mut self.sessions, self.opening, deliveries);
+    }
+
+    // Delivers a reply. Fails if no call waits for it, or no command backs it.
+    fn deliver<R: Wait>(&mut self, rt: &R, outgoing: Outgoing, deliveries: &mut Deliveries<L>)
+        ensures { (desk_of self.new ≡ desk_of self.old) ⊎ (is_serving (desk_of self.new) ≡ false) }
+    {
+        if !delivers(
+            rt,
+            &mut self.sessions,
+            &mut self.pool,
+            self.opening,
+            outgoing,
+            deliveries,
+        ) {
+            self.fail(rt, deliveries);
+        }
+    }
+
+    fn deliver_all<R: Wait>(&mut self, rt: &R, out: Vec<Outgoing>, deliveries: &mut Deliveries<L>)
+        ensures { (desk_of self.new ≡ desk_of self.old) ⊎ (is_serving (desk_of self.new) ≡ false) }
+    {
         for outgoing in out {
-            deliver(
-                rt,
-                &mut self.sessions,
-                &mut self.pool,
-                self.opening,
-                outgoing,
-                deliveries,
-            );
+            self.deliver(rt, outgoing, deliveries);
         }
     }
 
@@ -232,10 +195,13 @@ impl<L: Ledger> DeskSide<L> {
         Ok(SessionPass::new(key as u64, units, part, receiver, noted))
     }
 
-    // Notes that a session waits for its answer.
-    fn wait(&mut self, ticket_session: u64, waiting: Waiting<L>) {
-        if let Some(session) = self.sessions.get_mut(ticket_session as usize) {
-            session.waiting = Some(waiting);
+    // Notes that a call waits for its answer. Returns whether its pass is known, and no other call of it waits.
+    fn waits(&mut self, waiting: Waiting<L>) -> bool
+        ensures { desk_of self.new ≡ desk_of self.old }
+    {
+        match self.sessions.get_mut(waiting.ticket.session as usize) {
+            Some(session) => mem::replace(&mut session.waiting, Some(waiting)).is_none(),
+            None => false,
         }
     }
 
@@ -246,7 +212,10 @@ impl<L: Ledger> DeskSide<L> {
         request: Request,
         now: Moment,
         fresh: Uuid,
-    ) -> Result<(Request, Option<Begun>), AllocError> {
+    ) -> Result<(Request, Option<Begun>), AllocError>
+        ensures request { IfOk result (λ begun. begun.0 ≡ request) }
+        ensures desk { desk_of self.new ≡ desk_of self.old }
+    {
         if self.has_failed {
             return Ok((request, None));
         }
@@ -262,7 +231,10 @@ impl<L: Ledger> DeskSide<L> {
         now: Moment,
         fresh: Uuid,
     ) -> Result<Vec<Outgoing>, ReplyToken>
-        ensures { IfErr result (λ back. call_of back ≡ call_of token) }
+        ensures ok { IfOk result
+            (λ out. request_on (desk_of self.old) token (asked request (call_of token) fresh) now ≡ record { after = desk_of self.new; out = out.items }) }
+        ensures err { OnErr result (desk_of self.new ≡ desk_of self.old) }
+        ensures back { IfErr result (λ back. call_of back ≡ call_of token) }
     {
         let Ok((request, begun)) = self.begin(token.ticket(), request, now, fresh) else {
             return Err(token);
@@ -277,13 +249,15 @@ impl<L: Ledger> DeskSide<L> {
         }
     }
 
-    /// Hands a submitted request to the desk. The answer goes to its session; if an allocation fails, it is -1.
+    /// Hands a submitted request to the desk. If an allocation fails, the answer is -1.
     pub fn serve<R: Wait>(
         &mut self,
         rt: &R,
         submission: Submission<L>,
         deliveries: &mut Deliveries<L>,
-    ) {
+    )
+        ensures { IsServed (desk_of self.old) submission (desk_of self.new) }
+    {
         let Submission {
             ticket,
             part,
@@ -292,165 +266,13 @@ impl<L: Ledger> DeskSide<L> {
             fresh,
         } = submission;
         let kind = CallKind::of(&request);
+        if !self.waits(Waiting { ticket, kind, part }) {
+            self.fail(rt, deliveries);
+            return;
+        }
         match self.request(ReplyToken::new(ticket), request, now, fresh) {
-            Ok(out) => {
-                self.wait(ticket.session, Waiting { kind, part });
-                self.deliver_all(rt, out, deliveries);
-            }
-            Err(token) => {
-                let answer = Answer {
-                    kind,
-                    outgoing: token.refuse(Code::UnknownServerError),
-                    units: part.without_units(),
-                    opening: self.opening,
-                };
-                if let Some(session) = self.sessions.get(ticket.session as usize) {
-                    address(rt, session, answer, deliveries);
-                }
-            }
-        }
-    }
-
-    /// Returns the list for the requests that a flush round hands over.
-    pub fn handed_over(&mut self) -> &mut VecDeque<Submission<L>> {
-        &mut self.handed_over
-    }
-
-    /// Hands the requests of that list to the desk, in their order.
-    pub fn serve_all<R: Wait>(&mut self, rt: &R, deliveries: &mut Deliveries<L>) {
-        for _ in 0..self.handed_over.len() {
-            if let Some(submission) = self.handed_over.pop_front() {
-                self.serve(rt, submission, deliveries);
-            }
-        }
-    }
-
-    /// Runs the time-dependent rules.
-    pub fn tick<R: Wait>(
-        &mut self,
-        rt: &R,
-        now: Moment,
-        deliveries: &mut Deliveries<L>,
-    ) -> Result<RoundEnd, RoundFault> {
-        if self.has_failed {
-            return Err(RoundFault::Failed);
-        }
-        if self.desk.is_loading() {
-            return Ok(RoundEnd::Nothing);
-        }
-        let held = self.recorder.begin_tick(&self.desk)?;
-        let out = self.desk.tick(now)?;
-        self.recorder
-            .end_tick(self.alloc, &self.desk, held, now, out.as_slice());
-        self.deliver_all(rt, out, deliveries);
-        Ok(RoundEnd::Done)
-    }
-
-    /// Refuses every pending call, since the disk failed.
-    pub fn fail<R: Wait>(&mut self, rt: &R, deliveries: &mut Deliveries<L>) {
-        self.has_failed = true;
-        let out = self.desk.fail();
-        self.deliver_all(rt, out, deliveries);
-    }
-
-    /// Takes the next batch. Settles a receipt first that is left from an earlier round.
-    pub fn take<R: Wait>(
-        &mut self,
-        rt: &R,
-        deliveries: &mut Deliveries<L>,
-    ) -> Result<Taken<L>, RoundFault> {
-        if self.has_failed {
-            return Err(RoundFault::Failed);
-        }
-        let nothing = match self.unsettled.take() {
-            Some(receipt) => self.settle(rt, receipt, deliveries)?,
-            None => RoundEnd::Nothing,
-        };
-        let Some(part) = self.courier.take() else {
-            return Ok(Taken::End(RoundEnd::Skipped(Skip::InFlight)));
-        };
-        match self.desk.take_batch() {
-            Ok(Some(batch)) => Ok(Taken::Batch(TakenBatch { batch, part })),
-            Ok(None) => {
-                self.courier = Some(part);
-                Ok(Taken::End(nothing))
-            }
-            Err(TakeFault::InFlight) => {
-                self.courier = Some(part);
-                Ok(Taken::End(RoundEnd::Skipped(Skip::InFlight)))
-            }
-            Err(TakeFault::Memory) => {
-                self.courier = Some(part);
-                Err(RoundFault::Memory)
-            }
-        }
-    }
-
-    // Puts the units of a settled batch into the pool, and keeps the part for the next batch.
-    fn collect(&mut self, units: crate::units::Units<L>) {
-        if self.pool.count().checked_add(units.count()).is_some() {
-            self.courier = Some(self.pool.collect(units));
-        }
-    }
-
-    /// Settles an appended batch and sends the replies that leave. A receipt that is refused is kept.
-    pub fn settle<R: Wait>(
-        &mut self,
-        rt: &R,
-        booked: BookedReceipt<L>,
-        deliveries: &mut Deliveries<L>,
-    ) -> Result<RoundEnd, RoundFault> {
-        let BookedReceipt { receipt, units } = booked;
-        match self.desk.settle(receipt) {
-            Ok(out) => {
-                self.collect(units);
-                self.deliver_all(rt, out, deliveries);
-                Ok(RoundEnd::Done)
-            }
-            Err((fault, receipt)) => {
-                self.unsettled = Some(BookedReceipt { receipt, units });
-                match fault {
-                    SettleFault::Memory => Err(RoundFault::Memory),
-                    SettleFault::NotInFlight | SettleFault::Foreign => Err(RoundFault::Failed),
-                }
-            }
-        }
-    }
-
-    /// Takes back a batch that the store refused.
-    pub fn refused<R: Wait>(
-        &mut self,
-        rt: &R,
-        fault: Option<StoreFault>,
-        batch: Batch,
-        part: Part<L>,
-        deliveries: &mut Deliveries<L>,
-    ) -> Result<RoundEnd, RoundFault> {
-        self.courier = Some(part);
-        match fault {
-            // The store is not there yet.
-            None => self.give_back(batch, Ok(RoundEnd::Nothing)),
-            Some(StoreFault::Full) => self.give_back(batch, Ok(RoundEnd::Skipped(Skip::Full))),
-            Some(StoreFault::Memory) => self.give_back(batch, Err(RoundFault::Memory)),
-            Some(StoreFault::Device) => {
-                self.fail(rt, deliveries);
-                Err(RoundFault::Device)
-            }
-            Some(StoreFault::Failed | StoreFault::OutOfOrder) => {
-                self.fail(rt, deliveries);
-                Err(RoundFault::Failed)
-            }
-        }
-    }
-
-    fn give_back(
-        &mut self,
-        batch: Batch,
-        end: Result<RoundEnd, RoundFault>,
-    ) -> Result<RoundEnd, RoundFault> {
-        match self.desk.give_back(batch) {
-            Ok(()) => end,
-            Err(_) => Err(RoundFault::Failed),
+            Ok(out) => self.deliver_all(rt, out, deliveries),
+            Err(token) => self.deliver(rt, token.refuse(Code::UnknownServerError), deliveries),
         }
     }
 
@@ -487,7 +309,6 @@ impl<L: Ledger> DeskSide<L> {
             courier: _,
             unsettled: _,
             recorder,
-            handed_over: _,
             woken: _,
         } = self;
         (desk.close(), recorder.into_trail())

@@ -6,15 +6,14 @@ ghost use Rattle.cg_store.specs.Carried.{Carries};
 ghost use Rattle.cg_engine.specs.Loads.{IsFound, IsPassing, Tells, found};
 ghost use Rattle.cg_engine.specs.Passes.{opening_of, units_of};
 
-use crate::appended::snapshots;
 use crate::delivery::Deliveries;
 use crate::desk_side::DeskSide;
 use crate::engine_limits::PARTS;
 use crate::fault::{LoadFault, PassFault, RoundEnd, RoundFault, Skip};
-use crate::intake::Intake;
 use crate::pass::SessionPass;
 use crate::store_load::opened;
 use crate::store_side::{BlankBook, StoreSide};
+use crate::trail::snapshots;
 use cg_desk::Counts;
 use cg_disk::SectorDisk;
 use cg_names::Moment;
@@ -34,14 +33,10 @@ pub struct Engine<D: SectorDisk, L: Ledger> {
     pub(crate) trail: bool,
     pub(crate) desk: Mutex<DeskSide<L>>,
     pub(crate) store: Mutex<StoreSide<D, L>>,
-    /// Requests that wait for the desk.
-    pub(crate) intake: Mutex<Intake<L>>,
     /// Notified where commands are pending.
     pub(crate) pending: Condvar,
     /// How many times answers were sent.
     pub(crate) answered: AtomicU64,
-    /// How many flush rounds wait for the desk lock or have it.
-    pub(crate) rounds: AtomicU64,
 }
 
 impl<D: SectorDisk + Drop, L: Ledger> Engine<D, L> {
@@ -60,10 +55,8 @@ impl<D: SectorDisk + Drop, L: Ledger> Engine<D, L> {
             trail,
             desk: Mutex::new(side),
             store: Mutex::new(StoreSide::Empty(BlankBook { book })),
-            intake: Mutex::new(Intake::new(alloc)),
             pending: Condvar::new(),
             answered: AtomicU64::new(0),
-            rounds: AtomicU64::new(0),
         })
     }
 

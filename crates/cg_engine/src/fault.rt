@@ -101,7 +101,7 @@ pub enum RoundFault {
     /// The disk failed in this round. Every pending call was refused with 15.
     #[error("the disk failed")]
     Device,
-    /// The disk failed in an earlier round, or desk and store do not fit each other.
+    /// The disk failed in an earlier round, or desk and store do not fit each other. Every pending call was refused with 15.
     #[error("the disk failed earlier")]
     Failed,
 }

@@ -11,8 +11,8 @@ use crate::desk_side::DeskSide;
 use crate::engine::Engine;
 use crate::fault::FinishFault;
 use crate::pass::SessionPass;
-use crate::recorder::Recorder;
 use crate::store_side::StoreSide;
+use crate::trail::Recorder;
 use cg_disk::SectorDisk;
 use cg_trail::Trail;
 use std::alloc::{AllocError, Global};
@@ -171,10 +171,8 @@ impl<D: SectorDisk + Drop, L: Ledger> Engine<D, L> {
             trail,
             desk,
             store,
-            intake,
             pending: _,
             answered,
-            rounds,
         } = self;
         let desk = desk.into_inner();
         let store = store.into_inner();
@@ -186,10 +184,8 @@ impl<D: SectorDisk + Drop, L: Ledger> Engine<D, L> {
                     trail,
                     desk: Mutex::new(desk),
                     store: Mutex::new(store),
-                    intake,
                     pending: Condvar::new(),
                     answered,
-                    rounds,
                 };
                 Err((fault, engine, passes))
             }
@@ -208,10 +204,8 @@ impl<D: SectorDisk + Drop, L: Ledger> Engine<D, L> {
             trail: _,
             desk,
             store,
-            intake: _,
             pending: _,
             answered: _,
-            rounds: _,
         } = self;
         let Closed {
             front,

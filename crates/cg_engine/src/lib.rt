@@ -1,11 +1,10 @@
-//! The engine: a desk (`cg_desk`) and a store (`cg_store`) behind two locks, for any number of threads; requests on their way
-//! to the desk wait behind a third, small one. An answer that acknowledges a write carries a unit of a ledger. Only an append
-//! makes units, one for each stored command, so there are never more acknowledgements than stored commands.
+//! The engine: a desk (`cg_desk`) and a store (`cg_store`) behind two locks, for any number of threads. Each thread keeps the
+//! requests of the calls that it began in a list of its own (`Requests`), until it hands them to the desk. An answer that
+//! acknowledges a write carries a unit of a ledger. Only an append makes units, one for each stored command, so there are never
+//! more acknowledgements than stored commands.
 #![tactic(auto)]
 
 mod answer;
-mod answer_poll;
-mod appended;
 mod booked;
 mod call;
 mod caller;
@@ -18,18 +17,15 @@ mod fault;
 mod finish;
 mod flush_round;
 mod hand_over;
-mod intake;
 mod kind;
-mod noted;
 mod pass;
 mod pass_state;
 mod pending_call;
-mod recorder;
-mod store_calls;
+mod requests;
 mod store_load;
 mod store_side;
 mod taken;
-mod trail_copies;
+mod trail;
 mod units;
 
 pub use closed::Closed;
@@ -39,4 +35,5 @@ pub use fault::{FinishFault, LoadFault, PassFault, RoundEnd, RoundFault, Skip};
 pub use kind::CallKind;
 pub use pass::SessionPass;
 pub use pending_call::{BegunCall, PendingCall};
+pub use requests::Requests;
 pub use taken::{Taken, TakenBatch};

@@ -6,7 +6,7 @@ ghost use Rattle.cg_engine.specs.declared.engine_limits.TheConstants.{CALLS_MAX}
 use crate::answer::Answer;
 use crate::caller::Caller;
 use crate::engine_limits::CALLS_MAX;
-use crate::noted::Noted;
+use crate::trail::Noted;
 use crate::units::{Part, Units};
 use cg_group::Ticket;
 use crossbeam_channel::Receiver;

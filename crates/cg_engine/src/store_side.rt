@@ -4,8 +4,8 @@ ghost use Rattle.cg_engine.specs.Appended.{AreAsMany, BearsIfNoted};
 ghost use Rattle.cg_engine.specs.Left.{Leaves};
 ghost use Rattle.cg_engine.specs.Stored.{IsKept};
 
-use crate::appended::Appended;
 use crate::booked::{BookedReceipt, BookedStore};
+use crate::trail::Appended;
 use crate::units::Part;
 use cg_disk::SectorDisk;
 use cg_record::Command;

@@ -7,10 +7,22 @@ use Rattle.clap.specs.declared.error.Error.{Error}
 use Rattle.clap.proofs.WalkLemmas.{first_value-rows, one_text-rows}
 use Rattle.clap.specs.declared.parser.matches.Found.{Found}
 use Rattle.cg_server.specs.CommandLine.{AreAsked, AsksFor, HasNumbers, asked_port, port_in, rows_in}
+use Rattle.cg_server.specs.Places.{ChoosesPlace, PlaceFor}
 use Rattle.cg_server.specs.declared.command_line.Arguments.{Arguments}
+use Rattle.cg_server.specs.declared.command_line.LogPlace.{LogPlace}
 
 pub port_rows : (f : Found) (words : List Text) → rows_of f ≡ rows_in words → asked_port (first_value f (codes "listen")) ≡ port_in words
 port_rows f words e = ap asked_port (first_value-rows f (codes "listen") ∙ ap (first_of (codes "listen")) e)
+
+pub place_rows : (f : Found) (words : List Text) (at : LogPlace) → rows_of f ≡ rows_in words
+    → PlaceFor (first_value f (codes "disk")) (one_text f (codes "overwrite")) (one_text f (codes "format")) at → ChoosesPlace words at
+place_rows f words at e chosen =
+    let disk = first_value-rows f (codes "disk") ∙ ap (first_of (codes "disk")) e in
+    let overwrite = one_text-rows f (codes "overwrite") ∙ ap (one_of (codes "overwrite")) e in
+    let format = one_text-rows f (codes "format") ∙ ap (one_of (codes "format")) e in
+    subst (λ (t : Option Text). PlaceFor t (one_of (codes "overwrite") (rows_in words)) (one_of (codes "format") (rows_in words)) at) disk
+    (subst (λ (t : Option Text). PlaceFor (first_value f (codes "disk")) t (one_of (codes "format") (rows_in words)) at) overwrite
+    (subst (λ (t : Option Text). PlaceFor (first_value f (codes "disk")) (one_text f (codes "overwrite")) t at) format chosen))
 
 number_rows : (f : Found) (words : List Text) (id : Text) (default number : ℕ) → rows_of f ≡ rows_in words
     → AsksFor default (one_text f id) number → AsksFor default (one_of id (rows_in words)) number

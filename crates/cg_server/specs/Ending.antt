@@ -1,10 +1,12 @@
 -- What the server prints, and how it ends.
-use Rattle.std.specs.Prelude.{◌≡◌, ◌⊎◌, ℕ, Bool, true, false, List, [], ◌++◌, codes, flat_map, Option, Result, Ok, Err}
+use Rattle.std.specs.Prelude.{◌≡◌, ◌⊎◌, ℕ, Bool, true, false, List, [], ◌++◌, codes, flat_map, Option, Result, Ok, Err, ⊤}
 use Rattle.std.specs.Fmt.{decimal}
 use Rattle.std.specs.Io.KnownBytes.{Appends}
 use Rattle.clap.specs.Words.{Kinds, IsAmong}
 use Rattle.clap.specs.declared.error.kind.ErrorKind.{ErrorKind}
 use Rattle.clap.specs.declared.error.kind.ErrorKind.TheVariants as kind
+use Rattle.cg_disk.specs.Disk.{Image}
+use Rattle.cg_engine.specs.Loads.{IsFound}
 use Rattle.cg_server.specs.declared.status.Status.{Status}
 use Rattle.cg_server.specs.declared.version.TheConstants.{VERSION}
 use Rattle.cg_server.specs.declared.stop.TheConstants.{STATUS_CLOSED, STATUS_DISK, STATUS_NET, STATUS_USAGE}
@@ -116,6 +118,11 @@ IsAccount listens end said = (greeting report : List ℕ) × Greets listens gree
 abbrev pub Loads : {T : Type 0} → Result T Stop → Option (List ℕ) → Option (List ℕ) → Type 0
 Loads (Ok done) old new = (found : ℕ × ℕ × ℕ) × Appends old new (loaded_text found)
 Loads (Err cause) old new = (cause ≡ stop.Write) ⊎ Appends old new []
+
+-- the numbers of the log in this content were printed
+abbrev pub LoadsFrom : {T : Type 0} → Image → ℕ → Result T Stop → Option (List ℕ) → Option (List ℕ) → Type 0
+LoadsFrom content sectors (Ok done) old new = (found : ℕ × ℕ × ℕ) × IsFound content sectors found × Appends old new (loaded_text found)
+LoadsFrom content sectors (Err cause) old new = ⊤
 
 -- the status was printed, or nothing, unless its line could not be written
 abbrev pub TellsStatus : {T : Type 0} → Status → Result T Stop → Option (List ℕ) → Option (List ℕ) → Type 0

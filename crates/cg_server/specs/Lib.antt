@@ -1,4 +1,6 @@
 pub mod Address
 pub mod CommandLine
+pub mod Places
+pub mod Unsent
 pub mod Refusing
 pub mod Ending

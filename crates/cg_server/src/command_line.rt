@@ -2,6 +2,7 @@
 ghost use Rattle.std.specs.Prelude.{◌≡◌, None, Some, false, map, codes, IfErr, IfOk, IfSome, option_map};
 ghost use Rattle.clap.specs.Words.{FailsBy, app_of, first_value, found_of, one_text, rows_of, rule_of};
 ghost use Rattle.cg_server.specs.CommandLine.{AreAsked, AsksFor, HasNumbers, asked_port, compact_free_rule, connections_rule, disk_rule, exit_rule, faults_of, format_rule, listen_rule, overwrite_rule, port_in, rows_in, segments_rule, server_app, status_rule, text_rule, tick_rule, with_number_rules, with_place_rules, with_report_rules};
+ghost use Rattle.cg_server.specs.Places.{ChoosesPlace, PlaceFor};
 ghost use Rattle.cg_server.specs.Refusing.{RefusesBy};
 
 use crate::address::{PORT_DEFAULT, port_of};
@@ -289,7 +290,9 @@ fn port_in(matches: &ArgMatches<'_>) -> Option<u16>
 }
 
 // Returns where the log is.
-fn place_in<'a>(matches: &ArgMatches<'a>) -> LogPlace<'a> {
+fn place_in<'a>(matches: &ArgMatches<'a>) -> LogPlace<'a>
+    ensures { PlaceFor (first_value (found_of matches.now) (codes "disk")) (one_text (found_of matches.now) (codes "overwrite")) (one_text (found_of matches.now) (codes "format")) result }
+{
     match matches.get_str("disk") {
         None => LogPlace::Memory,
         Some(path) if matches.get_flag("overwrite") => LogPlace::NewFile(path, true),
@@ -325,6 +328,7 @@ fn matched<'a, S: AsStr>(alloc: Global, words: &'a [S]) -> Result<ArgMatches<'a>
 // Returns what the matches ask for, or `None` if the address is not on loopback.
 fn arguments_in<'a>(matches: &ArgMatches<'a>) -> Option<Arguments<'a>>
     ensures port { option_map (λ arguments. arguments.port) result ≡ asked_port (first_value (found_of matches.now) (codes "listen")) }
+    ensures place { IfSome result (λ arguments. PlaceFor (first_value (found_of matches.now) (codes "disk")) (one_text (found_of matches.now) (codes "overwrite")) (one_text (found_of matches.now) (codes "format")) arguments.place) }
     ensures numbers { IfSome result (HasNumbers (one_text (found_of matches.now))) }
 {
     Some(Arguments {
@@ -341,6 +345,7 @@ pub fn parse_words<'a, S: AsStr>(alloc: Global, words: &'a [S]) -> Result<Argume
     ensures refuses { RefusesBy (faults_of (map S.text words.now)) result }
     ensures address { IfErr result (λ refusal. refusal ≡ Refusal.Address → port_in (map S.text words.now) ≡ None) }
     ensures port { IfOk result (λ arguments. port_in (map S.text words.now) ≡ Some arguments.port) }
+    ensures place { IfOk result (λ arguments. ChoosesPlace (map S.text words.now) arguments.place) }
     ensures numbers { IfOk result (AreAsked (map S.text words.now)) }
 {
     match matched(alloc, words) {

@@ -1,4 +1,5 @@
 //! The compactor.
+use crate::room::is_under_way;
 use crate::server::Server;
 use cg_disk::SectorDisk;
 use cg_engine::{RoundEnd, RoundFault, Skip};
@@ -36,14 +37,6 @@ struct CompactorState {
     cramped: Option<u64>,
 }
 
-// Returns whether a compaction is under way: only then is one wanted where no free segment is asked for.
-fn is_under_way<D: SectorDisk + Drop, L: Ledger, R: Wait>(
-    rt: &R,
-    server: &Server<'_, D, L>,
-) -> bool {
-    server.engine.compact_wanted(rt, 0)
-}
-
 // Returns whether a compaction is to begin. Each try takes a segment for its cut, and after one that found no room the next one
 // finds some only if the state became smaller. So it begins once batches have taken a further segment, or the log is full.
 fn is_wanted<D: SectorDisk + Drop, L: Ledger, R: Wait>(
@@ -73,6 +66,11 @@ fn after_none(was_under_way: bool) -> After {
     }
 }
 
+// Returns whether a round gave the compaction up, for lack of room or memory.
+fn gives_up(ended: Result<RoundEnd, RoundFault>) -> bool {
+    matches!(ended, Ok(RoundEnd::Skipped(_)) | Err(RoundFault::Memory))
+}
+
 // Does one round of a compaction if one is wanted, or goes on with the one under way. A switch, a round that was skipped and
 // a fault are followed by a pause. Each look at the store may have to wait for a batch.
 fn compact_once<D: SectorDisk + Drop, L: Ledger, R: Wait>(
@@ -83,9 +81,11 @@ fn compact_once<D: SectorDisk + Drop, L: Ledger, R: Wait>(
     if !state.goes_on && !is_wanted(rt, server, state.cramped) {
         return After::Pause;
     }
-    let was_under_way = state.goes_on || is_under_way(rt, server);
-    match server.engine.compact_round(rt) {
-        Ok(RoundEnd::Done) if is_under_way(rt, server) => After::Again,
+    let was_under_way = state.goes_on || is_under_way(rt, server.engine);
+    let ended = server.engine.compact_round(rt);
+    server.room.note_given_up(gives_up(ended));
+    match ended {
+        Ok(RoundEnd::Done) if is_under_way(rt, server.engine) => After::Again,
         Ok(RoundEnd::Done) => {
             server.tally.add_compaction();
             state.cramped = None;
@@ -150,9 +150,9 @@ fn leave_to_commits<D: SectorDisk + Drop, L: Ledger, R: Wait + Clock>(
 }
 
 /// Compacts the log until the server is over, whenever too few segments are free or the log is full; after a compaction that
-/// found no room, once batches have taken a further segment or the log is full. The bell rings when too few become free, and
-/// when the log becomes full: then the next compaction begins without a pause. A long round leaves the store to commits for a
-/// while.
+/// found no room, once batches have taken a further segment or the log is full. The bell rings after a batch that leaves too few
+/// free, and when the log becomes full: then the next compaction begins without a pause. A long round leaves the store to commits
+/// for a while.
 pub fn compact_until_over<D: SectorDisk + Drop, L: Ledger, R: Wait + Clock + Eprint>(
     rt: &R,
     server: &Server<'_, D, L>,

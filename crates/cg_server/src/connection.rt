@@ -3,7 +3,7 @@ use crate::server::Server;
 use crate::session::Session;
 use crate::unsent::Unsent;
 use cg_disk::SectorDisk;
-use cg_engine::SessionPass;
+use cg_engine::{Requests, SessionPass};
 use cg_group::{Reply, Request};
 use cg_line::{Asked, BegunLine, Refusal};
 use cg_names::Code;
@@ -11,7 +11,6 @@ use mio::net::TcpStream;
 use mio::{Interest, Registry, Token};
 use std::alloc::{AllocError, Global};
 use std::io::{self, ErrorKind, Read};
-use std::mem;
 use std::random::RandomSource;
 use std::sync::Wait;
 use std::sync::ledger::Ledger;
@@ -42,8 +41,6 @@ pub struct Connection<L: Ledger> {
     is_broken: bool,
     // Whether no more is served, and it is over once no reply is owed.
     is_leaving: bool,
-    // How many calls it began whose requests the worker does not know of yet.
-    begun_calls: usize,
     // Whether the worker looks for the answers to its calls.
     is_listed: bool,
     // What it waits for since its last visit.
@@ -87,7 +84,6 @@ impl<L: Ledger> Connection<L> {
             is_ending: false,
             is_broken: false,
             is_leaving: false,
-            begun_calls: 0,
             is_listed: false,
             next: Next::Stream,
         }
@@ -117,11 +113,6 @@ impl<L: Ledger> Connection<L> {
         self.is_leaving = true;
         self.send();
         self.next = self.after_visit();
-    }
-
-    /// Returns how many calls it began since it was last asked: their requests are to be handed over.
-    pub fn take_begun_calls(&mut self) -> usize {
-        mem::take(&mut self.begun_calls)
     }
 
     /// Returns whether a reply is owed: a call waits for its answer then.
@@ -209,10 +200,10 @@ impl<L: Ledger> Connection<L> {
         server: &Server<'_, D, L>,
         bytes: usize,
         request: Request,
+        requests: &mut Requests<L>,
     ) {
-        match self.session.begin(rt, server, bytes, request) {
-            Ok(()) => self.begun_calls = self.begun_calls.saturating_add(1),
-            Err(code) => self.refuse(bytes, code),
+        if let Err(code) = self.session.begin(rt, server, bytes, request, requests) {
+            self.refuse(bytes, code);
         }
     }
 
@@ -234,6 +225,7 @@ impl<L: Ledger> Connection<L> {
         &mut self,
         rt: &R,
         server: &Server<'_, D, L>,
+        requests: &mut Requests<L>,
     ) {
         let len = self.read.len();
         let from = self.served.min(len);
@@ -244,7 +236,7 @@ impl<L: Ledger> Connection<L> {
                 let bytes = self.advance(to);
                 self.begun = 0;
                 match asked {
-                    Asked::Request(request) => self.call(rt, server, bytes, request),
+                    Asked::Request(request) => self.call(rt, server, bytes, request, requests),
                     Asked::Refusal(refusal) => self.refuse(bytes, code_of(refusal)),
                 }
             }
@@ -279,12 +271,13 @@ impl<L: Ledger> Connection<L> {
         &mut self,
         rt: &R,
         server: &Server<'_, D, L>,
+        requests: &mut Requests<L>,
     ) {
         for _ in 0..LINES_MAX {
             if !self.may_serve() || !self.session.reserve(rt, server) {
                 return;
             }
-            self.serve_line(rt, server);
+            self.serve_line(rt, server, requests);
             self.take_replies(rt, server);
         }
     }
@@ -309,12 +302,14 @@ impl<L: Ledger> Connection<L> {
         }
     }
 
-    /// Sends what is unsent, reads once, and serves what was read until no more may be served before a reply leaves.
+    /// Sends what is unsent, reads once, and serves what was read until no more may be served before a reply leaves. Adds the
+    /// requests to a list, which is to be handed over.
     pub fn visit<D: SectorDisk + Drop, R: Wait + Clock + RandomSource>(
         &mut self,
         rt: &R,
         server: &Server<'_, D, L>,
         buffer: &mut [u8],
+        requests: &mut Requests<L>,
     ) -> Next {
         if self.unsent.is_full() {
             self.send();
@@ -323,7 +318,7 @@ impl<L: Ledger> Connection<L> {
             if !self.has_unserved() && self.is_readable && !self.is_ending {
                 self.receive(buffer);
             }
-            self.serve(rt, server);
+            self.serve(rt, server, requests);
         }
         self.send();
         self.next = self.after_visit();

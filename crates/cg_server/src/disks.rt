@@ -3,6 +3,7 @@ ghost use Rattle.std.specs.Prelude.{◌≡◌, true, IfOk};
 ghost use Rattle.cg_disk.specs.Mem.{mem_history, mem_size};
 ghost use Rattle.cg_fold.specs.Durable.{empty};
 ghost use Rattle.cg_store.specs.Carried.{AllCarry};
+ghost use Rattle.cg_server.specs.declared.log_file.Origin.TheVariants as origin;
 
 use crate::log_file::{LogFile, new_file};
 use crate::stop::Stop;
@@ -49,7 +50,10 @@ pub fn new_log<'a, R: Files<File = File> + Eprint>(
     path: &'a str,
     segments: u64,
     overwrite: bool,
-) -> Result<LogFile<'a, R>, Stop> {
+) -> Result<LogFile<'a, R>, Stop>
+    ensures { IfOk result (λ log. log.origin ≡ origin.Formatted) }
+{
     let sectors = sectors_of(segments).ok_or(Stop::File)?;
-    formatted(alloc, new_file(rt, path, sectors, overwrite)?)
+    let log = formatted(alloc, new_file(rt, path, sectors, overwrite)?)?;
+    Ok(log.into_formatted())
 }

@@ -35,26 +35,26 @@ fn next_after(ended: Result<RoundEnd, RoundFault>) -> After {
     }
 }
 
-// Says once, on standard error and to the compactor, that the log is full.
+// Says once, to the compactor and then on standard error, that the log is full. A line on standard error may wait for its reader.
 fn begin_full<D: SectorDisk + Drop, L: Ledger, R: Wait + Eprint>(
     rt: &R,
     server: &Server<'_, D, L>,
 ) {
     if !server.room.is_full() {
+        server.room.begin_full(rt);
         let free = server.engine.free_count(rt);
         let _ = eprintln!(rt;
             "cg_server: the log is full, {free} segments free: no reply leaves before it has room"
         );
-        server.room.begin_full(rt);
     }
 }
 
-// Says once, on standard error, that the log has room again.
+// Says once, to the workers and then on standard error, that the log has room again.
 fn end_full<D: SectorDisk + Drop, L: Ledger, R: Wait + Eprint>(rt: &R, server: &Server<'_, D, L>) {
     if server.room.is_full() {
+        server.room.end_full();
         let free = server.engine.free_count(rt);
         let _ = eprintln!(rt; "cg_server: the log has room again, {free} segments free");
-        server.room.end_full();
     }
 }
 
@@ -78,8 +78,9 @@ pub fn flush_until_over<D: SectorDisk + Drop, L: Ledger, R: Wait + Clock + Eprin
         server.room.end_hold();
         server.note_flushing(true);
         let after = next_after(server.flush_round(rt));
-        server.wake_callers();
-        server.room.watch(rt, server.engine);
+        if after == After::Again {
+            server.room.watch(rt, server.engine);
+        }
         // A line on standard error may wait for its reader.
         server.note_flushing(after == After::Again && !server.room.is_full());
         match after {

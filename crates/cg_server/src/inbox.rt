@@ -94,7 +94,9 @@ impl Inbox {
         self.streams.lock(rt).is_empty()
     }
 
-    /// Wakes the worker, if it waits or is about to.
+    /// Wakes the worker, if it waits or is about to. The wake adds to a counter of the system's, and reads it first if it is
+    /// full, so it has no error but that of a descriptor which is no such counter: the waker is made with its own, and has it
+    /// until it is dropped, after the workers have ended.
     pub fn wake(&self) {
         if self.is_asleep.swap(false, Ordering::SeqCst) {
             let _ = self.waker.wake();

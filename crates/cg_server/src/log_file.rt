@@ -1,5 +1,5 @@
 //! The log in a file, which one server has.
-ghost use Rattle.std.specs.Prelude.{◌≡◌, false};
+ghost use Rattle.std.specs.Prelude.{◌≡◌, false, IfOk};
 
 use crate::stop::Stop;
 use cg_disk::{DiskFault, FileDisk, SECTOR_BYTES, SectorDisk};
@@ -7,12 +7,34 @@ use std::fs::{File, OpenOptions, TryLockError};
 use std::io::{self, Eprint, ErrorKind};
 use std::rt::Files;
 
+/// Where the log in a file comes from.
+#[derive(Clone, Copy, Debug, Drop, PartialEq, Eq)]
+pub enum Origin {
+    /// From the file as it was opened: it was not formatted since.
+    Found,
+    /// From this server, which formatted it.
+    Formatted,
+}
+
 /// A disk in a file. Says on standard error what the system says of a call that fails.
 #[derive(Drop)]
 pub struct LogFile<'a, R> {
     rt: &'a R,
     path: &'a str,
     disk: FileDisk<File>,
+    pub origin: Origin,
+}
+
+impl<R> LogFile<'_, R> {
+    /// Notes that the log was formatted.
+    pub fn into_formatted(self) -> Self
+        ensures { result.origin ≡ Origin.Formatted }
+    {
+        LogFile {
+            origin: Origin::Formatted,
+            ..self
+        }
+    }
 }
 
 impl<R: Eprint> LogFile<'_, R> {
@@ -106,14 +128,21 @@ fn sync_folder<R: Files<File = File>>(rt: &R, path: &str) -> io::Result<()> {
     }
 }
 
-/// Opens the file at `path` as it is.
+/// Opens the file at `path` as it is: no log is formatted.
 pub fn found_file<'a, R: Files<File = File> + Eprint>(
     rt: &'a R,
     path: &'a str,
-) -> Result<LogFile<'a, R>, Stop> {
+) -> Result<LogFile<'a, R>, Stop>
+    ensures { IfOk result (λ log. log.origin ≡ Origin.Found) }
+{
     let file = locked(rt, path, OpenOptions::new().read(true).write(true))?;
     match FileDisk::whole(file) {
-        Ok(disk) => Ok(LogFile { rt, path, disk }),
+        Ok(disk) => Ok(LogFile {
+            rt,
+            path,
+            disk,
+            origin: Origin::Found,
+        }),
         Err(error) => Err(refused(rt, path, &error)),
     }
 }
@@ -145,7 +174,12 @@ pub fn new_file<'a, R: Files<File = File> + Eprint>(
     });
     match zeroed {
         Ok(disk) => {
-            let mut log = LogFile { rt, path, disk };
+            let mut log = LogFile {
+                rt,
+                path,
+                disk,
+                origin: Origin::Found,
+            };
             clear_all(&mut log).map_err(|_| Stop::File)?;
             Ok(log)
         }

@@ -1,12 +1,15 @@
 //! The whole program, from the words of its command line to its exit status.
-ghost use Rattle.std.specs.Prelude.{◌≡◌, ◌≢◌, ◌⊎◌, None, map, []};
+ghost use Rattle.std.specs.Prelude.{◌≡◌, ◌≢◌, ◌⊎◌, None, map, [], IfOk};
 ghost use Rattle.clap.specs.Words.{kind_of};
+ghost use Rattle.cg_server.specs.Address.{IsOnLoopback};
 ghost use Rattle.cg_server.specs.CommandLine.{faults_of, port_in};
 ghost use Rattle.cg_server.specs.Ending.{EndsSomehow, IsRefused, RefusesWords, ShowsVersion};
+ghost use Rattle.cg_server.specs.Places.{IsOpenedFor};
 
+use crate::address::listen_address;
 use crate::command_line::{Arguments, LogPlace, Refusal, parse_words};
 use crate::disks::{new_log, new_memory};
-use crate::log_file::found_file;
+use crate::log_file::{LogFile, found_file};
 use crate::output::print_version;
 use crate::serve::{refuse, serve};
 use crate::stop::{STATUS_CLOSED, STATUS_NET, STATUS_USAGE, Stop};
@@ -16,8 +19,8 @@ use clap::error::ErrorKind;
 use std::alloc::Global;
 use std::convert::AsStr;
 use std::fs::File;
-use std::io::{Eprint, Write};
-use std::net::{Ipv4Addr, Net, SocketAddr, TcpListener, TcpStream};
+use std::io::{self, Eprint, Write};
+use std::net::{Net, SocketAddr, TcpListener, TcpStream};
 use std::random::RandomSource;
 use std::rt::Files;
 use std::sync::Wait;
@@ -89,10 +92,35 @@ fn serve_place<
         }
         LogPlace::NewFile(path, overwrite) => {
             let made = new_log(rt, rt.alloc(), path, segments, overwrite);
-            serve_made(rt, made, path, arguments, writer)
+            serve_file(rt, made, path, arguments, writer)
         }
-        LogPlace::File(path) => serve_made(rt, found_file(rt, path), path, arguments, writer),
+        LogPlace::File(path) => serve_file(rt, found_file(rt, path), path, arguments, writer),
     }
+}
+
+// Serves the log in the file at `path`, which was opened for the place that the words say.
+fn serve_file<
+    E: Alloc<A = Global>
+        + Files<File = File>
+        + Threads
+        + Wait
+        + Clock
+        + RandomSource
+        + Net<Listener = TcpListener, Stream = TcpStream>
+        + Eprint
+        + Sync,
+    W: Write,
+>(
+    rt: &E,
+    opened: Result<LogFile<'_, E>, Stop>,
+    path: &str,
+    arguments: &Arguments<'_>,
+    writer: &mut W,
+) -> u8
+    requires { IfOk opened (λ log. IsOpenedFor arguments.now.place log.origin) }
+    ensures { EndsSomehow result (W.contents writer.old) (W.contents writer.new) }
+{
+    serve_made(rt, opened, path, arguments, writer)
 }
 
 // Serves a disk, unless it was not made. Its log is called `log` on standard error.
@@ -127,6 +155,16 @@ fn refuse_start<R: Eprint, W: Write>(rt: &R, writer: &mut W, log: &str, stop: St
     refuse(rt, writer, log, stop)
 }
 
+// Binds an address, which is on loopback.
+fn bind<E: Net<Listener = TcpListener, Stream = TcpStream>>(
+    rt: &E,
+    address: SocketAddr,
+) -> io::Result<TcpListener>
+    requires { IsOnLoopback address }
+{
+    TcpListener::bind(rt, address)
+}
+
 // Binds the address, unless no connection is to be served. What the system says of an address that it refuses comes on standard
 // error.
 fn bound<E: Net<Listener = TcpListener, Stream = TcpStream> + Eprint>(
@@ -136,11 +174,10 @@ fn bound<E: Net<Listener = TcpListener, Stream = TcpStream> + Eprint>(
     if arguments.options.connections == Some(0) {
         return Ok(None);
     }
-    let address = SocketAddr::from((Ipv4Addr::LOCALHOST, arguments.port));
-    match TcpListener::bind(rt, address) {
+    let port = arguments.port;
+    match bind(rt, listen_address(port)) {
         Ok(listener) => Ok(Some(listener)),
         Err(error) => {
-            let port = arguments.port;
             let _ = eprintln!(rt; "cg_server: 127.0.0.1:{port}: {error}");
             Err(Stop::Net)
         }

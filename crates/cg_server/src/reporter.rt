@@ -1,6 +1,7 @@
 //! The thread that has the writer: it loads the disk, and prints what the others report.
-ghost use Rattle.std.specs.Prelude.{◌≡◌, OnOk, IfErr};
-ghost use Rattle.cg_server.specs.Ending.{Alarms, Loads, Reports, TellsFailure, TellsStatuses};
+ghost use Rattle.std.specs.Prelude.{◌≡◌, true, OnOk, IfErr, IfSome};
+ghost use Rattle.cg_disk.specs.Disk.{present};
+ghost use Rattle.cg_server.specs.Ending.{Alarms, Loads, LoadsFrom, Reports, TellsFailure, TellsStatuses};
 ghost use Rattle.cg_server.specs.declared.stop.Stop.TheVariants as stop;
 
 use crate::output::{print_loaded, print_status, print_stop};
@@ -37,7 +38,8 @@ pub fn load_and_print<D: SectorDisk + Drop, L: Ledger, R: Wait, W: Write>(
     disk: &mut Option<D>,
     writer: &mut W,
 ) -> Result<(), Stop>
-    ensures { Loads result (W.contents writer.old) (W.contents writer.new) }
+    ensures loads { Loads result (W.contents writer.old) (W.contents writer.new) }
+    ensures found { IfSome disk.old (λ from. D.is_honest from ≡ true → LoadsFrom (present (D.history from)).content (D.size from) result (W.contents writer.old) (W.contents writer.new)) }
 {
     let Some(disk) = disk.take() else {
         return Err(Stop::Loaded);
@@ -70,7 +72,8 @@ fn load_or_close<D: SectorDisk + Drop, L: Ledger, R: Wait + Clock + Net, W: Writ
     disk: &mut Option<D>,
     writer: &mut W,
 ) -> Result<(), Stop>
-    ensures { Loads result (W.contents writer.old) (W.contents writer.new) }
+    ensures loads { Loads result (W.contents writer.old) (W.contents writer.new) }
+    ensures found { IfSome disk.old (λ from. D.is_honest from ≡ true → LoadsFrom (present (D.history from)).content (D.size from) result (W.contents writer.old) (W.contents writer.new)) }
 {
     let loading = server.moments.loading();
     match load_and_print(rt, server.alloc, server.engine, loading, disk, writer) {

@@ -20,8 +20,16 @@ pub struct Room {
     full: AtomicBool,
     // Whether batches wait for the compaction under way.
     held: AtomicBool,
-    // Whether fewer than `least` segments were free after the last batch.
-    low: AtomicBool,
+    // Whether the last compaction was given up.
+    given_up: AtomicBool,
+}
+
+/// Returns whether a compaction is under way: only then is one wanted where no free segment is asked for.
+pub fn is_under_way<D: SectorDisk + Drop, L: Ledger, R: Wait>(
+    rt: &R,
+    engine: &Engine<D, L>,
+) -> bool {
+    engine.compact_wanted(rt, 0)
 }
 
 impl Room {
@@ -32,7 +40,7 @@ impl Room {
             least,
             full: AtomicBool::new(false),
             held: AtomicBool::new(false),
-            low: AtomicBool::new(false),
+            given_up: AtomicBool::new(false),
         }
     }
 
@@ -45,14 +53,23 @@ impl Room {
         engine.compact_wanted(rt, self.least)
     }
 
-    /// Wakes the compactor when a batch has left fewer segments free than those below which a compaction begins: within a tick
-    /// batches might take the last ones, and no compaction can begin without any.
+    /// Wakes the compactor after a batch that leaves fewer segments free than those below which a compaction begins, unless one
+    /// is under way: within a tick batches might take the last ones, and no compaction can begin without any. After a compaction
+    /// that was given up the next one is left to the compactor's tick, since each takes a segment for its cut.
     pub fn watch<D: SectorDisk + Drop, L: Ledger, R: Wait>(&self, rt: &R, engine: &Engine<D, L>) {
-        let is_low = self.is_low(rt, engine);
-        let was_low = self.low.swap(is_low, Ordering::SeqCst);
-        if is_low && !was_low {
+        if !self.has_given_up() && self.is_low(rt, engine) && !is_under_way(rt, engine) {
             self.compactor.ring(rt);
         }
+    }
+
+    // Returns whether the last compaction was given up, for lack of room or memory.
+    fn has_given_up(&self) -> bool {
+        self.given_up.load(Ordering::SeqCst)
+    }
+
+    /// Notes whether the compaction was given up.
+    pub fn note_given_up(&self, given_up: bool) {
+        self.given_up.store(given_up, Ordering::SeqCst);
     }
 
     /// Returns whether the next batch has to wait for the compaction under way: fewer segments are free than half of those
@@ -63,7 +80,7 @@ impl Room {
         engine: &Engine<D, L>,
     ) -> bool {
         let kept = (self.least / 2).max(KEPT_MIN);
-        engine.compact_wanted(rt, 0) && engine.free_count(rt) < kept
+        is_under_way(rt, engine) && engine.free_count(rt) < kept
     }
 
     /// Returns whether batches wait for the compaction under way.

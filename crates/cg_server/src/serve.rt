@@ -160,9 +160,9 @@ fn serve_connections<
     requires { (blank.name ≡ L.name) × (blank.parts ≡ L.parts) × (PARTS ≤ blank.parts) }
     ensures { Serves true result (W.contents writer.old) (W.contents writer.new) }
 {
+    let moments = Moments::new(rt)?;
     let address = print_address(rt, alloc, listener, writer)?;
     let inboxes = inboxes(rt, alloc)?;
-    let moments = Moments::new(present(rt)?);
     let engine: Engine<D, L> = Engine::new(alloc, blank, false)?;
     let tally = Tally::new(segment_count(disk.sectors()));
     let server = Server::new(alloc, &engine, options, address, inboxes, tally, moments);

@@ -7,7 +7,7 @@ use crate::room::Room;
 use crate::tally::Tally;
 use crate::wall_clock::Moments;
 use cg_disk::SectorDisk;
-use cg_engine::{Engine, RoundEnd, RoundFault, SessionPass, Taken};
+use cg_engine::{Engine, Requests, RoundEnd, RoundFault, SessionPass, Taken};
 use std::alloc::Global;
 use std::net::{Net, SocketAddr, TcpStream};
 use std::sync::Wait;
@@ -132,21 +132,39 @@ impl<'a, D: SectorDisk + Drop, L: Ledger> Server<'a, D, L> {
         }
     }
 
-    /// Wakes the workers that wait for answers, if some were sent since the count of `Engine::answered` was this.
-    pub fn wake_callers_since(&self, answered: u64) {
+    // Wakes the workers that wait for answers, if some were sent since the count of `Engine::answered` was this.
+    fn wake_callers_since(&self, answered: u64) {
         if self.engine.answered() != answered {
             self.wake_callers();
         }
     }
 
-    /// Runs a flush round. The workers that wait for answers which the desk makes before the batch is stored are woken at once:
-    /// these are not to wait for the disk.
-    pub fn flush_round<R: Wait>(&self, rt: &R) -> Result<RoundEnd, RoundFault> {
+    /// Hands requests to the desk, and wakes the workers that wait for the answers that it makes. Returns what
+    /// `Engine::hand_over` does.
+    pub fn hand_over<R: Wait>(&self, rt: &R, requests: &mut Requests<L>) -> bool {
         let answered = self.engine.answered();
-        let taken = self.engine.take_batch(rt)?;
+        let has_pending = self.engine.hand_over(rt, requests);
         self.wake_callers_since(answered);
-        match taken {
-            Taken::Batch(batch) => self.engine.store_batch(rt, batch),
+        has_pending
+    }
+
+    // Takes a batch from the desk, and wakes the workers that wait for the answers that it makes: these are not to wait for the
+    // disk.
+    fn take_batch<R: Wait>(&self, rt: &R) -> Result<Taken<L>, RoundFault> {
+        let answered = self.engine.answered();
+        let taken = self.engine.take_batch(rt);
+        self.wake_callers_since(answered);
+        taken
+    }
+
+    /// Runs a flush round, and wakes the workers that wait for its answers.
+    pub fn flush_round<R: Wait>(&self, rt: &R) -> Result<RoundEnd, RoundFault> {
+        match self.take_batch(rt)? {
+            Taken::Batch(batch) => {
+                let end = self.engine.store_batch(rt, batch);
+                self.wake_callers();
+                end
+            }
             Taken::End(end) => Ok(end),
         }
     }

@@ -1,7 +1,7 @@
 //! The session of a connection: its pass, and the replies that it owes.
 use crate::server::Server;
 use cg_disk::SectorDisk;
-use cg_engine::{BegunCall, PendingCall, SessionPass};
+use cg_engine::{BegunCall, PendingCall, Requests, SessionPass};
 use cg_group::{Reply, Request};
 use cg_names::Code;
 use std::alloc::{AllocError, Global};
@@ -138,14 +138,14 @@ impl<L: Ledger> Session<L> {
         })
     }
 
-    /// Begins the call of a request, which came in a line of this many bytes, and neither hands the request over nor waits for
-    /// the answer.
+    /// Begins the call of a request, which came in a line of this many bytes: adds it to a list, which is to be handed over.
     pub fn begin<D: SectorDisk + Drop, R: Wait + Clock + RandomSource>(
         &mut self,
         rt: &R,
         server: &Server<'_, D, L>,
         bytes: usize,
         request: Request,
+        requests: &mut Requests<L>,
     ) -> Result<(), Code> {
         let Ok(()) = self.owed.reserve(1) else {
             return Err(Code::UnknownServerError);
@@ -159,7 +159,7 @@ impl<L: Ledger> Session<L> {
         self.is_last = is_last(&request);
         let is_commit = matches!(request, Request::Commit(_));
         let now = server.moments.now(rt);
-        let due = match server.engine.begin_call(rt, pass, request, now, fresh) {
+        let due = match requests.begin_call(pass, request, now, fresh) {
             BegunCall::Ended(pass, outgoing) => {
                 self.keep(rt, server, pass);
                 Due::Reply(outgoing.into_reply())

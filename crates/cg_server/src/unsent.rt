@@ -1,9 +1,9 @@
 //! Replies that are not yet sent.
-ghost use Rattle.std.specs.Prelude.{◌≡◌, ◌+◌, ◌≤◌, vec_len};
+ghost use Rattle.std.specs.Prelude.{◌≡◌, ◌+◌, ◌≤◌, vec_len, drop};
+ghost use Rattle.cg_server.specs.Unsent.{SendsFirstOf};
 
 use cg_group::Reply;
 use cg_line::{Refusal, put_reply};
-use mio::net::TcpStream;
 use std::alloc::{AllocError, Global};
 use std::io::{self, ErrorKind, Write};
 
@@ -66,9 +66,10 @@ impl Unsent {
         self.bytes.extend_from_slice(refusal.line())
     }
 
-    // Counts bytes that were sent, and gives their room back for the next replies.
-    fn remove(&mut self, count: usize) {
-        self.sent += count.min(self.left());
+    // Gives the room of what was sent back for the next replies, once it is at least as much as what is left.
+    fn give_back(&mut self)
+        ensures { drop self.new.sent self.new.bytes.items ≡ drop self.old.sent self.old.bytes.items }
+    {
         let left = self.left();
         if self.sent < left {
             return;
@@ -81,8 +82,18 @@ impl Unsent {
         }
     }
 
-    /// Sends as much as the stream takes now.
-    pub fn send(&mut self, stream: &mut TcpStream) -> io::Result<()> {
+    // Counts bytes that were sent, and gives their room back for the next replies.
+    fn remove(&mut self, count: usize)
+        ensures { drop self.new.sent self.new.bytes.items ≡ drop count (drop self.old.sent self.old.bytes.items) }
+    {
+        self.sent += count.min(self.left());
+        self.give_back();
+    }
+
+    /// Sends as much as the stream takes now: the first of the bytes that are to be sent. The others are left.
+    pub fn send<W: Write>(&mut self, stream: &mut W) -> io::Result<()>
+        ensures sends { SendsFirstOf (drop self.old.sent self.old.bytes.items) (drop self.new.sent self.new.bytes.items) (W.contents stream.old) (W.contents stream.new) }
+    {
         if self.is_empty() {
             return Ok(());
         }

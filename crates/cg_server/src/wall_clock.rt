@@ -17,11 +17,11 @@ fn millis_of(time: Duration) -> u64 {
         .saturating_add(u64::from(time.subsec_millis()))
 }
 
-// Returns the milliseconds of the monotonic clock; 0 if it cannot be read.
-fn monotonic_millis<R: Clock>(rt: &R) -> u64 {
+// Returns the milliseconds of the monotonic clock, or `None` if it cannot be read.
+fn monotonic_millis<R: Clock>(rt: &R) -> Option<u64> {
     match rt.monotonic() {
-        Ok(time) => millis_of(time),
-        Err(_) => 0,
+        Ok(time) => Some(millis_of(time)),
+        Err(_) => None,
     }
 }
 
@@ -37,19 +37,30 @@ pub fn present<R: Clock>(rt: &R) -> Result<Moment, Stop>
 
 /// A clock that shows the moment of loading until it begins, once the log is loaded: so the session timeouts of loaded members
 /// run from the end of the load, however long that takes. From then on it goes with the monotonic clock: setting the system's
-/// clock does not move it. An engine takes an earlier moment as its last one.
+/// clock does not move it. While the monotonic clock cannot be read it shows the moment of loading. An engine takes an earlier
+/// moment as its last one, so that time stands still for it then.
 #[derive(Drop)]
 pub struct Moments {
     loading: Moment,
+    // What the monotonic clock showed at the moment of loading, in milliseconds.
+    created: u64,
+    // What it showed when this one began; before that the greatest number.
     start: AtomicU64,
 }
 
 impl Moments {
-    /// Creates a clock that has not begun, and shows this moment.
-    pub fn new(loading: Moment) -> Moments {
-        Moments {
-            loading,
-            start: AtomicU64::new(u64::MAX),
+    /// Creates a clock that has not begun, and shows the present moment. Reports a clock that cannot be read.
+    pub fn new<R: Clock>(rt: &R) -> Result<Moments, Stop>
+        ensures { IfErr result (λ cause. cause ≡ stop.Clock) }
+    {
+        let loading = present(rt)?;
+        match monotonic_millis(rt) {
+            Some(created) => Ok(Moments {
+                loading,
+                created,
+                start: AtomicU64::new(u64::MAX),
+            }),
+            None => Err(Stop::Clock),
         }
     }
 
@@ -58,14 +69,18 @@ impl Moments {
         self.loading
     }
 
-    /// Begins.
+    /// Begins; if the monotonic clock cannot be read, as if it had begun at the moment of loading.
     pub fn begin<R: Clock>(&self, rt: &R) {
-        self.start.store(monotonic_millis(rt), Ordering::SeqCst);
+        let start = monotonic_millis(rt).unwrap_or(self.created);
+        self.start.store(start, Ordering::SeqCst);
     }
 
-    // Returns the milliseconds since it began.
+    // Returns the milliseconds since it began; 0 if the monotonic clock cannot be read.
     fn elapsed<R: Clock>(&self, rt: &R) -> u64 {
-        monotonic_millis(rt).saturating_sub(self.start.load(Ordering::SeqCst))
+        match monotonic_millis(rt) {
+            Some(millis) => millis.saturating_sub(self.start.load(Ordering::SeqCst)),
+            None => 0,
+        }
     }
 
     /// Returns the present moment.

@@ -3,7 +3,7 @@ use crate::connection::{Connection, Next};
 use crate::inbox::{Inbox, WOKEN, Watch};
 use crate::server::Server;
 use cg_disk::SectorDisk;
-use cg_engine::{RoundEnd, SessionPass};
+use cg_engine::{Requests, RoundEnd, SessionPass};
 use mio::Registry;
 use mio::event::Event;
 use slab::Slab;
@@ -20,8 +20,8 @@ const READ_BYTES: usize = 8_192;
 /// Most streams that are entered before the others have their turn.
 const ENTERED_MAX: u32 = 64;
 
-/// Calls that are begun before their requests are handed over together. A visit may begin some more.
-const BEGUN_CALLS: usize = 32;
+/// Requests that are read before they are handed over together. A visit may read some more.
+const REQUESTS: usize = 32;
 
 /// Longest wait while an allocation has failed, in milliseconds.
 const RETRY_MS: u64 = 10;
@@ -43,8 +43,8 @@ struct Worker<'a, D: SectorDisk, L: Ledger, R> {
     taken_at: u64,
     // Whether a list had no memory for a connection.
     has_missed: bool,
-    // How many calls were begun whose requests are to be handed over.
-    begun_calls: usize,
+    // The requests that were read and not handed over.
+    requests: Requests<L>,
     // Whether commands wait for a batch, none is in flight, and no thread was notified.
     has_pending: bool,
     // Whether a connection was listed since the worker last began to lie down.
@@ -65,14 +65,14 @@ impl<'a, D: SectorDisk + Drop, L: Ledger, R: Wait + Clock + RandomSource> Worker
             spare: Vec::new(alloc),
             taken_at: 0,
             has_missed: false,
-            begun_calls: 0,
+            requests: Requests::new(alloc),
             has_pending: false,
             has_begun: false,
             is_closed: false,
         }
     }
 
-    // Has the answers to the calls of a connection looked for.
+    // Looks for the answers to the calls of a connection from now on.
     fn list(&mut self, key: usize) {
         if self.calling.push(key).is_err() {
             self.has_missed = true;
@@ -84,8 +84,7 @@ impl<'a, D: SectorDisk + Drop, L: Ledger, R: Wait + Clock + RandomSource> Worker
         let Some(connection) = self.connections.get_mut(key) else {
             return;
         };
-        let next = connection.visit(self.rt, self.server, buffer);
-        let begun_calls = connection.take_begun_calls();
+        let next = connection.visit(self.rt, self.server, buffer, &mut self.requests);
         let is_listed = connection.is_listed();
         let begins = connection.is_calling() && !is_listed;
         if begins {
@@ -93,7 +92,9 @@ impl<'a, D: SectorDisk + Drop, L: Ledger, R: Wait + Clock + RandomSource> Worker
             self.has_begun = true;
             self.list(key);
         }
-        self.note_begun(begun_calls);
+        if self.requests.len() >= REQUESTS {
+            self.hand_over();
+        }
         match next {
             Next::Stream | Next::Answer => {}
             Next::Visit => {
@@ -267,26 +268,18 @@ impl<'a, D: SectorDisk + Drop, L: Ledger, R: Wait + Clock + RandomSource> Worker
         }
     }
 
-    // Hands the requests of the calls that were begun to the desk, all together: then the memory of the desk moves to this
-    // processor once for all.
+    // Hands the requests that were read to the desk, all together: then the memory of the desk moves to this processor once for
+    // all.
     fn hand_over(&mut self) {
-        if mem::take(&mut self.begun_calls) > 0 && self.server.engine.hand_over(self.rt) {
+        if self.server.hand_over(self.rt, &mut self.requests) {
             self.has_pending = true;
         }
     }
 
-    // Notes that calls were begun, and hands their requests over if they are many.
-    fn note_begun(&mut self, calls: usize) {
-        self.begun_calls = self.begun_calls.saturating_add(calls);
-        if self.begun_calls >= BEGUN_CALLS {
-            self.hand_over();
-        }
-    }
-
-    // Hands requests over, and has stored what waits for the disk. The flusher does that if it is awake. If it sleeps, this
+    // Hands requests over, and sees that what waits for the disk is stored. The flusher does that if it is awake. If it sleeps, this
     // thread stores it if all its connections wait for answers, which saves two switches to another thread; else it notifies
-    // the flusher. `answered` is a count of `Engine::answered`: what was sent since is not to wait for the disk.
-    fn flush(&mut self, answered: u64) {
+    // the flusher.
+    fn flush(&mut self) {
         self.hand_over();
         if !mem::replace(&mut self.has_pending, false) || self.server.is_flushing() {
             return;
@@ -300,10 +293,10 @@ impl<'a, D: SectorDisk + Drop, L: Ledger, R: Wait + Clock + RandomSource> Worker
             self.server.engine.notify_flusher();
             return;
         }
-        self.server.wake_callers_since(answered);
         if self.server.flush_round(self.rt) != Ok(RoundEnd::Done) {
             // The flusher finds out why.
             self.server.engine.wake(self.rt);
+            return;
         }
         self.server.room.watch(self.rt, self.server.engine);
     }
@@ -353,27 +346,23 @@ impl<'a, D: SectorDisk + Drop, L: Ledger, R: Wait + Clock + RandomSource> Worker
 
     // Takes the answers that are there, then waits for something to do.
     fn rest(&mut self, watch: &mut Watch, buffer: &mut [u8]) {
-        let answered = self.server.engine.answered();
         self.has_begun = false;
         self.inbox.lie_down(!self.calling.is_empty());
         self.take_answers(buffer);
-        self.flush(answered);
-        self.server.wake_callers_since(answered);
+        self.flush();
         watch.wait(self.most_wait());
         self.inbox.get_up();
     }
 
     // Does what there is to do.
     fn work(&mut self, watch: &Watch, buffer: &mut [u8]) {
-        let answered = self.server.engine.answered();
         self.close();
         self.enter_some(watch.registry(), buffer);
         self.serve_events(watch, buffer);
         self.serve_more(buffer);
         self.serve_missed(buffer);
-        self.flush(answered);
+        self.flush();
         self.take_answers(buffer);
-        self.server.wake_callers_since(answered);
     }
 }
 
